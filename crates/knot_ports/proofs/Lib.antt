@@ -1,0 +1,3 @@
+pub mod FaultLemmas
+mod Fronts
+mod Takings

@@ -1,0 +1,14 @@
+use Rattle.std.proofs.Common.{◌≡◌, ◌≤◌, ◌-◌, [], length, take}
+use Rattle.std.specs.Io.KnownBytes.{Appends}
+use Rattle.knot_ports.proofs.give.give_all.Given as goal
+
+abbrev pub invariant-loop-done : goal.invariant-loop-done
+invariant-loop-done g l = record {
+  within : l.done ≤ length l.bytes;
+  given : Appends (g.K.Sink.held l.fn.sink) (g.K.Sink.held l.sink) (take l.done l.bytes);
+  count : g.K.Sink.faults l.fn.sink ≤ g.K.Sink.faults l.sink;
+  untouched : l.bytes ≡ [] → l.sink ≡ l.fn.sink;
+}
+
+abbrev pub decreases-loop-done : goal.decreases-loop-done
+decreases-loop-done g l = length l.bytes - l.done

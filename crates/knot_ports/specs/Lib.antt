@@ -1,0 +1,4 @@
+pub mod Faults
+pub mod Source
+pub mod Sink
+pub mod Memory

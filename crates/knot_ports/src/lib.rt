@@ -1,0 +1,24 @@
+//! Bytes come in from a source and go out to a sink, each of which counts its faults and may decline to tell its bytes.
+//! A whole read passes on all bytes up to the end and a whole write all that it is given, or the answer names the fault, the length or the want of memory that ended it.
+#![tactic(auto)]
+
+mod calls;
+mod failure;
+mod give;
+mod memory_sink;
+mod memory_source;
+mod quiet;
+mod read;
+mod sink;
+mod source;
+mod standard;
+
+pub use failure::{Failed, OutOfMemory};
+pub use give::give_all;
+pub use memory_sink::MemSink;
+pub use memory_source::MemSource;
+pub use quiet::{QuietSink, QuietSource};
+pub use read::{ReadEnd, read_all};
+pub use sink::Sink;
+pub use source::Source;
+pub use standard::{StdSink, StdSource};
