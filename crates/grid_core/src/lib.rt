@@ -1,0 +1,19 @@
+//! Grid diagrams of knots and links: the type, its readers, and the words for marks, intervals and faults.
+//! Two lists are accepted exactly where they are a grid, and each reader answers what its definition says.
+#![tactic(auto)]
+
+mod fault;
+mod grid;
+mod items;
+pub mod laws;
+mod mark;
+mod parts;
+mod span;
+#[cfg(test)]
+mod tests;
+
+pub use fault::GridFault;
+pub use grid::{Grid, MAX_SIZE, Rows};
+pub use items::Items;
+pub use mark::{Corner, Kind};
+pub use span::Span;

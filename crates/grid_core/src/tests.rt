@@ -1,0 +1,104 @@
+//! Grids and their readers on worked examples.
+use crate::{Grid, GridFault, Items, MAX_SIZE, Span};
+use std::test::Fail;
+
+/// The fault of two lists, or None where they are a grid.
+fn fault_of(x: &[u8], o: &[u8]) -> Option<GridFault> {
+    match Grid::new(x, o) {
+        Ok(_) => None,
+        Err(fault) => Some(fault),
+    }
+}
+
+#[test]
+fn each_fault_comes_in_order_at_its_lowest_column(rt: HostRuntime) -> Result<(), Fail> {
+    let cases: [(&[u8], &[u8], Option<GridFault>); 11] = [
+        (&[0, 1], &[1, 0], None),
+        (&[4, 3, 2, 1, 0], &[2, 1, 0, 4, 3], None),
+        (&[], &[], Some(GridFault::Size)),
+        (&[0], &[0], Some(GridFault::Size)),
+        (&[0, 9], &[1], Some(GridFault::Length)),
+        (&[0, 1], &[1, 0, 2], Some(GridFault::Length)),
+        (&[0, 0, 3], &[1, 3, 2], Some(GridFault::Range { column: 1 })),
+        (&[0, 1, 1], &[0, 3, 2], Some(GridFault::Range { column: 1 })),
+        (
+            &[0, 1, 1],
+            &[0, 0, 2],
+            Some(GridFault::Repeat { column: 1 }),
+        ),
+        (
+            &[0, 1, 1],
+            &[1, 0, 2],
+            Some(GridFault::Repeat { column: 2 }),
+        ),
+        (&[0, 1, 2], &[1, 0, 2], Some(GridFault::Same { column: 2 })),
+    ];
+    for (x, o, fault) in cases {
+        assert_eq!(rt; fault_of(x, o), fault, "{x:?} {o:?}");
+    }
+    Ok(())
+}
+
+#[test]
+fn the_greatest_size_is_taken_and_one_more_is_not(rt: HostRuntime) -> Result<(), Fail> {
+    let mut x = Vec::new(rt.alloc());
+    let mut o = Vec::new(rt.alloc());
+    for c in 1..MAX_SIZE {
+        x.push(c as u8)?;
+        o.push(c as u8 - 1)?;
+    }
+    x.push(0)?;
+    o.push(MAX_SIZE as u8 - 1)?;
+    assert_eq!(rt; fault_of(x.as_slice(), o.as_slice()), None);
+    x.push(MAX_SIZE as u8)?;
+    assert_eq!(rt; fault_of(x.as_slice(), o.as_slice()), Some(GridFault::Size));
+    Ok(())
+}
+
+#[test]
+fn two_grids_are_read_as_drawn(rt: HostRuntime) -> Result<(), Fail> {
+    let Ok(trefoil) = Grid::new(&[4, 3, 2, 1, 0], &[2, 1, 0, 4, 3]) else {
+        return Err(Fail::from("no grid"));
+    };
+    let covered = [
+        [false, false, false, true, false],
+        [false, false, true, false, false],
+        [false, true, false, false, false],
+        [false, false, true, true, false],
+        [false, true, true, false, false],
+    ];
+    assert_eq!(rt; trefoil.size(), 5);
+    assert_eq!(rt; trefoil.bottoms(), 2);
+    for c in 0..trefoil.size() {
+        assert_eq!(rt; trefoil.is_up(c), c >= 3);
+        for r in 0..trefoil.size() {
+            assert_eq!(rt;
+                trefoil.covers(c, r),
+                covered[c as usize][r as usize],
+                "column {c}, row {r}"
+            );
+        }
+    }
+    // the closure of the braid of three positive letters on two strands
+    let Ok(closure) = Grid::new(&[4, 3, 2, 0, 1, 5, 6], &[6, 5, 4, 3, 2, 1, 0]) else {
+        return Err(Fail::from("no grid"));
+    };
+    let spans = [(4, 6), (3, 5), (2, 4), (0, 3), (1, 2), (1, 5), (0, 6)];
+    let ends = [(3, 6), (4, 5), (2, 4), (1, 3), (0, 2), (1, 5), (0, 6)];
+    assert_eq!(rt; closure.bottoms(), 2);
+    for c in 0..closure.size() {
+        let (low, high) = spans[c as usize];
+        assert_eq!(rt; closure.column_span(c), Span { low, high });
+        assert_eq!(rt; closure.ends(c), ends[c as usize]);
+    }
+    Ok(())
+}
+
+#[test]
+fn a_list_goes_in_and_comes_out(rt: HostRuntime) -> Result<(), Fail> {
+    let items: Items<u8> = Items::from_vec(vec![in rt.alloc(); 3, 1, 2]?);
+    assert_eq!(rt; items.as_slice(), [3, 1, 2].as_slice());
+    let back = items.into_vec();
+    assert_eq!(rt; back.as_slice(), [3, 1, 2].as_slice());
+    Ok(())
+}
