@@ -1,0 +1,19 @@
+pub mod Renumbering
+pub mod Exchanged
+pub mod Widened
+pub mod WidenedGrids
+pub mod Stabilised
+pub mod Shifted
+pub mod Blocks
+pub mod BlockTests
+mod TakenOut
+pub mod Destabilised
+pub mod OneResult
+pub mod Undone
+pub mod Joined
+pub mod Equivalence
+pub mod Within
+pub mod Stopped
+pub mod OneStabilisation
+mod WorkedMoves
+pub mod WorkedRows

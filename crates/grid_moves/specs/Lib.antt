@@ -1,0 +1,13 @@
+pub mod Renumbered
+pub mod Shift
+pub mod Exchange
+pub mod Stabilisation
+pub mod Destabilisation
+pub mod BlockMarks
+pub mod Step
+pub mod MoveFault
+pub mod Joining
+pub use Rattle.grid_core.specs.Diagram
+pub use Rattle.grid_core.specs.Span
+pub use Rattle.grid_core.specs.Corners
+pub use Rattle.grid_core.specs.Parts

@@ -1,0 +1,79 @@
+//! Moves applied one by one, and undone.
+ghost use Rattle.std.specs.Prelude.{◌≡◌, ◌<◌, IfOk, IfErr, Ok, None};
+ghost use Rattle.std.specs.Result.{result_err};
+ghost use Rattle.grid_core.specs.Diagram.{Diagram};
+ghost use Rattle.grid_moves.specs.Step.{Step};
+ghost use Rattle.grid_moves.specs.Joining.{Joins, StopsAt};
+ghost use Rattle.grid_moves.specs.MoveFault.{first_fault};
+
+use crate::destabilise::{block_corner, block_kind, destabilise};
+use crate::exchange::{exchange_columns, exchange_rows};
+use crate::shift::{shift_columns, shift_rows};
+use crate::stabilise::stabilise;
+use crate::step::{Move, MoveFault};
+use grid_core::Grid;
+
+/// The grid after one move, or the first reason why the move is not legal, in the order of `MoveFault`.
+/// Takes no memory, and time in proportion to the size.
+pub fn apply(grid: &Grid, step: Move) -> Result<Grid, MoveFault>
+    ensures fault { result_err result ≡ first_fault grid.now step }
+    ensures moved { IfOk result (λ e. Step grid.now step e) }
+    ensures complete { (e : Diagram) → Step grid.now step e → result ≡ Ok e }
+{
+    match step {
+        Move::ShiftColumns(k) => shift_columns(grid, k),
+        Move::ShiftRows(k) => shift_rows(grid, k),
+        Move::ExchangeColumns(c) => exchange_columns(grid, c),
+        Move::ExchangeRows(r) => exchange_rows(grid, r),
+        Move::Stabilise {
+            column,
+            kind,
+            corner,
+        } => stabilise(grid, column, kind, corner),
+        Move::Destabilise { column, row } => destabilise(grid, column, row),
+    }
+}
+
+/// The move that leads from the result of a legal move back to the grid.
+pub fn inverse(grid: &Grid, step: Move) -> Move
+    requires { first_fault grid.now step ≡ None }
+    ensures { (e : Diagram) → Step grid.now step e → Step e result grid.now }
+{
+    let size = grid.size();
+    match step {
+        Move::ShiftColumns(k) => Move::ShiftColumns(size - k),
+        Move::ShiftRows(k) => Move::ShiftRows(size - k),
+        Move::ExchangeColumns(c) => Move::ExchangeColumns(c),
+        Move::ExchangeRows(r) => Move::ExchangeRows(r),
+        Move::Stabilise {
+            column,
+            kind,
+            corner,
+        } => Move::Destabilise {
+            column,
+            row: grid.row_of(kind, column),
+        },
+        Move::Destabilise { column, row } => Move::Stabilise {
+            column,
+            kind: block_kind(grid, column, row),
+            corner: block_corner(grid, column, row),
+        },
+    }
+}
+
+/// The grid after all moves, one by one, or the place of the first illegal one, counted from 0, and its fault there.
+/// No move at all leads from a grid to itself. Takes no memory.
+pub fn apply_all(grid: &Grid, steps: &[Move]) -> Result<Grid, (usize, MoveFault)>
+    ensures joined { IfOk result (λ e. Joins grid.now steps.now e) }
+    ensures stopped { IfErr result (λ f. StopsAt grid.now steps.now f.0 f.1) }
+    ensures complete { (e : Diagram) → Joins grid.now steps.now e → result ≡ Ok e }
+{
+    let mut here = grid.copy();
+    for (place, step) in steps.iter().enumerate() {
+        match apply(&here, *step) {
+            Ok(next) => here = next,
+            Err(fault) => return Err((place, fault)),
+        }
+    }
+    Ok(here)
+}

@@ -1,0 +1,169 @@
+//! Destabilisation: the row of a block that holds two marks is taken out, and with it a column for each kind.
+ghost use Rattle.std.specs.Prelude.{◌≡◌, ◌<◌, ◌≤◌, ◌+◌, ◌++◌, IfOk, map, length};
+ghost use Rattle.std.specs.List.{remove};
+ghost use Rattle.std.specs.Result.{result_err};
+ghost use Rattle.grid_core.specs.declared.grid.TheConstants.{MAX_SIZE};
+ghost use Rattle.grid_core.specs.Diagram.{size, rows_of};
+ghost use Rattle.grid_core.specs.Places.{lowered};
+ghost use Rattle.grid_moves.specs.Destabilisation.{marks_in_block};
+ghost use Rattle.grid_moves.specs.BlockMarks.{is_block_row, block_kind, corner_is_right, corner_on, block_corner, double_row, column_in_double_row};
+ghost use Rattle.grid_moves.specs.Step.{Step};
+ghost use Rattle.grid_moves.specs.MoveFault.{first_fault};
+
+use crate::step::{Move, MoveFault};
+use arrayvec::ArrayVec;
+use grid_core::{Corner, Grid, Kind, Rows};
+
+/// The grid of which a stabilisation makes the block at a column and a row.
+pub(crate) fn destabilise(grid: &Grid, column: u8, row: u8) -> Result<Grid, MoveFault>
+    ensures fault { result_err result ≡ first_fault grid.now (Move.Destabilise column row) }
+    ensures moved { IfOk result (λ e. Step grid.now (Move.Destabilise column row) e) }
+{
+    let last = grid.size() - 1;
+    if column >= last || row >= last {
+        return Err(MoveFault::Range);
+    }
+    let marks = marks_in_block(grid, column, row);
+    if marks != 3 {
+        return Err(MoveFault::Block { marks });
+    }
+    let doubled = double_row(grid, column);
+    let cross = column_in_double_row(grid, column, Kind::Cross);
+    let ring = column_in_double_row(grid, column, Kind::Ring);
+    Ok(Grid::of_rows(
+        narrowed(grid, Kind::Cross, cross, doubled),
+        narrowed(grid, Kind::Ring, ring, doubled),
+    ))
+}
+
+/// How many of the four marks of two neighbouring columns lie in two neighbouring rows.
+fn marks_in_block(grid: &Grid, column: u8, row: u8) -> u8
+    requires columns { column + 1 < size grid.now }
+    requires rows { row + 1 < size grid.now }
+    ensures { result ≡ marks_in_block grid.now column row }
+{
+    let _size = grid.size();
+    let low_x = u8::from(is_block_row(grid.row_of(Kind::Cross, column), row));
+    let low_o = u8::from(is_block_row(grid.row_of(Kind::Ring, column), row));
+    let high_x = u8::from(is_block_row(grid.row_of(Kind::Cross, column + 1), row));
+    let high_o = u8::from(is_block_row(grid.row_of(Kind::Ring, column + 1), row));
+    low_x + low_o + high_x + high_o
+}
+
+/// Whether a row is the given one or the next.
+fn is_block_row(mark: u8, row: u8) -> bool
+    requires { row < 255 }
+    ensures { result ≡ is_block_row row mark }
+{
+    mark == row || mark == row + 1
+}
+
+/// Of a block at a column, the row with two marks.
+fn double_row(grid: &Grid, column: u8) -> u8
+    requires { column + 1 < size grid.now }
+    ensures { result ≡ double_row grid.now column }
+{
+    let _size = grid.size();
+    let cross = grid.row_of(Kind::Cross, column);
+    if cross == grid.row_of(Kind::Ring, column + 1) {
+        cross
+    } else {
+        grid.row_of(Kind::Ring, column)
+    }
+}
+
+/// Of a block at a column, the column of the mark of a kind in the row with two marks.
+fn column_in_double_row(grid: &Grid, column: u8, kind: Kind) -> u8
+    requires { column + 1 < size grid.now }
+    ensures place { result ≡ column_in_double_row grid.now column kind }
+    ensures inside { result < size grid.now }
+{
+    let _size = grid.size();
+    let is_left = grid.row_of(Kind::Cross, column) == grid.row_of(Kind::Ring, column + 1);
+    match kind {
+        Kind::Cross => { if is_left { column } else { column + 1 } }
+        Kind::Ring => { if is_left { column + 1 } else { column } }
+    }
+}
+
+/// The rows of a kind, without that of a column, and those above a row one lower.
+#[tactic(auto, using(crate::proofs::TakenOut::halves))]
+fn narrowed(grid: &Grid, kind: Kind, place: u8, row: u8) -> Rows
+    requires { place < size grid.now }
+    ensures { result.items ≡ map (lowered row) (remove (rows_of kind grid.now) place) }
+{
+    let _size = grid.size();
+    let (left, rest) = grid.rows(kind).split_at(place as usize);
+    let (_, right) = rest.split_at(1);
+    let mut rows = ArrayVec::new();
+    push_lowered(&mut rows, left, row);
+    push_lowered(&mut rows, right, row);
+    rows
+}
+
+/// Appends some rows, those above a row one lower.
+fn push_lowered(rows: &mut Rows, more: &[u8], row: u8)
+    requires { length rows.old.items + length more.now ≤ MAX_SIZE }
+    ensures { rows.new.items ≡ rows.old.items ++ map (lowered row) more.now }
+{
+    for r in more {
+        rows.push(if row < *r { *r - 1 } else { *r });
+    }
+}
+
+/// Of a block of three marks, the kind of two of them.
+pub(crate) fn block_kind(grid: &Grid, column: u8, row: u8) -> Kind
+    requires columns { column + 1 < size grid.now }
+    requires rows { row + 1 < size grid.now }
+    ensures { result ≡ block_kind grid.now column row }
+{
+    let _size = grid.size();
+    if is_block_row(grid.row_of(Kind::Ring, column), row)
+        && is_block_row(grid.row_of(Kind::Ring, column + 1), row)
+    {
+        Kind::Ring
+    } else {
+        Kind::Cross
+    }
+}
+
+/// Of a block of three marks, the corner opposite the empty cell.
+pub(crate) fn block_corner(grid: &Grid, column: u8, row: u8) -> Corner
+    requires columns { column + 1 < size grid.now }
+    requires rows { row + 1 < size grid.now }
+    ensures { result ≡ block_corner grid.now column row }
+{
+    let _size = grid.size();
+    let right = corner_is_right(grid, column, row);
+    let kind = block_kind(grid, column, row);
+    let own = grid.row_of(kind, if right { column + 1 } else { column });
+    corner_on(right, own == row)
+}
+
+/// Whether the right column of a block holds two of its three marks.
+fn corner_is_right(grid: &Grid, column: u8, row: u8) -> bool
+    requires columns { column + 1 < size grid.now }
+    requires rows { row + 1 < size grid.now }
+    ensures { result ≡ corner_is_right grid.now column row }
+{
+    let _size = grid.size();
+    !(is_block_row(grid.row_of(Kind::Cross, column), row)
+        && is_block_row(grid.row_of(Kind::Ring, column), row))
+}
+
+/// The corner on a side, above or below.
+fn corner_on(right: bool, above: bool) -> Corner
+    ensures { result ≡ corner_on right above }
+{
+    if right {
+        if above {
+            Corner::HighRight
+        } else {
+            Corner::LowRight
+        }
+    } else if above {
+        Corner::HighLeft
+    } else {
+        Corner::LowLeft
+    }
+}

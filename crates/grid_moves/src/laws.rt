@@ -1,0 +1,108 @@
+//! Laws of the moves, over the definitions alone.
+ghost use Rattle.std.specs.Prelude.{◌≡◌, ◌≤◌, ◌-◌, ◌++◌, ◌↔◌, ◌⊎◌, [], None, ℕ, List};
+ghost use Rattle.grid_core.specs.Diagram.{Diagram, IsGrid, size, row_of};
+ghost use Rattle.grid_moves.specs.Joining.{Joins, StopsAt, Equivalent, WithinCap};
+ghost use Rattle.grid_moves.specs.Step.{Step};
+ghost use Rattle.grid_moves.specs.MoveFault.{first_fault};
+
+use crate::step::{Move, MoveFault};
+use grid_core::{Corner, Kind};
+
+/// A move leads somewhere exactly where it has no fault, and then to one diagram, which is a grid.
+pub fn a_legal_move_has_exactly_one_result()
+    ensures one { (d : Diagram) (move : Move) → IsGrid d → first_fault d move ≡ None → (e : Diagram) × Step d move e }
+    ensures legal { (d : Diagram) (move : Move) (e : Diagram) → Step d move e → first_fault d move ≡ None }
+    ensures single { (d : Diagram) (move : Move) (e f : Diagram) → Step d move e → Step d move f → e ≡ f }
+    ensures grid { (d : Diagram) (move : Move) (e : Diagram) → Step d move e → IsGrid e }
+{}
+
+/// A shift by k is undone by the shift by n - k.
+pub fn a_shift_is_undone_by_the_rest()
+    ensures columns { (k : ℕ) (d e : Diagram) → Step d (Move.ShiftColumns k) e → Step e (Move.ShiftColumns (size d - k)) d }
+    ensures rows { (k : ℕ) (d e : Diagram) → Step d (Move.ShiftRows k) e → Step e (Move.ShiftRows (size d - k)) d }
+{}
+
+/// An exchange is its own inverse.
+pub fn an_exchange_undoes_itself()
+    ensures columns { (c : ℕ) (d e : Diagram) → Step d (Move.ExchangeColumns c) e → Step e (Move.ExchangeColumns c) d }
+    ensures rows { (r : ℕ) (d e : Diagram) → Step d (Move.ExchangeRows r) e → Step e (Move.ExchangeRows r) d }
+{}
+
+/// A stabilisation is undone by the destabilisation at its column and at the row of its mark.
+pub fn a_stabilisation_is_undone()
+    ensures { (c : ℕ) (kind : Kind) (corner : Corner) (d e : Diagram)
+        → Step d (Move.Stabilise c kind corner) e
+        → Step e (Move.Destabilise c (row_of kind d c)) d }
+{}
+
+/// A destabilisation leads from d to e exactly where a stabilisation in that column, of a mark in that row, leads
+/// from e to d.
+pub fn a_destabilisation_is_the_inverse_relation()
+    ensures { (c r : ℕ) (d e : Diagram)
+        → Step d (Move.Destabilise c r) e
+        ↔ ((kind : Kind) × ((corner : Corner) × (Step e (Move.Stabilise c kind corner) d × (row_of kind e c ≡ r)))) }
+{}
+
+/// A block of three marks comes from exactly one stabilisation: it shows the grid before, the kind and the corner.
+pub fn a_block_comes_from_one_stabilisation()
+    ensures one { (c r : ℕ) (d : Diagram)
+        → IsGrid d
+        → first_fault d (Move.Destabilise c r) ≡ None
+        → (e : Diagram)
+        × ((kind : Kind) × ((corner : Corner) × (Step e (Move.Stabilise c kind corner) d × (row_of kind e c ≡ r)))) }
+    ensures single { (c r : ℕ) (d e f : Diagram) (kind kind' : Kind) (corner corner' : Corner)
+        → Step e (Move.Stabilise c kind corner) d
+        → row_of kind e c ≡ r
+        → Step f (Move.Stabilise c kind' corner') d
+        → row_of kind' f c ≡ r
+        → (e ≡ f) × (kind ≡ kind') × (corner ≡ corner') }
+{}
+
+/// An empty list of moves joins a diagram to itself and to no other.
+pub fn an_empty_list_joins_a_diagram_to_itself()
+    ensures { (d e : Diagram) → Joins d [] e ↔ (d ≡ e) }
+{}
+
+/// One list of moves after another leads where they lead one by one.
+pub fn joining_composes()
+    ensures { (front back : List Move) (d e : Diagram)
+        → Joins d (front ++ back) e ↔ ((f : Diagram) × (Joins d front f × Joins f back e)) }
+{}
+
+/// A list of moves leads from a grid to at most one diagram, which is a grid.
+pub fn joining_has_one_result()
+    ensures single { (moves : List Move) (d e f : Diagram) → Joins d moves e → Joins d moves f → e ≡ f }
+    ensures grid { (moves : List Move) (d e : Diagram) → IsGrid d → Joins d moves e → IsGrid e }
+{}
+
+/// A list of moves from a grid joins it to a diagram, or stops at an illegal move: exactly one of these.
+pub fn a_list_joins_or_stops()
+    ensures either { (moves : List Move) (d : Diagram)
+        → IsGrid d
+        → ((e : Diagram) × Joins d moves e)
+        ⊎ ((place : ℕ) × ((fault : MoveFault) × StopsAt d moves place fault)) }
+    ensures not_both { (moves : List Move) (d e : Diagram) (place : ℕ) (fault : MoveFault)
+        → StopsAt d moves place fault
+        → Joins d moves e
+        → ⊥ }
+    ensures once { (moves : List Move) (d : Diagram) (place place' : ℕ) (fault fault' : MoveFault)
+        → StopsAt d moves place fault
+        → StopsAt d moves place' fault'
+        → (place ≡ place') × (fault ≡ fault') }
+{}
+
+/// To be joined by moves is an equivalence relation.
+pub fn equivalence_is_an_equivalence_relation()
+    ensures reflexive { (d : Diagram) → Equivalent d d }
+    ensures symmetric { (d e : Diagram) → Equivalent d e → Equivalent e d }
+    ensures transitive { (d e f : Diagram) → Equivalent d e → Equivalent e f → Equivalent d f }
+{}
+
+/// To be joined within a cap is an equivalence relation of the diagrams up to the cap, and holds of equivalent ones
+/// alone.
+pub fn within_a_cap_is_an_equivalence_relation()
+    ensures reflexive { (d : Diagram) (cap : ℕ) → size d ≤ cap → WithinCap d d cap }
+    ensures symmetric { (d e : Diagram) (cap : ℕ) → WithinCap d e cap → WithinCap e d cap }
+    ensures transitive { (d e f : Diagram) (cap : ℕ) → WithinCap d e cap → WithinCap e f cap → WithinCap d f cap }
+    ensures equivalent { (d e : Diagram) (cap : ℕ) → WithinCap d e cap → Equivalent d e }
+{}

@@ -1,0 +1,71 @@
+//! Cyclic shifts of columns and rows.
+ghost use Rattle.std.specs.Prelude.{◌≡◌, ◌<◌, ◌++◌, IfOk, map, take, drop};
+ghost use Rattle.std.specs.Result.{result_err};
+ghost use Rattle.grid_core.specs.Diagram.{size, rows_of};
+ghost use Rattle.grid_moves.specs.Shift.{shifted};
+ghost use Rattle.grid_moves.specs.Step.{Step};
+ghost use Rattle.grid_moves.specs.MoveFault.{first_fault};
+
+use crate::step::{Move, MoveFault};
+use arrayvec::ArrayVec;
+use grid_core::{Grid, Kind, Rows};
+
+/// The grid with the k leftmost columns, in order, at the right end.
+pub(crate) fn shift_columns(grid: &Grid, k: u8) -> Result<Grid, MoveFault>
+    ensures fault { result_err result ≡ first_fault grid.now (Move.ShiftColumns k) }
+    ensures moved { IfOk result (λ e. Step grid.now (Move.ShiftColumns k) e) }
+{
+    if k == 0 || k >= grid.size() {
+        return Err(MoveFault::Range);
+    }
+    Ok(Grid::of_rows(rotated(grid, Kind::Cross, k), rotated(grid, Kind::Ring, k)))
+}
+
+/// The grid with the k lowest rows, in order, at the top.
+pub(crate) fn shift_rows(grid: &Grid, k: u8) -> Result<Grid, MoveFault>
+    ensures fault { result_err result ≡ first_fault grid.now (Move.ShiftRows k) }
+    ensures moved { IfOk result (λ e. Step grid.now (Move.ShiftRows k) e) }
+{
+    if k == 0 || k >= grid.size() {
+        return Err(MoveFault::Range);
+    }
+    Ok(Grid::of_rows(
+        shifted_rows(grid, Kind::Cross, k),
+        shifted_rows(grid, Kind::Ring, k),
+    ))
+}
+
+/// The rows of a kind, with those of the k leftmost columns at the end.
+fn rotated(grid: &Grid, kind: Kind, k: u8) -> Rows
+    requires { k < size grid.now }
+    ensures { result.items ≡ drop k (rows_of kind grid.now) ++ take k (rows_of kind grid.now) }
+{
+    let _size = grid.size();
+    let (left, right) = grid.rows(kind).split_at(k as usize);
+    let mut rows = ArrayVec::new();
+    rows.try_extend_from_slice(right).unwrap();
+    rows.try_extend_from_slice(left).unwrap();
+    rows
+}
+
+/// The rows of a kind, each k lower, round the circle.
+fn shifted_rows(grid: &Grid, kind: Kind, k: u8) -> Rows
+    requires { k < size grid.now }
+    ensures { result.items ≡ map (shifted (size grid.now) k) (rows_of kind grid.now) }
+{
+    let size = grid.size();
+    let mut rows = ArrayVec::new();
+    for row in grid.rows(kind) {
+        rows.push(shifted(*row, k, size));
+    }
+    rows
+}
+
+/// The new number of a row, of as many as the size, when the k lowest go to the top.
+fn shifted(row: u8, k: u8, size: u8) -> u8
+    requires most { k < size }
+    requires inside { row < size }
+    ensures { result ≡ shifted size k row }
+{
+    if row < k { row + (size - k) } else { row - k }
+}

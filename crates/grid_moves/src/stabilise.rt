@@ -1,0 +1,79 @@
+//! Stabilisation: one row and, for the marks of each kind, one column are put in.
+ghost use Rattle.std.specs.Prelude.{◌≡◌, ◌<◌, ◌≤◌, ◌+◌, ◌++◌, IfOk, map, length};
+ghost use Rattle.std.specs.List.{All, insert};
+ghost use Rattle.std.specs.Result.{result_err};
+ghost use Rattle.grid_core.specs.declared.grid.TheConstants.{MAX_SIZE};
+ghost use Rattle.grid_core.specs.Diagram.{size, rows_of};
+ghost use Rattle.grid_core.specs.Places.{lifted};
+ghost use Rattle.grid_moves.specs.BlockMarks.{column_in_new_row};
+ghost use Rattle.grid_moves.specs.Step.{Step};
+ghost use Rattle.grid_moves.specs.MoveFault.{first_fault};
+
+use crate::step::{Move, MoveFault};
+use arrayvec::ArrayVec;
+use grid_core::{Corner, Grid, Kind, MAX_SIZE, Rows};
+
+/// The grid with the block of three marks in place of the mark of a kind in a column.
+pub(crate) fn stabilise(
+    grid: &Grid,
+    column: u8,
+    kind: Kind,
+    corner: Corner,
+) -> Result<Grid, MoveFault>
+    ensures fault { result_err result ≡ first_fault grid.now (Move.Stabilise column kind corner) }
+    ensures moved { IfOk result (λ e. Step grid.now (Move.Stabilise column kind corner) e) }
+{
+    let size = grid.size();
+    if column >= size {
+        return Err(MoveFault::Range);
+    }
+    if size as usize >= MAX_SIZE {
+        return Err(MoveFault::Full);
+    }
+    let row = grid.row_of(kind, column) + corner.row();
+    let cross = column_in_new_row(column, kind, corner, Kind::Cross);
+    let ring = column_in_new_row(column, kind, corner, Kind::Ring);
+    Ok(Grid::of_rows(
+        widened(grid, Kind::Cross, cross, row),
+        widened(grid, Kind::Ring, ring, row),
+    ))
+}
+
+/// The column of the mark of a kind in the new row.
+fn column_in_new_row(column: u8, kind: Kind, corner: Corner, of: Kind) -> u8
+    requires { column < 255 }
+    ensures place { result ≡ column_in_new_row column kind corner of }
+    ensures near { result ≤ column + 1 }
+{
+    if kind == of {
+        column + 1 - corner.column()
+    } else {
+        column + corner.column()
+    }
+}
+
+/// The rows of a kind, with a new column at a place, whose mark stands in the new row.
+fn widened(grid: &Grid, kind: Kind, place: u8, row: u8) -> Rows
+    requires room { size grid.now < MAX_SIZE }
+    requires inside { place ≤ size grid.now }
+    ensures { result.items ≡ insert (map (lifted row) (rows_of kind grid.now)) place row }
+{
+    let _size = grid.size();
+    let (left, right) = grid.rows(kind).split_at(place as usize);
+    let mut rows = ArrayVec::new();
+    push_lifted(&mut rows, left, row);
+    rows.push(row);
+    push_lifted(&mut rows, right, row);
+    rows
+}
+
+/// Appends some rows, those at or above a place one higher.
+fn push_lifted(rows: &mut Rows, more: &[u8], row: u8)
+    requires room { length rows.old.items + length more.now ≤ MAX_SIZE }
+    requires inside { All (λ r. r < MAX_SIZE) more.now }
+    ensures { rows.new.items ≡ rows.old.items ++ map (lifted row) more.now }
+{
+    for r in more {
+        rows.push(if *r < row { *r } else { *r + 1 });
+    }
+}

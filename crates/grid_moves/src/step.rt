@@ -1,0 +1,47 @@
+//! The moves and their faults.
+
+use grid_core::{Corner, Kind};
+
+/// A move of a grid diagram of size n (Cromwell 1995, Dynnikov 2006).
+/// Columns are counted from the left and rows from below, both from 0.
+#[derive(Clone, Copy, Debug, PartialEq, Eq)]
+pub enum Move {
+    /// By k, from 1 to n - 1: the k leftmost columns go, in order, to the right end.
+    ShiftColumns(u8),
+    /// By k, from 1 to n - 1: the k lowest rows go, in order, to the top.
+    ShiftRows(u8),
+    /// Columns c and c + 1 trade places. Their four marks lie in four different rows, and their intervals are
+    /// disjoint or strictly nested.
+    ExchangeColumns(u8),
+    /// Rows r and r + 1 trade places, with columns and rows in each other's place.
+    ExchangeRows(u8),
+    /// The mark of this kind in this column becomes a block of two columns and two rows with three marks.
+    /// The corner gets the other kind, the two cells beside it the kind, and the fourth cell stays empty.
+    Stabilise {
+        column: u8,
+        kind: Kind,
+        corner: Corner,
+    },
+    /// The block of columns `column`, `column + 1` and rows `row`, `row + 1` holds three marks, and becomes the one
+    /// mark of which a stabilisation makes it.
+    Destabilise {
+        column: u8,
+        row: u8,
+    },
+}
+
+/// Why a move is not legal on a grid of size n: the first of these that holds.
+#[derive(Clone, Copy, Debug, PartialEq, Eq)]
+pub enum MoveFault {
+    /// A shift by 0 or by n or more, an exchange of a last column or row, a stabilisation in a column that is not
+    /// there, or a block that does not lie in the grid.
+    Range,
+    /// The two neighbours of an exchange have a mark in one row (or one column).
+    Touching,
+    /// Their intervals are neither disjoint nor strictly nested.
+    Interleaved,
+    /// The block of a destabilisation holds this number of marks, which is not three.
+    Block { marks: u8 },
+    /// A stabilisation of a grid of the size `MAX_SIZE`.
+    Full,
+}
