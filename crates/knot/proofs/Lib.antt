@@ -1,0 +1,9 @@
+mod Loops
+mod Digits
+mod Steps
+mod Numbers
+mod Rows
+mod MoveLines
+mod Inputs
+mod Answered
+mod Endings

@@ -1,0 +1,39 @@
+//! The program: standard input and output, and the status as the exit status.
+//! All that it does is `run`; the words come from the system, and where it gives none main ends by itself.
+#![tactic(auto)]
+
+mod answer;
+mod job;
+mod laws;
+mod printing;
+mod reading;
+mod run;
+mod status;
+
+use knot_ports::{StdSink, StdSource};
+use std::io;
+use std::process::ExitCode;
+
+/// Where the system has no memory for the words: the status of want of memory.
+const NO_MEMORY: u8 = 7;
+/// Where the system refuses the words for another cause.
+const NO_WORDS: u8 = 10;
+
+fn main(rt: HostRuntime) -> ExitCode {
+    let alloc = rt.alloc();
+    let args = match std::env::args(&rt) {
+        Ok(args) => args,
+        Err(error) if error.kind() == io::ErrorKind::OutOfMemory => {
+            return ExitCode::from(NO_MEMORY);
+        }
+        Err(_) => return ExitCode::from(NO_WORDS),
+    };
+    let words: Vec<String> = match args.collect(alloc) {
+        Ok(words) => words,
+        Err(_) => return ExitCode::from(NO_MEMORY),
+    };
+    let mut source = StdSource::new(rt.stdin());
+    let mut sink = StdSink::new(rt.stdout());
+    let status = run::run(alloc, words.as_slice(), &mut source, &mut sink);
+    ExitCode::from(status.number())
+}
