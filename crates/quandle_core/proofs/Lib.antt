@@ -1,0 +1,6 @@
+pub mod Entries
+pub mod Firsts
+pub mod Accepted
+pub mod Columns
+pub mod Linear
+mod WorkedRows

@@ -1,0 +1,50 @@
+-- Worked examples, by computing.
+use Rattle.std.proofs.Common.{◌≡◌, ◌∷◌, [], refl, None, Some, true, false}
+use Rattle.quandle_core.specs.Quandle.{over, back}
+use Rattle.quandle_core.specs.Tables.{dihedral, alexander, tetrahedral, is_unit}
+use Rattle.quandle_core.specs.Fault.{first_fault}
+use Rattle.quandle_core.specs.declared.fault.QuandleFault.TheVariants.{Order, Length, Range, Idempotent, Collision, Distributive}
+
+-- 0 ▷ 1 = 2 in the dihedral quandle of order 3
+reflected : over (dihedral 3) 0 1 ≡ 2
+reflected = refl
+
+-- t = 2 at order 5: 1 ▷ 3 = 2 - 3 = 4
+drawn : over (alexander 5 2) 1 3 ≡ 4
+drawn = refl
+
+-- 1 ▷ 0 = 2, so 2 ◁ 0 = 1
+turned : over tetrahedral 1 0 ≡ 2
+turned = refl
+
+turned_back : back tetrahedral 2 0 ≡ 1
+turned_back = refl
+
+two_has_no_inverse : is_unit 4 2 ≡ false
+two_has_no_inverse = refl
+
+three_has_one : is_unit 4 3 ≡ true
+three_has_one = refl
+
+no_colours : first_fault (record { order = 0; entries = [] }) ≡ Some Order
+no_colours = refl
+
+too_short : first_fault (record { order = 2; entries = 0 ∷ 0 ∷ 1 ∷ [] }) ≡ Some Length
+too_short = refl
+
+outside : first_fault (record { order = 2; entries = 0 ∷ 0 ∷ 2 ∷ 1 ∷ [] }) ≡ Some (Range 1 0)
+outside = refl
+
+not_idempotent : first_fault (record { order = 2; entries = 1 ∷ 0 ∷ 0 ∷ 1 ∷ [] }) ≡ Some (Idempotent 0)
+not_idempotent = refl
+
+-- 0 ▷ 1 = 1 ▷ 1
+collision : first_fault (record { order = 2; entries = 0 ∷ 1 ∷ 1 ∷ 1 ∷ [] }) ≡ Some (Collision 0 1 1)
+collision = refl
+
+-- the first two laws hold, and the third fails
+not_distributive : first_fault (record { order = 3; entries = 0 ∷ 2 ∷ 0 ∷ 2 ∷ 1 ∷ 1 ∷ 1 ∷ 0 ∷ 2 ∷ [] }) ≡ Some (Distributive 0 1 0)
+not_distributive = refl
+
+faultless : first_fault tetrahedral ≡ None
+faultless = refl

@@ -1,0 +1,4 @@
+pub mod Quandle
+pub mod Tables
+pub mod Fault
+pub mod Columns

@@ -1,0 +1,37 @@
+//! Laws of quandles, over the definitions alone.
+ghost use Rattle.std.specs.Prelude.{◌≡◌, ◌<◌, ◌≤◌, ◌↔◌, ℕ, None, true};
+ghost use Rattle.quandle_core.specs.Quandle.{Table, IsQuandle, over, back};
+ghost use Rattle.quandle_core.specs.Tables.{trivial, dihedral, alexander, tetrahedral, is_unit};
+ghost use Rattle.quandle_core.specs.Fault.{first_fault};
+ghost use Rattle.quandle_core.specs.declared.quandle.TheConstants.{MAX_ORDER};
+
+/// A table has no fault exactly where it is a quandle.
+pub fn no_fault_is_a_quandle()
+    ensures { (t : Table) → (first_fault t ≡ None) ↔ IsQuandle t }
+{}
+
+/// `x ◁ y` is the one z with `z ▷ y = x`.
+pub fn back_is_the_inverse()
+    ensures { (t : Table) → IsQuandle t → (x y z : ℕ) → x < t.order → y < t.order → z < t.order
+        → (back t x y ≡ z) ↔ (over t z y ≡ x) }
+{}
+
+/// Each trivial table is a quandle.
+pub fn trivial_is_a_quandle()
+    ensures { (n : ℕ) → 1 ≤ n → n ≤ MAX_ORDER → IsQuandle (trivial n) }
+{}
+
+/// Each dihedral table is a quandle.
+pub fn dihedral_is_a_quandle()
+    ensures { (n : ℕ) → 1 ≤ n → n ≤ MAX_ORDER → IsQuandle (dihedral n) }
+{}
+
+/// An Alexander table is a quandle exactly where t has an inverse mod n.
+pub fn alexander_is_a_quandle()
+    ensures { (n t : ℕ) → 1 ≤ n → n ≤ MAX_ORDER → IsQuandle (alexander n t) ↔ (is_unit n t ≡ true) }
+{}
+
+/// The tetrahedral table is a quandle.
+pub fn tetrahedral_is_a_quandle()
+    ensures { IsQuandle tetrahedral }
+{}

@@ -1,0 +1,13 @@
+//! Finite quandles by their tables: the type, its two operations, and the built-in tables.
+//! A table is accepted exactly where the three laws hold, and refused with the first law that fails and its first case.
+#![tactic(auto)]
+
+mod built_in;
+mod fault;
+pub mod laws;
+mod quandle;
+#[cfg(test)]
+mod tests;
+
+pub use fault::QuandleFault;
+pub use quandle::{MAX_ORDER, MAX_TABLE, Quandle};

@@ -1,0 +1,125 @@
+//! A quandle and its two operations.
+ghost use Rattle.std.specs.Prelude.{◌≡◌, ◌<◌, ◌*◌, IfOk};
+ghost use Rattle.std.specs.Result.{result_err};
+ghost use Rattle.quandle_core.specs.Quandle.{IsQuandle, over, back};
+ghost use Rattle.quandle_core.specs.Fault.{first_fault};
+
+use crate::fault::{
+    QuandleFault, collision_fault, distributive_fault, entry, idempotent_fault, range_fault,
+    shape_fault,
+};
+use std::marker::Model;
+
+/// The greatest order of a quandle.
+pub const MAX_ORDER: usize = 16;
+
+/// The greatest number of entries of a table.
+pub const MAX_TABLE: usize = MAX_ORDER * MAX_ORDER;
+
+/// A finite quandle (Joyce 1982), which contracts see as its table.
+///
+/// Its colours are the numbers below its order, which is 1 to `MAX_ORDER`.
+#[derive(Drop)]
+pub struct Quandle {
+    order: u8,
+    // Both operations by column, the columns `MAX_ORDER` places apart.
+    forward: [u8; MAX_TABLE],
+    backward: [u8; MAX_TABLE],
+}
+
+impl Model for Quandle {
+    ghost use Rattle.std.specs.Prelude.{◌≡◌, ◌<◌, ℕ};
+    ghost use Rattle.quandle_core.specs.Quandle.{Table, IsQuandle, back};
+    ghost use Rattle.quandle_core.specs.Tables.{table_of};
+    ghost use Rattle.quandle_core.specs.Columns.{cell};
+
+    ghost Value = { Table };
+
+    ghost view = { λ q. table_of q.order (cell q.forward) };
+
+    ghost invariant = { λ q. IsQuandle (table_of q.order (cell q.forward))
+        × ((x y : ℕ) → x < q.order → y < q.order → cell q.backward x y ≡ back (table_of q.order (cell q.forward)) x y) };
+}
+
+impl Quandle {
+    /// The quandle of a table in which `table[x * order + y]` is `x ▷ y`.
+    ///
+    /// Else the first law that the table breaks, with its lexicographically first case.
+    pub fn new(order: u8, table: &[u8]) -> Result<Quandle, QuandleFault>
+        ensures fault { result_err result ≡ first_fault (record { order = order; entries = table.now }) }
+        ensures quandle { IfOk result (λ q. q ≡ record { order = order; entries = table.now }) }
+    {
+        if let Some(fault) = shape_fault(order, table) {
+            return Err(fault);
+        }
+        if let Some(fault) = range_fault(order, table) {
+            return Err(fault);
+        }
+        if let Some(fault) = idempotent_fault(order, table) {
+            return Err(fault);
+        }
+        if let Some(fault) = collision_fault(order, table) {
+            return Err(fault);
+        }
+        if let Some(fault) = distributive_fault(order, table) {
+            return Err(fault);
+        }
+        Ok(of_table(order, table))
+    }
+
+    /// The same quandle again.
+    pub fn copy(&self) -> Self
+        ensures { result ≡ self.now }
+    {
+        Quandle {
+            order: self.order,
+            forward: self.forward,
+            backward: self.backward,
+        }
+    }
+
+    /// The number of colours, from 1 to `MAX_ORDER`.
+    pub fn order(&self) -> u8
+        ensures order { result ≡ self.now.order }
+        ensures quandle { IsQuandle self.now }
+    {
+        self.order
+    }
+
+    /// `x ▷ y`, for colours x and y below the order.
+    pub fn over(&self, x: u8, y: u8) -> u8
+        requires { (x < self.now.order) × (y < self.now.order) }
+        ensures { result ≡ over self.now x y }
+    {
+        self.forward[y as usize * MAX_ORDER + x as usize]
+    }
+
+    /// `x ◁ y`, the colour `z` with `z ▷ y = x`, for colours x and y below the order.
+    pub fn back(&self, x: u8, y: u8) -> u8
+        requires { (x < self.now.order) × (y < self.now.order) }
+        ensures { result ≡ back self.now x y }
+    {
+        self.backward[y as usize * MAX_ORDER + x as usize]
+    }
+}
+
+/// The quandle of a table that has the three laws.
+pub(crate) fn of_table(order: u8, table: &[u8]) -> Quandle
+    requires { IsQuandle (record { order = order; entries = table.now }) }
+    ensures { result ≡ record { order = order; entries = table.now } }
+{
+    let mut forward = [0; MAX_TABLE];
+    let mut backward = [0; MAX_TABLE];
+    for y in 0..order {
+        for x in 0..order {
+            let z = entry(order, table, x, y);
+            forward[y as usize * MAX_ORDER + x as usize] = z;
+            backward[y as usize * MAX_ORDER + z as usize] = x;
+        }
+    }
+    Quandle {
+        order,
+        forward,
+        backward,
+    }
+}
