@@ -1,0 +1,6 @@
+pub mod Walk
+pub mod Colouring
+pub mod Equation
+pub use Rattle.grid_core.specs.Diagram
+pub use Rattle.grid_core.specs.Parts
+pub use Rattle.quandle_core.specs.Quandle

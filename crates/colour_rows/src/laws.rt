@@ -1,0 +1,19 @@
+//! Laws of walks and colourings, over the definitions alone.
+ghost use Rattle.std.specs.Prelude.{◌≡◌, ◌<◌, ◌↔◌, ℕ, List, slice_index, true, false};
+ghost use Rattle.grid_core.specs.Diagram.{Diagram, IsGrid, size};
+ghost use Rattle.grid_core.specs.Parts.{covers, ends};
+ghost use Rattle.quandle_core.specs.Quandle.{Table};
+ghost use Rattle.colour_rows.specs.Colouring.{IsColouring, is_colouring};
+
+/// The test for a colouring passes exactly where there is a colour below the order for each column and each row's walk ends with the colour of its right end.
+pub fn a_colouring_closes_each_row()
+    ensures { (t : Table) (d : Diagram) (colours : List ℕ) → (is_colouring t d colours ≡ true) ↔ IsColouring t d colours }
+{}
+
+/// A row without covering columns between its ends has equal colours at its ends, in each colouring. The lowest row is one.
+pub fn an_uncovered_row_has_equal_ends()
+    ensures equal { (t : Table) (d : Diagram) (colours : List ℕ) (r : ℕ) → IsColouring t d colours → r < size d
+        → ((c : ℕ) → (ends d r).low < c → c < (ends d r).high → covers d c r ≡ false)
+        → slice_index colours (ends d r).low ≡ slice_index colours (ends d r).high }
+    ensures lowest { (d : Diagram) (c : ℕ) → covers d c 0 ≡ false }
+{}

@@ -1,0 +1,149 @@
+//! A row, read off its diagram once.
+ghost use Rattle.std.specs.Prelude.{◌≡◌, ◌<◌, length};
+ghost use Rattle.std.specs.List.{All};
+ghost use Rattle.grid_core.specs.Diagram.{size};
+ghost use Rattle.grid_core.specs.Parts.{ends};
+ghost use Rattle.colour_rows.specs.Equation.{equation, passes, forth, walk_of, walk_back_of};
+
+use arrayvec::ArrayVec;
+use grid_core::{Grid, MAX_SIZE};
+use quandle_core::Quandle;
+use std::marker::Model;
+
+/// A column that a row passes under.
+#[derive(Clone, Copy, Default)]
+pub struct Pass {
+    /// The column, from 0 on the left.
+    pub column: u8,
+    /// Whether its X lies below its O.
+    pub up: bool,
+}
+
+/// A row's ends and the columns that it passes under, from left to right, ready to be walked under many lists of colours.
+///
+/// Contracts see it as an `Equation`: its walk is to end with the colour of its right end.
+#[derive(Drop)]
+pub struct Row {
+    left: u8,
+    right: u8,
+    passed: ArrayVec<Pass, MAX_SIZE>,
+}
+
+impl Model for Row {
+    ghost use Rattle.std.specs.Prelude.{◌<◌};
+    ghost use Rattle.std.specs.List.{All};
+    ghost use Rattle.colour_rows.specs.Equation.{Equation};
+    ghost use Rattle.colour_rows.specs.declared.row.Pass.{Pass};
+
+    ghost Value = { Equation };
+
+    ghost view = { λ r. record { left_end = r.left; right_end = r.right; passes = r.passed.items } };
+
+    ghost invariant = { λ r. (r.left < r.right) × All (λ (p : Pass). p.column < r.right) r.passed.items };
+}
+
+impl Row {
+    /// The row of a grid, counted from 0 at the bottom. Takes no memory.
+    pub fn of(grid: &Grid, row: u8) -> Row
+        requires { row < size grid.now }
+        ensures equation { result ≡ equation grid.now row }
+        ensures within { (result.left_end < result.right_end) × (result.right_end < size grid.now) }
+    {
+        let (left, right) = ends_of(grid, row);
+        let passed = passed(grid, row, left, right);
+        Row {
+            left,
+            right,
+            passed,
+        }
+    }
+
+    /// The column of the row's left end.
+    pub fn left(&self) -> u8
+        ensures { result ≡ self.now.left_end }
+    {
+        self.left
+    }
+
+    /// The column of the row's right end.
+    pub fn right(&self) -> u8
+        ensures { result ≡ self.now.right_end }
+    {
+        self.right
+    }
+
+    /// The last colour of the walk that starts with the colour of the left end.
+    /// Of the list only the left end and the columns passed are read.
+    pub fn walk(&self, quandle: &Quandle, colours: &[u8]) -> u8
+        requires within { self.now.right_end < length colours.now }
+        requires below { All (λ y. y < quandle.now.order) colours.now }
+        ensures { result ≡ walk_of quandle.now self.now colours.now }
+    {
+        let _order = quandle.order();
+        let mut colour = colours[self.left as usize];
+        for pass in self.passed.as_slice() {
+            colour = forth(quandle, pass.up, colour, colours[pass.column as usize]);
+        }
+        colour
+    }
+
+    /// The last colour of the walk taken backwards from the colour of the right end: the one from which `walk` gets there.
+    /// Of the list only the right end and the columns passed are read.
+    pub fn walk_back(&self, quandle: &Quandle, colours: &[u8]) -> u8
+        requires within { self.now.right_end < length colours.now }
+        requires below { All (λ y. y < quandle.now.order) colours.now }
+        ensures { result ≡ walk_back_of quandle.now self.now colours.now }
+    {
+        let _order = quandle.order();
+        let mut colour = colours[self.right as usize];
+        let passed = self.passed.as_slice();
+        for done in 0..passed.len() {
+            let pass = passed[passed.len() - 1 - done];
+            colour = forth(quandle, !pass.up, colour, colours[pass.column as usize]);
+        }
+        colour
+    }
+}
+
+/// The ends of a row, which are two columns, the left one first.
+pub(crate) fn ends_of(grid: &Grid, row: u8) -> (u8, u8)
+    requires { row < size grid.now }
+    ensures left { result.0 ≡ (ends grid.now row).low }
+    ensures right { result.1 ≡ (ends grid.now row).high }
+    ensures within { (result.0 < result.1) × (result.1 < size grid.now) }
+{
+    let _size = grid.size();
+    grid.ends(row)
+}
+
+/// What a colour becomes under a column, from left to right.
+fn forth(quandle: &Quandle, up: bool, colour: u8, column: u8) -> u8
+    requires { (colour < quandle.now.order) × (column < quandle.now.order) }
+    ensures is { result ≡ forth quandle.now up colour column }
+    ensures below { result < quandle.now.order }
+{
+    let _order = quandle.order();
+    if up {
+        quandle.back(colour, column)
+    } else {
+        quandle.over(colour, column)
+    }
+}
+
+/// The columns strictly between two that cover a row, from left to right.
+fn passed(grid: &Grid, row: u8, left: u8, right: u8) -> ArrayVec<Pass, MAX_SIZE>
+    requires { (left < right) × (right < size grid.now) }
+    ensures { result.items ≡ passes grid.now row left right }
+{
+    let _size = grid.size();
+    let mut passed = ArrayVec::new();
+    for column in left + 1..right {
+        if grid.covers(column, row) {
+            passed.push(Pass {
+                column,
+                up: grid.is_up(column),
+            });
+        }
+    }
+    passed
+}
