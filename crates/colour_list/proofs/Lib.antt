@@ -1,0 +1,12 @@
+mod Counts
+mod Times
+mod Order
+mod AllLists
+mod Columns
+mod Solved
+mod Sweep
+mod Cut
+mod Climb
+mod Lists
+mod Edits
+mod WorkedRows

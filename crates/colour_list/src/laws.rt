@@ -1,0 +1,12 @@
+//! Laws of the complete list, over the definitions alone.
+ghost use Rattle.std.specs.Prelude.{◌≡◌, ◌↔◌, ℕ, List, Contains};
+ghost use Rattle.grid_core.specs.Diagram.{Diagram};
+ghost use Rattle.quandle_core.specs.Quandle.{Table};
+ghost use Rattle.colour_rows.specs.Colouring.{IsColouring};
+ghost use Rattle.colour_list.specs.Listing.{colourings, times};
+
+/// Each colouring stands once in the complete list, and nothing else stands there.
+pub fn each_colouring_is_listed_once()
+    ensures once { (t : Table) (d : Diagram) (colours : List ℕ) → IsColouring t d colours → times colours (colourings t d) ≡ 1 }
+    ensures only { (t : Table) (d : Diagram) (colours : List ℕ) → Contains (colourings t d) colours → IsColouring t d colours }
+{}

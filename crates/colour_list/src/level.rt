@@ -1,0 +1,161 @@
+//! The lists of colours that a sweep holds between two rows.
+ghost use Rattle.std.specs.Prelude.{◌≡◌, ◌<◌, ◌++◌, ◌==◌, length, map, filter, take, slice_index, slice_set, OnOk, IfOk, IfErr};
+ghost use Rattle.std.specs.List.{All, flat_map};
+ghost use Rattle.grid_core.specs.declared.grid.TheConstants.{MAX_SIZE};
+ghost use Rattle.colour_rows.specs.Colouring.{AreColours};
+ghost use Rattle.colour_rows.specs.Equation.{walk_of};
+ghost use Rattle.colour_list.specs.declared.limits.ListFault.TheVariants as fault;
+ghost use Rattle.colour_list.specs.Listing.{lists_of};
+ghost use Rattle.colour_list.specs.Level.{with_right, with_left, with_both};
+
+use crate::limits::ListFault;
+use colour_rows::{Colouring, Row};
+use grid_core::MAX_SIZE;
+use quandle_core::Quandle;
+use std::alloc::{AllocFailed, Global};
+
+/// A list of colours in the making, 0 in each column that no row so far has reached.
+pub(crate) type Colours = [u8; MAX_SIZE];
+
+/// The list with the walk's last colour at the right end.
+fn with_right(colours: &Colours, row: &Row, quandle: &Quandle) -> Colours
+    requires within { row.now.right_end < MAX_SIZE }
+    requires colours { AreColours MAX_SIZE quandle.now.order colours.now }
+    ensures { result ≡ with_right quandle.now row.now colours.now }
+{
+    let mut solved = *colours;
+    solved[row.right() as usize] = row.walk(quandle, colours);
+    solved
+}
+
+/// The list with the last colour of the walk taken backwards at the left end.
+fn with_left(colours: &Colours, row: &Row, quandle: &Quandle) -> Colours
+    requires within { (row.now.left_end < row.now.right_end) × (row.now.right_end < MAX_SIZE) }
+    requires colours { AreColours MAX_SIZE quandle.now.order colours.now }
+    ensures { result ≡ with_left quandle.now row.now colours.now }
+{
+    let mut solved = *colours;
+    solved[row.left() as usize] = row.walk_back(quandle, colours);
+    solved
+}
+
+/// The list with a colour at the left end and the walk's last colour at the right end.
+fn with_both(colours: &Colours, row: &Row, quandle: &Quandle, colour: u8) -> Colours
+    requires within { (row.now.left_end < row.now.right_end) × (row.now.right_end < MAX_SIZE) }
+    requires colours { AreColours MAX_SIZE quandle.now.order colours.now }
+    requires below { colour < quandle.now.order }
+    ensures { result ≡ with_right quandle.now row.now (slice_set colours.now row.now.left_end colour) }
+{
+    let mut begun = *colours;
+    begun[row.left() as usize] = colour;
+    with_right(&begun, row, quandle)
+}
+
+/// Puts the list with each colour in turn at the left end behind others.
+fn push_each(
+    next: &mut Vec<Colours>,
+    colours: &Colours,
+    row: &Row,
+    quandle: &Quandle,
+) -> Result<(), AllocFailed<Colours>>
+    requires within { (row.now.left_end < row.now.right_end) × (row.now.right_end < MAX_SIZE) }
+    requires colours { AreColours MAX_SIZE quandle.now.order colours.now }
+    ensures { OnOk result (next.new.items ≡ next.old.items ++ with_both quandle.now row.now colours.now) }
+{
+    for colour in 0..quandle.order() {
+        next.push(with_both(colours, row, quandle, colour))?;
+    }
+    Ok(())
+}
+
+/// Gives the left end of a bottom each colour in turn, in each list.
+pub(crate) fn open_bottom(
+    alloc: Global,
+    level: &[Colours],
+    row: &Row,
+    quandle: &Quandle,
+) -> Result<Vec<Colours>, ListFault>
+    requires within { (row.now.left_end < row.now.right_end) × (row.now.right_end < MAX_SIZE) }
+    requires colours { All (AreColours MAX_SIZE quandle.now.order) level.now }
+    ensures lists { IfOk result (λ v. v.items ≡ flat_map (with_both quandle.now row.now) level.now) }
+    ensures memory { IfErr result (λ e. e ≡ fault.OutOfMemory) }
+{
+    let choices = level.len().saturating_mul(quandle.order() as usize);
+    let mut next = Vec::with_capacity(alloc, choices)?;
+    for colours in level {
+        push_each(&mut next, colours, row, quandle)?;
+    }
+    Ok(next)
+}
+
+/// Gives the right end of each list the walk's last colour.
+pub(crate) fn solve_right(level: &mut Vec<Colours>, row: &Row, quandle: &Quandle)
+    requires within { row.now.right_end < MAX_SIZE }
+    requires colours { All (AreColours MAX_SIZE quandle.now.order) level.old.items }
+    ensures { level.new.items ≡ map (with_right quandle.now row.now) level.old.items }
+{
+    for i in 0..level.len() {
+        level[i] = with_right(&level[i], row, quandle);
+    }
+}
+
+/// Gives the left end of each list the last colour of the walk taken backwards.
+pub(crate) fn solve_left(level: &mut Vec<Colours>, row: &Row, quandle: &Quandle)
+    requires within { (row.now.left_end < row.now.right_end) × (row.now.right_end < MAX_SIZE) }
+    requires colours { All (AreColours MAX_SIZE quandle.now.order) level.old.items }
+    ensures { level.new.items ≡ map (with_left quandle.now row.now) level.old.items }
+{
+    for i in 0..level.len() {
+        level[i] = with_left(&level[i], row, quandle);
+    }
+}
+
+/// Whether the walk ends with the colour of the right end.
+fn closes(colours: &Colours, row: &Row, quandle: &Quandle) -> bool
+    requires within { row.now.right_end < MAX_SIZE }
+    requires colours { AreColours MAX_SIZE quandle.now.order colours.now }
+    ensures { result ≡ (walk_of quandle.now row.now colours.now == slice_index colours.now row.now.right_end) }
+{
+    row.walk(quandle, colours) == colours[row.right() as usize]
+}
+
+/// Keeps the lists on which the row closes, in their order.
+pub(crate) fn keep_closed(level: &mut Vec<Colours>, row: &Row, quandle: &Quandle)
+    requires within { row.now.right_end < MAX_SIZE }
+    requires colours { All (AreColours MAX_SIZE quandle.now.order) level.old.items }
+    ensures { level.new.items ≡ filter (λ f. walk_of quandle.now row.now f == slice_index f row.now.right_end) level.old.items }
+{
+    let mut kept = 0;
+    for i in 0..level.len() {
+        if closes(&level[i], row, quandle) {
+            level[kept] = level[i];
+            kept += 1;
+        }
+    }
+    level.truncate(kept);
+}
+
+/// The colours of the first columns.
+fn colouring_of(colours: &Colours, size: u8) -> Colouring
+    ensures { result.items ≡ take size colours.now }
+{
+    let mut colouring = Colouring::from(*colours);
+    colouring.truncate(size as usize);
+    colouring
+}
+
+/// The colours of the first columns of each list.
+pub(crate) fn colourings_of(
+    alloc: Global,
+    level: &[Colours],
+    size: u8,
+) -> Result<Vec<Colouring>, ListFault>
+    ensures lists { IfOk result (λ v. lists_of v.items ≡ map (take size) level.now) }
+    ensures memory { IfErr result (λ e. e ≡ fault.OutOfMemory) }
+{
+    let mut list = Vec::with_capacity(alloc, level.len())?;
+    for colours in level {
+        list.push(colouring_of(colours, size))?;
+    }
+    Ok(list)
+}
