@@ -1,0 +1,16 @@
+//! The ids that wait to be worked on, kept by size: the next one is the id of the least size that was pushed first.
+//! All memory is taken at the start; a push and a pop take none, and constant time.
+#![tactic(auto)]
+
+mod frontier;
+mod laws;
+mod memory;
+mod queue;
+mod sizes;
+#[cfg(test)]
+mod tests;
+
+pub use frontier::Frontier;
+pub use laws::{comes_out_once, same_size_in_order};
+pub use memory::OutOfMemory;
+pub use sizes::SIZES;
