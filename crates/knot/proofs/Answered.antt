@@ -7,17 +7,20 @@ use Rattle.cert_check.specs.declared.ruling.Ruling.{Ruling}
 use Rattle.cert_check.specs.declared.ruling.Ruling.TheVariants.{Accepted, Rejected}
 use Rattle.cert_check.proofs.Rulings.{ruled_once, some_ruling}
 use Rattle.knot.specs.declared.job.Job.{Job}
-use Rattle.knot.specs.declared.job.Job.TheVariants.{Check, Replay}
+use Rattle.knot.specs.declared.job.Job.TheVariants.{Check, Replay, Colour}
 use Rattle.knot.specs.declared.status.Status.{Status}
 use Rattle.knot.specs.declared.status.Status.TheVariants as status
 use Rattle.knot.specs.declared.reading.inputs.CheckInput.{CheckInput}
 use Rattle.knot.specs.declared.reading.inputs.ReplayInput.{ReplayInput}
+use Rattle.knot.specs.declared.reading.inputs.ColourInput.{ColourInput}
 use Rattle.knot.specs.Printed.{grid_text}
 use Rattle.knot.specs.CheckText.{IsCheckText}
 use Rattle.knot.specs.ReplayText.{IsReplayText}
-use Rattle.knot.specs.Reading.{check_input_of, replay_input_of}
-use Rattle.knot.specs.Answer.{limit_of, accepted_line, unread_line, step_line, why_line, Tells, AnswersCheck, AnswersReplay, Replays, Stops, AnswersText, IsShapeless, Answers}
-use Rattle.knot.proofs.Inputs.{check_takes, check_again, check_once, replay_takes, replay_again, replay_once}
+use Rattle.knot.specs.ColourText.{IsColourText}
+use Rattle.knot.specs.Colours.{colours_text}
+use Rattle.knot.specs.Reading.{check_input_of, replay_input_of, colour_input_of}
+use Rattle.knot.specs.Answer.{limit_of, accepted_line, unread_line, step_line, why_line, Tells, AnswersCheck, AnswersReplay, AnswersColour, Replays, Stops, AnswersText, IsShapeless, Answers}
+use Rattle.knot.proofs.Inputs.{check_takes, check_again, check_once, replay_takes, replay_again, replay_once, colour_takes, colour_again, colour_once}
 
 -- ---- the status of an answer
 
@@ -28,6 +31,7 @@ told_status (Rejected why) s text t = inr t.0
 pub text_status : (job : Job) (bytes : List ℕ) (s : Status) (text : List ℕ) → AnswersText job bytes s text → (s ≡ status.Done) ⊎ (s ≡ status.Rejected)
 text_status Check bytes s text a = told_status a.1.1.ruling s text a.1.1.tells
 text_status Replay bytes s text a = elim a.1.1 [ inl done ↦ inl done.0 | inr stopped ↦ inr stopped.0 ]
+text_status Colour bytes s text a = inl a.1.1.0
 
 -- ---- one answer
 
@@ -62,9 +66,15 @@ text_once Replay bytes s s' text text' one two =
     let same = replay_once bytes two.0 one.0 two.1.0 one.1.0 in
     replay_answer_once one.0 s s' text text' one.1.1 (subst (λ i. AnswersReplay i s' text') same two.1.1)
 
+text_once Colour bytes s s' text text' one two =
+    let same = colour_once bytes two.0 one.0 two.1.0 one.1.0 in
+    let b = subst (λ i. AnswersColour i s' text') same two.1.1 in
+    (one.1.1.0 ∙ sym b.0, one.1.1.1 ∙ sym b.1)
+
 not_shapeless : (job : Job) (bytes : List ℕ) (s : Status) (text : List ℕ) → AnswersText job bytes s text → IsShapeless job bytes → ⊥
 not_shapeless Check bytes s text a none = none a.0 a.1.0
 not_shapeless Replay bytes s text a none = none a.0 a.1.0
+not_shapeless Colour bytes s text a none = none a.0 a.1.0
 
 -- an answer is that of an input that was read, or `unread`
 pub record IsRead (job : Job) (bytes : List ℕ) (s : Status) (text : List ℕ) : Type 0 where
@@ -141,6 +151,10 @@ replay_by bytes short (Some i) e =
       | inr stop ↦ read_answer Replay bytes status.Rejected (step_line stop.0 stop.1.0) short (i, (is, inr (refl, record { place = stop.0; fault = stop.1.0; stops = stop.1.1; is = refl })))
     ]
 
+colour_by : (bytes : List ℕ) → length bytes ≤ limit_of Colour → (read : Option ColourInput) → colour_input_of bytes ≡ read → SomeAnswer Colour bytes
+colour_by bytes short None e = (status.Unread, (unread_line, (inr (λ i is. let no = sym e ∙ colour_again bytes i is in absurd cc), refl)))
+colour_by bytes short (Some i) e = read_answer Colour bytes status.Done (colours_text i.first i.quandles) short (i, (colour_takes bytes i e, (refl, refl)))
+
 pub answered : (job : Job) (bytes : List ℕ) → SomeAnswer job bytes
 answered Check bytes =
     elim (cases_lt (limit_of Check) (length bytes)) [
@@ -151,4 +165,9 @@ answered Replay bytes =
     elim (cases_lt (limit_of Replay) (length bytes)) [
       | inl long ↦ (status.Unread, (unread_line, (inl long, refl)))
       | inr short ↦ replay_by bytes short (replay_input_of bytes) refl
+    ]
+answered Colour bytes =
+    elim (cases_lt (limit_of Colour) (length bytes)) [
+      | inl long ↦ (status.Unread, (unread_line, (inl long, refl)))
+      | inr short ↦ colour_by bytes short (colour_input_of bytes) refl
     ]

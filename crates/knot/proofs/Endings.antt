@@ -3,7 +3,7 @@ use Rattle.std.proofs.Common.{◌≡◌, ◌<◌, ◌≤◌, ◌+◌, ◌++◌, 
 use Rattle.std.specs.Io.KnownBytes.{Appends, Consumes, IsAtEnd}
 use Rattle.std.proofs.lemmas.List.{append-nil, take_at, take_all}
 use Rattle.knot.specs.declared.job.Job.{Job}
-use Rattle.knot.specs.declared.job.Job.TheVariants.{Check, Replay}
+use Rattle.knot.specs.declared.job.Job.TheVariants.{Check, Replay, Colour}
 use Rattle.knot.specs.declared.status.Status.{Status}
 use Rattle.knot.specs.declared.status.Status.TheVariants as status
 use Rattle.knot.specs.Words.{NamesJob, job_word}
@@ -54,11 +54,17 @@ answer_ends call goes_with text s a written =
 
 -- ---- one outcome
 
+-- the second letter tells the jobs apart
 word_once : (j k : Job) → job_word j ≡ job_word k → j ≡ k
 word_once Check Check e = refl
 word_once Replay Replay e = refl
-word_once Check Replay e = absurd (let no : 99 ≡ 114 = ap (λ w. get_or w 0 0) e in omega (arith, no))
-word_once Replay Check e = absurd (let no : 114 ≡ 99 = ap (λ w. get_or w 0 0) e in omega (arith, no))
+word_once Colour Colour e = refl
+word_once Check Replay e = absurd (let no : 104 ≡ 101 = ap (λ w. get_or w 1 0) e in omega (arith, no))
+word_once Check Colour e = absurd (let no : 104 ≡ 111 = ap (λ w. get_or w 1 0) e in omega (arith, no))
+word_once Replay Check e = absurd (let no : 101 ≡ 104 = ap (λ w. get_or w 1 0) e in omega (arith, no))
+word_once Replay Colour e = absurd (let no : 101 ≡ 111 = ap (λ w. get_or w 1 0) e in omega (arith, no))
+word_once Colour Check e = absurd (let no : 111 ≡ 104 = ap (λ w. get_or w 1 0) e in omega (arith, no))
+word_once Colour Replay e = absurd (let no : 111 ≡ 101 = ap (λ w. get_or w 1 0) e in omega (arith, no))
 
 pub named_once : (words : List (List ℕ)) (j k : Job) → NamesJob words j → NamesJob words k → j ≡ k
 named_once words j k one two = word_once j k (let same = sym one.1 ∙ two.1 in ap (λ ws. get_or ws 1 []) same)

@@ -11,14 +11,19 @@ use Rattle.knot.specs.declared.reading.Unreadable.{Unreadable}
 use Rattle.knot.specs.declared.reading.Unreadable.TheVariants.{NotOfShape, OutOfMemory}
 use Rattle.knot.specs.declared.reading.inputs.CheckInput.{CheckInput}
 use Rattle.knot.specs.declared.reading.inputs.ReplayInput.{ReplayInput}
+use Rattle.knot.specs.declared.reading.inputs.ColourInput.{ColourInput}
+use Rattle.knot.specs.declared.quandles.TheConstants.{MAX_LISTED}
+use Rattle.knot.specs.Quandles.{quandle_line}
+use Rattle.knot.specs.ColourText.{colour_text, IsColourText}
 use Rattle.knot.specs.Printed.{grid_text, move_line, moves_text, AreMoves}
 use Rattle.knot.specs.CheckText.{check_text, IsCheckInput, IsCheckText}
 use Rattle.knot.specs.ReplayText.{replay_text, IsReplayInput, IsReplayText}
-use Rattle.knot.specs.Reading.{◌>>=◌, GivesUnless, behind, number_at, count_at, grid_at, move_lines_at, last_moves_at, check_input_of, replay_input_of}
+use Rattle.knot.specs.Reading.{◌>>=◌, GivesUnless, behind, number_at, count_at, grid_at, move_lines_at, last_moves_at, check_input_of, replay_input_of, colour_input_of, last_quandles_at}
 use Rattle.knot.proofs.Steps.{bind_some, guard_some, some_is, texts_join, behind_takes, behind_again}
 use Rattle.knot.proofs.Numbers.{number_takes, number_again}
 use Rattle.knot.proofs.Rows.{grid_takes, grid_again}
 use Rattle.knot.proofs.MoveLines.{lines_takes, lines_again}
+use Rattle.knot.proofs.QuandleLines.{names_take, names_again}
 
 count_takes : (word bytes : List ℕ) (x : ℕ × List ℕ) → count_at word bytes ≡ Some x → (bytes ≡ word ++ (decimal x.0 ++ (codes "\n" ++ x.1))) × (x.0 < 1000000000)
 unfolding count_at
@@ -104,6 +109,27 @@ replay_again bytes i is =
 pub replay_once : (bytes : List ℕ) (i j : ReplayInput) → IsReplayText bytes i → IsReplayText bytes j → i ≡ j
 replay_once bytes i j one two = some_is i j (sym (replay_again bytes i one) ∙ replay_again bytes j two)
 
+-- ---- colour
+
+pub colour_takes : (bytes : List ℕ) (i : ColourInput) → colour_input_of bytes ≡ Some i → IsColourText bytes i
+unfolding colour_input_of
+colour_takes bytes i e =
+    let a = bind_some (grid_at bytes) (λ first. last_quandles_at MAX_LISTED first.1 >>= λ quandles. Some (record { first = first.0; quandles = quandles })) i e in
+    let q = bind_some (last_quandles_at MAX_LISTED a.0.1) (λ quandles. Some (record { first = a.0.0; quandles = quandles })) i a.2 in
+    let one = grid_takes bytes a.0 a.1 in
+    let names = names_take MAX_LISTED a.0.1 q.0 q.1 in
+    let made : ColourInput = record { first = a.0.0; quandles = q.0 } in
+    let text : bytes ≡ colour_text made = one.0 ∙ ap (λ (t : List ℕ). grid_text a.0.0 ++ t) names.text in
+    subst (λ (j : ColourInput). IsColourText bytes j) (some_is made i q.2) (record { input = record { first = one.1; few = names.few; quandles = names.fits }; text = text })
+
+pub colour_again : (bytes : List ℕ) (i : ColourInput) → IsColourText bytes i → colour_input_of bytes ≡ Some i
+unfolding colour_input_of
+colour_again bytes i is =
+    ap colour_input_of is.text ∙ rw (grid_again i.first (flat_map quandle_line i.quandles) is.input.first, names_again MAX_LISTED i.quandles is.input.few is.input.quandles) refl
+
+pub colour_once : (bytes : List ℕ) (i j : ColourInput) → IsColourText bytes i → IsColourText bytes j → i ≡ j
+colour_once bytes i j one two = some_is i j (sym (colour_again bytes i one) ∙ colour_again bytes j two)
+
 -- ---- what the readers answer
 
 found_by : {Y : Type 0} (Is : Y → Type 0) (read : Option Y) (r : Result Y Unreadable) → ((i : Y) → read ≡ Some i → Is i) → GivesUnless (λ i. i) r read → IfOk r Is
@@ -126,3 +152,9 @@ replay_found bytes r given = found_by (λ i. IsReplayText bytes i) (replay_input
 
 pub replay_unread : (bytes : List ℕ) (r : Result ReplayInput Unreadable) → GivesUnless (λ i. i) r (replay_input_of bytes) → IsErrOf r NotOfShape → (i : ReplayInput) → IsReplayText bytes i → ⊥
 replay_unread bytes r given is = unread_by (λ i. IsReplayText bytes i) (replay_input_of bytes) r (replay_again bytes) given is
+
+pub colour_found : (bytes : List ℕ) (r : Result ColourInput Unreadable) → GivesUnless (λ i. i) r (colour_input_of bytes) → IfOk r (λ i. IsColourText bytes i)
+colour_found bytes r given = found_by (λ i. IsColourText bytes i) (colour_input_of bytes) r (colour_takes bytes) given
+
+pub colour_unread : (bytes : List ℕ) (r : Result ColourInput Unreadable) → GivesUnless (λ i. i) r (colour_input_of bytes) → IsErrOf r NotOfShape → (i : ColourInput) → IsColourText bytes i → ⊥
+colour_unread bytes r given is = unread_by (λ i. IsColourText bytes i) (colour_input_of bytes) r (colour_again bytes) given is

@@ -4,6 +4,7 @@ mod Steps
 mod Numbers
 mod Rows
 mod MoveLines
+mod QuandleLines
 mod Inputs
 mod Answered
 mod Endings

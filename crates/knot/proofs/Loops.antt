@@ -1,8 +1,9 @@
 -- Rows and moves read one after the other, as a loop does.
-use Rattle.std.proofs.Common.{◌≡◌, ℕ, suc, ◌-◌, ◌+◌, ◌≤◌, ◌<◌, List, [], ◌∷◌, ◌++◌, Option, Some, None, Result, Ok, Err, refl, sym, ap, ◌∙◌, append_assoc, arith, codes}
+use Rattle.std.proofs.Common.{◌≡◌, ℕ, zero, suc, ◌-◌, ◌+◌, ◌≤◌, ◌<◌, List, [], ◌∷◌, ◌++◌, Option, Some, None, Result, Ok, Err, refl, sym, ap, ◌∙◌, append_assoc, arith, codes, true, false, ◌==◌, length, Bool, cond}
 use Rattle.std.proofs.lemmas.List.{append-nil}
 use Rattle.grid_moves.specs.declared.step.Move.{Move}
-use Rattle.knot.specs.Reading.{◌>>=◌, or_else, behind, row_at, rows_at, move_at, move_lines_at}
+use Rattle.knot.specs.declared.quandles.QuandleName.{QuandleName}
+use Rattle.knot.specs.Reading.{◌>>=◌, or_else, behind, row_at, rows_at, move_at, move_lines_at, quandle_at, last_quandles_at}
 
 -- what was read before, and what is still read
 abbrev pub with_front : {A : Type 0} → List A → Option (List A × List ℕ) → Option (List A × List ℕ)
@@ -78,4 +79,50 @@ unfolding move_lines_at
 moves_done front count i bytes total le so_far =
     let k : count - i ≡ 0 = omega arith in
     let one : with_front front (move_lines_at (count - i) bytes) ≡ Some (front, bytes) = rw k (ap (λ ns. Some (ns, bytes)) (append-nil front)) in
+    sym so_far ∙ one
+
+-- ---- quandles
+
+-- what was read before, and what is still read, behind which nothing stands
+abbrev pub with_names : List QuandleName → Option (List QuandleName) → Option (List QuandleName)
+with_names front read = read >>= λ names. Some (front ++ names)
+
+regroup_names : (front : List QuandleName) (n : QuandleName) (read : Option (List QuandleName)) → with_names front (read >>= λ names. Some (n ∷ names)) ≡ with_names (front ++ n ∷ []) read
+regroup_names front n (Some x) = ap (λ ns. Some ns) (simp append_assoc)
+regroup_names front n None = refl
+
+pub name_more : (front : List QuandleName) (most i : ℕ) (bytes : List ℕ) (name : QuandleName) (after : List ℕ) (total : Option (List QuandleName)) → i < most → (length bytes == 0) ≡ false → quandle_at bytes ≡ Some (name, after)
+    → with_names front (last_quandles_at (most - i) bytes) ≡ total → with_names (front ++ name ∷ []) (last_quandles_at (most - (i + 1)) after) ≡ total
+unfolding last_quandles_at
+name_more front most i bytes name after total lt some h so_far =
+    let k : most - i ≡ suc (most - (i + 1)) = omega arith in
+    let one : with_names front (last_quandles_at (most - i) bytes) ≡ with_names (front ++ name ∷ []) (last_quandles_at (most - (i + 1)) after) = rw (k, some, h) (regroup_names front name (last_quandles_at (most - (i + 1)) after)) in
+    sym one ∙ so_far
+
+pub names_fail : (front : List QuandleName) (most i : ℕ) (bytes : List ℕ) (total : Option (List QuandleName)) → i < most → (length bytes == 0) ≡ false → quandle_at bytes ≡ None
+    → with_names front (last_quandles_at (most - i) bytes) ≡ total → total ≡ None
+unfolding last_quandles_at
+names_fail front most i bytes total lt some h so_far =
+    let k : most - i ≡ suc (most - (i + 1)) = omega arith in
+    let one : with_names front (last_quandles_at (most - i) bytes) ≡ None = rw (k, some, h) refl in
+    sym so_far ∙ one
+
+-- nothing is left
+ended : (k : ℕ) (bytes : List ℕ) → (length bytes == 0) ≡ true → last_quandles_at k bytes ≡ Some []
+unfolding last_quandles_at
+ended zero bytes is = rw is refl
+ended (suc k) bytes is = rw is refl
+
+pub names_end : (front : List QuandleName) (k : ℕ) (bytes : List ℕ) (total : Option (List QuandleName)) → (length bytes == 0) ≡ true
+    → with_names front (last_quandles_at k bytes) ≡ total → total ≡ Some front
+names_end front k bytes total is so_far =
+    let one : with_names front (last_quandles_at k bytes) ≡ Some front = ap (with_names front) (ended k bytes is) ∙ ap (λ ns. Some ns) (append-nil front) in
+    sym so_far ∙ one
+
+pub names_over : (front : List QuandleName) (most i : ℕ) (bytes : List ℕ) (total : Option (List QuandleName)) → most ≤ i → (length bytes == 0) ≡ false
+    → with_names front (last_quandles_at (most - i) bytes) ≡ total → total ≡ None
+unfolding last_quandles_at
+names_over front most i bytes total le some so_far =
+    let k : most - i ≡ 0 = omega arith in
+    let one : with_names front (last_quandles_at (most - i) bytes) ≡ None = rw (k, some) refl in
     sym so_far ∙ one

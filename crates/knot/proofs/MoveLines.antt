@@ -22,10 +22,10 @@ pub record TakesMove (bytes : List ℕ) (move : Move) (rest : List ℕ) : Type 0
 -- ---- a move with one number
 
 -- a word, digits, the end of the line, and what stands behind
-line_then : (word digits rest : List ℕ) → (word ++ (digits ++ codes "\n")) ++ rest ≡ word ++ (digits ++ (codes "\n" ++ rest))
+pub line_then : (word digits rest : List ℕ) → (word ++ (digits ++ codes "\n")) ++ rest ≡ word ++ (digits ++ (codes "\n" ++ rest))
 line_then word digits rest = append_assoc word (digits ++ codes "\n") rest ∙ ap (λ (t : List ℕ). word ++ t) (append_assoc digits (codes "\n") rest)
 
-line_takes : (word bytes : List ℕ) (n : ℕ) (rest : List ℕ) → number_line word bytes ≡ Some (n, rest) → (bytes ≡ (word ++ (decimal n ++ codes "\n")) ++ rest) × (n < 256)
+pub line_takes : (word bytes : List ℕ) (n : ℕ) (rest : List ℕ) → number_line word bytes ≡ Some (n, rest) → (bytes ≡ (word ++ (decimal n ++ codes "\n")) ++ rest) × (n < 256)
 unfolding number_line
 line_takes word bytes n rest e =
     let a = bind_some (behind word bytes) (λ after. small_before (codes "\n") after) (n, rest) e in
@@ -33,7 +33,7 @@ line_takes word bytes n rest e =
     let t = before_takes (codes "\n") a.0 n rest a.2 in
     (w ∙ ap (λ (x : List ℕ). word ++ x) t.0 ∙ sym (line_then word (decimal n) rest), t.1)
 
-line_again : (word : List ℕ) (n : ℕ) (rest : List ℕ) → n < 256 → number_line word (word ++ (decimal n ++ (codes "\n" ++ rest))) ≡ Some (n, rest)
+pub line_again : (word : List ℕ) (n : ℕ) (rest : List ℕ) → n < 256 → number_line word (word ++ (decimal n ++ (codes "\n" ++ rest))) ≡ Some (n, rest)
 unfolding number_line
 line_again word n rest small = rw (behind_again word (decimal n ++ (codes "\n" ++ rest))) (before_again (codes "\n") n rest small refl)
 

@@ -10,14 +10,17 @@ use Rattle.cert_check.specs.declared.ruling.Why.{Why}
 use Rattle.cert_check.specs.declared.ruling.Why.TheVariants.{Step, OtherEnd}
 use Rattle.cert_check.specs.Ruling.{Rules}
 use Rattle.knot.specs.declared.job.Job.{Job}
-use Rattle.knot.specs.declared.job.Job.TheVariants.{Check, Replay}
+use Rattle.knot.specs.declared.job.Job.TheVariants.{Check, Replay, Colour}
 use Rattle.knot.specs.declared.status.Status.{Status}
 use Rattle.knot.specs.declared.status.Status.TheVariants as status
 use Rattle.knot.specs.declared.reading.inputs.CheckInput.{CheckInput}
 use Rattle.knot.specs.declared.reading.inputs.ReplayInput.{ReplayInput}
+use Rattle.knot.specs.declared.reading.inputs.ColourInput.{ColourInput}
 use Rattle.knot.specs.Printed.{grid_text, fault_words}
 use Rattle.knot.specs.CheckText.{IsCheckText}
 use Rattle.knot.specs.ReplayText.{IsReplayText}
+use Rattle.knot.specs.ColourText.{IsColourText}
+use Rattle.knot.specs.Colours.{colours_text}
 
 -- the exit status
 abbrev pub status_number : Status → ℕ
@@ -33,6 +36,7 @@ status_number status.Unread = 9
 abbrev pub limit_of : Job → ℕ
 limit_of Check = 33554432
 limit_of Replay = 1048576
+limit_of Colour = 1048576
 
 abbrev pub accepted_line : List ℕ
 accepted_line = codes "accepted\n"
@@ -75,15 +79,21 @@ pub record Stops (input : ReplayInput) (text : List ℕ) : Type 0 where
 abbrev pub AnswersReplay : ReplayInput → Status → List ℕ → Type 0
 AnswersReplay input s text = ((s ≡ status.Done) × Replays input text) ⊎ ((s ≡ status.Rejected) × Stops input text)
 
+-- a grid and quandles are answered by the colourings
+abbrev pub AnswersColour : ColourInput → Status → List ℕ → Type 0
+AnswersColour input s text = (s ≡ status.Done) × (text ≡ colours_text input.first input.quandles)
+
 -- the input is the text of something that the job takes, which has this answer
 abbrev pub AnswersText : Job → List ℕ → Status → List ℕ → Type 0
 AnswersText Check bytes s text = (input : CheckInput) × (IsCheckText bytes input × AnswersCheck input s text)
 AnswersText Replay bytes s text = (input : ReplayInput) × (IsReplayText bytes input × AnswersReplay input s text)
+AnswersText Colour bytes s text = (input : ColourInput) × (IsColourText bytes input × AnswersColour input s text)
 
 -- the input is the text of nothing that the job takes
 abbrev pub IsShapeless : Job → List ℕ → Type 0
 IsShapeless Check bytes = (input : CheckInput) → IsCheckText bytes input → ⊥
 IsShapeless Replay bytes = (input : ReplayInput) → IsReplayText bytes input → ⊥
+IsShapeless Colour bytes = (input : ColourInput) → IsColourText bytes input → ⊥
 
 -- what the job answers to an input: too long an input, or one that it can't read, is unread
 abbrev pub Answers : Job → List ℕ → Status → List ℕ → Type 0

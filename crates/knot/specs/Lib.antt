@@ -2,6 +2,9 @@ pub mod Words
 pub mod Printed
 pub mod CheckText
 pub mod ReplayText
+pub mod Quandles
+pub mod ColourText
+pub mod Colours
 pub mod Reading
 pub mod Answer
 pub mod Outcome

@@ -16,6 +16,12 @@ use Rattle.knot.specs.declared.reading.Unreadable.{Unreadable}
 use Rattle.knot.specs.declared.reading.Unreadable.TheVariants.{NotOfShape, OutOfMemory}
 use Rattle.knot.specs.declared.reading.inputs.CheckInput.{CheckInput}
 use Rattle.knot.specs.declared.reading.inputs.ReplayInput.{ReplayInput}
+use Rattle.knot.specs.declared.reading.inputs.ColourInput.{ColourInput}
+use Rattle.knot.specs.declared.quandles.QuandleName.{QuandleName}
+use Rattle.knot.specs.declared.quandles.QuandleName.TheVariants.{Trivial, Dihedral, Tetrahedral, Alexander}
+use Rattle.knot.specs.declared.quandles.TheConstants.{MAX_LISTED}
+use Rattle.quandle_core.specs.declared.quandle.TheConstants.{MAX_ORDER}
+use Rattle.quandle_core.specs.Tables.{is_unit}
 
 infixl 10 ◌>>=◌
 abbrev pub ◌>>=◌ : {A B : Type 0} → Option A → (A → Option B) → Option B
@@ -185,6 +191,55 @@ replay_input_of bytes = do
   first ← grid_at bytes
   moves ← last_moves_at (codes "moves ") first.1
   Some (record { first = first.0; moves = moves })
+
+-- an order of a quandle
+abbrev pub is_order : ℕ → Bool
+is_order n = nat_le 1 n && nat_le n MAX_ORDER
+
+-- the order of a line that begins with this word
+unfoldable pub order_line : List ℕ → List ℕ → Option (ℕ × List ℕ)
+order_line word bytes = do
+  n ← number_line word bytes
+  if is_order n.0 then Some n else None
+
+-- a quandle named by its order
+abbrev pub sized : (ℕ → QuandleName) → List ℕ → List ℕ → Option (QuandleName × List ℕ)
+sized make word bytes = do
+  n ← order_line word bytes
+  Some (make n.0, n.1)
+
+unfoldable pub tetrahedral_at : List ℕ → Option (QuandleName × List ℕ)
+tetrahedral_at bytes = do
+  rest ← behind (codes "quandle tetrahedral\n") bytes
+  Some (Tetrahedral, rest)
+
+unfoldable pub alexander_at : List ℕ → Option (QuandleName × List ℕ)
+alexander_at bytes = do
+  rest ← behind (codes "quandle alexander ") bytes
+  n ← small_before (codes " ") rest
+  t ← small_before (codes "\n") n.1
+  if is_order n.0 && nat_lt t.0 n.0 && is_unit n.0 t.0 then Some (Alexander n.0 t.0, t.1) else None
+
+unfoldable pub quandle_at : List ℕ → Option (QuandleName × List ℕ)
+quandle_at bytes =
+    or_else (sized (λ n. Trivial n) (codes "quandle trivial ") bytes)
+    (or_else (sized (λ n. Dihedral n) (codes "quandle dihedral ") bytes)
+    (or_else (tetrahedral_at bytes)
+    (alexander_at bytes)))
+
+-- at most so many quandles, behind which nothing stands
+unfoldable pub last_quandles_at : ℕ → List ℕ → Option (List QuandleName)
+last_quandles_at zero bytes = if length bytes == 0 then Some [] else None
+last_quandles_at (suc room) bytes = if length bytes == 0 then Some [] else (do
+  first ← quandle_at bytes
+  others ← last_quandles_at room first.1
+  Some (first.0 ∷ others))
+
+unfoldable pub colour_input_of : List ℕ → Option ColourInput
+colour_input_of bytes = do
+  first ← grid_at bytes
+  quandles ← last_quandles_at MAX_LISTED first.1
+  Some (record { first = first.0; quandles = quandles })
 
 -- the same of what may want memory, of which nothing is said
 abbrev pub Fails : {Y : Type 0} → Unreadable → Option Y → Type 0

@@ -1,10 +1,14 @@
 //! What each job answers to an input.
-ghost use Rattle.std.specs.Prelude.{◌≡◌, ◌<◌, ◌≤◌, ◌⊎◌, length, IfOk};
-ghost use Rattle.knot.specs.Answer.{limit_of, Answers, AnswersCheck, AnswersReplay, Tells, unread_line};
+ghost use Rattle.std.specs.Prelude.{◌≡◌, ◌≤◌, All, length, IfOk};
+ghost use Rattle.knot.specs.Quandles.{IsQuandleName};
+ghost use Rattle.knot.specs.Answer.{limit_of, Answers, AnswersCheck, AnswersReplay, AnswersColour, Tells, unread_line};
 
 use crate::job::Job;
 use crate::printing::{grid_text, step_line, why_line};
-use crate::reading::{CheckInput, ReplayInput, Unreadable, check_input, replay_input};
+use crate::colours::colours_text;
+use crate::reading::{
+    CheckInput, ColourInput, ReplayInput, Unreadable, check_input, colour_input, replay_input,
+};
 use crate::status::Status;
 use cert_check::{Ruling, check_moves};
 use grid_core::Items;
@@ -39,6 +43,7 @@ impl Job {
         match self {
             Job::Check => 33_554_432,
             Job::Replay => 1_048_576,
+            Job::Colour => 1_048_576,
         }
     }
 }
@@ -65,6 +70,11 @@ pub fn answer_to(alloc: Global, job: Job, bytes: &[u8]) -> Result<Answer, AllocE
         },
         Job::Replay => match replay_input(alloc, bytes) {
             Ok(input) => replay_answer(alloc, &input),
+            Err(Unreadable::NotOfShape) => unread(alloc),
+            Err(Unreadable::OutOfMemory) => Err(AllocError),
+        },
+        Job::Colour => match colour_input(alloc, bytes) {
+            Ok(input) => colour_answer(alloc, &input),
             Err(Unreadable::NotOfShape) => unread(alloc),
             Err(Unreadable::OutOfMemory) => Err(AllocError),
         },
@@ -105,4 +115,13 @@ fn replay_answer(alloc: Global, input: &ReplayInput) -> Result<Answer, AllocErro
             step_line(alloc, place, fault)?,
         )),
     }
+}
+
+/// The colourings of a grid by the named quandles.
+fn colour_answer(alloc: Global, input: &ColourInput) -> Result<Answer, AllocError>
+    requires { All IsQuandleName input.now.quandles }
+    ensures { IfOk result (λ a. AnswersColour input.now a.status a.text) }
+{
+    let text = colours_text(alloc, &input.first, input.quandles.as_slice())?;
+    Ok(Answer::new(Status::Done, text))
 }

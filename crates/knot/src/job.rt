@@ -9,6 +9,8 @@ pub enum Job {
     Check,
     /// Makes moves on a grid.
     Replay,
+    /// Lists the colourings of a grid by quandles.
+    Colour,
 }
 
 /// The job that the words name: the program's name, whatever it is, and one word.
@@ -30,6 +32,7 @@ fn job_named(word: &str) -> Option<Job>
     match word {
         "check" => Some(Job::Check),
         "replay" => Some(Job::Replay),
+        "colour" => Some(Job::Colour),
         _ => None,
     }
 }

@@ -2,11 +2,12 @@
 ghost use Rattle.std.specs.Prelude.{◌≡◌, ℕ, List, Some};
 ghost use Rattle.knot.specs.CheckText.{IsCheckText};
 ghost use Rattle.knot.specs.ReplayText.{IsReplayText};
+ghost use Rattle.knot.specs.ColourText.{IsColourText};
 ghost use Rattle.knot.specs.Answer.{Answers};
 ghost use Rattle.knot.specs.Outcome.{Call, CallsFor};
 
 use crate::job::Job;
-use crate::reading::{CheckInput, ReplayInput};
+use crate::reading::{CheckInput, ColourInput, ReplayInput};
 use crate::status::Status;
 
 /// A text of the job `check` is that of one input.
@@ -17,6 +18,11 @@ pub fn a_check_text_has_one_reading()
 /// A text of the job `replay` is that of one input.
 pub fn a_replay_text_has_one_reading()
     ensures { (bytes : List ℕ) (input other : ReplayInput) → IsReplayText bytes input → IsReplayText bytes other → input ≡ other }
+{}
+
+/// A text of the job `colour` is that of one input.
+pub fn a_colour_text_has_one_reading()
+    ensures { (bytes : List ℕ) (input other : ColourInput) → IsColourText bytes input → IsColourText bytes other → input ≡ other }
 {}
 
 /// A job has one answer to each input: there is one, and no other.

@@ -3,9 +3,11 @@
 #![tactic(auto)]
 
 mod answer;
+mod colours;
 mod job;
 mod laws;
 mod printing;
+mod quandles;
 mod reading;
 mod run;
 mod status;
@@ -37,3 +39,6 @@ fn main(rt: HostRuntime) -> ExitCode {
     let status = run::run(alloc, words.as_slice(), &mut source, &mut sink);
     ExitCode::from(status.number())
 }
+
+#[cfg(test)]
+mod tests;

@@ -7,8 +7,9 @@ mod grids;
 mod inputs;
 mod moves;
 mod numbers;
+mod quandles;
 
-pub use inputs::{CheckInput, ReplayInput, check_input, replay_input};
+pub use inputs::{CheckInput, ColourInput, ReplayInput, check_input, colour_input, replay_input};
 
 use std::alloc::{AllocError, AllocFailed};
 

@@ -12,7 +12,7 @@ use std::alloc::Global;
 
 /// Does what the words ask for: reads the whole input from the source, answers it, and writes the answer to the sink.
 ///
-/// The words are the program's name, whatever it is, and the name of one job, `check` or `replay`; other words end in
+/// The words are the program's name, whatever it is, and the name of one job, `check`, `replay` or `colour`; other words end in
 /// `Usage`, and the source is not called. The whole answer is made before the first write.
 pub fn run<S: Source, K: Sink>(
     alloc: Global,

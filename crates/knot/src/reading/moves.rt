@@ -70,7 +70,7 @@ fn destabilise_at(bytes: &[u8]) -> Option<(Move, &[u8])>
 
 /// The number of a line that begins with this word.
 #[tactic(auto, unfolding(crate::specs::Reading::number_line))]
-fn number_line<'a>(word: &[u8], bytes: &'a [u8]) -> Option<(u8, &'a [u8])>
+pub(crate) fn number_line<'a>(word: &[u8], bytes: &'a [u8]) -> Option<(u8, &'a [u8])>
     ensures { Gives (λ x. (x.0, x.1.now)) result (number_line word.now bytes.now) }
 {
     small_before(b"\n", behind(word, bytes)?)
