@@ -1,5 +1,5 @@
 -- On a list of moves between two diagrams there is one ruling.
-use Rattle.std.proofs.Common.{◌≡◌, ◌≢◌, ◌⊎◌, Bool, true, false, List, ℕ, subst, sym, ◌∙◌, ap, ap₂, refl, inl, inr}
+use Rattle.std.proofs.Common.{◌≡◌, ◌≢◌, ◌⊎◌, Bool, true, false, List, ℕ, subst, ap, ap₂, refl, inl, inr}
 use Rattle.std.specs.Str.{bytes_eq}
 use Rattle.std.proofs.lemmas.Slice.Eq.{bytes_eq-Decides}
 use Rattle.grid_core.specs.Diagram.{Diagram, IsGrid}

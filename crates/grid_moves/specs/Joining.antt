@@ -1,4 +1,5 @@
--- Lists of moves (Cromwell 1995, Dynnikov 2006: without a cap, equivalent diagrams are those of one link).
+-- Lists of moves (Cromwell 1995, Dynnikov 2006). They prove that without a bound on the size the diagrams that moves join
+-- are those of one link; sizes here are bounded, so diagrams that are joined here are of one link, and no more is said.
 use Rattle.std.specs.Prelude.{◌≡◌, ◌≤◌, ℕ, List, [], ◌∷◌, take, slice_get, Some}
 use Rattle.grid_core.specs.Diagram.{Diagram, size}
 use Rattle.grid_moves.specs.declared.step.Move.{Move}

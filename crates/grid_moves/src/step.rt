@@ -33,8 +33,8 @@ pub enum Move {
 /// Why a move is not legal on a grid of size n: the first of these that holds.
 #[derive(Clone, Copy, Debug, PartialEq, Eq)]
 pub enum MoveFault {
-    /// A shift by 0 or by n or more, an exchange of a last column or row, a stabilisation in a column that is not
-    /// there, or a block that does not lie in the grid.
+    /// A shift by 0 or by n or more, an exchange whose second column or row lies outside, a stabilisation in a column
+    /// that is not there, or a block that reaches outside.
     Range,
     /// The two neighbours of an exchange have a mark in one row (or one column).
     Touching,
