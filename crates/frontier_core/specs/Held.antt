@@ -2,7 +2,7 @@
 use Rattle.std.specs.Prelude.{ℕ, List, [], ◌∷◌, ◌++◌, Option, Some, None, Contains, slice_index_or, slice_set, replicate}
 use Rattle.frontier_core.specs.declared.sizes.TheConstants.{SIZES}
 
--- Every id is below the capacity. At place s of `by_size` stands the list of the ids held of size s, in the order in which they were pushed.
+-- How many ids there are room for, and what is held: at place s of `by_size` stands the list of the ids held of size s, in the order in which they were pushed.
 pub record Held : Type 0 where
   pub capacity : ℕ
   pub by_size : List (List ℕ)

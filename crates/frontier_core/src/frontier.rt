@@ -1,6 +1,6 @@
 // The frontier.
 
-ghost use Rattle.std.specs.Prelude.{◌≡◌, ◌<◌, ◌++◌, ◌∷◌, [], List, IfOk};
+ghost use Rattle.std.specs.Prelude.{◌≡◌, ◌<◌, ◌++◌, ◌∷◌, [], List, IfOk, IfSome};
 ghost use Rattle.frontier_core.specs.Held.{IsHeld, empty, pushed, first_of_least, without_first_of_least};
 ghost use Rattle.frontier_core.specs.Order.{SizedId, sized, IsOrderOf, PopsLeast};
 ghost use Rattle.frontier_core.specs.declared.sizes.TheConstants.{SIZES};
@@ -35,7 +35,7 @@ impl Model for Frontier {
 
 impl Frontier {
     /// A frontier that holds nothing, with the memory for the ids below the capacity: four bytes an
-    /// id. `OutOfMemory` comes only where that memory is not there.
+    /// id. `OutOfMemory` where that memory is not there.
     pub fn reserve(alloc: Global, capacity: u32) -> Result<Frontier, OutOfMemory>
         ensures lists { IfOk result (λ frontier. frontier ≡ empty capacity) }
         ensures order { IfOk result (λ frontier. IsOrderOf [] frontier) }
@@ -73,6 +73,7 @@ impl Frontier {
     /// `None` exactly where nothing is held.
     pub fn pop_least(&mut self) -> Option<u32>
         ensures first { result ≡ first_of_least self.old }
+        ensures below { IfSome result (λ id. id < self.old.capacity) }
         ensures rest { self.new ≡ without_first_of_least self.old }
         ensures order { (order : List SizedId) → IsOrderOf order self.old → PopsLeast order result self.new }
     {

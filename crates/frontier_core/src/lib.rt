@@ -1,5 +1,5 @@
 //! The ids that wait to be worked on, kept by size: the next one is the id of the least size that was pushed first.
-//! All memory is taken at the start; a push and a pop take none, and constant time.
+//! All memory is taken at the start; a push and a pop take none, and are written to take constant time, which is not proved.
 #![tactic(auto)]
 
 mod frontier;

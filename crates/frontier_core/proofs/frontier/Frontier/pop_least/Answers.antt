@@ -45,3 +45,9 @@ returns-clause-order c = λ order is. popped order c.args.self.now _ _ (returns-
 
 pub returns-then-self-eq0-clause-order : goal.returns-then-self-eq0-clause-order
 returns-then-self-eq0-clause-order c = λ order is. popped order c.args.self.now None c.args.self.now (returns-then-self-eq0-clause-first c) (returns-then-self-eq0-clause-rest c) is
+
+pub returns-clause-below : goal.returns-clause-below
+returns-clause-below c =
+    let within = popping.first_below c.self.inside.next.items c.self.inside.queues c.self.inside.mask c.self.invariant c.args.self.now c.self.view_is c.least_size-size.result c.least_size-size.ensures.in_mask c.least_size-size.ensures.set c.least_size-size.ensures.least in
+    let room = ap (λ (h : Held). h.capacity) c.self.view_is in
+    omega (arith, within, room)
