@@ -6,7 +6,8 @@ mod Columns
 mod Solved
 mod Sweep
 mod Cut
-mod Climb
+mod RowSteps
 mod Lists
 mod Edits
+mod Buckets
 mod WorkedRows

@@ -1,18 +1,19 @@
 -- The sweep from the lowest row upward: each row carries the level below it to the level above.
-use Rattle.std.proofs.Common.{◌≡◌, ◌≢◌, ◌<◌, ◌≤◌, ◌+◌, ◌==◌, ◌∙◌, inl, inr, ℕ, List, [], ◌∷◌, Bool, true, false, replicate, refl, sym, ap, subst, arith}
-use Rattle.std.specs.Prelude.{if◌then◌else◌}
+use Rattle.std.proofs.Common.{◌≡◌, ◌≢◌, ◌<◌, ◌≤◌, ◌+◌, ◌==◌, ◌∙◌, inl, inr, ℕ, List, [], ◌∷◌, Bool, true, false, cond, replicate, refl, sym, ap, subst, arith}
+use Rattle.std.specs.Prelude.{if◌then◌else◌, IsPermutation}
 use Rattle.std.specs.List.{flat_map, filter}
 use Rattle.std.proofs.lemmas.Bool.{eqb-true, eqb-false, cases_eq}
 use Rattle.std.proofs.lemmas.List.{length-replicate, get_or-replicate}
 use Rattle.std.proofs.lemmas.Grind.{same_number_lists}
 use Rattle.std.proofs.lemmas.List.Elements.{All-cons, All-nil, All-replicate}
+use Rattle.std.proofs.lemmas.List.Sorted.{All-permutation, sum_by-IsPermutation}
 use Rattle.grid_core.specs.declared.grid.TheConstants.{MAX_SIZE}
 use Rattle.grid_core.specs.Diagram.{Diagram, IsGrid, size}
 use Rattle.quandle_core.specs.Quandle.{Table, IsQuandle}
 use Rattle.colour_rows.specs.Walk.{closes}
 use Rattle.colour_rows.proofs.Ends.{has_ends, left, right, low}
 use Rattle.colour_rows.proofs.Walks.{closes_ignores}
-use Rattle.colour_list.specs.Listing.{times}
+use Rattle.colour_list.specs.Listing.{is_same, times}
 use Rattle.colour_list.specs.Level.{spread, Meets, IsLevel, IsUnbegun, RowsClose, IsLevelAt}
 use Rattle.colour_list.proofs.Columns.{Ignores, open_level, read_level}
 use Rattle.colour_list.proofs.Order.{times_here}
@@ -99,3 +100,10 @@ first_level t d some = first_of t d MAX_SIZE some
           (λ k lt. let at : k < n = omega (arith, m.long) in m.blank k at (λ inside. omega arith) ∙ sym (get_or-replicate n k 0 0 at)) in
           ap (λ h. times f (h ∷ [])) (sym e) ∙ times_here f [];
     }
+
+-- the level in another order
+pub level_permuted : (t : Table) (d : Diagram) (r : ℕ) (xs ys : List (List ℕ)) → IsPermutation xs ys → IsLevelAt t d r xs → IsLevelAt t d r ys
+level_permuted t d r xs ys moved l = record {
+  sound = All-permutation (Meets MAX_SIZE t.order (IsUnbegun d r) (RowsClose t d r)) xs ys moved l.sound;
+  once = λ f m. sum_by-IsPermutation (λ x. cond (is_same f x) 1 0) xs ys moved ∙ l.once f m;
+}

@@ -3,6 +3,7 @@
 #![tactic(auto)]
 
 mod complete;
+mod grouping;
 pub mod laws;
 mod level;
 mod limits;

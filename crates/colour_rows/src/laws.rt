@@ -1,8 +1,10 @@
 //! Laws of walks and colourings, over the definitions alone.
-ghost use Rattle.std.specs.Prelude.{◌≡◌, ◌<◌, ◌↔◌, ℕ, List, slice_index, true, false};
+ghost use Rattle.std.specs.Prelude.{◌≡◌, ◌<◌, ◌≤◌, ◌==◌, ◌↔◌, All, ℕ, List, length, slice_index, slice_set, true, false};
 ghost use Rattle.grid_core.specs.Diagram.{Diagram, IsGrid, size};
 ghost use Rattle.grid_core.specs.Parts.{covers, ends};
-ghost use Rattle.quandle_core.specs.Quandle.{Table};
+ghost use Rattle.quandle_core.specs.Quandle.{Table, IsQuandle};
+ghost use Rattle.colour_rows.specs.Equation.{equation, walk_of, walk_back_of};
+ghost use Rattle.colour_rows.specs.Walk.{walk, closes};
 ghost use Rattle.colour_rows.specs.Colouring.{IsColouring, is_colouring};
 
 /// The test for a colouring passes exactly where there is a colour below the order for each column and each row's walk ends with the colour of its right end.
@@ -16,4 +18,15 @@ pub fn an_uncovered_row_has_equal_ends()
         → ((c : ℕ) → (ends d r).low < c → c < (ends d r).high → covers d c r ≡ false)
         → slice_index colours (ends d r).low ≡ slice_index colours (ends d r).high }
     ensures lowest { (d : Diagram) (c : ℕ) → covers d c 0 ≡ false }
+{}
+
+/// The equation that is read off a row once has the row's walk; and taken backwards, the walk finds the one colour of the
+/// left end with which the row closes.
+pub fn the_equation_of_a_row_is_its_walk()
+    ensures forth { (t : Table) (d : Diagram) (colours : List ℕ) (r : ℕ) → walk_of t (equation d r) colours ≡ walk t d colours r }
+    ensures back { (t : Table) (d : Diagram) (colours : List ℕ) (r a : ℕ) → IsQuandle t → IsGrid d → r < size d
+        → size d ≤ length colours
+        → All (λ y. y < t.order) colours
+        → a < t.order
+        → closes t d (slice_set colours (ends d r).low a) r ≡ (walk_back_of t (equation d r) colours == a) }
 {}

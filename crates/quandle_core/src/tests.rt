@@ -24,9 +24,9 @@ fn at(table: &[u8], order: u8, x: u8, y: u8) -> u8 {
     table.get(place).copied().unwrap_or(0)
 }
 
-/// Whether no number from 2 to 16 divides both.
+/// Whether no number from 2 to the greatest order divides both.
 fn is_coprime(n: u8, t: u8) -> bool {
-    for d in 2..17 {
+    for d in 2..MAX_ORDER as u8 + 1 {
         if n % d == 0 && t % d == 0 {
             return false;
         }
@@ -150,7 +150,10 @@ fn broken_tables_are_refused_with_their_first_case(rt: HostRuntime) -> Result<()
     let copied = Quandle::tetrahedral().copy();
     assert!(rt; Quandle::new(4, table_of(&copied).as_slice()).is_ok());
     assert_eq!(rt; Quandle::new(0, &[]).err(), Some(QuandleFault::Order));
-    assert_eq!(rt; Quandle::new(17, &[]).err(), Some(QuandleFault::Order));
+    assert_eq!(rt;
+        Quandle::new(MAX_ORDER as u8 + 1, &[]).err(),
+        Some(QuandleFault::Order)
+    );
     assert_eq!(rt;
         Quandle::new(2, &[0, 0, 1]).err(),
         Some(QuandleFault::Length)
