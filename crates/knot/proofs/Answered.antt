@@ -1,7 +1,6 @@
 -- An input has one answer.
-use Rattle.std.proofs.Common.{◌≡◌, ◌≢◌, ◌<◌, ◌≤◌, ◌++◌, ℕ, Bool, true, false, List, [], ◌∷◌, length, get_or, Option, Some, None, arith, refl, sym, ap, ap₂, subst, ◌∙◌, codes, inl, inr, ◌⊎◌}
+use Rattle.std.proofs.Common.{◌≡◌, ◌≢◌, ◌<◌, ◌≤◌, ℕ, List, length, Option, Some, None, arith, refl, sym, ap, ap₂, subst, ◌∙◌, inl, inr, ◌⊎◌}
 use Rattle.std.proofs.lemmas.Bool.{cases_lt}
-use Rattle.grid_core.specs.Diagram.{Diagram}
 use Rattle.grid_moves.proofs.Stopped.{joins_once, not_both, stops_once, joins_or_stops}
 use Rattle.cert_check.specs.declared.ruling.Ruling.{Ruling}
 use Rattle.cert_check.specs.declared.ruling.Ruling.TheVariants.{Accepted, Rejected}
@@ -14,12 +13,9 @@ use Rattle.knot.specs.declared.reading.inputs.CheckInput.{CheckInput}
 use Rattle.knot.specs.declared.reading.inputs.ReplayInput.{ReplayInput}
 use Rattle.knot.specs.declared.reading.inputs.ColourInput.{ColourInput}
 use Rattle.knot.specs.Printed.{grid_text}
-use Rattle.knot.specs.CheckText.{IsCheckText}
-use Rattle.knot.specs.ReplayText.{IsReplayText}
-use Rattle.knot.specs.ColourText.{IsColourText}
 use Rattle.knot.specs.Colours.{colours_text}
 use Rattle.knot.specs.Reading.{check_input_of, replay_input_of, colour_input_of}
-use Rattle.knot.specs.Answer.{limit_of, accepted_line, unread_line, step_line, why_line, Tells, AnswersCheck, AnswersReplay, AnswersColour, Replays, Stops, AnswersText, IsShapeless, Answers}
+use Rattle.knot.specs.Answer.{limit_of, accepted_line, unread_line, step_line, why_line, Tells, AnswersCheck, AnswersReplay, AnswersColour, AnswersText, IsShapeless, Answers}
 use Rattle.knot.proofs.Inputs.{check_takes, check_again, check_once, replay_takes, replay_again, replay_once, colour_takes, colour_again, colour_once}
 
 -- ---- the status of an answer
@@ -54,7 +50,7 @@ replay_answer_once i s s' text text' one two =
       | inr a ↦ elim two [
         | inl b ↦ absurd (not_both i.moves i.first b.1.last a.1.place a.1.fault a.1.stops b.1.joins)
         | inr b ↦ let same = stops_once i.moves i.first a.1.place b.1.place a.1.fault b.1.fault a.1.stops b.1.stops in
-          (a.0 ∙ sym b.0, a.1.is ∙ ap₂ (λ p f. step_line p f) same.0 same.1 ∙ sym b.1.is)
+            (a.0 ∙ sym b.0, a.1.is ∙ ap₂ (λ p f. step_line p f) same.0 same.1 ∙ sym b.1.is)
       ]
     ]
 
@@ -65,7 +61,6 @@ text_once Check bytes s s' text text' one two =
 text_once Replay bytes s s' text text' one two =
     let same = replay_once bytes two.0 one.0 two.1.0 one.1.0 in
     replay_answer_once one.0 s s' text text' one.1.1 (subst (λ i. AnswersReplay i s' text') same two.1.1)
-
 text_once Colour bytes s s' text text' one two =
     let same = colour_once bytes two.0 one.0 two.1.0 one.1.0 in
     let b = subst (λ i. AnswersColour i s' text') same two.1.1 in

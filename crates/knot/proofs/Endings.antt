@@ -1,6 +1,6 @@
 -- How a call ends, from what was answered and what was written.
-use Rattle.std.proofs.Common.{◌≡◌, ◌<◌, ◌≤◌, ◌+◌, ◌++◌, ℕ, Bool, true, false, List, [], ◌∷◌, length, get_or, take, Option, Some, None, arith, refl, sym, ap, subst, ◌∙◌, codes, inl, inr, ◌⊎◌}
-use Rattle.std.specs.Io.KnownBytes.{Appends, Consumes, IsAtEnd}
+use Rattle.std.proofs.Common.{◌≡◌, ◌+◌, ◌++◌, ℕ, List, [], length, get_or, take, Option, Some, None, arith, refl, sym, ap, subst, ◌∙◌, inl, inr, ◌⊎◌}
+use Rattle.std.specs.Io.KnownBytes.{Appends}
 use Rattle.std.proofs.lemmas.List.{append-nil, take_at, take_all}
 use Rattle.knot.specs.declared.job.Job.{Job}
 use Rattle.knot.specs.declared.job.Job.TheVariants.{Check, Replay, Colour}
@@ -8,7 +8,7 @@ use Rattle.knot.specs.declared.status.Status.{Status}
 use Rattle.knot.specs.declared.status.Status.TheVariants as status
 use Rattle.knot.specs.Words.{NamesJob, job_word}
 use Rattle.knot.specs.Answer.{limit_of, Answers}
-use Rattle.knot.specs.Outcome.{Call, usage_line, Receives, IsReply, IsAnswered, IsMisused, CallsFor, IsWritten, Ends}
+use Rattle.knot.specs.Outcome.{Call, usage_line, Receives, IsAnswered, IsMisused, CallsFor, IsWritten, Ends}
 use Rattle.knot.proofs.Answered.{text_status, answered_once}
 
 pub usage_ends : (call : Call) (s : Status) → IsMisused call usage_line → IsWritten call.held_before call.held_after call.write_faults_before call.write_faults_after usage_line status.Usage s → Ends call s
@@ -32,15 +32,15 @@ by_status : (call : Call) (s : Status) (text : List ℕ) → IsAnswered call s t
 by_status call s text a is =
     elim is [
       | inl done ↦
-        let b : IsAnswered call status.Done text = subst (λ z. IsAnswered call z text) done a in
-        subst (λ z. CallsFor call z text × (Appends call.held_before call.held_after text → Ends call z)) (sym done) (b, λ w. (text, (b, w)))
+          let b : IsAnswered call status.Done text = subst (λ z. IsAnswered call z text) done a in
+          subst (λ z. CallsFor call z text × (Appends call.held_before call.held_after text → Ends call z)) (sym done) (b, λ w. (text, (b, w)))
       | inr other ↦ elim other [
         | inl rejected ↦
-          let b : IsAnswered call status.Rejected text = subst (λ z. IsAnswered call z text) rejected a in
-          subst (λ z. CallsFor call z text × (Appends call.held_before call.held_after text → Ends call z)) (sym rejected) (b, λ w. (text, (b, w)))
+            let b : IsAnswered call status.Rejected text = subst (λ z. IsAnswered call z text) rejected a in
+            subst (λ z. CallsFor call z text × (Appends call.held_before call.held_after text → Ends call z)) (sym rejected) (b, λ w. (text, (b, w)))
         | inr unread ↦
-          let b : IsAnswered call status.Unread text = subst (λ z. IsAnswered call z text) unread a in
-          subst (λ z. CallsFor call z text × (Appends call.held_before call.held_after text → Ends call z)) (sym unread) (b, λ w. (text, (b, w)))
+            let b : IsAnswered call status.Unread text = subst (λ z. IsAnswered call z text) unread a in
+            subst (λ z. CallsFor call z text × (Appends call.held_before call.held_after text → Ends call z)) (sym unread) (b, λ w. (text, (b, w)))
       ]
     ]
 
@@ -75,8 +75,8 @@ received_once limit bytes None got r = absurd r.consumed
 received_once limit bytes (Some rest) got r =
     elim r.whole [
       | inl all ↦
-        let whole : bytes ≡ got = r.consumed ∙ ap (λ (t : List ℕ). got ++ t) all.1 ∙ append-nil got in
-        rw whole (sym (take_all (limit + 1) got (omega (arith, all.0))))
+          let whole : bytes ≡ got = r.consumed ∙ ap (λ (t : List ℕ). got ++ t) all.1 ∙ append-nil got in
+          rw whole (sym (take_all (limit + 1) got (omega (arith, all.0))))
       | inr long ↦ rw (r.consumed, ← long) (sym (take_at got rest (length got) refl))
     ]
 

@@ -1,11 +1,10 @@
 -- An input is read exactly where it is the text of something, and a text is that of one thing.
-use Rattle.std.proofs.Common.{◌≡◌, ◌<◌, ℕ, zero, suc, Bool, true, false, cond, eqb, List, [], ◌∷◌, ◌++◌, length, Option, Some, None, Result, Ok, Err, arith, refl, sym, ap, subst, ◌∙◌, append_assoc, codes, ◌==◌}
+use Rattle.std.proofs.Common.{◌≡◌, ◌<◌, ℕ, cond, List, [], ◌++◌, length, Option, Some, None, Result, Ok, Err, arith, refl, sym, ap, subst, ◌∙◌, codes, ◌==◌}
 use Rattle.std.specs.Prelude.{IfOk, IsErrOf}
 use Rattle.std.specs.List.{flat_map}
 use Rattle.std.specs.Fmt.{decimal}
 use Rattle.std.proofs.lemmas.Bool.{eqb-true}
 use Rattle.std.proofs.lemmas.List.{append-nil, nil_from_length}
-use Rattle.grid_core.specs.Diagram.{Diagram}
 use Rattle.grid_moves.specs.declared.step.Move.{Move}
 use Rattle.knot.specs.declared.reading.Unreadable.{Unreadable}
 use Rattle.knot.specs.declared.reading.Unreadable.TheVariants.{NotOfShape, OutOfMemory}
@@ -16,10 +15,10 @@ use Rattle.knot.specs.declared.quandles.TheConstants.{MAX_LISTED}
 use Rattle.knot.specs.Quandles.{quandle_line}
 use Rattle.knot.specs.ColourText.{colour_text, IsColourText}
 use Rattle.knot.specs.Printed.{grid_text, move_line, moves_text, AreMoves}
-use Rattle.knot.specs.CheckText.{check_text, IsCheckInput, IsCheckText}
-use Rattle.knot.specs.ReplayText.{replay_text, IsReplayInput, IsReplayText}
+use Rattle.knot.specs.CheckText.{IsCheckText}
+use Rattle.knot.specs.ReplayText.{IsReplayText}
 use Rattle.knot.specs.Reading.{◌>>=◌, GivesUnless, behind, number_at, count_at, grid_at, move_lines_at, last_moves_at, check_input_of, replay_input_of, colour_input_of, last_quandles_at}
-use Rattle.knot.proofs.Steps.{bind_some, guard_some, some_is, texts_join, behind_takes, behind_again}
+use Rattle.knot.proofs.Steps.{bind_some, guard_some, some_is, behind_takes, behind_again}
 use Rattle.knot.proofs.Numbers.{number_takes, number_again}
 use Rattle.knot.proofs.Rows.{grid_takes, grid_again}
 use Rattle.knot.proofs.MoveLines.{lines_takes, lines_again}

@@ -1,9 +1,9 @@
 -- Rows and moves read one after the other, as a loop does.
-use Rattle.std.proofs.Common.{◌≡◌, ℕ, zero, suc, ◌-◌, ◌+◌, ◌≤◌, ◌<◌, List, [], ◌∷◌, ◌++◌, Option, Some, None, Result, Ok, Err, refl, sym, ap, ◌∙◌, append_assoc, arith, codes, true, false, ◌==◌, length, Bool, cond}
+use Rattle.std.proofs.Common.{◌≡◌, ℕ, zero, suc, ◌-◌, ◌+◌, ◌≤◌, ◌<◌, List, [], ◌∷◌, ◌++◌, Option, Some, None, refl, sym, ap, ◌∙◌, append_assoc, arith, codes, true, false, ◌==◌, length}
 use Rattle.std.proofs.lemmas.List.{append-nil}
 use Rattle.grid_moves.specs.declared.step.Move.{Move}
 use Rattle.knot.specs.declared.quandles.QuandleName.{QuandleName}
-use Rattle.knot.specs.Reading.{◌>>=◌, or_else, behind, row_at, rows_at, move_at, move_lines_at, quandle_at, last_quandles_at}
+use Rattle.knot.specs.Reading.{◌>>=◌, behind, row_at, rows_at, move_at, move_lines_at, quandle_at, last_quandles_at}
 
 -- what was read before, and what is still read
 abbrev pub with_front : {A : Type 0} → List A → Option (List A × List ℕ) → Option (List A × List ℕ)

@@ -1,5 +1,5 @@
 -- Moves that are read are those that were printed.
-use Rattle.std.proofs.Common.{◌≡◌, ◌<◌, ◌≤◌, ◌+◌, ℕ, zero, suc, Bool, true, false, cond, List, [], ◌∷◌, ◌++◌, length, Option, Some, None, arith, refl, sym, ap, subst, ◌∙◌, append_assoc, codes, inl, inr, ◌⊎◌}
+use Rattle.std.proofs.Common.{◌≡◌, ◌<◌, ℕ, zero, suc, List, [], ◌∷◌, ◌++◌, length, Option, Some, None, refl, sym, ap, subst, ◌∙◌, append_assoc, codes, inl, inr}
 use Rattle.std.specs.List.{flat_map, AllByRecursion}
 use Rattle.std.specs.Fmt.{decimal}
 use Rattle.std.proofs.lemmas.List.Concat.{flat_map-cons}
@@ -52,11 +52,11 @@ unfolding kind_at
 kind_takes bytes x e =
     elim (or_else_some (behind (codes " x ") bytes >>= λ rest. Some (Cross, rest)) (behind (codes " o ") bytes >>= λ rest. Some (Ring, rest)) x e) [
       | inl cross ↦
-        let a = bind_some (behind (codes " x ") bytes) (λ rest. Some (Cross, rest)) x cross in
-        subst (λ (y : Kind × List ℕ). bytes ≡ kind_word y.0 ++ y.1) (some_is (Cross, a.0) x a.2) (behind_takes (codes " x ") bytes a.0 a.1)
+          let a = bind_some (behind (codes " x ") bytes) (λ rest. Some (Cross, rest)) x cross in
+          subst (λ (y : Kind × List ℕ). bytes ≡ kind_word y.0 ++ y.1) (some_is (Cross, a.0) x a.2) (behind_takes (codes " x ") bytes a.0 a.1)
       | inr ring ↦
-        let a = bind_some (behind (codes " o ") bytes) (λ rest. Some (Ring, rest)) x ring.1 in
-        subst (λ (y : Kind × List ℕ). bytes ≡ kind_word y.0 ++ y.1) (some_is (Ring, a.0) x a.2) (behind_takes (codes " o ") bytes a.0 a.1)
+          let a = bind_some (behind (codes " o ") bytes) (λ rest. Some (Ring, rest)) x ring.1 in
+          subst (λ (y : Kind × List ℕ). bytes ≡ kind_word y.0 ++ y.1) (some_is (Ring, a.0) x a.2) (behind_takes (codes " o ") bytes a.0 a.1)
     ]
 
 kind_again : (kind : Kind) (rest : List ℕ) → kind_at (kind_word kind ++ rest) ≡ Some (kind, rest)
@@ -113,7 +113,7 @@ stabilise_takes bytes x e =
     let kind = kind_takes b.0.1 k.0 k.1 in
     let corner = corner_takes k.0.1 r.0 r.1 in
     let text : bytes ≡ codes "stabilise " ++ (decimal b.0.0 ++ (kind_word k.0.0 ++ (corner_line r.0.0 ++ r.0.1))) =
-      word ∙ ap (λ (t : List ℕ). codes "stabilise " ++ t) (column.0 ∙ ap (λ (t : List ℕ). decimal b.0.0 ++ t) (kind ∙ ap (λ (t : List ℕ). kind_word k.0.0 ++ t) corner)) in
+    word ∙ ap (λ (t : List ℕ). codes "stabilise " ++ t) (column.0 ∙ ap (λ (t : List ℕ). decimal b.0.0 ++ t) (kind ∙ ap (λ (t : List ℕ). kind_word k.0.0 ++ t) corner)) in
     let made : TakesMove bytes (Stabilise b.0.0 k.0.0 r.0.0) r.0.1 = record { text = text ∙ sym (stabilise_then b.0.0 k.0.0 r.0.0 r.0.1); fits = column.1 } in
     subst (λ (y : Move × List ℕ). TakesMove bytes y.0 y.1) (some_is (Stabilise b.0.0 k.0.0 r.0.0, r.0.1) x r.2) made
 
@@ -146,7 +146,7 @@ destabilise_takes bytes x e =
     let column = before_takes (codes " ") a.0 b.0.0 b.0.1 b.1 in
     let row = before_takes (codes "\n") b.0.1 r.0.0 r.0.1 r.1 in
     let text : bytes ≡ codes "destabilise " ++ (decimal b.0.0 ++ (codes " " ++ (decimal r.0.0 ++ (codes "\n" ++ r.0.1)))) =
-      word ∙ ap (λ (t : List ℕ). codes "destabilise " ++ t) (column.0 ∙ ap (λ (t : List ℕ). decimal b.0.0 ++ (codes " " ++ t)) row.0) in
+    word ∙ ap (λ (t : List ℕ). codes "destabilise " ++ t) (column.0 ∙ ap (λ (t : List ℕ). decimal b.0.0 ++ (codes " " ++ t)) row.0) in
     let made : TakesMove bytes (Destabilise b.0.0 r.0.0) r.0.1 = record { text = text ∙ sym (destabilise_then b.0.0 r.0.0 r.0.1); fits = (column.1, row.1) } in
     subst (λ (y : Move × List ℕ). TakesMove bytes y.0 y.1) (some_is (Destabilise b.0.0 r.0.0, r.0.1) x r.2) made
 
@@ -245,7 +245,7 @@ lines_takes (suc n) bytes x e =
     let one = move_takes bytes a.0 a.1 in
     let others = lines_takes n a.0.1 b.0 b.1 in
     let text : bytes ≡ flat_map move_line (a.0.0 ∷ b.0.0) ++ b.0.1 =
-      texts_join bytes (move_line a.0.0) a.0.1 (flat_map move_line b.0.0) b.0.1 one.text others.text ∙ ap (λ (t : List ℕ). t ++ b.0.1) (sym (flat_map-cons move_line a.0.0 b.0.0)) in
+    texts_join bytes (move_line a.0.0) a.0.1 (flat_map move_line b.0.0) b.0.1 one.text others.text ∙ ap (λ (t : List ℕ). t ++ b.0.1) (sym (flat_map-cons move_line a.0.0 b.0.0)) in
     let made : TakesMoves (suc n) bytes (a.0.0 ∷ b.0.0) b.0.1 = record { text = text; number = ap suc others.number; fits = (one.fits, others.fits) } in
     subst (λ (y : List Move × List ℕ). TakesMoves (suc n) bytes y.0 y.1) (some_is (a.0.0 ∷ b.0.0, b.0.1) x b.2) made
 
@@ -254,5 +254,5 @@ unfolding move_lines_at
 lines_again [] rest fits = refl
 lines_again (m ∷ moves) rest fits =
     let regrouped : flat_map move_line (m ∷ moves) ++ rest ≡ move_line m ++ (flat_map move_line moves ++ rest) =
-      ap (λ (t : List ℕ). t ++ rest) (flat_map-cons move_line m moves) ∙ append_assoc (move_line m) (flat_map move_line moves) rest in
+    ap (λ (t : List ℕ). t ++ rest) (flat_map-cons move_line m moves) ∙ append_assoc (move_line m) (flat_map move_line moves) rest in
     ap (move_lines_at (suc (length moves))) regrouped ∙ rw (move_again m (flat_map move_line moves ++ rest) fits.0, lines_again moves rest fits.1) refl

@@ -1,19 +1,17 @@
 -- Quandles that are read are those that were printed.
-use Rattle.std.proofs.Common.{◌≡◌, ◌<◌, ◌≤◌, ◌+◌, ◌==◌, ◌&&◌, ℕ, zero, suc, Bool, true, false, cond, List, [], ◌∷◌, ◌++◌, length, Option, Some, None, nat_lt, nat_le, arith, refl, sym, ap, subst, ◌∙◌, append_assoc, codes, inl, inr, ◌⊎◌}
+use Rattle.std.proofs.Common.{◌≡◌, ◌<◌, ◌≤◌, ◌==◌, ◌&&◌, ℕ, zero, suc, Bool, true, false, cond, List, [], ◌∷◌, ◌++◌, length, Option, Some, None, nat_lt, arith, refl, sym, ap, subst, ◌∙◌, append_assoc, codes, inl, inr, ◌⊎◌}
 use Rattle.std.specs.List.{flat_map, AllByRecursion}
 use Rattle.std.specs.Fmt.{decimal}
 use Rattle.std.proofs.lemmas.Bool.{eqb-true}
 use Rattle.std.proofs.lemmas.Bool.Decides.{nat_tests}
-use Rattle.std.proofs.lemmas.List.{append-nil, nil_from_length}
+use Rattle.std.proofs.lemmas.List.{nil_from_length}
 use Rattle.std.proofs.lemmas.List.Concat.{flat_map-cons}
 use Rattle.quandle_core.specs.Tables.{is_unit}
-use Rattle.quandle_core.specs.declared.quandle.TheConstants.{MAX_ORDER}
-use Rattle.knot.specs.declared.quandles.TheConstants.{MAX_LISTED}
 use Rattle.knot.specs.declared.quandles.QuandleName.{QuandleName}
 use Rattle.knot.specs.declared.quandles.QuandleName.TheVariants.{Trivial, Dihedral, Tetrahedral, Alexander}
 use Rattle.knot.specs.Quandles.{quandle_line, IsOrder, IsQuandleName}
-use Rattle.knot.specs.Reading.{◌>>=◌, or_else, behind, digits_at, small_before, number_line, is_order, order_line, sized, tetrahedral_at, alexander_at, quandle_at, last_quandles_at}
-use Rattle.knot.proofs.Steps.{bind_some, guard_some, some_is, or_else_some, texts_join, behind_takes, behind_again}
+use Rattle.knot.specs.Reading.{◌>>=◌, or_else, behind, small_before, number_line, is_order, order_line, sized, tetrahedral_at, alexander_at, quandle_at, last_quandles_at}
+use Rattle.knot.proofs.Steps.{bind_some, guard_some, some_is, or_else_some, behind_takes}
 use Rattle.knot.proofs.Numbers.{before_takes, before_again}
 use Rattle.knot.proofs.MoveLines.{line_then, line_takes, line_again}
 
@@ -86,7 +84,7 @@ alexander_takes bytes x e =
     let n = before_takes (codes " ") a.0 b.0.0 b.0.1 b.1 in
     let t = before_takes (codes "\n") b.0.1 r.0.0 r.0.1 r.1 in
     let text : bytes ≡ codes "quandle alexander " ++ (decimal b.0.0 ++ (codes " " ++ (decimal r.0.0 ++ (codes "\n" ++ r.0.1)))) =
-      word ∙ ap (λ (s : List ℕ). codes "quandle alexander " ++ s) (n.0 ∙ ap (λ (s : List ℕ). decimal b.0.0 ++ (codes " " ++ s)) t.0) in
+    word ∙ ap (λ (s : List ℕ). codes "quandle alexander " ++ s) (n.0 ∙ ap (λ (s : List ℕ). decimal b.0.0 ++ (codes " " ++ s)) t.0) in
     let made : TakesQuandle bytes (Alexander b.0.0 r.0.0) r.0.1 = record { text = text ∙ sym (alexander_then b.0.0 r.0.0 r.0.1); fits = alexander_test b.0.0 r.0.0 (is_unit b.0.0 r.0.0) g.0 } in
     subst (λ (y : QuandleName × List ℕ). TakesQuandle bytes y.0 y.1) g.1 made
 
@@ -173,13 +171,13 @@ names_take (suc room) bytes names e =
     elim (cond_chosen (length bytes == 0) (Some []) (more_names room bytes) (Some names) e) [
       | inl end ↦ no_more (suc room) bytes names end.0 end.1
       | inr more ↦
-        let a = bind_some (quandle_at bytes) (λ first. last_quandles_at room first.1 >>= λ others. Some (first.0 ∷ others)) names more.1 in
-        let b = bind_some (last_quandles_at room a.0.1) (λ others. Some (a.0.0 ∷ others)) names a.2 in
-        let one = quandle_takes bytes a.0 a.1 in
-        let others = names_take room a.0.1 b.0 b.1 in
-        let text : bytes ≡ flat_map quandle_line (a.0.0 ∷ b.0) = one.text ∙ ap (λ (t : List ℕ). quandle_line a.0.0 ++ t) others.text ∙ sym (flat_map-cons quandle_line a.0.0 b.0) in
-        let made : TakesQuandles (suc room) bytes (a.0.0 ∷ b.0) = record { text = text; few = omega (arith, others.few); fits = (one.fits, others.fits) } in
-        subst (λ (ns : List QuandleName). TakesQuandles (suc room) bytes ns) (some_is (a.0.0 ∷ b.0) names b.2) made
+          let a = bind_some (quandle_at bytes) (λ first. last_quandles_at room first.1 >>= λ others. Some (first.0 ∷ others)) names more.1 in
+          let b = bind_some (last_quandles_at room a.0.1) (λ others. Some (a.0.0 ∷ others)) names a.2 in
+          let one = quandle_takes bytes a.0 a.1 in
+          let others = names_take room a.0.1 b.0 b.1 in
+          let text : bytes ≡ flat_map quandle_line (a.0.0 ∷ b.0) = one.text ∙ ap (λ (t : List ℕ). quandle_line a.0.0 ++ t) others.text ∙ sym (flat_map-cons quandle_line a.0.0 b.0) in
+          let made : TakesQuandles (suc room) bytes (a.0.0 ∷ b.0) = record { text = text; few = omega (arith, others.few); fits = (one.fits, others.fits) } in
+          subst (λ (ns : List QuandleName). TakesQuandles (suc room) bytes ns) (some_is (a.0.0 ∷ b.0) names b.2) made
     ]
 
 -- a line of a quandle is not empty

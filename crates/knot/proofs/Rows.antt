@@ -1,10 +1,10 @@
 -- Rows and grids that are read are those that were printed.
-use Rattle.std.proofs.Common.{◌≡◌, ◌<◌, ◌≤◌, ◌+◌, ℕ, zero, suc, Bool, true, false, cond, List, [], ◌∷◌, ◌++◌, length, get_or, Option, Some, None, All, arith, refl, sym, ap, subst, ◌∙◌, append_assoc, codes, inl, inr, ◌⊎◌}
+use Rattle.std.proofs.Common.{◌≡◌, ◌<◌, ◌≤◌, ℕ, zero, suc, cond, List, [], ◌∷◌, ◌++◌, length, Option, Some, None, All, arith, refl, sym, ap, subst, ◌∙◌, append_assoc, codes, inl, inr}
 use Rattle.std.specs.Prelude.{is_none}
 use Rattle.std.specs.List.{flat_map, AllByRecursion}
 use Rattle.std.specs.Fmt.{decimal}
 use Rattle.std.proofs.lemmas.List.Concat.{flat_map-cons}
-use Rattle.std.proofs.lemmas.List.Elements.{All-from_recursion, recursion_from_All}
+use Rattle.std.proofs.lemmas.List.Elements.{recursion_from_All}
 use Rattle.grid_core.specs.declared.grid.TheConstants.{MAX_SIZE}
 use Rattle.grid_core.specs.declared.fault.GridFault.{GridFault}
 use Rattle.grid_core.specs.Diagram.{Diagram, IsGrid}
@@ -12,8 +12,8 @@ use Rattle.grid_core.specs.Fault.{first_fault}
 use Rattle.grid_core.proofs.Accepted.{accepted_lists, faultless}
 use Rattle.grid_core.proofs.OneEach.{each_below}
 use Rattle.knot.specs.Printed.{spaced, rows_line, grid_text}
-use Rattle.knot.specs.Reading.{◌>>=◌, or_else, behind, digits_at, small_at, no_more_at, row_at, rows_at, rows_line_at, grid_at}
-use Rattle.knot.proofs.Steps.{bind_some, guard_some, some_is, or_else_some, texts_join, behind_takes, behind_again}
+use Rattle.knot.specs.Reading.{◌>>=◌, behind, digits_at, small_at, no_more_at, row_at, rows_at, rows_line_at, grid_at}
+use Rattle.knot.proofs.Steps.{bind_some, some_is, or_else_some, texts_join, behind_takes, behind_again}
 use Rattle.knot.proofs.Numbers.{small_takes, small_again}
 
 abbrev IsSmall : ℕ → Type 0
@@ -60,14 +60,14 @@ rows_takes (suc room) bytes x e =
     elim (or_else_some (no_more_at bytes) (more_rows room bytes) x e) [
       | inl ended ↦ no_more_takes (suc room) bytes x ended
       | inr more ↦
-        let a = bind_some (row_at bytes) (λ row. rows_at room row.1 >>= λ rows. Some (row.0 ∷ rows.0, rows.1)) x more.1 in
-        let b = bind_some (rows_at room a.0.1) (λ rows. Some (a.0.0 ∷ rows.0, rows.1)) x a.2 in
-        let one = row_takes bytes a.0.0 a.0.1 a.1 in
-        let others = rows_takes room a.0.1 b.0 b.1 in
-        let joined : bytes ≡ rows_then (a.0.0 ∷ b.0.0) b.0.1 =
+          let a = bind_some (row_at bytes) (λ row. rows_at room row.1 >>= λ rows. Some (row.0 ∷ rows.0, rows.1)) x more.1 in
+          let b = bind_some (rows_at room a.0.1) (λ rows. Some (a.0.0 ∷ rows.0, rows.1)) x a.2 in
+          let one = row_takes bytes a.0.0 a.0.1 a.1 in
+          let others = rows_takes room a.0.1 b.0 b.1 in
+          let joined : bytes ≡ rows_then (a.0.0 ∷ b.0.0) b.0.1 =
           texts_join bytes (spaced a.0.0) a.0.1 (flat_map spaced b.0.0) (codes "\n" ++ b.0.1) one.0 others.text ∙ ap (λ (t : List ℕ). t ++ (codes "\n" ++ b.0.1)) (sym (flat_map-cons spaced a.0.0 b.0.0)) in
-        let made : TakesRows (suc room) bytes (a.0.0 ∷ b.0.0) b.0.1 = record { text = joined; fits = omega (arith, others.fits); small = (one.1, others.small) } in
-        subst (λ (y : List ℕ × List ℕ). TakesRows (suc room) bytes y.0 y.1) (some_is (a.0.0 ∷ b.0.0, b.0.1) x b.2) made
+          let made : TakesRows (suc room) bytes (a.0.0 ∷ b.0.0) b.0.1 = record { text = joined; fits = omega (arith, others.fits); small = (one.1, others.small) } in
+          subst (λ (y : List ℕ × List ℕ). TakesRows (suc room) bytes y.0 y.1) (some_is (a.0.0 ∷ b.0.0, b.0.1) x b.2) made
     ]
 
 -- a space is no line feed
@@ -86,7 +86,7 @@ rows_again zero (r ∷ rows) rest fits small = absurd (omega (arith, fits))
 rows_again (suc room) [] rest fits small = refl
 rows_again (suc room) (r ∷ rows) rest fits small =
     let regrouped : rows_then (r ∷ rows) rest ≡ spaced r ++ rows_then rows rest =
-      ap (λ (t : List ℕ). t ++ (codes "\n" ++ rest)) (flat_map-cons spaced r rows) ∙ append_assoc (spaced r) (flat_map spaced rows) (codes "\n" ++ rest) in
+    ap (λ (t : List ℕ). t ++ (codes "\n" ++ rest)) (flat_map-cons spaced r rows) ∙ append_assoc (spaced r) (flat_map spaced rows) (codes "\n" ++ rest) in
     let one : row_at (spaced r ++ rows_then rows rest) ≡ Some (r, rows_then rows rest) = row_again r (rows_then rows rest) small.0 (rows_no_digit rows rest) in
     let others : rows_at room (rows_then rows rest) ≡ Some (rows, rest) = rows_again room rows rest (omega (arith, fits)) small.1 in
     ap (rows_at (suc room)) regrouped ∙ rw (one, others) refl
@@ -106,7 +106,7 @@ line_again : (letter rows rest : List ℕ) → length rows ≤ MAX_SIZE → AllB
 unfolding rows_line_at
 line_again letter rows rest fits small =
     let regrouped : rows_line letter rows ++ rest ≡ letter ++ rows_then rows rest =
-      append_assoc letter (flat_map spaced rows ++ codes "\n") rest ∙ ap (λ (t : List ℕ). letter ++ t) (append_assoc (flat_map spaced rows) (codes "\n") rest) in
+    append_assoc letter (flat_map spaced rows ++ codes "\n") rest ∙ ap (λ (t : List ℕ). letter ++ t) (append_assoc (flat_map spaced rows) (codes "\n") rest) in
     ap (rows_line_at letter) regrouped ∙ rw (behind_again letter (rows_then rows rest)) (rows_again MAX_SIZE rows rest fits small)
 
 guard_none : {A : Type 0} (f : Option GridFault) (x y : A) → cond (is_none f) (Some x) None ≡ Some y → (f ≡ None) × (x ≡ y)

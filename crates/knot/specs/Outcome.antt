@@ -1,5 +1,5 @@
 -- How a call of the program ends, and what it leaves outside.
-use Rattle.std.specs.Prelude.{◌≡◌, ◌<◌, ◌≤◌, ◌+◌, ◌⊎◌, ℕ, List, [], ◌++◌, codes, length, take, Option}
+use Rattle.std.specs.Prelude.{◌≡◌, ◌≤◌, ◌+◌, ◌⊎◌, ℕ, List, codes, length, Option}
 use Rattle.std.specs.Io.KnownBytes.{Keeps, Appends, Consumes, IsAtEnd}
 use Rattle.knot_ports.specs.Faults.{Rose}
 use Rattle.knot_ports.specs.Sink.{AppendsFront}

@@ -1,5 +1,5 @@
 -- The text of a grid, a move and a list of moves. Tokens are parted by one space, and each line ends with a line feed.
-use Rattle.std.specs.Prelude.{ℕ, ◌<◌, List, [], ◌∷◌, ◌++◌, codes, length}
+use Rattle.std.specs.Prelude.{ℕ, ◌<◌, List, ◌++◌, codes, length}
 use Rattle.std.specs.List.{flat_map, AllByRecursion}
 use Rattle.std.specs.Fmt.{decimal}
 use Rattle.grid_core.specs.declared.mark.Kind.{Kind}

@@ -1,6 +1,6 @@
 -- Reading from left to right, for private clauses alone: each function answers what stands at the front and the bytes
 -- behind it, or nothing. That it reads exactly the printed texts is proved of each.
-use Rattle.std.specs.Prelude.{◌≡◌, ◌<◌, ◌-◌, ◌==◌, ◌&&◌, ◌||◌, not, ℕ, zero, suc, Bool, List, [], ◌∷◌, length, take, drop, codes, slice_index, Option, Some, None, Result, Ok, Err, is_none, nat_lt, nat_le, eqb, if◌then◌else◌}
+use Rattle.std.specs.Prelude.{◌≡◌, ◌==◌, ◌&&◌, ◌||◌, not, ℕ, zero, suc, Bool, List, [], ◌∷◌, length, take, drop, codes, slice_index, Option, Some, None, Result, Ok, Err, is_none, nat_lt, nat_le, eqb, if◌then◌else◌}
 use Rattle.std.specs.List.{starts_with, prefix_len}
 use Rattle.std.specs.Str.Parse.{digits_value}
 use Rattle.grid_core.specs.declared.grid.TheConstants.{MAX_SIZE}
@@ -117,8 +117,8 @@ unfoldable pub kind_at : List ℕ → Option (Kind × List ℕ)
 kind_at bytes = or_else (do
   rest ← behind (codes " x ") bytes
   Some (Cross, rest)) (do
-  rest ← behind (codes " o ") bytes
-  Some (Ring, rest))
+    rest ← behind (codes " o ") bytes
+    Some (Ring, rest))
 
 abbrev pub corner_named : Corner → List ℕ → List ℕ → Option (Corner × List ℕ)
 corner_named corner word bytes = do

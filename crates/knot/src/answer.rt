@@ -3,9 +3,9 @@ ghost use Rattle.std.specs.Prelude.{◌≡◌, ◌≤◌, All, length, IfOk};
 ghost use Rattle.knot.specs.Quandles.{IsQuandleName};
 ghost use Rattle.knot.specs.Answer.{limit_of, Answers, AnswersCheck, AnswersReplay, AnswersColour, Tells, unread_line};
 
+use crate::colours::colours_text;
 use crate::job::Job;
 use crate::printing::{grid_text, step_line, why_line};
-use crate::colours::colours_text;
 use crate::reading::{
     CheckInput, ColourInput, ReplayInput, Unreadable, check_input, colour_input, replay_input,
 };
@@ -110,10 +110,7 @@ fn replay_answer(alloc: Global, input: &ReplayInput) -> Result<Answer, AllocErro
 {
     match apply_all(&input.first, input.moves.as_slice()) {
         Ok(last) => Ok(Answer::new(Status::Done, grid_text(alloc, &last)?)),
-        Err((place, fault)) => Ok(Answer::new(
-            Status::Rejected,
-            step_line(alloc, place, fault)?,
-        )),
+        Err((place, fault)) => Ok(Answer::new(Status::Rejected, step_line(alloc, place, fault)?)),
     }
 }
 

@@ -70,7 +70,11 @@ fn push_block(out: &mut Vec<u8>, marks: u8) -> Result<(), AllocError>
 }
 
 /// The line of the first illegal move.
-pub(crate) fn step_line(alloc: Global, place: usize, fault: MoveFault) -> Result<Vec<u8>, AllocError>
+pub(crate) fn step_line(
+    alloc: Global,
+    place: usize,
+    fault: MoveFault,
+) -> Result<Vec<u8>, AllocError>
     ensures { IfOk result (λ v. v.items ≡ step_line place fault) }
 {
     let mut out = Vec::new(alloc);

@@ -10,7 +10,6 @@ mod numbers;
 mod quandles;
 
 pub use inputs::{CheckInput, ColourInput, ReplayInput, check_input, colour_input, replay_input};
-
 use std::alloc::{AllocError, AllocFailed};
 
 /// Why an input was not read.

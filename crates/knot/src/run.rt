@@ -21,15 +21,16 @@ pub fn run<S: Source, K: Sink>(
     sink: &mut K,
 ) -> Status
     ensures ends { Ends (record {
-        words = texts_of words.now;
-        left_before = S.left source.old;
-        left_after = S.left source.new;
-        read_faults_before = S.faults source.old;
-        read_faults_after = S.faults source.new;
-        held_before = K.held sink.old;
-        held_after = K.held sink.new;
-        write_faults_before = K.faults sink.old;
-        write_faults_after = K.faults sink.new }) result }
+      words = texts_of words.now;
+      left_before = S.left source.old;
+      left_after = S.left source.new;
+      read_faults_before = S.faults source.old;
+      read_faults_after = S.faults source.new;
+      held_before = K.held sink.old;
+      held_after = K.held sink.new;
+      write_faults_before = K.faults sink.old;
+      write_faults_after = K.faults sink.new;
+    }) result }
     ensures reads { S.faults source.old ≤ S.faults source.new }
     ensures writes { K.faults sink.old ≤ K.faults sink.new }
 {

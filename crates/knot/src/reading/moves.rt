@@ -97,11 +97,7 @@ fn move_at(bytes: &[u8]) -> Option<(Move, &[u8])>
 }
 
 /// So many moves, a line each.
-fn move_lines_at(
-    alloc: Global,
-    count: u32,
-    bytes: &[u8],
-) -> Result<(Vec<Move>, &[u8]), Unreadable>
+fn move_lines_at(alloc: Global, count: u32, bytes: &[u8]) -> Result<(Vec<Move>, &[u8]), Unreadable>
     ensures { GivesUnless (λ x. (x.0.items, x.1.now)) result (move_lines_at count bytes.now) }
 {
     let mut moves = Vec::new(alloc);

@@ -31,7 +31,10 @@ fn is_unit(n: u8, t: u8) -> bool
 fn tetrahedral_at(bytes: &[u8]) -> Option<(QuandleName, &[u8])>
     ensures { Gives (λ x. (x.0, x.1.now)) result (tetrahedral_at bytes.now) }
 {
-    Some((QuandleName::Tetrahedral, behind(b"quandle tetrahedral\n", bytes)?))
+    Some((
+        QuandleName::Tetrahedral,
+        behind(b"quandle tetrahedral\n", bytes)?,
+    ))
 }
 
 /// The line of an Alexander quandle.

@@ -1,4 +1,4 @@
-use Rattle.std.proofs.Common.{sym, arith, rules, length-append}
+use Rattle.std.proofs.Common.{arith, length-append}
 use Rattle.grid_core.specs.declared.grid.TheConstants.{MAX_SIZE}
 use Rattle.knot.specs.Reading.{rows_at}
 use Rattle.knot.proofs.Loops.{row_more, rows_end, rows_fail, rows_full, rows_over}
@@ -13,7 +13,7 @@ returns-in_default-row_at c = rows_fail c.loop.rows.items MAX_SIZE c.loop.counte
 pub loop-preserved : goal.loop-preserved
 loop-preserved c = record {
   room = rw c.push.ensures.items (rw (length-append) (omega arith));
-  read = rw c.push.ensures.items (row_more c.loop.rows.items MAX_SIZE c.loop.counter c.loop.rest.now c.in-Some-row_at.row c.in-Some-row_at.after.now (rows_at MAX_SIZE c.args.bytes.now) c.loop-test.true c.in_default.ensures c.in-Some-row_at.ensures c.loop.invariant.read)
+  read = rw c.push.ensures.items (row_more c.loop.rows.items MAX_SIZE c.loop.counter c.loop.rest.now c.in-Some-row_at.row c.in-Some-row_at.after.now (rows_at MAX_SIZE c.args.bytes.now) c.loop-test.true c.in_default.ensures c.in-Some-row_at.ensures c.loop.invariant.read);
 }
 
 pub returns-in-None : goal.returns-in-None

@@ -1,5 +1,3 @@
-use Rattle.std.proofs.Common.{ap, subst, sym, take}
-use Rattle.std.specs.Str.Parse.{AllDigits}
 use Rattle.knot.proofs.Digits.{digits_front}
 use Rattle.knot.proofs.reading.numbers.number_at.Goals as goal
 

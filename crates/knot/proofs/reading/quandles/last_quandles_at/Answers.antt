@@ -1,4 +1,4 @@
-use Rattle.std.proofs.Common.{◌≡◌, ◌-◌, ◌==◌, length, true, false, rules, arith}
+use Rattle.std.proofs.Common.{◌≡◌, ◌-◌, ◌==◌, length, true, false, arith}
 use Rattle.std.proofs.lemmas.Bool.Decides.{nat_tests}
 use Rattle.knot.specs.declared.quandles.TheConstants.{MAX_LISTED}
 use Rattle.knot.specs.Reading.{last_quandles_at}
