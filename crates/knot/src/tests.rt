@@ -272,21 +272,6 @@ fn ends_at_each_fault(rt: HostRuntime) -> Result<(), Fail> {
         assert_eq!(rt; status, wanted, "call {failing}");
         assert_eq!(rt; sink.bytes(), *front, "call {failing}");
     }
-    // The other jobs end at a fault too.
-    for job in ["replay", "colour"] {
-        let words = words_of(alloc, &["knot", job])?;
-        let calls = bytes_from(alloc, &[1])?;
-        let mut source = MemSource::new(Vec::from_slice(alloc, SHIFTED)?, 4, calls);
-        let mut sink = MemSink::new(alloc, 3, 100, Vec::new(alloc))?;
-        let status = run(alloc, words.as_slice(), &mut source, &mut sink);
-        assert_eq!(rt; status, Status::ReadFault, "{job}");
-        assert_eq!(rt; sink.bytes(), b"".as_slice());
-        let mut source = MemSource::new(Vec::from_slice(alloc, SHIFTED)?, 4, Vec::new(alloc));
-        let mut sink = MemSink::new(alloc, 3, 100, bytes_from(alloc, &[1])?)?;
-        let status = run(alloc, words.as_slice(), &mut source, &mut sink);
-        assert_eq!(rt; status, Status::WriteFault, "{job}");
-        assert_eq!(rt; sink.bytes(), b"unr".as_slice());
-    }
     // No room is a fault of writing too, and the ports that never fail give the answer.
     let mut source = MemSource::new(Vec::from_slice(alloc, SHIFTED)?, 4, Vec::new(alloc));
     let mut sink = MemSink::new(alloc, 3, 4, Vec::new(alloc))?;
@@ -300,6 +285,36 @@ fn ends_at_each_fault(rt: HostRuntime) -> Result<(), Fail> {
         run(alloc, words.as_slice(), &mut quiet, &mut QuietSink::new()),
         Status::Done
     );
+    Ok(())
+}
+
+/// The status and the written bytes of a call whose source fails at its second call, or whose sink does.
+fn ran_into_fault(
+    alloc: Global,
+    job: &str,
+    reading: &[u64],
+    writing: &[u64],
+) -> Result<(Status, Vec<u8>), Fail> {
+    let words = words_of(alloc, &["knot", job])?;
+    let bytes = Vec::from_slice(alloc, SHIFTED)?;
+    let mut source = MemSource::new(bytes, 4, bytes_from(alloc, reading)?);
+    let mut sink = MemSink::new(alloc, 3, 100, bytes_from(alloc, writing)?)?;
+    let status = run(alloc, words.as_slice(), &mut source, &mut sink);
+    let written = Vec::from_slice(alloc, sink.bytes())?;
+    Ok((status, written))
+}
+
+/// The other jobs end at a fault too.
+#[test]
+fn other_jobs_end_at_a_fault(rt: HostRuntime) -> Result<(), Fail> {
+    for job in ["replay", "colour"] {
+        let (status, written) = ran_into_fault(rt.alloc(), job, &[1], &[])?;
+        assert_eq!(rt; status, Status::ReadFault, "{job}");
+        assert_eq!(rt; written.as_slice(), b"".as_slice());
+        let (status, written) = ran_into_fault(rt.alloc(), job, &[], &[1])?;
+        assert_eq!(rt; status, Status::WriteFault, "{job}");
+        assert_eq!(rt; written.as_slice(), b"unr".as_slice());
+    }
     Ok(())
 }
 
