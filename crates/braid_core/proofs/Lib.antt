@@ -1,0 +1,5 @@
+pub mod Accepted
+pub mod AllTuples
+pub mod Letters
+pub mod Listed
+mod WorkedRows

@@ -1,0 +1,5 @@
+pub mod Braid
+pub mod Action
+pub mod FixedPoints
+pub mod Fault
+pub use Rattle.quandle_core.specs.Quandle

@@ -1,0 +1,43 @@
+//! The action of a braid on a tuple of colours.
+ghost use Rattle.std.specs.Prelude.{◌≡◌, ◌<◌, length};
+ghost use Rattle.std.specs.List.{All};
+ghost use Rattle.braid_core.specs.Braid.{IsLetter};
+ghost use Rattle.braid_core.specs.Action.{IsTuple, letter_action, action};
+
+use crate::braid::Braid;
+use quandle_core::Quandle;
+
+/// Changes the colours as the braid acts on them, by its letters from first to last.
+///
+/// Letter `+k` takes `(x_k, x_{k+1})` to `(x_{k+1} ▷ x_k, x_k)`, and letter `-k` takes it to `(x_{k+1}, x_k ◁ x_{k+1})`.
+/// There is to be a colour below the order for each strand, position 1 first. Takes no memory.
+pub fn act(braid: &Braid, quandle: &Quandle, colours: &mut [u8])
+    requires { IsTuple quandle.now braid.now.strands colours.old }
+    ensures action { colours.new ≡ action quandle.now braid.now.letters colours.old }
+    ensures tuple { IsTuple quandle.now braid.now.strands colours.new }
+{
+    let letters = braid.letters();
+    for place in 0..letters.len() {
+        act_letter(letters[place], quandle, colours);
+    }
+}
+
+/// Changes the colours as one letter acts on them.
+fn act_letter(letter: i8, quandle: &Quandle, colours: &mut [u8])
+    requires letter { IsLetter (length colours.old) letter }
+    requires colours { All (λ y. y < quandle.now.order) colours.old }
+    ensures action { colours.new ≡ letter_action quandle.now colours.old letter }
+    ensures tuple { IsTuple quandle.now (length colours.old) colours.new }
+{
+    let _order = quandle.order();
+    let k = letter.unsigned_abs() as usize;
+    let left = colours[k - 1];
+    let right = colours[k];
+    if letter > 0 {
+        colours[k - 1] = quandle.over(right, left);
+        colours[k] = left;
+    } else {
+        colours[k - 1] = right;
+        colours[k] = quandle.back(left, right);
+    }
+}
