@@ -1,0 +1,67 @@
+-- The closure of a braid as a grid diagram, from its lowest row to its highest (braids: Artin 1947; grids: Cromwell 1995).
+-- The foot of position j begins in row j - 1, and letter t, counted from 0, has row m + t. The strand of position j then turns at the top row n - j and comes back down to row j - 1.
+use Rattle.std.specs.Prelude.{ℕ, zero, suc, ◌+◌, ◌-◌, ◌*◌, ℤ, pos, negsuc, List, [], ◌∷◌, ◌++◌, map, length, slice_index}
+use Rattle.std.specs.List.{range_with_len}
+use Rattle.grid_core.specs.Diagram.{Diagram}
+use Rattle.grid_core.specs.declared.mark.Kind.TheVariants.{Cross}
+use Rattle.grid_core.specs.Parts.{column_of}
+use Rattle.braid_core.specs.Braid.{Word}
+use Rattle.braid_closure.specs.declared.column.Column.{Column}
+use Rattle.braid_closure.specs.Columns.{begun, ended, at_position, diagram_of}
+
+-- letter +k in row r: the column of position k+1 ends, and a new one begins directly to the left of the column of position k
+abbrev pub positive : ℕ → ℕ → List Column → List Column
+positive k r columns = at_position k (λ c. begun r ∷ c ∷ []) (at_position (k + 1) (λ c. ended r c ∷ []) columns)
+
+-- letter -k in row r: the column of position k ends, and a new one begins directly to the right of the column of position k+1
+abbrev pub negative : ℕ → ℕ → List Column → List Column
+negative k r columns = at_position k (λ c. ended r c ∷ []) (at_position (k + 1) (λ c. c ∷ begun r ∷ []) columns)
+
+abbrev pub crossed : ℤ → ℕ → List Column → List Column
+crossed (pos k) r columns = positive k r columns
+crossed (negsuc n) r columns = negative (n + 1) r columns
+
+-- the columns after these letters, of which the first has row r
+abbrev pub crossings : ℕ → List Column → List ℤ → List Column
+crossings r columns [] = columns
+crossings r columns (a ∷ letters) = crossings (r + 1) (crossed a r columns) letters
+
+-- m open columns, that of position j beginning in row j - 1
+abbrev pub standing : ℕ → List Column
+standing m = map begun (range_with_len 0 m)
+
+-- the top row of position j in a grid of size n
+abbrev pub top_row : ℕ → ℕ → ℕ
+top_row n j = n - j
+
+-- the columns of positions m to 1 end in their top rows
+abbrev pub topped : ℕ → ℕ → List Column → List Column
+topped n zero columns = columns
+topped n (suc i) columns = topped n i (at_position (i + 1) (λ c. ended (top_row n (i + 1)) c ∷ []) columns)
+
+-- the closing columns of positions m to 1: that of position j begins in its top row and ends in row j - 1
+abbrev pub closing : ℕ → ℕ → List Column
+closing n zero = []
+closing n (suc i) = ended i (begun (top_row n (i + 1))) ∷ closing n i
+
+abbrev pub closure_size : Word → ℕ
+closure_size b = length b.letters + 2 * b.strands
+
+-- all columns of the closure, from left to right
+abbrev pub columns : Word → List Column
+columns b = topped (closure_size b) b.strands (crossings b.strands (standing b.strands) b.letters) ++ closing (closure_size b) b.strands
+
+abbrev pub closure : Word → Diagram
+closure b = diagram_of (columns b)
+
+-- the columns of the feet, position 1 first: those with an X in rows 0 to m - 1
+abbrev pub feet : Word → List ℕ
+feet b = map (column_of Cross (closure b)) (range_with_len 0 b.strands)
+
+-- the colours at the feet, position 1 first
+abbrev pub at_feet : Word → List ℕ → List ℕ
+at_feet b colours = map (slice_index colours) (feet b)
+
+-- the colour of a column of the closure that is known by the row of its X
+abbrev pub colour_of : Word → List ℕ → Column → ℕ
+colour_of b colours c = slice_index colours (column_of Cross (closure b) c.x)

@@ -1,0 +1,11 @@
+//! The closure of a braid as a grid diagram, with the columns of its feet.
+//! The closure is exactly that of its definition, and its colourings by a quandle, read at the feet, are the fixed points of the braid's action, each once.
+#![tactic(auto)]
+
+mod closure;
+mod column;
+pub mod laws;
+#[cfg(test)]
+mod tests;
+
+pub use closure::{Closure, close};
