@@ -1,0 +1,9 @@
+mod FirstLine
+mod FirstToken
+mod Ends
+mod Steps
+mod Digits
+pub mod Parted
+pub mod Written
+pub mod NumberTexts
+mod WorkedRows

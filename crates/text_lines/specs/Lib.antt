@@ -1,0 +1,5 @@
+pub mod Tokens
+pub mod Lines
+pub mod Numbers
+pub mod Spelled
+pub mod Cut
