@@ -4,27 +4,11 @@
     python3 bench/colour.py                  seconds, bytes written a second
     python3 bench/colour.py --instructions   also instructions a colouring, counted by callgrind
 """
-import argparse
 import os
-import subprocess
-import sys
 import tempfile
 
+from measure import PROGRAM, best, built, instructions, wants_instructions
 from moves import torus
-
-HERE = os.path.dirname(os.path.abspath(__file__))
-PROGRAM = os.path.join(HERE, "..", "crates", "knot", "out", "knot")
-
-RUNNER = """
-import os, subprocess, sys, time
-with open(sys.argv[1], "rb") as source:
-    start = time.perf_counter()
-    child = subprocess.Popen(sys.argv[2:], stdin=source, stdout=subprocess.PIPE)
-    written = child.stdout.read()
-    _, _, usage = os.wait4(child.pid, 0)
-    counts = [int(line.split()[1]) for line in written.decode().splitlines() if line.startswith("list ")]
-    print(time.perf_counter() - start, usage.ru_maxrss * 1024, len(written), sum(counts))
-"""
 
 
 def pairs(size):
@@ -55,50 +39,32 @@ def rows():
     yield "24 columns, trivial 16", 24, large.text() + "quandle trivial 16\n"
 
 
-def timed(path, turns=5):
-    best = None
-    for _ in range(turns):
-        done = subprocess.run([sys.executable, "-S", "-E", "-c", RUNNER, path, PROGRAM, "colour"],
-                              capture_output=True, text=True)
-        seconds, memory, size, count = done.stdout.split()
-        run = (float(seconds), int(memory), int(size), int(count))
-        best = run if best is None or run < best else best
-    return best
-
-
-def instructions(path):
-    with tempfile.NamedTemporaryFile() as out, open(path, "rb") as source:
-        done = subprocess.run(
-            ["valgrind", "--tool=callgrind", f"--callgrind-out-file={out.name}", PROGRAM, "colour"],
-            stdin=source, capture_output=True, text=True)
-    for line in done.stderr.splitlines():
-        if "Collected" in line:
-            return int(line.split()[-1].replace(",", ""))
-    sys.exit("callgrind gave no count: " + done.stderr[-300:])
+def listed(written):
+    """How many colourings the lists of an output say they hold."""
+    return sum(int(line.split()[1]) for line in written.splitlines() if line.startswith("list "))
 
 
 def main():
-    words = argparse.ArgumentParser(description=__doc__, formatter_class=argparse.RawDescriptionHelpFormatter)
-    words.add_argument("--instructions", action="store_true")
-    words = words.parse_args()
-    if not os.access(PROGRAM, os.X_OK):
-        sys.exit("build the program first: ./knot check < examples/check/unknot-shifted.txt")
+    with_instructions = wants_instructions(__doc__)
+    built()
     with tempfile.TemporaryDirectory() as folder:
         path = os.path.join(folder, "input")
         start = None
-        if words.instructions:
+        if with_instructions:
             with open(path, "w") as out:
                 out.write(grid_text(*pairs(2)) + "quandle trivial 1\n")
-            start = instructions(path)
+            start = instructions("colour", path)
         print(f"{'grid and quandle':30} {'columns':>7} {'colourings':>10} {'bytes':>9} {'seconds':>8} {'MB/s':>6} {'MB':>6}"
-              + (f" {'instructions a colouring':>25}" if words.instructions else ""))
+              + (f" {'instructions a colouring':>25}" if with_instructions else ""))
         for name, columns, text in rows():
             with open(path, "w") as out:
                 out.write(text)
-            seconds, memory, size, count = timed(path)
+            seconds, memory, written = best([PROGRAM, "colour"], path)
+            size, count = len(written), listed(written)
             line = f"{name:30} {columns:7} {count:10} {size:9} {seconds:8.4f} {size / 1e6 / seconds:6.0f} {memory / 1e6:6.1f}"
-            if words.instructions:
-                line += f" {(instructions(path) - start) / max(count, 1):25.0f}"
+            if with_instructions:
+                taken = instructions("colour", path) - start
+                line += f" {taken / max(count, 1):25.0f}"
             print(line)
 
 

@@ -1,0 +1,58 @@
+"""What the benches measure of the built program: seconds, peak memory, what it wrote, and instructions."""
+import argparse
+import os
+import subprocess
+import sys
+import tempfile
+
+PROGRAM = os.path.join(os.path.dirname(os.path.abspath(__file__)), "..", "crates", "knot", "out", "knot")
+
+# A run as a small process of its own sees it: a child's peak memory counts what its parent held when it was started.
+RUNNER = """
+import os, subprocess, sys, time
+with open(sys.argv[1], "rb") as source:
+    start = time.perf_counter()
+    child = subprocess.Popen(sys.argv[2:], stdin=source, stdout=subprocess.PIPE)
+    written = child.stdout.read()
+    _, _, usage = os.wait4(child.pid, 0)
+    seconds = time.perf_counter() - start
+    sys.stdout.buffer.write(f"{seconds} {usage.ru_maxrss * 1024}\\n".encode() + written)
+"""
+
+
+def built():
+    """Stops where there is no built program to measure."""
+    if not os.access(PROGRAM, os.X_OK):
+        sys.exit("build the program first: ./knot check < examples/check/unknot-shifted.txt")
+
+
+def best(words, path, turns=5):
+    """Of some runs on the file: the least seconds, the peak memory in bytes (some 10 MB of it may be the runner's own), and what the first one wrote."""
+    seconds, memory, texts = zip(*(timed(words, path) for _ in range(turns)))
+    return min(seconds), max(memory), texts[0]
+
+
+def timed(words, path):
+    done = subprocess.run([sys.executable, "-S", "-E", "-c", RUNNER, path, *words], capture_output=True)
+    head, _, written = done.stdout.partition(b"\n")
+    seconds, memory = head.split()
+    return float(seconds), int(memory), written.decode()
+
+
+def instructions(request, path):
+    """The instructions of one run of the request on the file, counted by callgrind."""
+    with tempfile.NamedTemporaryFile() as out, open(path, "rb") as source:
+        done = subprocess.run(
+            ["valgrind", "--tool=callgrind", f"--callgrind-out-file={out.name}", PROGRAM, request],
+            stdin=source, capture_output=True, text=True)
+    for line in done.stderr.splitlines():
+        if "Collected" in line:
+            return int(line.split()[-1].replace(",", ""))
+    sys.exit("callgrind gave no count: " + done.stderr[-300:])
+
+
+def wants_instructions(about):
+    """Whether the words of the call ask for instructions."""
+    words = argparse.ArgumentParser(description=about, formatter_class=argparse.RawDescriptionHelpFormatter)
+    words.add_argument("--instructions", action="store_true")
+    return words.parse_args().instructions
