@@ -238,80 +238,64 @@ fn bytes_from(alloc: Global, calls: &[u64]) -> Result<Vec<u64>, AllocError> {
     Vec::from_slice(alloc, calls)
 }
 
-/// Each call of the source and of the sink failing in turn: nothing is written after a fault of reading, and a front
-/// of the text after a fault of writing.
-#[test]
-fn ends_at_each_fault(rt: HostRuntime) -> Result<(), Fail> {
-    let alloc = rt.alloc();
-    let words = words_of(alloc, &["knot", "check"])?;
-    // The stored input in pieces of 4 bytes: twelve calls give bytes, and the next one the end.
-    for failing in 0..15 {
-        let calls = bytes_from(alloc, &[failing])?;
-        let mut source = MemSource::new(Vec::from_slice(alloc, SHIFTED)?, 4, calls);
-        let mut sink = MemSink::new(alloc, 3, 100, Vec::new(alloc))?;
-        let status = run(alloc, words.as_slice(), &mut source, &mut sink);
-        if failing <= 12 {
-            assert_eq!(rt; status, Status::ReadFault, "call {failing}");
-            assert_eq!(rt; sink.bytes(), b"".as_slice());
-        } else {
-            assert_eq!(rt; status, Status::Done, "call {failing}");
-        }
-    }
-    // `accepted` and its line feed in pieces of 3 bytes: three calls.
-    let fronts: [&[u8]; 4] = [b"", b"acc", b"accept", b"accepted\n"];
-    for (failing, front) in fronts.iter().enumerate() {
-        let calls = bytes_from(alloc, &[failing as u64])?;
-        let mut source = MemSource::new(Vec::from_slice(alloc, SHIFTED)?, 4, Vec::new(alloc));
-        let mut sink = MemSink::new(alloc, 3, 100, calls)?;
-        let status = run(alloc, words.as_slice(), &mut source, &mut sink);
-        let wanted = if failing < 3 {
-            Status::WriteFault
-        } else {
-            Status::Done
-        };
-        assert_eq!(rt; status, wanted, "call {failing}");
-        assert_eq!(rt; sink.bytes(), *front, "call {failing}");
-    }
-    // No room is a fault of writing too, and the ports that never fail give the answer.
-    let mut source = MemSource::new(Vec::from_slice(alloc, SHIFTED)?, 4, Vec::new(alloc));
-    let mut sink = MemSink::new(alloc, 3, 4, Vec::new(alloc))?;
-    assert_eq!(rt;
-        run(alloc, words.as_slice(), &mut source, &mut sink),
-        Status::WriteFault
-    );
-    assert_eq!(rt; sink.bytes(), b"acce".as_slice());
-    let mut quiet = QuietSource::new(Vec::from_slice(alloc, SHIFTED)?);
-    assert_eq!(rt;
-        run(alloc, words.as_slice(), &mut quiet, &mut QuietSink::new()),
-        Status::Done
-    );
-    Ok(())
-}
-
-/// The status and the written bytes of a call whose source fails at its second call, or whose sink does.
+/// The status and the written bytes of a call on the stored input that reads in pieces of 4 bytes, so twelve calls give
+/// bytes and the next one the end, and writes in pieces of 3; the listed calls fail.
 fn ran_into_fault(
     alloc: Global,
     job: &str,
     reading: &[u64],
     writing: &[u64],
+    room: usize,
 ) -> Result<(Status, Vec<u8>), Fail> {
     let words = words_of(alloc, &["knot", job])?;
     let bytes = Vec::from_slice(alloc, SHIFTED)?;
     let mut source = MemSource::new(bytes, 4, bytes_from(alloc, reading)?);
-    let mut sink = MemSink::new(alloc, 3, 100, bytes_from(alloc, writing)?)?;
+    let mut sink = MemSink::new(alloc, 3, room, bytes_from(alloc, writing)?)?;
     let status = run(alloc, words.as_slice(), &mut source, &mut sink);
     let written = Vec::from_slice(alloc, sink.bytes())?;
     Ok((status, written))
+}
+
+/// Each call of the source failing in turn: nothing is written.
+#[test]
+fn ends_at_each_fault_of_reading(rt: HostRuntime) -> Result<(), Fail> {
+    for failing in 0..13 {
+        let (status, written) = ran_into_fault(rt.alloc(), "check", &[failing], &[], 100)?;
+        assert_eq!(rt; status, Status::ReadFault, "call {failing}");
+        assert_eq!(rt; written.as_slice(), b"".as_slice());
+    }
+    // After the end the source isn't called again.
+    let (status, _) = ran_into_fault(rt.alloc(), "check", &[13], &[], 100)?;
+    assert_eq!(rt; status, Status::Done);
+    Ok(())
+}
+
+/// Each call of the sink failing in turn, or a sink that is full: a front of the text is written.
+#[test]
+fn ends_at_each_fault_of_writing(rt: HostRuntime) -> Result<(), Fail> {
+    let rows: [(u64, usize, Status, &[u8]); 5] = [
+        (0, 100, Status::WriteFault, b""),
+        (1, 100, Status::WriteFault, b"acc"),
+        (2, 100, Status::WriteFault, b"accept"),
+        (3, 100, Status::Done, b"accepted\n"),
+        (3, 4, Status::WriteFault, b"acce"),
+    ];
+    for (failing, room, ended, front) in rows {
+        let (status, written) = ran_into_fault(rt.alloc(), "check", &[], &[failing], room)?;
+        assert_eq!(rt; status, ended, "call {failing}");
+        assert_eq!(rt; written.as_slice(), front, "call {failing}");
+    }
+    Ok(())
 }
 
 /// The other jobs end at a fault too.
 #[test]
 fn other_jobs_end_at_a_fault(rt: HostRuntime) -> Result<(), Fail> {
     for job in ["replay", "colour"] {
-        let (status, written) = ran_into_fault(rt.alloc(), job, &[1], &[])?;
+        let (status, written) = ran_into_fault(rt.alloc(), job, &[1], &[], 100)?;
         assert_eq!(rt; status, Status::ReadFault, "{job}");
         assert_eq!(rt; written.as_slice(), b"".as_slice());
-        let (status, written) = ran_into_fault(rt.alloc(), job, &[], &[1])?;
+        let (status, written) = ran_into_fault(rt.alloc(), job, &[], &[1], 100)?;
         assert_eq!(rt; status, Status::WriteFault, "{job}");
         assert_eq!(rt; written.as_slice(), b"unr".as_slice());
     }
