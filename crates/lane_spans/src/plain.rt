@@ -60,7 +60,8 @@ fn may_trade(low: u8, high: u8, next_low: u8, next_high: u8) -> bool
 {
     let touching = low == next_low || low == next_high || high == next_low || high == next_high;
     let disjoint = high < next_low || next_high < low;
-    let nested = is_inside(low, high, next_low, next_high) || is_inside(next_low, next_high, low, high);
+    let nested = is_inside(low, high, next_low, next_high)
+        || is_inside(next_low, next_high, low, high);
     low != high && next_low != next_high && !touching && (disjoint || nested)
 }
 
