@@ -1,0 +1,368 @@
+-- Each item takes lines from the front alone, and fails at the first bad one.
+use Rattle.std.proofs.Common.{◌≡◌, ℕ, zero, suc, ◌-◌, List, [], ◌++◌, Bool, true, false, cond, Option, Some, None, Result, Ok, Err, refl, ap, ◌∙◌, inl, inr, ◌⊎◌, codes, nat_le}
+use Rattle.std.specs.Prelude.{is_none}
+use Rattle.std.specs.Str.{bytes_eq}
+use Rattle.arrayvec.specs.ArrayVec.{ArrayVec}
+use Rattle.colour_list.specs.declared.limits.TheConstants.{MAX_COLOURINGS}
+use Rattle.quandle_core.specs.Fault.{first_fault}
+use Rattle.text_lines.specs.Lines.{NumberedLine, Text}
+use Rattle.knot_text.specs.declared.fault.TextFault.{TextFault}
+use Rattle.knot_text.specs.declared.fault.TextFault.TheVariants.{Malformed, Limit}
+use Rattle.knot_text.specs.declared.steps.TheConstants.{MAX_NUMBER}
+use Rattle.knot_text.specs.declared.names.QuandleName.TheVariants as name
+use Rattle.knot_text.specs.declared.quandles.Written.{Written}
+use Rattle.knot_text.specs.declared.quandles.Written.TheVariants as written
+use Rattle.knot_text.specs.declared.verdict.Verdict.{Verdict}
+use Rattle.knot_text.specs.declared.verdict.Verdict.TheVariants.{Equal, Different}
+use Rattle.knot_text.specs.Names.{NamedQuandle, called}
+use Rattle.knot_text.specs.Reading.{◌>>=◌, in_turn, next_line, next_token, word, last_number, last_count, at_most, or_malformed}
+use Rattle.knot_text.specs.Numbers.{numbers_below}
+use Rattle.knot_text.specs.GridItem.{x_at, o_at, grid_item}
+use Rattle.knot_text.specs.MovesItem.{move_at, next_move, move_lines, moves_item}
+use Rattle.knot_text.specs.QuandleItem.{written_at, is_over, meant, table_row, table_rows, table_item, quandle_of, quandle_at, quandle_item}
+use Rattle.knot_text.specs.VerdictItem.{equal_at, colours_item, list_item, different_at, unknown_at, unknown_item, verdict_item}
+use Rattle.knot_text.proofs.Steady.{Steady, Anywhere, then_read, line_steady, pure_steady, same_steady, then_steady, turns_steady}
+use Rattle.knot_text.proofs.AtLine.{At, at_ok, at_malformed, at_limit, at_bind, at_cond, at_same, word_at, word_keeps, last_count_at, numbers_below_at}
+use Rattle.knot_text.proofs.ItemsAtLine.{x_at_at, o_at_at, move_at_at, chosen_at, word_count_at, written_at_at, written_keeps, unknown_at_at}
+
+-- ---- a line, and what follows from it
+
+-- what was read of a line, and the lines behind it
+abbrev with_rest : {A : Type 0} → Result A TextFault → Text → Result (A × Text) TextFault
+with_rest r text = r >>= λ x. Ok (x, text)
+
+abbrev of_line : {A : Type 0} → Result (NumberedLine × Text) TextFault → (NumberedLine → Result A TextFault) → Result (A × Text) TextFault
+of_line r g = r >>= λ line. with_rest (g line.0) line.1
+
+flat_line : {A B : Type 0} (s : Result A TextFault) (text : Text) (k : A → Text → Result B TextFault) → (s >>= λ x. k x text) ≡ (with_rest s text >>= λ y. k y.0 y.1)
+flat_line (Ok x) text k = refl
+flat_line (Err e) text k = refl
+
+flat : {A B : Type 0} (r : Result (NumberedLine × Text) TextFault) (g : NumberedLine → Result A TextFault) (k : A → Text → Result B TextFault)
+    → (r >>= λ line. g line.0 >>= λ x. k x line.1) ≡ (of_line r g >>= λ y. k y.0 y.1)
+flat (Ok line) g k = flat_line (g line.0) line.1 k
+flat (Err e) g k = refl
+
+pub line_then : {A B : Type 0} (g : NumberedLine → Result A TextFault) (k : A → Text → Result (B × Text) TextFault) → ((line : NumberedLine) → At line.number (g line)) → ((a : A) → Steady Anywhere (k a))
+    → Steady Anywhere (λ text. next_line text >>= λ line. g line.0 >>= λ x. k x line.1)
+line_then g k names steady =
+    let first = λ (text : Text). of_line (next_line text) g in
+    same_steady Anywhere (then_read first k) (λ text. next_line text >>= λ line. g line.0 >>= λ x. k x line.1) (λ text. flat (next_line text) g k)
+    (then_steady Anywhere first k (line_steady g (λ line fault e. names line fault e)) steady)
+
+-- two steps in the line
+flat_steps : {X A B : Type 0} (s : Result X TextFault) (h : X → Result A TextFault) (text : Text) (k : A → Text → Result B TextFault) → (s >>= λ x. h x >>= λ a. k a text) ≡ ((s >>= h) >>= λ a. k a text)
+flat_steps (Ok x) h text k = refl
+flat_steps (Err e) h text k = refl
+
+flat_two : {X A B : Type 0} (r : Result (NumberedLine × Text) TextFault) (g : NumberedLine → Result X TextFault) (h : X → Result A TextFault) (k : A → Text → Result B TextFault)
+    → (r >>= λ line. g line.0 >>= λ x. h x >>= λ a. k a line.1) ≡ (r >>= λ line. (g line.0 >>= h) >>= λ a. k a line.1)
+flat_two (Ok line) g h k = flat_steps (g line.0) h line.1 k
+flat_two (Err e) g h k = refl
+
+pub line_then_two : {X A B : Type 0} (g : NumberedLine → Result X TextFault) (h : X → Result A TextFault) (k : A → Text → Result (B × Text) TextFault) → ((line : NumberedLine) → At line.number (g line >>= h)) → ((a : A) → Steady Anywhere (k a))
+    → Steady Anywhere (λ text. next_line text >>= λ line. g line.0 >>= λ x. h x >>= λ a. k a line.1)
+line_then_two g h k names steady =
+    same_steady Anywhere (λ text. next_line text >>= λ line. (g line.0 >>= h) >>= λ a. k a line.1) (λ text. next_line text >>= λ line. g line.0 >>= λ x. h x >>= λ a. k a line.1) (λ text. flat_two (next_line text) g h k)
+    (line_then (λ line. g line >>= h) k names steady)
+
+-- ---- grids
+
+pub grid_steady : Steady Anywhere grid_item
+unfolding grid_item
+grid_steady = line_then x_at (λ x text. next_line text >>= λ line. o_at x line.0 >>= λ d. Ok (d, line.1)) x_at_at (λ x. line_steady (o_at x) (λ line fault e. o_at_at x line fault e))
+
+-- ---- moves
+
+next_move_steady : Steady Anywhere next_move
+unfolding next_move
+next_move_steady = line_steady move_at (λ line fault e. move_at_at line fault e)
+
+pub move_lines_steady : (count : ℕ) → Steady Anywhere (move_lines count)
+move_lines_steady count = turns_steady next_move count next_move_steady
+
+moves_line_at : (line : NumberedLine) → At line.number (word (codes "moves") line >>= last_count)
+unfolding last_count
+moves_line_at line = word_count_at (codes "moves") MAX_NUMBER line
+
+pub moves_steady : Steady Anywhere moves_item
+unfolding moves_item
+moves_steady = line_then_two (word (codes "moves")) last_count (λ count text. move_lines count text) moves_line_at move_lines_steady
+
+-- ---- tables
+
+row_steady : (order : ℕ) → Steady Anywhere (table_row order)
+unfolding table_row
+row_steady order = line_steady (numbers_below order order) (λ line fault e. numbers_below_at order order line fault e)
+
+rows_steady : (order count : ℕ) → Steady Anywhere (table_rows order count)
+unfolding table_rows
+rows_steady order zero = pure_steady []
+rows_steady order (suc count) =
+    then_steady Anywhere (table_row order) (λ row text. table_rows order count text >>= λ rows. Ok (row ++ rows.0, rows.1)) (row_steady order)
+    (λ row. then_steady Anywhere (table_rows order count) (λ rows text. Ok (row ++ rows, text)) (rows_steady order count) (λ rows. pure_steady (row ++ rows)))
+
+abbrev is_table : ℕ → List ℕ → Bool
+is_table order entries = is_none (first_fault (record { order = order; entries = entries }))
+
+abbrev of_entries : ℕ → List ℕ → NamedQuandle
+of_entries order entries = called name.Table (record { order = order; entries = entries })
+
+-- the last line, with which the table is to be a quandle
+last_row : ℕ → List ℕ → NumberedLine → Result NamedQuandle TextFault
+last_row order front line = numbers_below order order line >>= λ row. cond (is_table order (front ++ row)) (Ok (of_entries order (front ++ row))) (Err (Malformed line.number))
+
+last_row_at : (order : ℕ) (front : List ℕ) (line : NumberedLine) → At line.number (last_row order front line)
+unfolding last_row
+last_row_at order front line =
+    at_bind line.number (numbers_below order order line) (λ row. cond (is_table order (front ++ row)) (Ok (of_entries order (front ++ row))) (Err (Malformed line.number))) (numbers_below_at order order line)
+    (λ row e. at_cond line.number (is_table order (front ++ row)) (Ok (of_entries order (front ++ row))) (Err (Malformed line.number)) (at_ok line.number (of_entries order (front ++ row))) (at_malformed line.number))
+
+flat_test : {A : Type 0} (b : Bool) (x : A) (d : TextFault) (text : Text) → cond b (Ok (x, text)) (Err d) ≡ with_rest (cond b (Ok x) (Err d)) text
+flat_test true x d text = refl
+flat_test false x d text = refl
+
+flat_row : (order n : ℕ) (front : List ℕ) (s : Result (List ℕ) TextFault) (text : Text)
+    → (s >>= λ row. cond (is_table order (front ++ row)) (Ok (of_entries order (front ++ row), text)) (Err (Malformed n)))
+    ≡ with_rest (s >>= λ row. cond (is_table order (front ++ row)) (Ok (of_entries order (front ++ row))) (Err (Malformed n))) text
+flat_row order n front (Ok row) text = flat_test (is_table order (front ++ row)) (of_entries order (front ++ row)) (Malformed n) text
+flat_row order n front (Err e) text = refl
+
+abbrev last_read : ℕ → List ℕ → Text → Result (NamedQuandle × Text) TextFault
+last_read order front text = next_line text >>= λ line. numbers_below order order line.0 >>= λ row. cond (is_table order (front ++ row)) (Ok (of_entries order (front ++ row), line.1)) (Err (Malformed line.0.number))
+
+flat_last : (order : ℕ) (front : List ℕ) (r : Result (NumberedLine × Text) TextFault)
+    → (r >>= λ line. numbers_below order order line.0 >>= λ row. cond (is_table order (front ++ row)) (Ok (of_entries order (front ++ row), line.1)) (Err (Malformed line.0.number)))
+    ≡ of_line r (last_row order front)
+unfolding last_row
+flat_last order front (Ok line) = flat_row order line.0.number front (numbers_below order order line.0) line.1
+flat_last order front (Err e) = refl
+
+last_steady : (order : ℕ) (front : List ℕ) → Steady Anywhere (last_read order front)
+last_steady order front =
+    same_steady Anywhere (λ text. of_line (next_line text) (last_row order front)) (last_read order front) (λ text. flat_last order front (next_line text))
+    (line_steady (last_row order front) (λ line fault e. last_row_at order front line fault e))
+
+pub table_steady : (order : ℕ) → Steady Anywhere (table_item order)
+unfolding table_item
+table_steady order = then_steady Anywhere (table_rows order (order - 1)) (λ front text. last_read order front text) (rows_steady order (order - 1)) (last_steady order)
+
+-- ---- quandles
+
+-- what a name leads to: a quandle, or the lines of a table of this order
+abbrev Plan : Type 0
+Plan = NamedQuandle ⊎ ℕ
+
+abbrev go : Plan → Text → Result (NamedQuandle × Text) TextFault
+go (inl q) text = Ok (q, text)
+go (inr order) text = table_item order text
+
+go_steady : (p : Plan) → Steady Anywhere (go p)
+go_steady (inl q) = pure_steady q
+go_steady (inr order) = table_steady order
+
+abbrev ready : Option NamedQuandle → ℕ → Result Plan TextFault
+ready o n = or_malformed n o >>= λ q. Ok (inl q)
+
+abbrev plan_of : ℕ → Written → Result Plan TextFault
+plan_of n (written.Table order) = cond (nat_le 1 order) (Ok (inr order)) (Err (Malformed n))
+plan_of n (written.Trivial k) = ready (meant (written.Trivial k)) n
+plan_of n (written.Dihedral k) = ready (meant (written.Dihedral k)) n
+plan_of n written.Tetrahedral = ready (meant written.Tetrahedral) n
+plan_of n (written.Alexander k a) = ready (meant (written.Alexander k a)) n
+
+ready_at : (o : Option NamedQuandle) (n : ℕ) → At n (ready o n)
+ready_at None n = at_malformed n
+ready_at (Some q) n = at_ok n (inl q)
+
+plan_of_at : (n : ℕ) (w : Written) → At n (plan_of n w)
+plan_of_at n (written.Table order) = at_cond n (nat_le 1 order) (Ok (inr order)) (Err (Malformed n)) (at_ok n (inr order)) (at_malformed n)
+plan_of_at n (written.Trivial k) = ready_at (meant (written.Trivial k)) n
+plan_of_at n (written.Dihedral k) = ready_at (meant (written.Dihedral k)) n
+plan_of_at n written.Tetrahedral = ready_at (meant written.Tetrahedral) n
+plan_of_at n (written.Alexander k a) = ready_at (meant (written.Alexander k a)) n
+
+abbrev plan_by : Result (Written × NumberedLine) TextFault → Result Plan TextFault
+plan_by s = s >>= λ w. cond (is_over w.0) (Err (Limit w.1.number)) (plan_of w.1.number w.0)
+
+plan : NumberedLine → Result Plan TextFault
+plan line = plan_by (written_at line)
+
+plan_at : (line : NumberedLine) → At line.number (plan line)
+unfolding plan
+plan_at line = at_bind line.number (written_at line) (λ w. cond (is_over w.0) (Err (Limit w.1.number)) (plan_of w.1.number w.0)) (written_at_at line)
+    (λ w e. at_same line.number w.1.number (cond (is_over w.0) (Err (Limit w.1.number)) (plan_of w.1.number w.0)) (written_keeps line w e)
+    (at_cond w.1.number (is_over w.0) (Err (Limit w.1.number)) (plan_of w.1.number w.0) (at_limit w.1.number) (plan_of_at w.1.number w.0)))
+
+flat_ready : (o : Option NamedQuandle) (n : ℕ) (text : Text) → (or_malformed n o >>= λ q. Ok (q, text)) ≡ (ready o n >>= λ p. go p text)
+flat_ready None n text = refl
+flat_ready (Some q) n text = refl
+
+flat_table : (order n : ℕ) (b : Bool) (text : Text) → cond b (table_item order text) (Err (Malformed n)) ≡ (cond b (Ok (inr order)) (Err (Malformed n)) >>= λ p. go p text)
+flat_table order n true text = refl
+flat_table order n false text = refl
+
+flat_name : (n : ℕ) (w : Written) (text : Text) → quandle_of n w text ≡ (plan_of n w >>= λ p. go p text)
+flat_name n (written.Table order) text = flat_table order n (nat_le 1 order) text
+flat_name n (written.Trivial k) text = flat_ready (meant (written.Trivial k)) n text
+flat_name n (written.Dihedral k) text = flat_ready (meant (written.Dihedral k)) n text
+flat_name n written.Tetrahedral text = flat_ready (meant written.Tetrahedral) n text
+flat_name n (written.Alexander k a) text = flat_ready (meant (written.Alexander k a)) n text
+
+flat_over : (b : Bool) (n : ℕ) (w : Written) (text : Text) → cond b (Err (Limit n)) (quandle_of n w text) ≡ (cond b (Err (Limit n)) (plan_of n w) >>= λ p. go p text)
+flat_over true n w text = refl
+flat_over false n w text = flat_name n w text
+
+flat_written : (s : Result (Written × NumberedLine) TextFault) (text : Text) → (s >>= λ w. cond (is_over w.0) (Err (Limit w.1.number)) (quandle_of w.1.number w.0 text)) ≡ (plan_by s >>= λ p. go p text)
+flat_written (Ok w) text = flat_over (is_over w.0) w.1.number w.0 text
+flat_written (Err e) text = refl
+
+flat_quandle : (line : NumberedLine) (text : Text) → quandle_at line text ≡ (plan line >>= λ p. go p text)
+unfolding quandle_at plan
+flat_quandle line text = flat_written (written_at line) text
+
+flat_item : (r : Result (NumberedLine × Text) TextFault) → (r >>= λ line. word (codes "quandle") line.0 >>= λ rest. quandle_at rest line.1) ≡ (r >>= λ line. word (codes "quandle") line.0 >>= λ rest. plan rest >>= λ p. go p line.1)
+flat_item (Ok line) = flat_word (word (codes "quandle") line.0) line.1
+  where
+    flat_word : (s : Result NumberedLine TextFault) (text : Text) → (s >>= λ rest. quandle_at rest text) ≡ (s >>= λ rest. plan rest >>= λ p. go p text)
+    flat_word (Ok rest) text = flat_quandle rest text
+    flat_word (Err e) text = refl
+flat_item (Err e) = refl
+
+quandle_line_at : (line : NumberedLine) → At line.number (word (codes "quandle") line >>= plan)
+quandle_line_at line = at_bind line.number (word (codes "quandle") line) plan (word_at (codes "quandle") line) (λ rest e. at_same line.number rest.number (plan rest) (word_keeps (codes "quandle") line rest e) (plan_at rest))
+
+pub quandle_steady : Steady Anywhere quandle_item
+unfolding quandle_item
+quandle_steady =
+    same_steady Anywhere (λ text. next_line text >>= λ line. word (codes "quandle") line.0 >>= λ rest. plan rest >>= λ p. go p line.1) quandle_item (λ text. flat_item (next_line text))
+    (line_then_two (word (codes "quandle")) plan go quandle_line_at go_steady)
+
+-- ---- verdicts
+
+colours_steady : (width order : ℕ) → Steady Anywhere (colours_item width order)
+unfolding colours_item
+colours_steady width order =
+    line_then (numbers_below width order) (λ colours text. Ok (record { items = colours }, text)) (numbers_below_at width order) (λ colours. pure_steady (record { items = colours }))
+
+abbrev few_lists : NumberedLine → Result ℕ TextFault
+few_lists rest = last_number rest >>= λ count. at_most MAX_COLOURINGS count.1.number count.0
+
+flat_few : {B : Type 0} (s : Result (ℕ × NumberedLine) TextFault) (text : Text) (k : ℕ → Text → Result B TextFault)
+    → (s >>= λ count. at_most MAX_COLOURINGS count.1.number count.0 >>= λ few. k few text) ≡ ((s >>= λ count. at_most MAX_COLOURINGS count.1.number count.0) >>= λ few. k few text)
+flat_few (Ok count) text k = refl
+flat_few (Err e) text k = refl
+
+abbrev lists : ℕ → ℕ → ℕ → Text → Result (List (ArrayVec ℕ) × Text) TextFault
+lists width order few text = in_turn (colours_item width order) few text
+
+flat_list : (width order : ℕ) (r : Result (NumberedLine × Text) TextFault)
+    → (r >>= λ line. word (codes "list") line.0 >>= λ rest. last_number rest >>= λ count. at_most MAX_COLOURINGS count.1.number count.0 >>= λ few. lists width order few line.1)
+    ≡ (r >>= λ line. word (codes "list") line.0 >>= λ rest. few_lists rest >>= λ few. lists width order few line.1)
+flat_list width order (Ok line) = flat_word (word (codes "list") line.0) line.1
+  where
+    flat_word : (s : Result NumberedLine TextFault) (text : Text)
+        → (s >>= λ rest. last_number rest >>= λ count. at_most MAX_COLOURINGS count.1.number count.0 >>= λ few. lists width order few text) ≡ (s >>= λ rest. few_lists rest >>= λ few. lists width order few text)
+    flat_word (Ok rest) text = flat_few (last_number rest) text (lists width order)
+    flat_word (Err e) text = refl
+flat_list width order (Err e) = refl
+
+list_steady : (width order : ℕ) → Steady Anywhere (list_item width order)
+unfolding list_item
+list_steady width order =
+    same_steady Anywhere (λ text. next_line text >>= λ line. word (codes "list") line.0 >>= λ rest. few_lists rest >>= λ few. lists width order few line.1) (list_item width order) (λ text. flat_list width order (next_line text))
+    (line_then_two (word (codes "list")) few_lists (lists width order) (word_count_at (codes "list") MAX_COLOURINGS) (λ few. turns_steady (colours_item width order) few (colours_steady width order)))
+
+-- what the first line of a verdict leads to: a number of moves, a quandle, or a whole verdict
+abbrev Course : Type 0
+Course = ℕ ⊎ (Plan ⊎ Verdict)
+
+abbrev two_lists : ℕ → ℕ → NamedQuandle → Text → Result (Verdict × Text) TextFault
+two_lists one two q text = list_item one q.table.order text >>= λ a. list_item two q.table.order a.1 >>= λ b. Ok (Different q a.0 b.0, b.1)
+
+abbrev take_course : ℕ → ℕ → Course → Text → Result (Verdict × Text) TextFault
+take_course one two (inl count) text = move_lines count text >>= λ m. Ok (Equal m.0, m.1)
+take_course one two (inr (inl p)) text = go p text >>= λ q. two_lists one two q.0 q.1
+take_course one two (inr (inr v)) text = Ok (v, text)
+
+course_steady : (one two : ℕ) (c : Course) → Steady Anywhere (take_course one two c)
+course_steady one two (inl count) = then_steady Anywhere (move_lines count) (λ m text. Ok (Equal m, text)) (move_lines_steady count) (λ m. pure_steady (Equal m))
+course_steady one two (inr (inl p)) =
+    then_steady Anywhere (go p) (λ q text. two_lists one two q text) (go_steady p)
+    (λ q. then_steady Anywhere (list_item one q.table.order) (λ a text. list_item two q.table.order text >>= λ b. Ok (Different q a b.0, b.1)) (list_steady one q.table.order)
+    (λ a. then_steady Anywhere (list_item two q.table.order) (λ b text. Ok (Different q a b, text)) (list_steady two q.table.order) (λ b. pure_steady (Different q a b))))
+course_steady one two (inr (inr v)) = pure_steady v
+
+abbrev other_courses : List ℕ → NumberedLine → Result Course TextFault
+other_courses t rest = cond (bytes_eq t (codes "unknown")) (unknown_at rest >>= λ v. Ok (inr (inr v))) (Err (Malformed rest.number))
+
+abbrev courses : List ℕ → NumberedLine → Result Course TextFault
+courses t rest =
+    cond (bytes_eq t (codes "equal")) (last_count rest >>= λ c. Ok (inl c))
+    (cond (bytes_eq t (codes "different")) (plan rest >>= λ p. Ok (inr (inl p))) (other_courses t rest))
+
+abbrev course : NumberedLine → Result Course TextFault
+course line = next_token line >>= λ kind. courses kind.0 kind.1
+
+course_at : (line : NumberedLine) → At line.number (course line)
+course_at line = chosen_at courses line (λ t rest.
+    let m = rest.number in
+    at_cond m (bytes_eq t (codes "equal")) (last_count rest >>= λ c. Ok (inl c)) (cond (bytes_eq t (codes "different")) (plan rest >>= λ p. Ok (inr (inl p))) (other_courses t rest)) (at_bind m (last_count rest) (λ c. Ok (inl c)) (last_count_at rest) (λ c e. at_ok m (inl c)))
+    (at_cond m (bytes_eq t (codes "different")) (plan rest >>= λ p. Ok (inr (inl p))) (other_courses t rest) (at_bind m (plan rest) (λ p. Ok (inr (inl p))) (plan_at rest) (λ p e. at_ok m (inr (inl p))))
+    (at_cond m (bytes_eq t (codes "unknown")) (unknown_at rest >>= λ v. Ok (inr (inr v))) (Err (Malformed m)) (at_bind m (unknown_at rest) (λ v. Ok (inr (inr v))) (unknown_at_at rest) (λ v e. at_ok m (inr (inr v)))) (at_malformed m))))
+
+flat_counted : (one two : ℕ) (s : Result ℕ TextFault) (text : Text) → (s >>= λ count. move_lines count text >>= λ m. Ok (Equal m.0, m.1)) ≡ ((s >>= λ c. Ok (inl c)) >>= λ c. take_course one two c text)
+flat_counted one two (Ok count) text = refl
+flat_counted one two (Err e) text = refl
+
+flat_equal : (one two : ℕ) (rest : NumberedLine) (text : Text) → equal_at rest text ≡ ((last_count rest >>= λ c. Ok (inl c)) >>= λ c. take_course one two c text)
+unfolding equal_at
+flat_equal one two rest text = flat_counted one two (last_count rest) text
+
+flat_planned : (one two : ℕ) (s : Result Plan TextFault) (text : Text) → ((s >>= λ p. go p text) >>= λ q. two_lists one two q.0 q.1) ≡ ((s >>= λ p. Ok (inr (inl p))) >>= λ c. take_course one two c text)
+flat_planned one two (Ok p) text = refl
+flat_planned one two (Err e) text = refl
+
+flat_different : (one two : ℕ) (rest : NumberedLine) (text : Text) → different_at one two rest text ≡ ((plan rest >>= λ p. Ok (inr (inl p))) >>= λ c. take_course one two c text)
+unfolding different_at
+flat_different one two rest text = ap (λ r. r >>= λ q. two_lists one two q.0 q.1) (flat_quandle rest text) ∙ flat_planned one two (plan rest) text
+
+flat_said : (one two : ℕ) (s : Result Verdict TextFault) (text : Text) → (s >>= λ v. Ok (v, text)) ≡ ((s >>= λ v. Ok (inr (inr v))) >>= λ c. take_course one two c text)
+flat_said one two (Ok v) text = refl
+flat_said one two (Err e) text = refl
+
+flat_unknown : (one two : ℕ) (rest : NumberedLine) (text : Text) → unknown_item rest text ≡ ((unknown_at rest >>= λ v. Ok (inr (inr v))) >>= λ c. take_course one two c text)
+unfolding unknown_item
+flat_unknown one two rest text = flat_said one two (unknown_at rest) text
+
+-- a choice, and what follows from it
+flat_choice : {A B : Type 0} (b : Bool) (x y : Result B TextFault) (u v : Result A TextFault) (f : A → Result B TextFault) → x ≡ (u >>= f) → y ≡ (v >>= f) → cond b x y ≡ (cond b u v >>= f)
+flat_choice true x y u v f first second = first
+flat_choice false x y u v f first second = second
+
+flat_courses : (one two : ℕ) (t : List ℕ) (rest : NumberedLine) (text : Text)
+    → cond (bytes_eq t (codes "equal")) (equal_at rest text) (cond (bytes_eq t (codes "different")) (different_at one two rest text) (cond (bytes_eq t (codes "unknown")) (unknown_item rest text) (Err (Malformed rest.number))))
+    ≡ (courses t rest >>= λ c. take_course one two c text)
+flat_courses one two t rest text =
+    let f = λ (c : Course). take_course one two c text in
+    flat_choice (bytes_eq t (codes "equal")) (equal_at rest text) (cond (bytes_eq t (codes "different")) (different_at one two rest text) (cond (bytes_eq t (codes "unknown")) (unknown_item rest text) (Err (Malformed rest.number)))) (last_count rest >>= λ c. Ok (inl c)) (cond (bytes_eq t (codes "different")) (plan rest >>= λ p. Ok (inr (inl p))) (other_courses t rest)) f (flat_equal one two rest text)
+    (flat_choice (bytes_eq t (codes "different")) (different_at one two rest text) (cond (bytes_eq t (codes "unknown")) (unknown_item rest text) (Err (Malformed rest.number))) (plan rest >>= λ p. Ok (inr (inl p))) (other_courses t rest) f (flat_different one two rest text)
+    (flat_choice (bytes_eq t (codes "unknown")) (unknown_item rest text) (Err (Malformed rest.number)) (unknown_at rest >>= λ v. Ok (inr (inr v))) (Err (Malformed rest.number)) f (flat_unknown one two rest text) refl))
+
+flat_kind : (one two : ℕ) (s : Result (List ℕ × NumberedLine) TextFault) (text : Text)
+    → (s >>= λ kind. cond (bytes_eq kind.0 (codes "equal")) (equal_at kind.1 text) (cond (bytes_eq kind.0 (codes "different")) (different_at one two kind.1 text) (cond (bytes_eq kind.0 (codes "unknown")) (unknown_item kind.1 text) (Err (Malformed kind.1.number)))))
+    ≡ ((s >>= λ kind. courses kind.0 kind.1) >>= λ c. take_course one two c text)
+flat_kind one two (Ok kind) text = flat_courses one two kind.0 kind.1 text
+flat_kind one two (Err e) text = refl
+
+flat_verdict : (one two : ℕ) (r : Result (NumberedLine × Text) TextFault)
+    → (r >>= λ line. next_token line.0 >>= λ kind. cond (bytes_eq kind.0 (codes "equal")) (equal_at kind.1 line.1) (cond (bytes_eq kind.0 (codes "different")) (different_at one two kind.1 line.1) (cond (bytes_eq kind.0 (codes "unknown")) (unknown_item kind.1 line.1) (Err (Malformed kind.1.number)))))
+    ≡ (r >>= λ line. course line.0 >>= λ c. take_course one two c line.1)
+flat_verdict one two (Ok line) = flat_kind one two (next_token line.0) line.1
+flat_verdict one two (Err e) = refl
+
+pub verdict_steady : (one two : ℕ) → Steady Anywhere (verdict_item one two)
+unfolding verdict_item
+verdict_steady one two =
+    same_steady Anywhere (λ text. next_line text >>= λ line. course line.0 >>= λ c. take_course one two c line.1) (verdict_item one two) (λ text. flat_verdict one two (next_line text))
+    (line_then course (take_course one two) course_at (course_steady one two))

@@ -1,0 +1,25 @@
+pub mod Turns
+pub mod Values
+pub mod Cuts
+pub mod GridLines
+pub mod TableLines
+pub mod Lists
+pub mod LineTexts
+pub mod StepsAgain
+pub mod MovesAgain
+pub mod GridAgain
+pub mod Tables
+pub mod QuandleAgain
+pub mod VerdictAgain
+pub mod Words
+pub mod Steady
+pub mod AtLine
+pub mod ItemsAtLine
+pub mod ItemsSteady
+pub mod FirstFault
+pub mod QuandlesSteady
+pub mod ShapesFail
+pub mod GridsRead
+pub mod ReadBack
+pub mod Readings
+mod WorkedRows

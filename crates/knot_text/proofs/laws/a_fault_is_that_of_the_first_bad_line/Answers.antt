@@ -1,0 +1,14 @@
+use Rattle.knot_text.proofs.ShapesFail.{problem_fails, check_fails, replay_fails, colour_fails}
+use Rattle.knot_text.proofs.laws.a_fault_is_that_of_the_first_bad_line.Goals as goal
+
+pub returns-clause-problem : goal.returns-clause-problem
+returns-clause-problem c = problem_fails
+
+pub returns-clause-check : goal.returns-clause-check
+returns-clause-check c = check_fails
+
+pub returns-clause-replay : goal.returns-clause-replay
+returns-clause-replay c = replay_fails
+
+pub returns-clause-colour : goal.returns-clause-colour
+returns-clause-colour c = colour_fails

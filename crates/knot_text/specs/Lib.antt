@@ -1,0 +1,14 @@
+pub mod Reading
+pub mod Numbers
+pub mod Kept
+pub mod GridItem
+pub mod MovesItem
+pub mod Names
+pub mod QuandleItem
+pub mod VerdictItem
+pub mod Shapes
+pub mod Printed
+pub mod FirstBadLine
+pub use Rattle.text_lines.specs.Lines
+pub use Rattle.text_lines.specs.Tokens
+pub use Rattle.text_lines.specs.Spelled

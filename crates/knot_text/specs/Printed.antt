@@ -1,0 +1,134 @@
+-- The text of a grid, of moves and of a verdict, apart from reading: lines of tokens with one space between them.
+use Rattle.std.specs.Prelude.{◌<◌, ◌≤◌, ℕ, List, [], ◌∷◌, ◌++◌, codes, length, map}
+use Rattle.std.specs.List.{AllByRecursion, range_with_len}
+use Rattle.std.specs.Fmt.{decimal}
+use Rattle.arrayvec.specs.ArrayVec.{ArrayVec}
+use Rattle.grid_core.specs.declared.mark.Kind.{Kind}
+use Rattle.grid_core.specs.declared.mark.Kind.TheVariants.{Cross, Ring}
+use Rattle.grid_core.specs.declared.mark.Corner.{Corner}
+use Rattle.grid_core.specs.declared.mark.Corner.TheVariants.{LowLeft, LowRight, HighLeft, HighRight}
+use Rattle.grid_core.specs.Diagram.{Diagram}
+use Rattle.grid_moves.specs.declared.step.Move.{Move}
+use Rattle.grid_moves.specs.declared.step.Move.TheVariants.{ShiftColumns, ShiftRows, ExchangeColumns, ExchangeRows, Stabilise, Destabilise}
+use Rattle.quandle_core.specs.Quandle.{Table, over}
+use Rattle.colour_list.specs.declared.limits.TheConstants.{MAX_COLOURINGS}
+use Rattle.colour_rows.specs.Colouring.{AreColours}
+use Rattle.text_lines.specs.Spelled.{lines_text}
+use Rattle.knot_text.specs.declared.steps.TheConstants.{MAX_NUMBER, MAX_PLACE}
+use Rattle.knot_text.specs.declared.names.QuandleName.{QuandleName}
+use Rattle.knot_text.specs.declared.names.QuandleName.TheVariants as name
+use Rattle.knot_text.specs.declared.verdict.Verdict.{Verdict}
+use Rattle.knot_text.specs.declared.verdict.Verdict.TheVariants.{Equal, Different, UnknownBudget, UnknownExhausted}
+use Rattle.knot_text.specs.Names.{NamedQuandle, Names}
+
+-- ---- grids
+
+-- a letter and the rows by column
+abbrev pub rows_tokens : List ℕ → List ℕ → List (List ℕ)
+rows_tokens letter rows = letter ∷ map decimal rows
+
+abbrev pub grid_lines : Diagram → List (List (List ℕ))
+grid_lines d = rows_tokens (codes "x") d.x ∷ rows_tokens (codes "o") d.o ∷ []
+
+abbrev pub grid_text : Diagram → List ℕ
+grid_text d = lines_text (grid_lines d)
+
+-- ---- moves
+
+abbrev pub kind_word : Kind → List ℕ
+kind_word Cross = codes "x"
+kind_word Ring = codes "o"
+
+abbrev pub corner_word : Corner → List ℕ
+corner_word LowLeft = codes "lowleft"
+corner_word LowRight = codes "lowright"
+corner_word HighLeft = codes "highleft"
+corner_word HighRight = codes "highright"
+
+abbrev pub move_tokens : Move → List (List ℕ)
+move_tokens (ShiftColumns k) = codes "shift" ∷ codes "columns" ∷ decimal k ∷ []
+move_tokens (ShiftRows k) = codes "shift" ∷ codes "rows" ∷ decimal k ∷ []
+move_tokens (ExchangeColumns c) = codes "exchange" ∷ codes "columns" ∷ decimal c ∷ []
+move_tokens (ExchangeRows r) = codes "exchange" ∷ codes "rows" ∷ decimal r ∷ []
+move_tokens (Stabilise c kind corner) = codes "stabilise" ∷ decimal c ∷ kind_word kind ∷ corner_word corner ∷ []
+move_tokens (Destabilise c r) = codes "destabilise" ∷ decimal c ∷ decimal r ∷ []
+
+-- a word with how many moves there are, and a line for each
+abbrev pub moves_lines : List ℕ → List Move → List (List (List ℕ))
+moves_lines word moves = (word ∷ decimal (length moves) ∷ []) ∷ map move_tokens moves
+
+abbrev pub moves_text : List Move → List ℕ
+moves_text moves = lines_text (moves_lines (codes "moves") moves)
+
+-- the numbers of a move are small enough, as they are in every move of the program
+abbrev pub HasMoveText : Move → Type 0
+HasMoveText (ShiftColumns k) = k ≤ MAX_PLACE
+HasMoveText (ShiftRows k) = k ≤ MAX_PLACE
+HasMoveText (ExchangeColumns c) = c ≤ MAX_PLACE
+HasMoveText (ExchangeRows r) = r ≤ MAX_PLACE
+HasMoveText (Stabilise c kind corner) = c ≤ MAX_PLACE
+HasMoveText (Destabilise c r) = (c ≤ MAX_PLACE) × (r ≤ MAX_PLACE)
+
+-- and there are few enough moves
+pub record HaveText (moves : List Move) : Type 0 where
+  pub count : length moves ≤ MAX_NUMBER
+  pub each : AllByRecursion HasMoveText moves
+
+-- ---- quandles
+
+-- the name of a quandle of this order
+abbrev pub name_tokens : QuandleName → ℕ → List (List ℕ)
+name_tokens (name.Trivial n) order = codes "trivial" ∷ decimal n ∷ []
+name_tokens (name.Dihedral n) order = codes "dihedral" ∷ decimal n ∷ []
+name_tokens name.Tetrahedral order = codes "tetrahedral" ∷ []
+name_tokens (name.Alexander n a) order = codes "alexander" ∷ decimal n ∷ decimal a ∷ []
+name_tokens name.Table order = codes "table" ∷ decimal order ∷ []
+
+-- row x of a table: the numbers x ▷ 0 to x ▷ n-1
+abbrev pub row_tokens : Table → ℕ → List (List ℕ)
+row_tokens t x = map (λ y. decimal (over t x y)) (range_with_len 0 t.order)
+
+-- the lines behind a name, which `table` alone has
+abbrev pub table_lines : QuandleName → Table → List (List (List ℕ))
+table_lines name.Table t = map (row_tokens t) (range_with_len 0 t.order)
+table_lines other t = []
+
+-- a word with the name, and the lines of a table
+abbrev pub quandle_lines : List ℕ → NamedQuandle → List (List (List ℕ))
+quandle_lines word q = (word ∷ name_tokens q.name q.table.order) ∷ table_lines q.name q.table
+
+-- the factor of an Alexander quandle is below its order
+abbrev pub HasFactor : QuandleName → Type 0
+HasFactor (name.Alexander n a) = a < n
+HasFactor other = Unit {0}
+
+pub record HasQuandleText (q : NamedQuandle) : Type 0 where
+  pub names : Names q.name q.table
+  pub factor : HasFactor q.name
+
+-- ---- verdicts
+
+-- `list` with how many there are, and a line of colours for each
+abbrev pub list_lines : List (ArrayVec ℕ) → List (List (List ℕ))
+list_lines lists = (codes "list" ∷ decimal (length lists) ∷ []) ∷ map (λ (c : ArrayVec ℕ). map decimal c.items) lists
+
+abbrev pub verdict_lines : Verdict → List (List (List ℕ))
+verdict_lines (Equal moves) = moves_lines (codes "equal") moves
+verdict_lines (Different q first second) = quandle_lines (codes "different") q ++ (list_lines first ++ list_lines second)
+verdict_lines (UnknownBudget budget) = (codes "unknown" ∷ codes "budget" ∷ decimal budget ∷ []) ∷ []
+verdict_lines (UnknownExhausted cap admitted) = (codes "unknown" ∷ codes "exhausted" ∷ decimal cap ∷ decimal admitted ∷ []) ∷ []
+
+abbrev pub verdict_text : Verdict → List ℕ
+verdict_text v = lines_text (verdict_lines v)
+
+-- few enough lists, each of so many colours below the order
+pub record HasListText (width order : ℕ) (lists : List (ArrayVec ℕ)) : Type 0 where
+  pub count : length lists ≤ MAX_COLOURINGS
+  pub each : AllByRecursion (λ (c : ArrayVec ℕ). AreColours width order c.items) lists
+
+-- the verdict has a text behind two diagrams with so many columns
+abbrev pub HasVerdictText : ℕ → ℕ → Verdict → Type 0
+HasVerdictText one two (Equal moves) = HaveText moves
+HasVerdictText one two (Different q first second) = HasQuandleText q × HasListText one q.table.order first × HasListText two q.table.order second
+HasVerdictText one two (UnknownBudget budget) = budget ≤ MAX_NUMBER
+HasVerdictText one two (UnknownExhausted cap admitted) = (cap ≤ MAX_NUMBER) × (admitted ≤ MAX_NUMBER)

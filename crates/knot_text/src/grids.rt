@@ -1,0 +1,104 @@
+//! Grids, by two lines.
+ghost use Rattle.std.specs.Prelude.{◌≡◌, ◌<◌, ◌≤◌, ◌==◌, length};
+ghost use Rattle.grid_core.specs.declared.grid.TheConstants.{MAX_SIZE};
+ghost use Rattle.std.specs.List.{list_any, range_with_len};
+ghost use Rattle.grid_core.specs.Fault.{is_repeated};
+ghost use Rattle.knot_text.specs.Reading.{Gives};
+ghost use Rattle.knot_text.specs.Kept.{CutsOrFails};
+ghost use Rattle.knot_text.specs.GridItem.{rows_at, are_rows, x_at, o_at, grid_item};
+
+use crate::fault::TextFault;
+use crate::rows::{all_below, numbers};
+use crate::steps::{next_line, word};
+use grid_core::{Grid, Rows};
+use text_lines::{Line, Lines};
+
+/// A letter and at most `MAX_SIZE` numbers, each cut down to at most 255.
+#[tactic(auto, unfolding(crate::specs::GridItem::rows_at))]
+fn rows_at(letter: &[u8], line: &mut Line) -> Result<Rows, TextFault>
+    ensures { CutsOrFails result (rows_at letter.now line.old) }
+{
+    word(line, letter)?;
+    let at = line.number();
+    let kept = numbers(line)?;
+    if kept.more || kept.long {
+        return Err(TextFault::Limit { line: at });
+    }
+    Ok(kept.first)
+}
+
+/// Two or more numbers, each of 0 to n-1 once.
+#[tactic(auto, unfolding(crate::specs::GridItem::x_at))]
+fn x_at(line: &mut Line) -> Result<Rows, TextFault>
+    ensures { Gives (λ r. r.items) result (x_at line.old) }
+{
+    let at = line.number();
+    let rows = rows_at(b"x", line)?;
+    if !are_rows(rows.as_slice()) {
+        return Err(TextFault::Malformed { line: at });
+    }
+    Ok(rows)
+}
+
+/// Numbers that make a grid with those of the line before.
+#[tactic(auto, unfolding(crate::specs::GridItem::o_at))]
+fn o_at(x: &Rows, line: &mut Line) -> Result<Grid, TextFault>
+    ensures { Gives (λ g. g) result (o_at x.now.items line.old) }
+{
+    let at = line.number();
+    let rows = rows_at(b"o", line)?;
+    if !all_below(rows.as_slice(), x.len() as u8) {
+        return Err(TextFault::Malformed { line: at });
+    }
+    match Grid::new(x.as_slice(), rows.as_slice()) {
+        Ok(grid) => Ok(grid),
+        Err(_) => Err(TextFault::Malformed { line: at }),
+    }
+}
+
+/// The two lines of a grid.
+#[tactic(auto, unfolding(crate::specs::GridItem::grid_item))]
+pub(crate) fn grid_item(lines: &mut Lines) -> Result<Grid, TextFault>
+    ensures { Gives (λ g. (g, lines.new)) result (grid_item lines.old) }
+{
+    let mut first = next_line(lines)?;
+    let x = x_at(&mut first)?;
+    let mut second = next_line(lines)?;
+    o_at(&x, &mut second)
+}
+
+/// Whether there are two or more numbers, and each of the n numbers is below n, and none stands twice.
+fn are_rows(rows: &[u8]) -> bool
+    requires { length rows.now ≤ MAX_SIZE }
+    ensures { result ≡ are_rows rows.now }
+{
+    2 <= rows.len() && all_below(rows, rows.len() as u8) && !has_repeat(rows)
+}
+
+/// Whether some number stands in an earlier place too.
+fn has_repeat(rows: &[u8]) -> bool
+    ensures { result ≡ list_any (λ c. is_repeated rows.now c) (range_with_len 0 (length rows.now)) }
+{
+    for c in 0..rows.len() {
+        if is_repeated(rows, c) {
+            return true;
+        }
+    }
+    false
+}
+
+/// Whether the number in a place stands in an earlier one.
+fn is_repeated(rows: &[u8], c: usize) -> bool
+    requires { c < length rows.now }
+    ensures { result ≡ is_repeated rows.now c }
+{
+    let (front, _) = rows.split_at(c);
+    has_row(front, rows[c])
+}
+
+/// Whether a row is in the list.
+fn has_row(rows: &[u8], row: u8) -> bool
+    ensures { result ≡ list_any (λ r. r == row) rows.now }
+{
+    rows.iter().any(|r| *r == row)
+}

@@ -1,0 +1,121 @@
+//! The whole texts of the jobs.
+ghost use Rattle.std.specs.Prelude.{◌≡◌};
+ghost use Rattle.knot_text.specs.Reading.{Gives};
+ghost use Rattle.knot_text.specs.Shapes.{diagram_item, problem_item, problem_of, check_of, replay_of, colour_of};
+
+use crate::diagram::Diagram;
+use crate::fault::TextFault;
+use crate::grids::grid_item;
+use crate::moves::moves_item;
+use crate::names::Listed;
+use crate::quandles::quandle_list;
+use crate::steps::text_end;
+use crate::verdict::Verdict;
+use crate::verdicts::verdict_item;
+use colour_rows::Colouring;
+use grid_core::Items;
+use grid_moves::Move;
+use std::alloc::Global;
+use text_lines::Lines;
+
+/// Two diagrams, and the quandles by which they are to be compared, in the listed order.
+#[derive(Drop)]
+pub struct ProblemText {
+    pub first: Diagram,
+    pub second: Diagram,
+    pub quandles: Items<Listed>,
+}
+
+/// A diagram, moves to be made on it, and a quandle with colours that are to be carried.
+#[derive(Drop)]
+pub struct ReplayText {
+    pub diagram: Diagram,
+    pub moves: Items<Move>,
+    pub colours: Option<(Listed, Colouring)>,
+}
+
+/// A diagram, and the quandles by which it is to be coloured.
+#[derive(Drop)]
+pub struct ColourText {
+    pub diagram: Diagram,
+    pub quandles: Items<Listed>,
+}
+
+/// The problem that a text states: two diagrams, and any number of quandles. Without a quandle item the built-in list
+/// stands: the trivial one of order 2, the dihedral one of order 3, the tetrahedral one, the dihedral ones of order 5 and 7.
+///
+/// Else the fault of the first bad line.
+#[tactic(auto, unfolding(crate::specs::Shapes::problem_in))]
+pub fn read_problem(alloc: Global, bytes: &[u8]) -> Result<ProblemText, TextFault>
+    ensures { Gives (λ p. p) result (problem_of bytes.now) }
+{
+    let mut lines = Lines::new(bytes);
+    let problem = problem_item(alloc, &mut lines)?;
+    text_end(&mut lines)?;
+    Ok(problem)
+}
+
+/// A problem and a verdict on its two diagrams, which stands behind it. Else the fault of the first bad line.
+#[tactic(auto, unfolding(crate::specs::Shapes::check_in))]
+pub fn read_check(alloc: Global, bytes: &[u8]) -> Result<(ProblemText, Verdict), TextFault>
+    ensures { Gives (λ p. p) result (check_of bytes.now) }
+{
+    let mut lines = Lines::new(bytes);
+    let problem = problem_item(alloc, &mut lines)?;
+    let first = problem.first.columns();
+    let second = problem.second.columns();
+    let verdict = verdict_item(alloc, first, second, &mut lines)?;
+    text_end(&mut lines)?;
+    Ok((problem, verdict))
+}
+
+/// A diagram and moves to be made on it. Else the fault of the first bad line.
+#[tactic(auto, unfolding(crate::specs::Shapes::replay_in))]
+pub fn read_replay(alloc: Global, bytes: &[u8]) -> Result<ReplayText, TextFault>
+    ensures { Gives (λ r. r) result (replay_of bytes.now) }
+{
+    let mut lines = Lines::new(bytes);
+    let diagram = diagram_item(&mut lines)?;
+    let moves = moves_item(alloc, &mut lines)?;
+    text_end(&mut lines)?;
+    Ok(ReplayText {
+        diagram,
+        moves: Items::from_vec(moves),
+        colours: None,
+    })
+}
+
+/// A diagram and any number of quandles, without which the built-in list stands. Else the fault of the first bad line.
+#[tactic(auto, unfolding(crate::specs::Shapes::colour_in))]
+pub fn read_colour(alloc: Global, bytes: &[u8]) -> Result<ColourText, TextFault>
+    ensures { Gives (λ c. c) result (colour_of bytes.now) }
+{
+    let mut lines = Lines::new(bytes);
+    let diagram = diagram_item(&mut lines)?;
+    let quandles = quandle_list(alloc, &mut lines)?;
+    text_end(&mut lines)?;
+    Ok(ColourText { diagram, quandles })
+}
+
+/// A diagram.
+#[tactic(auto, unfolding(crate::specs::Shapes::diagram_item))]
+fn diagram_item(lines: &mut Lines) -> Result<Diagram, TextFault>
+    ensures { Gives (λ d. (d, lines.new)) result (diagram_item lines.old) }
+{
+    Ok(Diagram::Grid(grid_item(lines)?))
+}
+
+/// Two diagrams and any number of quandles.
+#[tactic(auto, unfolding(crate::specs::Shapes::problem_item))]
+fn problem_item(alloc: Global, lines: &mut Lines) -> Result<ProblemText, TextFault>
+    ensures { Gives (λ p. (p, lines.new)) result (problem_item lines.old) }
+{
+    let first = diagram_item(lines)?;
+    let second = diagram_item(lines)?;
+    let quandles = quandle_list(alloc, lines)?;
+    Ok(ProblemText {
+        first,
+        second,
+        quandles,
+    })
+}

@@ -1,0 +1,18 @@
+//! Texts read and printed by the built program, against tables written by hand.
+mod checks;
+mod grids;
+mod printed;
+mod quandles;
+mod replays;
+
+use crate::fault::TextFault;
+
+/// The fault of a malformed line.
+fn malformed(line: usize) -> Option<TextFault> {
+    Some(TextFault::Malformed { line })
+}
+
+/// The fault of a line that exceeds a limit.
+fn limit(line: usize) -> Option<TextFault> {
+    Some(TextFault::Limit { line })
+}

@@ -1,0 +1,164 @@
+//! Verdicts.
+ghost use Rattle.std.specs.Prelude.{◌≡◌, ◌≤◌};
+ghost use Rattle.grid_core.specs.declared.grid.TheConstants.{MAX_SIZE};
+ghost use Rattle.knot_text.specs.Reading.{Gives, in_turn};
+ghost use Rattle.knot_text.specs.VerdictItem.{equal_at, colours_item, list_item, different_at, budget_at, exhausted_at, unknown_at, unknown_item, verdict_item};
+
+use crate::fault::TextFault;
+use crate::moves::move_lines;
+use crate::quandles::quandle_at;
+use crate::rows::numbers_below;
+use crate::steps::{
+    MAX_NUMBER, at_most, last_count, last_number, next_line, next_token, number, word,
+};
+use crate::verdict::Verdict;
+use colour_list::MAX_COLOURINGS;
+use colour_rows::Colouring;
+use grid_core::Items;
+use std::alloc::Global;
+use text_lines::{Line, Lines};
+
+/// A number of moves, and the moves.
+#[tactic(auto, unfolding(crate::specs::VerdictItem::equal_at))]
+fn equal_at(alloc: Global, line: &mut Line, lines: &mut Lines) -> Result<Verdict, TextFault>
+    ensures { Gives (λ v. (v, lines.new)) result (equal_at line.old lines.old) }
+{
+    let count = last_count(line)?;
+    let moves = move_lines(alloc, count, lines)?;
+    Ok(Verdict::Equal(Items::from_vec(moves)))
+}
+
+/// A line of colours.
+#[tactic(auto, unfolding(crate::specs::VerdictItem::colours_item))]
+fn colours_item(width: u8, order: u8, lines: &mut Lines) -> Result<Colouring, TextFault>
+    requires { width ≤ MAX_SIZE }
+    ensures { Gives (λ c. (c, lines.new)) result (colours_item width order lines.old) }
+{
+    let mut line = next_line(lines)?;
+    numbers_below(width, order, &mut line)
+}
+
+/// So many lines of colours.
+fn colour_lines(
+    alloc: Global,
+    count: u32,
+    width: u8,
+    order: u8,
+    lines: &mut Lines,
+) -> Result<Vec<Colouring>, TextFault>
+    requires { width ≤ MAX_SIZE }
+    ensures { Gives (λ v. (v.items, lines.new)) result (in_turn (colours_item width order) count lines.old) }
+{
+    let mut colourings = Vec::new(alloc);
+    for _ in 0..count {
+        colourings.push(colours_item(width, order, lines)?)?;
+    }
+    Ok(colourings)
+}
+
+/// A number of lines of colours, and the lines.
+#[tactic(auto, unfolding(crate::specs::VerdictItem::list_item))]
+fn list_item(
+    alloc: Global,
+    width: u8,
+    order: u8,
+    lines: &mut Lines,
+) -> Result<Vec<Colouring>, TextFault>
+    requires { width ≤ MAX_SIZE }
+    ensures { Gives (λ v. (v.items, lines.new)) result (list_item width order lines.old) }
+{
+    let mut line = next_line(lines)?;
+    word(&mut line, b"list")?;
+    let count = last_number(&mut line)?;
+    let few = at_most(MAX_COLOURINGS as u32, &line, count)?;
+    colour_lines(alloc, few, width, order, lines)
+}
+
+/// A quandle, and a list for each of two diagrams with so many columns.
+#[tactic(auto, unfolding(crate::specs::VerdictItem::different_at))]
+fn different_at(
+    alloc: Global,
+    first_width: u8,
+    second_width: u8,
+    line: &mut Line,
+    lines: &mut Lines,
+) -> Result<Verdict, TextFault>
+    requires { (first_width ≤ MAX_SIZE) × (second_width ≤ MAX_SIZE) }
+    ensures { Gives (λ v. (v, lines.new)) result (different_at first_width second_width line.old lines.old) }
+{
+    let listed = quandle_at(line, lines)?;
+    let order = listed.quandle().order();
+    let first = list_item(alloc, first_width, order, lines)?;
+    let second = list_item(alloc, second_width, order, lines)?;
+    Ok(Verdict::Different {
+        listed,
+        first: Items::from_vec(first),
+        second: Items::from_vec(second),
+    })
+}
+
+/// A budget.
+#[tactic(auto, unfolding(crate::specs::VerdictItem::budget_at))]
+fn budget_at(line: &mut Line) -> Result<Verdict, TextFault>
+    ensures { Gives (λ v. v) result (budget_at line.old) }
+{
+    Ok(Verdict::UnknownBudget {
+        budget: last_count(line)?,
+    })
+}
+
+/// A cap, and a number of diagrams.
+#[tactic(auto, unfolding(crate::specs::VerdictItem::exhausted_at))]
+fn exhausted_at(line: &mut Line) -> Result<Verdict, TextFault>
+    ensures { Gives (λ v. v) result (exhausted_at line.old) }
+{
+    let cap = number(line)?;
+    let admitted = last_number(line)?;
+    Ok(Verdict::UnknownExhausted {
+        cap: at_most(MAX_NUMBER, line, cap)?,
+        admitted: at_most(MAX_NUMBER, line, admitted)?,
+    })
+}
+
+/// Why a search said nothing.
+#[tactic(auto, unfolding(crate::specs::VerdictItem::unknown_at))]
+fn unknown_at(line: &mut Line) -> Result<Verdict, TextFault>
+    ensures { Gives (λ v. v) result (unknown_at line.old) }
+{
+    let cause = next_token(line)?;
+    if cause == b"budget".as_slice() {
+        budget_at(line)
+    } else if cause == b"exhausted".as_slice() {
+        exhausted_at(line)
+    } else {
+        Err(TextFault::Malformed {
+            line: line.number(),
+        })
+    }
+}
+
+/// A verdict on two diagrams with so many columns.
+#[tactic(auto, unfolding(crate::specs::VerdictItem::verdict_item, crate::specs::VerdictItem::unknown_item))]
+pub(crate) fn verdict_item(
+    alloc: Global,
+    first_width: u8,
+    second_width: u8,
+    lines: &mut Lines,
+) -> Result<Verdict, TextFault>
+    requires { (first_width ≤ MAX_SIZE) × (second_width ≤ MAX_SIZE) }
+    ensures { Gives (λ v. (v, lines.new)) result (verdict_item first_width second_width lines.old) }
+{
+    let mut line = next_line(lines)?;
+    let kind = next_token(&mut line)?;
+    if kind == b"equal".as_slice() {
+        equal_at(alloc, &mut line, lines)
+    } else if kind == b"different".as_slice() {
+        different_at(alloc, first_width, second_width, &mut line, lines)
+    } else if kind == b"unknown".as_slice() {
+        unknown_at(&mut line)
+    } else {
+        Err(TextFault::Malformed {
+            line: line.number(),
+        })
+    }
+}
