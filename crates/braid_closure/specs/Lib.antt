@@ -2,4 +2,9 @@ pub mod Columns
 pub mod Closure
 pub use Rattle.grid_core.specs.Diagram
 pub use Rattle.grid_core.specs.Parts
+pub use Rattle.quandle_core.specs.Quandle
+pub use Rattle.quandle_core.specs.Bijection
+pub use Rattle.colour_rows.specs.Colouring
 pub use Rattle.braid_core.specs.Braid
+pub use Rattle.braid_core.specs.Action
+pub use Rattle.braid_core.specs.FixedPoints

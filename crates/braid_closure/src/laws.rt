@@ -1,11 +1,12 @@
 //! Laws of closures and their colourings, over the definitions alone.
-ghost use Rattle.std.specs.Prelude.{◌≡◌, ◌≤◌, ℕ, List, length, map, take, Contains};
+ghost use Rattle.std.specs.Prelude.{◌≡◌, ◌≤◌, ℕ, List, length, map, take};
 ghost use Rattle.grid_core.specs.Diagram.{IsGrid, size};
 ghost use Rattle.quandle_core.specs.Quandle.{Table, IsQuandle};
+ghost use Rattle.quandle_core.specs.Bijection.{IsBijection};
 ghost use Rattle.colour_rows.specs.Colouring.{IsColouring};
 ghost use Rattle.braid_core.specs.Braid.{Word, IsBraid};
 ghost use Rattle.braid_core.specs.Action.{action};
-ghost use Rattle.braid_core.specs.FixedPoints.{fixed_points};
+ghost use Rattle.braid_core.specs.FixedPoints.{IsFixedPoint};
 ghost use Rattle.braid_closure.specs.Columns.{open_columns};
 ghost use Rattle.braid_closure.specs.Closure.{standing, crossings, closure, closure_size, at_feet, colour_of};
 
@@ -24,15 +25,9 @@ pub fn the_open_columns_follow_the_braid()
         ≡ action t (take i b.letters) (at_feet b colours) }
 {}
 
-/// Reading a colouring of the closure at its feet, position 1 first, gives a fixed point of the braid's action, and each fixed point comes from exactly one colouring.
+/// Reading a colouring of the closure at its feet, position 1 first, is a bijection from the colourings to the fixed points of the braid's action.
+///
+/// The fixed points are those of the complete list: `braid_core::laws::the_fixed_points_are_listed`.
 pub fn colourings_at_the_feet_are_the_fixed_points()
-    ensures fixed { (t : Table) → IsQuandle t → (b : Word) → IsBraid b
-        → (colours : List ℕ) → IsColouring t (closure b) colours
-        → Contains (fixed_points t b) (at_feet b colours) }
-    ensures onto { (t : Table) → IsQuandle t → (b : Word) → IsBraid b
-        → (xs : List ℕ) → Contains (fixed_points t b) xs
-        → (colours : List ℕ) × IsColouring t (closure b) colours × (at_feet b colours ≡ xs) }
-    ensures one { (t : Table) → IsQuandle t → (b : Word) → IsBraid b
-        → (colours others : List ℕ) → IsColouring t (closure b) colours → IsColouring t (closure b) others
-        → at_feet b colours ≡ at_feet b others → colours ≡ others }
+    ensures { (t : Table) → IsQuandle t → (b : Word) → IsBraid b → IsBijection (IsColouring t (closure b)) (IsFixedPoint t b) (at_feet b) }
 {}

@@ -4,8 +4,9 @@ use Rattle.std.proofs.lemmas.Bool.{cases_eq}
 use Rattle.std.proofs.lemmas.List.{ext_get_or, get_or-set_same, get_or-set_other, length-set}
 use Rattle.std.proofs.lemmas.List.Elements.{All-set, All-get_or, All-head, All-tail}
 use Rattle.quandle_core.specs.Quandle.{Table, IsQuandle, over, back}
+use Rattle.quandle_core.specs.Bijection.{IsBijection}
 use Rattle.braid_core.specs.Braid.{IsLetter}
-use Rattle.braid_core.specs.Action.{IsTuple, IsBijection, colour_at, with_pair, positive, negative, letter_action, action}
+use Rattle.braid_core.specs.Action.{IsTuple, colour_at, with_pair, positive, negative, letter_action, action}
 
 -- the pair at positions k and k+1 read back
 pair_low : (xs : List ℕ) (k y z : ℕ) → 1 ≤ k → k < length xs → colour_at (with_pair xs k y z) k ≡ y
@@ -44,10 +45,10 @@ pair_again xs k y z u v least lt u_is v_is =
     ]
 
 -- the two colours that a letter reads lie below the order
-low_colour : (t : Table) (m k : ℕ) (xs : List ℕ) → 1 ≤ k → k < m → IsTuple t m xs → colour_at xs k < t.order
+pub low_colour : (t : Table) (m k : ℕ) (xs : List ℕ) → 1 ≤ k → k < m → IsTuple t m xs → colour_at xs k < t.order
 low_colour t m k xs least lt tuple = All-get_or (λ y. y < t.order) xs (k - 1) 0 (omega (arith, tuple.0)) tuple.1
 
-high_colour : (t : Table) (m k : ℕ) (xs : List ℕ) → 1 ≤ k → k < m → IsTuple t m xs → colour_at xs (k + 1) < t.order
+pub high_colour : (t : Table) (m k : ℕ) (xs : List ℕ) → 1 ≤ k → k < m → IsTuple t m xs → colour_at xs (k + 1) < t.order
 high_colour t m k xs least lt tuple = All-get_or (λ y. y < t.order) xs (k + 1 - 1) 0 (omega (arith, tuple.0)) tuple.1
 
 pair_stays : (t : Table) (m k y z : ℕ) (xs : List ℕ) → IsTuple t m xs → y < t.order → z < t.order → IsTuple t m (with_pair xs k y z)
@@ -110,9 +111,9 @@ negated_twice (pos zero) = refl
 negated_twice (pos (suc k)) = refl
 negated_twice (negsuc k) = refl
 
-pub letter_bijection : (t : Table) → IsQuandle t → (m : ℕ) (a : ℤ) → IsLetter m a → IsBijection t m (λ xs. letter_action t xs a)
+pub letter_bijection : (t : Table) → IsQuandle t → (m : ℕ) (a : ℤ) → IsLetter m a → IsBijection (IsTuple t m) (IsTuple t m) (λ xs. letter_action t xs a)
 letter_bijection t q m a letter = record {
-  stays = letter_stays t q m a letter;
+  into = letter_stays t q m a letter;
   onto = λ ys tuple. (
     letter_action t ys (neg_ℤ a),
     letter_stays t q m (neg_ℤ a) (letter_negated m a letter) ys tuple,
@@ -122,9 +123,9 @@ letter_bijection t q m a letter = record {
 }
 
 -- a list of letters acts letter by letter
-pub action_bijection : (t : Table) → IsQuandle t → (m : ℕ) (letters : List ℤ) → All (IsLetter m) letters → IsBijection t m (action t letters)
+pub action_bijection : (t : Table) → IsQuandle t → (m : ℕ) (letters : List ℤ) → All (IsLetter m) letters → IsBijection (IsTuple t m) (IsTuple t m) (action t letters)
 action_bijection t q m [] all = record {
-  stays = λ xs tuple. tuple;
+  into = λ xs tuple. tuple;
   onto = λ ys tuple. (ys, tuple, refl);
   one = λ xs ys at_x at_y e. e;
 }
@@ -132,12 +133,12 @@ action_bijection t q m (a ∷ letters) all =
     let first = letter_bijection t q m a (All-head (IsLetter m) a letters all) in
     let rest = action_bijection t q m letters (All-tail (IsLetter m) a letters all) in
     record {
-      stays = λ xs tuple. rest.stays (letter_action t xs a) (first.stays xs tuple);
+      into = λ xs tuple. rest.into (letter_action t xs a) (first.into xs tuple);
       onto = λ ys tuple. found t m a letters first rest ys tuple;
-      one = λ xs ys at_x at_y e. first.one xs ys at_x at_y (rest.one (letter_action t xs a) (letter_action t ys a) (first.stays xs at_x) (first.stays ys at_y) e);
+      one = λ xs ys at_x at_y e. first.one xs ys at_x at_y (rest.one (letter_action t xs a) (letter_action t ys a) (first.into xs at_x) (first.into ys at_y) e);
     }
   where
-    found : (t : Table) (m : ℕ) (a : ℤ) (letters : List ℤ) → IsBijection t m (λ xs. letter_action t xs a) → IsBijection t m (action t letters) → (ys : List ℕ) → IsTuple t m ys → (xs : List ℕ) × IsTuple t m xs × (action t (a ∷ letters) xs ≡ ys)
+    found : (t : Table) (m : ℕ) (a : ℤ) (letters : List ℤ) → IsBijection (IsTuple t m) (IsTuple t m) (λ xs. letter_action t xs a) → IsBijection (IsTuple t m) (IsTuple t m) (action t letters) → (ys : List ℕ) → IsTuple t m ys → (xs : List ℕ) × IsTuple t m xs × (action t (a ∷ letters) xs ≡ ys)
     found t m a letters first rest ys tuple =
         let middle = rest.onto ys tuple in
         let start = first.onto middle.0 middle.1 in

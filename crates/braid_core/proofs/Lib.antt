@@ -1,5 +1,6 @@
 pub mod Accepted
 pub mod AllTuples
 pub mod Letters
+pub mod Respected
 pub mod Listed
 mod WorkedRows

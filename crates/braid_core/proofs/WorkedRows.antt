@@ -41,9 +41,6 @@ passes_right = refl
 one_then_two : action (dihedral 3) (plus 1 ∷ plus 2 ∷ []) (0 ∷ 2 ∷ 0 ∷ []) ≡ 1 ∷ 0 ∷ 0 ∷ []
 one_then_two = refl
 
-in_order : all_tuples 2 2 ≡ (0 ∷ 0 ∷ []) ∷ (0 ∷ 1 ∷ []) ∷ (1 ∷ 0 ∷ []) ∷ (1 ∷ 1 ∷ []) ∷ []
-in_order = refl
-
 trefoil_by_reflections : fixed_points (dihedral 3) trefoil ≡ all_tuples 3 2
 trefoil_by_reflections = refl
 

@@ -1,11 +1,11 @@
 -- The action of braids on tuples of colours, one for each strand (Artin 1947; for quandles Joyce 1982).
-use Rattle.std.specs.Prelude.{◌≡◌, ◌<◌, ◌+◌, ◌-◌, ℕ, ℤ, pos, negsuc, List, length, slice_index, slice_set, fold}
-use Rattle.std.specs.List.{All}
+use Rattle.std.specs.Prelude.{◌+◌, ◌-◌, ℕ, ℤ, pos, negsuc, List, slice_index, slice_set, fold}
 use Rattle.quandle_core.specs.Quandle.{Table, over, back}
+use Rattle.quandle_core.specs.Colours.{AreColours}
 
 -- a colour below the order for each of m strands
 abbrev pub IsTuple : Table → ℕ → List ℕ → Type 0
-IsTuple t m xs = (length xs ≡ m) × All (λ y. y < t.order) xs
+IsTuple t m xs = AreColours m t.order xs
 
 -- the colour of the strand at position k, counted from 1
 abbrev pub colour_at : List ℕ → ℕ → ℕ
@@ -31,9 +31,3 @@ letter_action t xs (negsuc n) = negative t (n + 1) xs
 -- a braid acts by its letters from first to last
 abbrev pub action : Table → List ℤ → List ℕ → List ℕ
 action t letters xs = fold (letter_action t) xs letters
-
--- f takes the tuples of m colours one to one onto themselves
-pub record IsBijection (t : Table) (m : ℕ) (f : List ℕ → List ℕ) : Type 0 where
-  pub stays : (xs : List ℕ) → IsTuple t m xs → IsTuple t m (f xs)
-  pub onto : (ys : List ℕ) → IsTuple t m ys → (xs : List ℕ) × IsTuple t m xs × (f xs ≡ ys)
-  pub one : (xs ys : List ℕ) → IsTuple t m xs → IsTuple t m ys → f xs ≡ f ys → xs ≡ ys

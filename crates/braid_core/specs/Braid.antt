@@ -14,7 +14,7 @@ pub record IsLetter (m : ℕ) (a : ℤ) : Type 0 where
   pub least : 1 ≤ unsigned_abs a
   pub most : unsigned_abs a < m
 
--- few enough strands and letters that the closure is a grid
+-- a braid word with room for its closure: letters of its strands, and few enough of both that the closure is a grid
 pub record IsBraid (b : Word) : Type 0 where
   pub least : 1 ≤ b.strands
   pub most : b.strands ≤ MAX_STRANDS

@@ -1,9 +1,9 @@
 -- The fixed points of a braid's action.
-use Rattle.std.specs.Prelude.{◌≡◌, ◌^◌, ℕ, zero, suc, List, [], ◌∷◌, Bool, map, filter, nat_eq, nat_lt, if◌then◌else◌, Option, Some, None}
-use Rattle.std.specs.List.{range_with_len, flat_map}
+use Rattle.std.specs.Prelude.{◌≡◌, ◌^◌, ℕ, List, Bool, map, filter, nat_eq, nat_lt, if◌then◌else◌, Option, Some, None}
 use Rattle.std.specs.Cmp.Lexicographic.{pointwise}
 use Rattle.smallvec.specs.SmallVec.{SmallVec}
 use Rattle.quandle_core.specs.Quandle.{Table}
+use Rattle.quandle_core.specs.Colours.{all_lists}
 use Rattle.braid_core.specs.Braid.{Word}
 use Rattle.braid_core.specs.Action.{IsTuple, action}
 use Rattle.braid_core.specs.declared.tuples.TheConstants.{MAX_TUPLES}
@@ -12,8 +12,7 @@ use Rattle.braid_core.specs.declared.tuples.FixFault.TheVariants.{TooWide}
 
 -- all tuples of m colours below q, in lexicographic order
 abbrev pub all_tuples : ℕ → ℕ → List (List ℕ)
-all_tuples q zero = [] ∷ []
-all_tuples q (suc m) = flat_map (λ y. map (λ rest. y ∷ rest) (all_tuples q m)) (range_with_len 0 q)
+all_tuples q m = all_lists q m
 
 -- the tuple equals its image
 abbrev pub is_fixed : Table → Word → List ℕ → Bool

@@ -11,7 +11,7 @@ use quandle_core::Quandle;
 use smallvec::SmallVec;
 use std::alloc::{AllocError, AllocFailed, Global};
 
-/// The greatest number of tuples that are tried: no other place says this number.
+/// The greatest number of tuples that are tried: every other place names this constant.
 pub const MAX_TUPLES: usize = 65536;
 
 /// A colour for each strand, position 1 first. Contracts read it as its list of items.

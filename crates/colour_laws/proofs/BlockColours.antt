@@ -9,7 +9,7 @@ use Rattle.grid_moves.specs.declared.step.Move.TheVariants.{Stabilise, Destabili
 use Rattle.grid_moves.specs.Step.{Step}
 use Rattle.quandle_core.specs.Quandle.{Table, IsQuandle}
 use Rattle.colour_rows.specs.Colouring.{IsColouring}
-use Rattle.colour_laws.specs.Bijection.{IsBijection}
+use Rattle.quandle_core.specs.Bijection.{IsBijection}
 use Rattle.colour_laws.specs.Carried.{carried}
 use Rattle.colour_laws.specs.Carried as table
 use Rattle.colour_laws.proofs.ColouredColumns.{doubled, without}

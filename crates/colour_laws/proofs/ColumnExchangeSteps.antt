@@ -19,7 +19,7 @@ use Rattle.grid_moves.specs.Step.{Step}
 use Rattle.quandle_core.specs.Quandle.{Table, IsQuandle}
 use Rattle.colour_rows.specs.Equation.{forth, fro}
 use Rattle.colour_rows.specs.Colouring.{IsColouring}
-use Rattle.colour_laws.specs.Bijection.{IsBijection}
+use Rattle.quandle_core.specs.Bijection.{IsBijection}
 use Rattle.colour_laws.specs.Carried.{carried, columns_exchanged, is_nested_in, gone_left, gone_right}
 use Rattle.colour_laws.proofs.ColumnLists.{Column}
 use Rattle.colour_laws.proofs.ColouredColumns.{IsColouringByColumns, act, columns, ys_of, IsTradableAt, neighbours_traded, columns_traded, pair_traded, traded_colours}

@@ -14,7 +14,7 @@ use Rattle.grid_moves.specs.Step.{Step}
 use Rattle.grid_moves.proofs.OneResult.{step_moved}
 use Rattle.quandle_core.specs.Quandle.{Table, IsQuandle}
 use Rattle.colour_rows.specs.Colouring.{IsColouring}
-use Rattle.colour_laws.specs.Bijection.{IsBijection}
+use Rattle.quandle_core.specs.Bijection.{IsBijection}
 use Rattle.colour_laws.specs.Carried.{carried}
 use Rattle.colour_laws.proofs.ColumnLists.{Column, swapped, IsNested, IsDisjoint}
 use Rattle.colour_laws.proofs.ColouredColumns.{AreRowsTradable, across}

@@ -1,7 +1,7 @@
 -- Listings of two sets between which there is a bijection have one length.
 use Rattle.std.proofs.Common.{◌≡◌, ◌∙◌, ◌≤◌, ℕ, suc, List, [], ◌∷◌, map, length, ap, sym, refl, arith, inl, inr, subst}
 use Rattle.std.proofs.lemmas.List.{length-map}
-use Rattle.colour_laws.specs.Bijection.{IsBijection}
+use Rattle.quandle_core.specs.Bijection.{IsBijection}
 use Rattle.colour_laws.proofs.Listings.{IsOneOf, AreDistinct, IsListing}
 
 -- one list less
@@ -46,7 +46,7 @@ images P Q go b [] sound distinct = tt
 images P Q go b (d ∷ ds) sound distinct = (
   λ one.
       let from = image go ds (go d) one in
-      let same : d ≡ from.0 = b.only d from.0 (sound d (inl refl)) (sound from.0 (inr from.1)) from.2 in
+      let same : d ≡ from.0 = b.one d from.0 (sound d (inl refl)) (sound from.0 (inr from.1)) from.2 in
       distinct.0 (subst (λ (w : List ℕ). IsOneOf w ds) (sym same) from.1),
   images P Q go b ds (λ c one. sound c (inr one)) distinct.1,
 )
@@ -55,8 +55,8 @@ pub equal_lengths : (P Q : List ℕ → Type 0) (go : List ℕ → List ℕ) →
 equal_lengths P Q go b cs ds first second =
     let one = fits (map go cs) ds (images P Q go b cs first.sound first.distinct) (λ y is.
     let from = image go cs y is in
-    second.complete y (subst Q (sym from.2) (b.carried from.0 (first.sound from.0 from.1)))) in
+    second.complete y (subst Q (sym from.2) (b.into from.0 (first.sound from.0 from.1)))) in
     let two = fits ds (map go cs) second.distinct (λ y is.
-    let from = b.some y (second.sound y is) in
+    let from = b.onto y (second.sound y is) in
     subst (λ (w : List ℕ). IsOneOf w (map go cs)) from.2 (image_in go cs from.0 (first.complete from.0 from.1))) in
     omega (arith, one, two, length-map cs go)

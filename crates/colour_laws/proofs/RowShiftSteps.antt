@@ -15,7 +15,7 @@ use Rattle.grid_moves.proofs.Shifted.{rows_shifted-grid}
 use Rattle.quandle_core.specs.Quandle.{Table, IsQuandle}
 use Rattle.colour_rows.specs.Equation.{fro}
 use Rattle.colour_rows.specs.Colouring.{IsColouring}
-use Rattle.colour_laws.specs.Bijection.{IsBijection}
+use Rattle.quandle_core.specs.Bijection.{IsBijection}
 use Rattle.colour_laws.specs.Carried.{carried, bottom_row_shifted, rows_shifted, after_row_shift}
 use Rattle.colour_laws.proofs.ColumnLists.{Column, recoloured, recoloured_on}
 use Rattle.colour_laws.proofs.ColouredColumns.{IsColouringByColumns, AreInverse, act, columns, ys_of, fallen, fallen_colours, rows_carry, rows_return}

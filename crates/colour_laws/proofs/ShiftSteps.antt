@@ -11,7 +11,7 @@ use Rattle.grid_moves.specs.Step.{Step}
 use Rattle.grid_moves.proofs.OneResult.{step_moved}
 use Rattle.quandle_core.specs.Quandle.{Table, IsQuandle}
 use Rattle.colour_rows.specs.Colouring.{IsColouring}
-use Rattle.colour_laws.specs.Bijection.{IsBijection}
+use Rattle.quandle_core.specs.Bijection.{IsBijection}
 use Rattle.colour_laws.specs.Carried.{carried, columns_shifted}
 use Rattle.colour_laws.proofs.ColouredColumns.{turned}
 use Rattle.colour_laws.proofs.ColumnShifts as lists

@@ -6,7 +6,7 @@ use Rattle.grid_moves.specs.declared.step.Move.TheVariants.{ShiftColumns, ShiftR
 use Rattle.grid_moves.specs.Step.{Step}
 use Rattle.quandle_core.specs.Quandle.{Table, IsQuandle}
 use Rattle.colour_rows.specs.Colouring.{IsColouring}
-use Rattle.colour_laws.specs.Bijection.{IsBijection}
+use Rattle.quandle_core.specs.Bijection.{IsBijection}
 use Rattle.colour_laws.specs.Carried.{carried}
 use Rattle.colour_laws.proofs.ShiftSteps.{shift_of_columns}
 use Rattle.colour_laws.proofs.RowShiftSteps.{shift_of_rows}
@@ -24,4 +24,4 @@ step_carries t q d e (Destabilise c r) step = destabilisation t q d e c r step
 
 -- what is carried is a colouring
 pub carried_is : (t : Table) → IsQuandle t → (d : Diagram) (move : Move) (f ys : List ℕ) → IsColouring t d f → ys ≡ carried t d move f → (e : Diagram) → Step d move e → IsColouring t e ys
-carried_is t q d move f ys colouring is e step = subst (IsColouring t e) (sym is) ((step_carries t q d e move step).carried f colouring)
+carried_is t q d move f ys colouring is e step = subst (IsColouring t e) (sym is) ((step_carries t q d e move step).into f colouring)

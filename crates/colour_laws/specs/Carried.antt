@@ -1,6 +1,6 @@
 -- The colours that each move carries: what becomes of the colours of a diagram's columns when the move is made.
--- A strand that passes under one of colour a from its right to its left goes from colour y to y ▷ a (Joyce 1982):
--- `forth` is what it becomes under a column from left to right, and `fro` from right to left.
+-- A strand that passes under a strand of colour a from that strand's right to its left goes from y to y ▷ a (Joyce 1982).
+-- On the page, `forth` is what y becomes under a column from left to right (for an up column that is from the column's left to its right), and `fro` the other way.
 use Rattle.std.specs.Prelude.{ℕ, zero, suc, ◌+◌, ◌-◌, ◌%◌, ◌==◌, ◌&&◌, Bool, List, map, slice_index, nat_lt, if◌then◌else◌}
 use Rattle.std.specs.List.{range_with_len}
 use Rattle.grid_core.specs.Diagram.{Diagram, size}
@@ -21,7 +21,7 @@ abbrev pub columns_shifted : ℕ → Diagram → List ℕ → List ℕ
 columns_shifted k d colours = by_column (size d) (λ i. slice_index colours ((i + k) % size d))
 
 -- shift of rows by one: the bottom row's strand moves to the top, over the columns strictly between its ends.
--- It goes on into its left end, so these columns pass under it as under that one from right to left. All others keep their colour.
+-- The row is one strand with the column of its left end L, so the columns pass under it as under L from right to left. All others keep their colour.
 abbrev pub bottom_row_shifted : Table → Diagram → List ℕ → List ℕ
 bottom_row_shifted t d colours = by_column (size d) (λ i.
     if lies_within (ends d 0) i then fro t (is_up d (ends d 0).low) (slice_index colours i) (slice_index colours (ends d 0).low)

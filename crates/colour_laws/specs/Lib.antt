@@ -1,4 +1,3 @@
-pub mod Bijection
 pub mod Carried
 pub mod Chain
 pub mod Level
@@ -9,6 +8,7 @@ pub use Rattle.grid_moves.specs.Step
 pub use Rattle.grid_moves.specs.MoveFault
 pub use Rattle.grid_moves.specs.Joining
 pub use Rattle.quandle_core.specs.Quandle
+pub use Rattle.quandle_core.specs.Bijection
 pub use Rattle.colour_rows.specs.Equation
 pub use Rattle.colour_rows.specs.Walk
 pub use Rattle.colour_rows.specs.Colouring

@@ -8,7 +8,7 @@ ghost use Rattle.quandle_core.specs.Quandle.{Table, IsQuandle};
 ghost use Rattle.colour_rows.specs.Equation.{forth};
 ghost use Rattle.colour_rows.specs.Colouring.{IsColouring};
 ghost use Rattle.colour_list.specs.Listing.{colourings};
-ghost use Rattle.colour_laws.specs.Bijection.{IsBijection};
+ghost use Rattle.quandle_core.specs.Bijection.{IsBijection};
 ghost use Rattle.colour_laws.specs.Carried.{carried, after_row_shift};
 ghost use Rattle.colour_laws.specs.Chain.{follow};
 ghost use Rattle.colour_laws.specs.Level.{across_height};

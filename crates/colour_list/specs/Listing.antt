@@ -1,16 +1,12 @@
 -- The complete list of colourings of a diagram by a quandle.
-use Rattle.std.specs.Prelude.{ℕ, zero, suc, List, [], ◌∷◌, map, filter, Bool, nat_eq}
-use Rattle.std.specs.List.{range_with_len, flat_map, count_by}
+use Rattle.std.specs.Prelude.{ℕ, List, map, filter, Bool, nat_eq}
+use Rattle.std.specs.List.{count_by}
 use Rattle.std.specs.Cmp.Lexicographic.{pointwise}
 use Rattle.arrayvec.specs.ArrayVec.{ArrayVec}
 use Rattle.grid_core.specs.Diagram.{Diagram, size}
 use Rattle.quandle_core.specs.Quandle.{Table}
+pub use Rattle.quandle_core.specs.Colours.{all_lists}
 use Rattle.colour_rows.specs.Colouring.{is_colouring}
-
--- all lists of n numbers below q, in lexicographic order
-abbrev pub all_lists : ℕ → ℕ → List (List ℕ)
-all_lists q zero = [] ∷ []
-all_lists q (suc n) = flat_map (λ a. map (λ rest. a ∷ rest) (all_lists q n)) (range_with_len 0 q)
 
 -- all colourings, in lexicographic order
 abbrev pub colourings : Table → Diagram → List (List ℕ)

@@ -6,7 +6,7 @@ use grid_core::Grid;
 use quandle_core::Quandle;
 use std::alloc::{AllocError, AllocFailed};
 
-/// The greatest number of choices of a colour for each bottom, and so of colourings, that is listed. No other source, definition or proof says this number.
+/// The greatest number of choices of a colour for each bottom, and so of colourings, that is listed: every other place names this constant.
 pub const MAX_COLOURINGS: usize = 65536;
 
 /// Why there is no list.

@@ -1,14 +1,15 @@
 -- The ends of a row, and the columns whose lower mark stands in it.
-use Rattle.std.proofs.Common.{◌≡◌, ◌<◌, ◌≤◌, ◌∙◌, ◌⊎◌, inl, inr, ℕ, Bool, true, false, cond, refl, sym, ap, subst, arith, min, max}
+use Rattle.std.proofs.Common.{◌≡◌, ◌<◌, ◌≤◌, ◌-◌, ◌∙◌, ◌⊎◌, inl, inr, ℕ, Bool, true, false, cond, refl, sym, ap, subst, arith, min, max}
 use Rattle.std.specs.Prelude.{nat_lt}
-use Rattle.std.proofs.lemmas.Bool.{cases_lt, ltb-true, ltb-false}
+use Rattle.std.proofs.lemmas.Bool.{cases_lt, ltb-true, ltb-false, le-ltb, and_right}
+use Rattle.std.proofs.lemmas.List.{get_or_past}
 use Rattle.grid_core.specs.declared.mark.Kind.{Kind}
 use Rattle.grid_core.specs.declared.mark.Kind.TheVariants.{Cross, Ring}
 use Rattle.grid_core.specs.declared.span.Span.{Span}
-use Rattle.grid_core.specs.Diagram.{Diagram, IsGrid, HasMark, size, row_of}
+use Rattle.grid_core.specs.Diagram.{Diagram, IsGrid, HasMark, size, rows_of, row_of}
 use Rattle.grid_core.specs.Span.{span}
-use Rattle.grid_core.specs.Parts.{column_of, column_span, ends}
-use Rattle.grid_core.proofs.Marks.{column_mark, column_is, no_cell_twice}
+use Rattle.grid_core.specs.Parts.{column_of, column_span, covers, ends}
+use Rattle.grid_core.proofs.Marks.{rows_length, row_below, column_mark, column_is, no_cell_twice}
 
 -- the columns of a row's ends, and the rows of a column's marks
 abbrev pub left : Diagram → ℕ → ℕ
@@ -106,3 +107,14 @@ has_ends d grid r lt =
         | inr e ↦ inr (sym (column_is d grid Ring c r (record { inside = at; row = e })))
       ]);
     }
+
+-- no column covers the highest row
+pub highest : (d : Diagram) (c : ℕ) → IsGrid d → covers d c (size d - 1) ≡ false
+highest d c grid =
+    and_right (nat_lt (low d c) (size d - 1)) (nat_lt (size d - 1) (high d c)) (le-ltb (size d - 1) (high d c) (of_high (λ r. r ≤ size d - 1) (row_of Cross d c) (row_of Ring d c) (most Cross) (most Ring)))
+  where
+    most : (kind : Kind) → row_of kind d c ≤ size d - 1
+    most kind = elim (cases_lt c (size d)) [
+      | inl lt ↦ let below = row_below d grid kind c lt in omega arith
+      | inr le ↦ let past = get_or_past (rows_of kind d) c 0 (omega (arith, le, rows_length d kind grid)) in omega (arith, past)
+    ]

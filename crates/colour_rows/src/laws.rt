@@ -1,5 +1,5 @@
 //! Laws of walks and colourings, over the definitions alone.
-ghost use Rattle.std.specs.Prelude.{◌≡◌, ◌<◌, ◌≤◌, ◌==◌, ◌↔◌, All, ℕ, List, length, slice_index, slice_set, true, false};
+ghost use Rattle.std.specs.Prelude.{◌≡◌, ◌<◌, ◌≤◌, ◌-◌, ◌==◌, ◌↔◌, All, ℕ, List, length, slice_index, slice_set, true, false};
 ghost use Rattle.grid_core.specs.Diagram.{Diagram, IsGrid, size};
 ghost use Rattle.grid_core.specs.Parts.{covers, ends};
 ghost use Rattle.quandle_core.specs.Quandle.{Table, IsQuandle};
@@ -12,12 +12,13 @@ pub fn a_colouring_closes_each_row()
     ensures { (t : Table) (d : Diagram) (colours : List ℕ) → (is_colouring t d colours ≡ true) ↔ IsColouring t d colours }
 {}
 
-/// A row without covering columns between its ends has equal colours at its ends, in each colouring. The lowest row is one.
+/// A row without covering columns between its ends has equal colours at its ends, in each colouring. The lowest row and the highest row are such rows.
 pub fn an_uncovered_row_has_equal_ends()
     ensures equal { (t : Table) (d : Diagram) (colours : List ℕ) (r : ℕ) → IsColouring t d colours → r < size d
         → ((c : ℕ) → (ends d r).low < c → c < (ends d r).high → covers d c r ≡ false)
         → slice_index colours (ends d r).low ≡ slice_index colours (ends d r).high }
     ensures lowest { (d : Diagram) (c : ℕ) → covers d c 0 ≡ false }
+    ensures highest { (d : Diagram) (c : ℕ) → IsGrid d → covers d c (size d - 1) ≡ false }
 {}
 
 /// The equation that is read off a row once has the row's walk; and taken backwards, the walk finds the one colour of the

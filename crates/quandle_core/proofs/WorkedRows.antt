@@ -3,6 +3,7 @@ use Rattle.std.proofs.Common.{◌≡◌, ◌∷◌, [], refl, None, Some, true, 
 use Rattle.quandle_core.specs.Quandle.{over, back}
 use Rattle.quandle_core.specs.Tables.{dihedral, alexander, tetrahedral, is_unit}
 use Rattle.quandle_core.specs.Fault.{first_fault}
+use Rattle.quandle_core.specs.Colours.{are_colours, all_lists}
 use Rattle.quandle_core.specs.declared.fault.QuandleFault.TheVariants.{Order, Length, Range, Idempotent, Collision, Distributive}
 
 -- 0 ▷ 1 = 2 in the dihedral quandle of order 3
@@ -48,3 +49,16 @@ not_distributive = refl
 
 faultless : first_fault tetrahedral ≡ None
 faultless = refl
+
+-- lists of colours of a quandle of order 2
+one_colour : are_colours 2 2 (1 ∷ []) ≡ false
+one_colour = refl
+
+not_a_colour : are_colours 2 2 (1 ∷ 2 ∷ []) ≡ false
+not_a_colour = refl
+
+two_colours : are_colours 2 2 (1 ∷ 0 ∷ []) ≡ true
+two_colours = refl
+
+in_order : all_lists 2 2 ≡ (0 ∷ 0 ∷ []) ∷ (0 ∷ 1 ∷ []) ∷ (1 ∷ 0 ∷ []) ∷ (1 ∷ 1 ∷ []) ∷ []
+in_order = refl

@@ -2,3 +2,5 @@ pub mod Quandle
 pub mod Tables
 pub mod Fault
 pub mod Columns
+pub mod Colours
+pub mod Bijection
