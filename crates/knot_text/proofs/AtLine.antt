@@ -7,8 +7,8 @@ use Rattle.text_lines.specs.Numbers.{number_of}
 use Rattle.knot_text.specs.declared.steps.TheConstants.{MAX_NUMBER}
 use Rattle.knot_text.specs.declared.fault.TextFault.{TextFault}
 use Rattle.knot_text.specs.declared.fault.TextFault.TheVariants.{Malformed, Limit}
-use Rattle.knot_text.specs.Reading.{◌>>=◌, next_token, line_end, word, or_malformed, number, last_number, last_count, at_most, token_among, no_token_among}
-use Rattle.knot_text.specs.Numbers.{numbers_among, numbers, is_long, numbers_below}
+use Rattle.knot_text.specs.Reading.{◌>>=◌, next_token, line_end, word, or_malformed, number, last_number, last_count, at_most, token_among, no_token_among, each_token}
+use Rattle.knot_text.specs.Numbers.{numbers, is_long, numbers_below}
 use Rattle.knot_text.specs.FirstBadLine.{NamesLine}
 use Rattle.knot_text.proofs.Steady.{bind_ok, bind_err, ok_is}
 
@@ -141,16 +141,16 @@ pub last_count_at : (line : NumberedLine) → At line.number (last_count line)
 unfolding last_count
 last_count_at line = counted_at MAX_NUMBER line
 
--- ---- lines of numbers
+-- ---- lines of numbers or letters
 
-values_at : (n : ℕ) (tokens : List (List ℕ)) → At n (numbers_among n tokens)
-unfolding numbers_among
-values_at n [] = at_ok n []
-values_at n (t ∷ ts) = at_bind n (or_malformed n (number_of t)) (λ v. numbers_among n ts >>= λ vs. Ok (v ∷ vs)) (or_malformed_at n (number_of t))
-    (λ v e. at_bind n (numbers_among n ts) (λ vs. Ok (v ∷ vs)) (values_at n ts) (λ vs f. at_ok n (v ∷ vs)))
+pub tokens_at : {A : Type 0} (read : List ℕ → Option A) (n : ℕ) (tokens : List (List ℕ)) → At n (each_token read n tokens)
+unfolding each_token
+tokens_at read n [] = at_ok n []
+tokens_at read n (t ∷ ts) = at_bind n (or_malformed n (read t)) (λ v. each_token read n ts >>= λ vs. Ok (v ∷ vs)) (or_malformed_at n (read t))
+    (λ v e. at_bind n (each_token read n ts) (λ vs. Ok (v ∷ vs)) (tokens_at read n ts) (λ vs f. at_ok n (v ∷ vs)))
 
 pub numbers_at : (line : NumberedLine) → At line.number (numbers line)
-numbers_at line = values_at line.number line.tokens
+numbers_at line = tokens_at number_of line.number line.tokens
 
 pub numbers_below_at : (width order : ℕ) (line : NumberedLine) → At line.number (numbers_below width order line)
 unfolding numbers_below

@@ -18,7 +18,7 @@ pub anywhere_seen : IsSeenFirst Anywhere
 anywhere_seen = record { none = tt; front = λ xs ys h. tt; same = λ xs ys zs line h. tt }
 
 -- a text of no lines
-nothing_good : {A : Type 0} (read : Text → Result A TextFault) → FailsFirst read → AreGood read []
+pub nothing_good : {A : Type 0} (read : Text → Result A TextFault) → FailsFirst read → AreGood read []
 nothing_good {A} read fails ending = by (read (lines_then [] ending)) refl
   where
     by : (r : Result A TextFault) → read (lines_then [] ending) ≡ r → IsOk (read (lines_then [] ending)) ⊎ (read (lines_then [] ending) ≡ Err (Malformed ending))
@@ -29,7 +29,7 @@ nothing_good {A} read fails ending = by (read (lines_then [] ending)) refl
           | inr end ↦ inr (is ∙ ap (λ (x : TextFault). Err x) end.names)
         ]
 
-ok_again : {A : Type 0} (r s : Result A TextFault) → s ≡ r → IsOk r → IsOk s
+pub ok_again : {A : Type 0} (r s : Result A TextFault) → s ≡ r → IsOk r → IsOk s
 ok_again {A} r s same is = subst (λ (t : Result A TextFault). IsOk t) (sym same) is
 
 pub then_fails : {A B : Type 0} (Stops : Stop) (r : Text → Result (A × Text) TextFault) (k : A → Text → Result B TextFault) → IsSeenFirst Stops → Steady Stops r → ((a : A) → FailsFirst (k a)) → FailsFirst (then_read r k)

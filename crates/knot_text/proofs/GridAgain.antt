@@ -14,7 +14,8 @@ use Rattle.grid_core.proofs.OneEach.{IsApart, each_below, each_apart}
 use Rattle.text_lines.specs.Lines.{Text}
 use Rattle.text_lines.specs.Spelled.{numbered}
 use Rattle.knot_text.specs.Reading.{next_line}
-use Rattle.knot_text.specs.GridItem.{rows_at, is_one_each, are_rows, x_at, o_at, grid_item}
+use Rattle.knot_text.specs.Numbers.{numbers_behind}
+use Rattle.knot_text.specs.GridItem.{is_one_each, are_rows, x_at, o_at, grid_item}
 use Rattle.knot_text.specs.Printed.{rows_tokens, grid_lines}
 use Rattle.knot_text.proofs.GridLines.{no_repeat}
 use Rattle.knot_text.proofs.StepsAgain.{line_of, lines_before, IsShort, word_again, values_again, none_long, all_below, all_short}
@@ -40,8 +41,8 @@ rows_are rows least each =
     and_from (nat_le 2 (length rows)) (is_one_each rows) (le-leb 2 (length rows) least)
     (and_from (list_all (λ r. nat_lt r (length rows)) rows) (not (list_any (λ c. is_repeated rows c) (range_with_len 0 (length rows)))) below (not_from_false (list_any (λ c. is_repeated rows c) (range_with_len 0 (length rows))) once))
 
-rows_again : (letter rows : List ℕ) (n : ℕ) → length rows ≤ MAX_SIZE → AllByRecursion IsShort rows → rows_at letter (line_of n (rows_tokens letter rows)) ≡ Ok rows
-unfolding rows_at
+rows_again : (letter rows : List ℕ) (n : ℕ) → length rows ≤ MAX_SIZE → AllByRecursion IsShort rows → numbers_behind letter (line_of n (rows_tokens letter rows)) ≡ Ok rows
+unfolding numbers_behind
 rows_again letter rows n fits few =
     let size : nat_lt MAX_SIZE (length rows) ≡ false = le-ltb MAX_SIZE (length rows) fits in
     rw (word_again letter n (map decimal rows), values_again n rows few, size, none_long rows few) refl

@@ -17,7 +17,8 @@ use Rattle.grid_core.proofs.OneEach.{each_below}
 use Rattle.text_lines.specs.Lines.{NumberedLine}
 use Rattle.knot_text.specs.declared.fault.TextFault.TheVariants.{Malformed}
 use Rattle.knot_text.specs.Kept.{low, CutsRead}
-use Rattle.knot_text.specs.GridItem.{rows_at, is_one_each, are_rows, x_at, o_at}
+use Rattle.knot_text.specs.Numbers.{numbers_behind}
+use Rattle.knot_text.specs.GridItem.{is_one_each, are_rows, x_at, o_at}
 use Rattle.knot_text.proofs.Cuts.{all_low, same_low}
 
 -- ---- each of 0 to n-1 once
@@ -60,13 +61,13 @@ rows_same rows values cut short is =
 
 -- ---- the rows of the Xs
 
-pub x_bad : (rows : ArrayVec ℕ) (line : NumberedLine) → length rows.items ≤ MAX_SIZE → CutsRead rows (rows_at (codes "x") line) → are_rows rows.items ≡ false → x_at line ≡ Err (Malformed line.number)
+pub x_bad : (rows : ArrayVec ℕ) (line : NumberedLine) → length rows.items ≤ MAX_SIZE → CutsRead rows (numbers_behind (codes "x") line) → are_rows rows.items ≡ false → x_at line ≡ Err (Malformed line.number)
 unfolding x_at
 x_bad rows line short read bad =
     let test : are_rows read.values ≡ false = sym (rows_test rows.items read.values read.cut short) ∙ bad in
     rw (read.is, test) refl
 
-pub x_good : (rows : ArrayVec ℕ) (line : NumberedLine) → length rows.items ≤ MAX_SIZE → CutsRead rows (rows_at (codes "x") line) → are_rows rows.items ≡ true → x_at line ≡ Ok rows.items
+pub x_good : (rows : ArrayVec ℕ) (line : NumberedLine) → length rows.items ≤ MAX_SIZE → CutsRead rows (numbers_behind (codes "x") line) → are_rows rows.items ≡ true → x_at line ≡ Ok rows.items
 unfolding x_at
 x_good rows line short read good =
     let test : are_rows read.values ≡ true = sym (rows_test rows.items read.values read.cut short) ∙ good in
@@ -87,7 +88,7 @@ outside_fault x values None is bad =
     let all : list_all (λ v. nat_lt v (length x)) values ≡ true = all_test (length x) values (recursion_from_All (λ v. v < length x) values (each_below (length x) values grid.rings)) in
     absurd (both_ways (list_all (λ v. nat_lt v (length x)) values) bad all)
 
-pub o_outside : (rows : ArrayVec ℕ) (x : List ℕ) (line : NumberedLine) → length x ≤ MAX_SIZE → CutsRead rows (rows_at (codes "o") line) → list_all (λ v. nat_lt v (length x)) rows.items ≡ false → o_at x line ≡ Err (Malformed line.number)
+pub o_outside : (rows : ArrayVec ℕ) (x : List ℕ) (line : NumberedLine) → length x ≤ MAX_SIZE → CutsRead rows (numbers_behind (codes "o") line) → list_all (λ v. nat_lt v (length x)) rows.items ≡ false → o_at x line ≡ Err (Malformed line.number)
 unfolding o_at
 o_outside rows x line short read bad =
     let out : list_all (λ v. nat_lt v (length x)) read.values ≡ false = sym (ap (list_all (λ v. nat_lt v (length x))) read.cut ∙ all_low (length x) read.values (omega arith)) ∙ bad in
@@ -95,19 +96,19 @@ o_outside rows x line short read bad =
     rw (read.is, test) refl
 
 -- rows inside are all the numbers as they stand
-inside_same : (rows : ArrayVec ℕ) (x : List ℕ) (line : NumberedLine) (read : CutsRead rows (rows_at (codes "o") line)) → length x ≤ MAX_SIZE → list_all (λ v. nat_lt v (length x)) rows.items ≡ true → rows.items ≡ read.values
+inside_same : (rows : ArrayVec ℕ) (x : List ℕ) (line : NumberedLine) (read : CutsRead rows (numbers_behind (codes "o") line)) → length x ≤ MAX_SIZE → list_all (λ v. nat_lt v (length x)) rows.items ≡ true → rows.items ≡ read.values
 inside_same rows x line read short good =
     let all : list_all (λ v. nat_lt v (length x)) read.values ≡ true = sym (ap (list_all (λ v. nat_lt v (length x))) read.cut ∙ all_low (length x) read.values (omega arith)) ∙ good in
     read.cut ∙ same_low (length x) read.values (omega arith) all
 
-pub o_bad : (rows : ArrayVec ℕ) (x : List ℕ) (line : NumberedLine) (fault : GridFault) → length x ≤ MAX_SIZE → CutsRead rows (rows_at (codes "o") line) → list_all (λ v. nat_lt v (length x)) rows.items ≡ true → first_fault x rows.items ≡ Some fault → o_at x line ≡ Err (Malformed line.number)
+pub o_bad : (rows : ArrayVec ℕ) (x : List ℕ) (line : NumberedLine) (fault : GridFault) → length x ≤ MAX_SIZE → CutsRead rows (numbers_behind (codes "o") line) → list_all (λ v. nat_lt v (length x)) rows.items ≡ true → first_fault x rows.items ≡ Some fault → o_at x line ≡ Err (Malformed line.number)
 unfolding o_at
 o_bad rows x line fault short read good bad =
     let same = inside_same rows x line read short good in
     let test : is_none (first_fault x read.values) ≡ false = ap (λ (vs : List ℕ). is_none (first_fault x vs)) (sym same) ∙ ap (λ (f : Option GridFault). is_none f) bad in
     rw (read.is, test) refl
 
-pub o_good : (rows : ArrayVec ℕ) (x : List ℕ) (line : NumberedLine) → length x ≤ MAX_SIZE → CutsRead rows (rows_at (codes "o") line) → list_all (λ v. nat_lt v (length x)) rows.items ≡ true → first_fault x rows.items ≡ None
+pub o_good : (rows : ArrayVec ℕ) (x : List ℕ) (line : NumberedLine) → length x ≤ MAX_SIZE → CutsRead rows (numbers_behind (codes "o") line) → list_all (λ v. nat_lt v (length x)) rows.items ≡ true → first_fault x rows.items ≡ None
     → o_at x line ≡ Ok (record { x = x; o = rows.items })
 unfolding o_at
 o_good rows x line short read good none =

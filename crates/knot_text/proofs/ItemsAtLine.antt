@@ -1,5 +1,5 @@
 -- What is read of the lines of the items fails with the number of the line alone.
-use Rattle.std.proofs.Common.{ℕ, ◌||◌, List, length, cond, Result, Ok, Err, refl, ◌∙◌, codes, nat_lt}
+use Rattle.std.proofs.Common.{ℕ, ℤ, ◌||◌, List, length, cond, Result, Ok, Err, refl, ◌∙◌, codes, nat_lt}
 use Rattle.std.specs.Prelude.{is_none}
 use Rattle.std.specs.List.{list_any}
 use Rattle.std.specs.Str.{bytes_eq}
@@ -9,6 +9,9 @@ use Rattle.grid_core.specs.declared.mark.Kind.TheVariants.{Cross, Ring}
 use Rattle.grid_core.specs.declared.mark.Corner.{Corner}
 use Rattle.grid_core.specs.declared.mark.Corner.TheVariants.{LowLeft, LowRight, HighLeft, HighRight}
 use Rattle.grid_core.specs.Fault.{first_fault}
+use Rattle.braid_core.specs.Braid.{Word}
+use Rattle.braid_core.specs.Fault.{first_fault as braid_fault}
+use Rattle.colour_rows.specs.Colouring.{are_colours}
 use Rattle.grid_moves.specs.declared.step.Move.{Move}
 use Rattle.grid_moves.specs.declared.step.Move.TheVariants.{ShiftColumns, ShiftRows, ExchangeColumns, ExchangeRows, Stabilise, Destabilise}
 use Rattle.text_lines.specs.Lines.{NumberedLine}
@@ -20,18 +23,20 @@ use Rattle.knot_text.specs.declared.quandles.Written.TheVariants as written
 use Rattle.knot_text.specs.declared.verdict.Verdict.{Verdict}
 use Rattle.knot_text.specs.declared.verdict.Verdict.TheVariants.{UnknownBudget, UnknownExhausted}
 use Rattle.knot_text.specs.Reading.{◌>>=◌, next_token, line_end, word, number, last_number, last_count, at_most}
-use Rattle.knot_text.specs.Numbers.{numbers, is_long}
-use Rattle.knot_text.specs.GridItem.{rows_at, are_rows, x_at, o_at}
+use Rattle.knot_text.specs.Numbers.{numbers, is_long, numbers_behind}
+use Rattle.knot_text.specs.GridItem.{are_rows, x_at, o_at}
+use Rattle.knot_text.specs.BraidItem.{letter_of, letters, exceeds, braid_of, braid_at}
+use Rattle.knot_text.specs.ColoursItem.{colours_at}
 use Rattle.knot_text.specs.MovesItem.{last_place, one_place, shift, exchange, kind_at, corner_at, stabilise, destabilise, move_at}
 use Rattle.knot_text.specs.QuandleItem.{with_order, alexander_at, tetrahedral_at, written_at}
 use Rattle.knot_text.specs.VerdictItem.{budget_at, exhausted_at, unknown_at}
-use Rattle.knot_text.proofs.AtLine.{At, Keeps, at_ok, at_malformed, at_limit, at_bind, at_cond, at_same, keeps_ok, keeps_err, keeps_bind, keeps_cond, keeps_same, next_token_at, next_token_keeps, line_end_at, line_end_keeps, word_at, word_keeps, number_at, number_keeps, last_number_at, last_number_keeps, at_most_at, counted_at, last_count_at, numbers_at}
+use Rattle.knot_text.proofs.AtLine.{At, Keeps, at_ok, at_malformed, at_limit, at_bind, at_cond, at_same, keeps_ok, keeps_err, keeps_bind, keeps_cond, keeps_same, next_token_at, next_token_keeps, line_end_at, line_end_keeps, word_at, word_keeps, number_at, number_keeps, last_number_at, last_number_keeps, at_most_at, counted_at, last_count_at, tokens_at, numbers_at}
 
 -- ---- grids
 
-rows_at_at : (letter : List ℕ) (line : NumberedLine) → At line.number (rows_at letter line)
-unfolding rows_at
-rows_at_at letter line =
+numbers_behind_at : (letter : List ℕ) (line : NumberedLine) → At line.number (numbers_behind letter line)
+unfolding numbers_behind
+numbers_behind_at letter line =
     let n = line.number in
     let limits = λ (rest : NumberedLine) (rows : List ℕ). cond (nat_lt MAX_SIZE (length rows) || list_any is_long rows) (Err (Limit rest.number)) (Ok rows) in
     at_bind n (word letter line) (λ rest. numbers rest >>= λ rows. limits rest rows) (word_at letter line)
@@ -43,15 +48,45 @@ pub x_at_at : (line : NumberedLine) → At line.number (x_at line)
 unfolding x_at
 x_at_at line =
     let n = line.number in
-    at_bind n (rows_at (codes "x") line) (λ rows. cond (are_rows rows) (Ok rows) (Err (Malformed n))) (rows_at_at (codes "x") line)
+    at_bind n (numbers_behind (codes "x") line) (λ rows. cond (are_rows rows) (Ok rows) (Err (Malformed n))) (numbers_behind_at (codes "x") line)
     (λ rows e. at_cond n (are_rows rows) (Ok rows) (Err (Malformed n)) (at_ok n rows) (at_malformed n))
 
 pub o_at_at : (x : List ℕ) (line : NumberedLine) → At line.number (o_at x line)
 unfolding o_at
 o_at_at x line =
     let n = line.number in
-    at_bind n (rows_at (codes "o") line) (λ rows. cond (is_none (first_fault x rows)) (Ok (record { x = x; o = rows })) (Err (Malformed n))) (rows_at_at (codes "o") line)
+    at_bind n (numbers_behind (codes "o") line) (λ rows. cond (is_none (first_fault x rows)) (Ok (record { x = x; o = rows })) (Err (Malformed n))) (numbers_behind_at (codes "o") line)
     (λ rows e. at_cond n (is_none (first_fault x rows)) (Ok (record { x = x; o = rows })) (Err (Malformed n)) (at_ok n (record { x = x; o = rows })) (at_malformed n))
+
+-- ---- braids
+
+braid_of_at : (n : ℕ) (b : Word) → At n (braid_of n b)
+braid_of_at n b =
+    at_cond n (exceeds b) (Err (Limit n)) (cond (is_none (braid_fault b)) (Ok b) (Err (Malformed n))) (at_limit n)
+    (at_cond n (is_none (braid_fault b)) (Ok b) (Err (Malformed n)) (at_ok n b) (at_malformed n))
+
+pub braid_at_at : (line : NumberedLine) → At line.number (braid_at line)
+unfolding braid_at
+braid_at_at line =
+    let n = line.number in
+    let made = λ (m : ℕ) (ls : List ℤ). braid_of n (record { strands = m; letters = ls }) in
+    at_bind n (word (codes "braid") line) (λ rest. number rest >>= λ m. letters m.1 >>= λ ls. made m.0 ls) (word_at (codes "braid") line)
+    (λ rest e1.
+    let s1 = word_keeps (codes "braid") line rest e1 in
+    at_bind n (number rest) (λ m. letters m.1 >>= λ ls. made m.0 ls) (at_same n rest.number (number rest) s1 (number_at rest))
+    (λ m e2.
+    let s2 = number_keeps rest m e2 ∙ s1 in
+    at_bind n (letters m.1) (λ ls. made m.0 ls) (at_same n m.1.number (letters m.1) s2 (tokens_at letter_of m.1.number m.1.tokens))
+    (λ ls e3. braid_of_at n (record { strands = m.0; letters = ls }))))
+
+-- ---- the colours of a replay
+
+pub colours_at_at : (width order : ℕ) (line : NumberedLine) → At line.number (colours_at width order line)
+unfolding colours_at
+colours_at_at width order line =
+    let n = line.number in
+    at_bind n (numbers_behind (codes "colours") line) (λ cs. cond (are_colours width order cs) (Ok (record { items = cs })) (Err (Malformed n))) (numbers_behind_at (codes "colours") line)
+    (λ cs e. at_cond n (are_colours width order cs) (Ok (record { items = cs })) (Err (Malformed n)) (at_ok n (record { items = cs })) (at_malformed n))
 
 -- ---- moves
 

@@ -18,12 +18,14 @@ use Rattle.knot_text.specs.Names.{NamedQuandle, called}
 use Rattle.knot_text.specs.Reading.{◌>>=◌, in_turn, next_line, next_token, word, last_number, last_count, at_most, or_malformed}
 use Rattle.knot_text.specs.Numbers.{numbers_below}
 use Rattle.knot_text.specs.GridItem.{x_at, o_at, grid_item}
+use Rattle.knot_text.specs.BraidItem.{braid_at, braid_item}
+use Rattle.knot_text.specs.ColoursItem.{colours_at, colours_item, coloured_item}
 use Rattle.knot_text.specs.MovesItem.{move_at, next_move, move_lines, moves_item}
 use Rattle.knot_text.specs.QuandleItem.{written_at, is_over, meant, table_row, table_rows, table_item, quandle_of, quandle_at, quandle_item}
-use Rattle.knot_text.specs.VerdictItem.{equal_at, colours_item, list_item, different_at, unknown_at, unknown_item, verdict_item}
+use Rattle.knot_text.specs.VerdictItem.{equal_at, colour_line, list_item, different_at, unknown_at, unknown_item, verdict_item}
 use Rattle.knot_text.proofs.Steady.{Steady, Anywhere, then_read, line_steady, pure_steady, same_steady, then_steady, turns_steady}
 use Rattle.knot_text.proofs.AtLine.{At, at_ok, at_malformed, at_limit, at_bind, at_cond, at_same, word_at, word_keeps, last_count_at, numbers_below_at}
-use Rattle.knot_text.proofs.ItemsAtLine.{x_at_at, o_at_at, move_at_at, chosen_at, word_count_at, written_at_at, written_keeps, unknown_at_at}
+use Rattle.knot_text.proofs.ItemsAtLine.{x_at_at, o_at_at, braid_at_at, colours_at_at, move_at_at, chosen_at, word_count_at, written_at_at, written_keeps, unknown_at_at}
 
 -- ---- a line, and what follows from it
 
@@ -71,6 +73,12 @@ line_then_two g h k names steady =
 pub grid_steady : Steady Anywhere grid_item
 unfolding grid_item
 grid_steady = line_then x_at (λ x text. next_line text >>= λ line. o_at x line.0 >>= λ d. Ok (d, line.1)) x_at_at (λ x. line_steady (o_at x) (λ line fault e. o_at_at x line fault e))
+
+-- ---- braids
+
+pub braid_steady : Steady Anywhere braid_item
+unfolding braid_item
+braid_steady = line_steady braid_at (λ line fault e. braid_at_at line fault e)
 
 -- ---- moves
 
@@ -238,11 +246,23 @@ quandle_steady =
     same_steady Anywhere (λ text. next_line text >>= λ line. word (codes "quandle") line.0 >>= λ rest. plan rest >>= λ p. go p line.1) quandle_item (λ text. flat_item (next_line text))
     (line_then_two (word (codes "quandle")) plan go quandle_line_at go_steady)
 
+-- ---- the colours of a replay
+
+pub colours_steady : (width order : ℕ) → Steady Anywhere (colours_item width order)
+unfolding colours_item
+colours_steady width order = line_steady (colours_at width order) (λ line fault e. colours_at_at width order line fault e)
+
+pub coloured_steady : (width : ℕ) → Steady Anywhere (coloured_item width)
+unfolding coloured_item
+coloured_steady width =
+    then_steady Anywhere quandle_item (λ q text. colours_item width q.table.order text >>= λ cs. Ok ((q, cs.0), cs.1)) quandle_steady
+    (λ q. then_steady Anywhere (colours_item width q.table.order) (λ cs text. Ok ((q, cs), text)) (colours_steady width q.table.order) (λ cs. pure_steady (q, cs)))
+
 -- ---- verdicts
 
-colours_steady : (width order : ℕ) → Steady Anywhere (colours_item width order)
-unfolding colours_item
-colours_steady width order =
+colour_steady : (width order : ℕ) → Steady Anywhere (colour_line width order)
+unfolding colour_line
+colour_steady width order =
     line_then (numbers_below width order) (λ colours text. Ok (record { items = colours }, text)) (numbers_below_at width order) (λ colours. pure_steady (record { items = colours }))
 
 abbrev few_lists : NumberedLine → Result ℕ TextFault
@@ -254,7 +274,7 @@ flat_few (Ok count) text k = refl
 flat_few (Err e) text k = refl
 
 abbrev lists : ℕ → ℕ → ℕ → Text → Result (List (ArrayVec ℕ) × Text) TextFault
-lists width order few text = in_turn (colours_item width order) few text
+lists width order few text = in_turn (colour_line width order) few text
 
 flat_list : (width order : ℕ) (r : Result (NumberedLine × Text) TextFault)
     → (r >>= λ line. word (codes "list") line.0 >>= λ rest. last_number rest >>= λ count. at_most MAX_COLOURINGS count.1.number count.0 >>= λ few. lists width order few line.1)
@@ -271,7 +291,7 @@ list_steady : (width order : ℕ) → Steady Anywhere (list_item width order)
 unfolding list_item
 list_steady width order =
     same_steady Anywhere (λ text. next_line text >>= λ line. word (codes "list") line.0 >>= λ rest. few_lists rest >>= λ few. lists width order few line.1) (list_item width order) (λ text. flat_list width order (next_line text))
-    (line_then_two (word (codes "list")) few_lists (lists width order) (word_count_at (codes "list") MAX_COLOURINGS) (λ few. turns_steady (colours_item width order) few (colours_steady width order)))
+    (line_then_two (word (codes "list")) few_lists (lists width order) (word_count_at (codes "list") MAX_COLOURINGS) (λ few. turns_steady (colour_line width order) few (colour_steady width order)))
 
 -- what the first line of a verdict leads to: a number of moves, a quandle, or a whole verdict
 abbrev Course : Type 0

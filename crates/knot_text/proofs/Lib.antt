@@ -2,6 +2,8 @@ pub mod Turns
 pub mod Values
 pub mod Cuts
 pub mod GridLines
+pub mod BraidLines
+pub mod ColoursLines
 pub mod TableLines
 pub mod Lists
 pub mod LineTexts
@@ -17,9 +19,26 @@ pub mod AtLine
 pub mod ItemsAtLine
 pub mod ItemsSteady
 pub mod FirstFault
+pub mod Choices
 pub mod QuandlesSteady
 pub mod ShapesFail
 pub mod GridsRead
+pub mod ColoursRead
+pub mod BraidAgain
 pub mod ReadBack
+pub mod FeedBetween
+pub mod Says
+pub mod LineSays
+pub mod ItemsSay
+pub mod QuandleSays
+pub mod VerdictSays
+pub mod ShapesSay
+pub mod Alike
+pub mod ItemsAlike
+pub mod ColoursAgain
+pub mod WrittenAgain
+pub mod ShapesAgain
+pub mod PrintedTexts
 pub mod Readings
 mod WorkedRows
+mod WrittenRows

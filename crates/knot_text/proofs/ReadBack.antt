@@ -1,5 +1,5 @@
 -- What is printed is read back, from its bytes.
-use Rattle.std.proofs.Common.{◌≡◌, ℕ, ◌≤◌, ◌+◌, List, [], ◌∷◌, ◌++◌, length, true, Result, Ok, refl, sym, ap, ap₂, subst, ◌∙◌, arith, codes}
+use Rattle.std.proofs.Common.{◌≡◌, ℕ, ◌≤◌, ◌+◌, List, [], ◌∷◌, ◌++◌, length, true, false, Result, Ok, refl, sym, ap, ap₂, subst, ◌∙◌, arith, codes}
 use Rattle.std.proofs.lemmas.List.{append-nil, length-map}
 use Rattle.grid_core.specs.Diagram.{Diagram as Marks, IsGrid, size}
 use Rattle.grid_moves.specs.declared.step.Move.{Move}
@@ -116,7 +116,10 @@ verdict_behind bytes p v whole is fits =
 
 diagram_read : (n : ℕ) (d : Marks) (more : List ℕ) → IsGrid d → diagram_item (text_from n (grid_text d ++ more)) ≡ Ok (Grid d, text_from (n + 2) more)
 unfolding diagram_item
-diagram_read n d more grid = ap (λ r. r >>= λ g. Ok (Grid g.0, g.1)) (grid_read n d more grid)
+diagram_read n d more grid =
+    let other : first_starts (codes "braid") (text_from n (grid_text d ++ more)).lines ≡ false =
+    ap (λ (t : Text). first_starts (codes "braid") t.lines) (lines_read n (grid_lines d) more (grid_words d grid)) in
+    rw other (ap (λ r. r >>= λ g. Ok (Grid g.0, g.1)) (grid_read n d more grid))
 
 no_quandles : (text : Text) → AtOther text.lines → quandle_list text ≡ Ok (built_in, text)
 unfolding quandle_list

@@ -1,22 +1,62 @@
--- A text has at most one reading.
-use Rattle.std.proofs.Common.{◌≡◌, ℕ, List, Ok, sym, ap, ◌∙◌}
+-- Texts that say the same have one reading, and a printed text is that of one value.
+use Rattle.std.proofs.Common.{◌≡◌, ℕ, ◌≤◌, List, [], ◌++◌, Result, Ok, sym, ap, subst, ◌∙◌}
+use Rattle.grid_core.specs.Diagram.{Diagram as Marks, IsGrid}
+use Rattle.grid_moves.specs.declared.step.Move.{Move}
+use Rattle.text_lines.specs.Lines.{Text, text_from, text_of}
+use Rattle.knot_text.specs.declared.fault.TextFault.{TextFault}
 use Rattle.knot_text.specs.declared.verdict.Verdict.{Verdict}
+use Rattle.knot_text.specs.declared.diagram.Diagram.{Diagram}
 use Rattle.knot_text.specs.declared.shapes.ProblemText.{ProblemText}
 use Rattle.knot_text.specs.declared.shapes.ReplayText.{ReplayText}
 use Rattle.knot_text.specs.declared.shapes.ColourText.{ColourText}
-use Rattle.knot_text.specs.Shapes.{problem_of, check_of, replay_of, colour_of}
+use Rattle.knot_text.specs.declared.shapes.CloseText.{CloseText}
+use Rattle.knot_text.specs.GridItem.{grid_item}
+use Rattle.knot_text.specs.MovesItem.{moves_item}
+use Rattle.knot_text.specs.VerdictItem.{verdict_item}
+use Rattle.knot_text.specs.Shapes.{problem_of, check_of, replay_of, colour_of, close_of, lone_diagram_of}
+use Rattle.knot_text.specs.Printed.{grid_text, moves_text, HaveText, verdict_text, HasVerdictText}
+use Rattle.knot_text.specs.WrittenThere.{said_by, IsProblemText, IsCheckText, IsColourText, IsCloseText}
 use Rattle.knot_text.proofs.Steady.{ok_is}
+use Rattle.knot_text.proofs.ReadBack.{grid_read, moves_read, verdict_read}
+use Rattle.knot_text.proofs.ShapesSay.{problem_in_says, check_in_says, replay_in_says, colour_in_says, close_in_says, lone_diagram_in_says}
+use Rattle.knot_text.proofs.ShapesAgain.{problem_in_written, check_in_written, replay_in_written, colour_in_written, close_in_written, lone_diagram_in_written}
 
-pub problem_once : (bytes : List ℕ) (p q : ProblemText) → problem_of bytes ≡ Ok p → problem_of bytes ≡ Ok q → p ≡ q
-problem_once bytes p q one two = ok_is p q (sym one ∙ two)
+-- ---- texts that say the same
 
-pub check_once : (bytes : List ℕ) (p q : ProblemText) (v w : Verdict) → check_of bytes ≡ Ok (p, v) → check_of bytes ≡ Ok (q, w) → (p ≡ q) × (v ≡ w)
-check_once bytes p q v w one two =
-    let same = ok_is (p, v) (q, w) (sym one ∙ two) in
-    (ap (λ (x : ProblemText × Verdict). x.0) same, ap (λ (x : ProblemText × Verdict). x.1) same)
+pub problem_again : (a b : List ℕ) (p : ProblemText) → said_by a ≡ said_by b → problem_of a ≡ Ok p → problem_of b ≡ Ok p
+problem_again a b p same is = problem_in_written (text_of b) p (subst (λ ls. IsProblemText ls p) same ((problem_in_says (text_of a)).of p is))
 
-pub replay_once : (bytes : List ℕ) (p q : ReplayText) → replay_of bytes ≡ Ok p → replay_of bytes ≡ Ok q → p ≡ q
-replay_once bytes p q one two = ok_is p q (sym one ∙ two)
+pub check_again : (a b : List ℕ) (p : ProblemText) (v : Verdict) → said_by a ≡ said_by b → check_of a ≡ Ok (p, v) → check_of b ≡ Ok (p, v)
+check_again a b p v same is = check_in_written (text_of b) p v (subst (λ ls. IsCheckText ls p v) same ((check_in_says (text_of a)).of (p, v) is))
 
-pub colour_once : (bytes : List ℕ) (p q : ColourText) → colour_of bytes ≡ Ok p → colour_of bytes ≡ Ok q → p ≡ q
-colour_once bytes p q one two = ok_is p q (sym one ∙ two)
+pub replay_again : (a b : List ℕ) (r : ReplayText) → said_by a ≡ said_by b → replay_of a ≡ Ok r → replay_of b ≡ Ok r
+replay_again a b r same is =
+    let w = (replay_in_says (text_of a)).of r is in
+    replay_in_written (text_of b) r w.0 (sym same ∙ w.1)
+
+pub colour_again : (a b : List ℕ) (c : ColourText) → said_by a ≡ said_by b → colour_of a ≡ Ok c → colour_of b ≡ Ok c
+colour_again a b c same is = colour_in_written (text_of b) c (subst (λ ls. IsColourText ls c) same ((colour_in_says (text_of a)).of c is))
+
+pub close_again : (a b : List ℕ) (c : CloseText) → said_by a ≡ said_by b → close_of a ≡ Ok c → close_of b ≡ Ok c
+close_again a b c same is = close_in_written (text_of b) c (subst (λ ls. IsCloseText ls c) same ((close_in_says (text_of a)).of c is))
+
+pub diagram_again : (a b : List ℕ) (d : Diagram) → said_by a ≡ said_by b → lone_diagram_of a ≡ Ok d → lone_diagram_of b ≡ Ok d
+diagram_again a b d same is =
+    let w = (lone_diagram_in_says (text_of a)).of d is in
+    lone_diagram_in_written (text_of b) d w.0 (sym same ∙ w.1)
+
+-- ---- printed texts, which are read
+
+-- what is read from the same bytes is the same
+once : {A : Type 0} (read : Text → Result (A × Text) TextFault) (first second : List ℕ) (x y : A) (s t : Text) → read (text_from 0 (first ++ [])) ≡ Ok (x, s) → read (text_from 0 (second ++ [])) ≡ Ok (y, t) → first ≡ second → x ≡ y
+once {A} read first second x y s t one two same =
+    ap (λ (z : A × Text). z.0) (ok_is (x, s) (y, t) (sym one ∙ ap (λ (bytes : List ℕ). read (text_from 0 (bytes ++ []))) same ∙ two))
+
+pub grid_once : (d e : Marks) → IsGrid d → IsGrid e → grid_text d ≡ grid_text e → d ≡ e
+grid_once d e one two same = once grid_item (grid_text d) (grid_text e) d e _ _ (grid_read 0 d [] one) (grid_read 0 e [] two) same
+
+pub moves_once : (a b : List Move) → HaveText a → HaveText b → moves_text a ≡ moves_text b → a ≡ b
+moves_once a b one two same = once moves_item (moves_text a) (moves_text b) a b _ _ (moves_read 0 a [] one) (moves_read 0 b [] two) same
+
+pub verdict_once : (one two : ℕ) (v w : Verdict) → 1 ≤ one → 1 ≤ two → HasVerdictText one two v → HasVerdictText one two w → verdict_text v ≡ verdict_text w → v ≡ w
+verdict_once one two v w some also first second same = once (verdict_item one two) (verdict_text v) (verdict_text w) v w _ _ (verdict_read 0 one two v [] some also first) (verdict_read 0 one two w [] some also second) same

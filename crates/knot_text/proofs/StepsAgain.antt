@@ -7,11 +7,12 @@ use Rattle.std.proofs.lemmas.Bool.{le-leb, le-ltb, lt-ltb, and_from, or_from, eq
 use Rattle.std.proofs.lemmas.Slice.Eq.{bytes_eq-Decides}
 use Rattle.text_lines.specs.Lines.{NumberedLine, Text}
 use Rattle.text_lines.specs.Spelled.{numbered}
+use Rattle.text_lines.specs.Numbers.{number_of}
 use Rattle.text_lines.proofs.NumberTexts.{decimal_read}
 use Rattle.knot_text.specs.declared.fault.TextFault.{TextFault}
 use Rattle.knot_text.specs.declared.steps.TheConstants.{MAX_NUMBER}
-use Rattle.knot_text.specs.Reading.{in_turn, next_token, line_end, word, number, last_number, last_count, at_most}
-use Rattle.knot_text.specs.Numbers.{numbers_among, is_long, numbers_below}
+use Rattle.knot_text.specs.Reading.{in_turn, next_token, line_end, word, number, last_number, last_count, at_most, each_token}
+use Rattle.knot_text.specs.Numbers.{is_long, numbers_below}
 
 abbrev pub line_of : ℕ → List (List ℕ) → NumberedLine
 line_of n tokens = record { number = n; tokens = tokens }
@@ -47,8 +48,8 @@ count_again k n few = rw (last_again k n few, most_again MAX_NUMBER n k few) ref
 abbrev pub IsShort : ℕ → Type 0
 IsShort k = k ≤ MAX_NUMBER
 
-pub values_again : (n : ℕ) (ks : List ℕ) → AllByRecursion IsShort ks → numbers_among n (map decimal ks) ≡ Ok ks
-unfolding numbers_among
+pub values_again : (n : ℕ) (ks : List ℕ) → AllByRecursion IsShort ks → each_token number_of n (map decimal ks) ≡ Ok ks
+unfolding each_token
 values_again n [] few = refl
 values_again n (k ∷ ks) few = rw (decimal_read k (omega (arith, few.0)), values_again n ks few.1) refl
 

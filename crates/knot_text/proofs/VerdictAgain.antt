@@ -17,7 +17,7 @@ use Rattle.knot_text.specs.declared.verdict.Verdict.{Verdict}
 use Rattle.knot_text.specs.declared.verdict.Verdict.TheVariants.{Equal, Different, UnknownBudget, UnknownExhausted}
 use Rattle.knot_text.specs.Names.{NamedQuandle, Names}
 use Rattle.knot_text.specs.Reading.{next_line, next_token}
-use Rattle.knot_text.specs.VerdictItem.{equal_at, colours_item, list_item, different_at, budget_at, exhausted_at, unknown_at, unknown_item, verdict_item}
+use Rattle.knot_text.specs.VerdictItem.{equal_at, colour_line, list_item, different_at, budget_at, exhausted_at, unknown_at, unknown_item, verdict_item}
 use Rattle.knot_text.specs.Printed.{move_tokens, name_tokens, table_lines, list_lines, verdict_lines, HaveText, HasListText, HasVerdictText}
 use Rattle.knot_text.proofs.StepsAgain.{line_of, lines_before, word_again, number_again, last_again, most_again, count_again, below_again, turns_again}
 use Rattle.knot_text.proofs.MovesAgain.{move_lines_again}
@@ -46,8 +46,8 @@ names_order name.Tetrahedral t names = subst (λ (s : Table). s.order ≤ MAX_OR
 names_order (name.Alexander n a) t names = subst (λ (s : Table). s.order ≤ MAX_ORDER) (sym names.2) names.0.1
 names_order name.Table t names = names.most
 
-colours_again : (width order : ℕ) → order ≤ 255 → (k : ℕ) (c : ArrayVec ℕ) (rest : Text) → AreColours width order c.items → colours_item width order (lines_before (line_of (k + 1) (map decimal c.items) ∷ []) rest) ≡ Ok (c, rest)
-unfolding colours_item next_line
+colours_again : (width order : ℕ) → order ≤ 255 → (k : ℕ) (c : ArrayVec ℕ) (rest : Text) → AreColours width order c.items → colour_line width order (lines_before (line_of (k + 1) (map decimal c.items) ∷ []) rest) ≡ Ok (c, rest)
+unfolding colour_line next_line
 colours_again width order most k c rest fits = rw (below_again width order (k + 1) c.items fits.0 most (recursion_from_All (λ y. y < order) c.items fits.1)) refl
 
 list_again : (width order n : ℕ) (lists : List (ArrayVec ℕ)) (text : Text) → order ≤ 255 → HasListText width order lists → list_item width order (lines_before (numbered n (list_lines lists)) text) ≡ Ok (lists, text)
@@ -56,7 +56,7 @@ list_again width order n lists text most fits =
     let w = word_again (codes "list") (n + 1) (decimal (length lists) ∷ []) in
     let count = last_again (length lists) (n + 1) (omega (arith, fits.count)) in
     let few = most_again MAX_COLOURINGS (n + 1) (length lists) fits.count in
-    let all = turns_again (colours_item width order) (λ (c : ArrayVec ℕ). map decimal c.items) (λ (c : ArrayVec ℕ). AreColours width order c.items) (n + 1) lists text (colours_again width order most) fits.each in
+    let all = turns_again (colour_line width order) (λ (c : ArrayVec ℕ). map decimal c.items) (λ (c : ArrayVec ℕ). AreColours width order c.items) (n + 1) lists text (colours_again width order most) fits.each in
     rw (w, count, few, all) refl
 
 -- ---- the verdicts

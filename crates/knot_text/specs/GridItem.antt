@@ -1,21 +1,13 @@
 -- A grid as a text: `x` and the rows of its Xs by column, and `o` and those of its Os in the next line.
-use Rattle.std.specs.Prelude.{ℕ, ◌&&◌, ◌||◌, Bool, not, List, codes, length, Result, Ok, Err, is_none, nat_le, nat_lt, if◌then◌else◌}
+use Rattle.std.specs.Prelude.{ℕ, ◌&&◌, Bool, not, List, codes, length, Result, Ok, Err, is_none, nat_le, nat_lt, if◌then◌else◌}
 use Rattle.std.specs.List.{list_all, list_any, range_with_len}
-use Rattle.grid_core.specs.declared.grid.TheConstants.{MAX_SIZE}
 use Rattle.grid_core.specs.Diagram.{Diagram}
 use Rattle.grid_core.specs.Fault.{is_repeated, first_fault}
 use Rattle.text_lines.specs.Lines.{NumberedLine, Text}
 use Rattle.knot_text.specs.declared.fault.TextFault.{TextFault}
-use Rattle.knot_text.specs.declared.fault.TextFault.TheVariants.{Malformed, Limit}
-use Rattle.knot_text.specs.Reading.{◌>>=◌, next_line, word}
-use Rattle.knot_text.specs.Numbers.{numbers, is_long}
-
--- a letter and at most MAX_SIZE numbers
-unfoldable pub rows_at : List ℕ → NumberedLine → Result (List ℕ) TextFault
-rows_at letter line = do
-  rest ← word letter line
-  rows ← numbers rest
-  if nat_lt MAX_SIZE (length rows) || list_any is_long rows then Err (Limit rest.number) else Ok rows
+use Rattle.knot_text.specs.declared.fault.TextFault.TheVariants.{Malformed}
+use Rattle.knot_text.specs.Reading.{◌>>=◌, next_line}
+use Rattle.knot_text.specs.Numbers.{numbers_behind}
 
 -- each of the n numbers is below n, and none stands twice
 abbrev pub is_one_each : List ℕ → Bool
@@ -29,13 +21,13 @@ are_rows rows = nat_le 2 (length rows) && is_one_each rows
 -- the rows of the Xs
 unfoldable pub x_at : NumberedLine → Result (List ℕ) TextFault
 x_at line = do
-  rows ← rows_at (codes "x") line
+  rows ← numbers_behind (codes "x") line
   if are_rows rows then Ok rows else Err (Malformed line.number)
 
 -- the rows of the Os, which make a grid with those of the Xs: as many, each of 0 to n-1 once, none equal to that of its column
 unfoldable pub o_at : List ℕ → NumberedLine → Result Diagram TextFault
 o_at x line = do
-  rows ← rows_at (codes "o") line
+  rows ← numbers_behind (codes "o") line
   if is_none (first_fault x rows) then Ok (record { x = x; o = rows }) else Err (Malformed line.number)
 
 -- the two lines of a grid

@@ -2,12 +2,16 @@ pub mod Reading
 pub mod Numbers
 pub mod Kept
 pub mod GridItem
+pub mod BraidItem
+pub mod KeptLetters
 pub mod MovesItem
 pub mod Names
 pub mod QuandleItem
+pub mod ColoursItem
 pub mod VerdictItem
 pub mod Shapes
 pub mod Printed
+pub mod WrittenThere
 pub mod FirstBadLine
 pub use Rattle.text_lines.specs.Lines
 pub use Rattle.text_lines.specs.Tokens

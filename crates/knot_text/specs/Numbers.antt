@@ -1,28 +1,28 @@
 -- Lines of numbers.
-use Rattle.std.specs.Prelude.{ℕ, ◌==◌, ◌&&◌, Bool, List, [], ◌∷◌, length, Result, Ok, Err, nat_lt, if◌then◌else◌}
+use Rattle.std.specs.Prelude.{ℕ, ◌==◌, ◌&&◌, ◌||◌, Bool, List, length, Result, Ok, Err, nat_lt, if◌then◌else◌}
 use Rattle.std.specs.List.{list_all, list_any}
+use Rattle.grid_core.specs.declared.grid.TheConstants.{MAX_SIZE}
 use Rattle.text_lines.specs.Lines.{NumberedLine}
 use Rattle.text_lines.specs.Numbers.{number_of}
 use Rattle.knot_text.specs.declared.fault.TextFault.{TextFault}
 use Rattle.knot_text.specs.declared.fault.TextFault.TheVariants.{Malformed, Limit}
 use Rattle.knot_text.specs.declared.steps.TheConstants.{MAX_NUMBER}
-use Rattle.knot_text.specs.Reading.{◌>>=◌, or_malformed}
+use Rattle.knot_text.specs.Reading.{◌>>=◌, word, each_token}
 
--- the tokens as numbers of any size, in line n
-unfoldable pub numbers_among : ℕ → List (List ℕ) → Result (List ℕ) TextFault
-numbers_among n [] = Ok []
-numbers_among n (token ∷ tokens) = do
-  value ← or_malformed n (number_of token)
-  values ← numbers_among n tokens
-  Ok (value ∷ values)
-
--- all tokens that are left of a line
+-- all tokens that are left of a line, as numbers of any size
 abbrev pub numbers : NumberedLine → Result (List ℕ) TextFault
-numbers line = numbers_among line.number line.tokens
+numbers line = each_token number_of line.number line.tokens
 
 -- more digits than a number may have
 abbrev pub is_long : ℕ → Bool
 is_long value = nat_lt MAX_NUMBER value
+
+-- a word, and at most MAX_SIZE numbers
+unfoldable pub numbers_behind : List ℕ → NumberedLine → Result (List ℕ) TextFault
+numbers_behind expected line = do
+  rest ← word expected line
+  values ← numbers rest
+  if nat_lt MAX_SIZE (length values) || list_any is_long values then Err (Limit rest.number) else Ok values
 
 -- so many numbers below the order: first their form, then their digits, then how many and how large they are
 unfoldable pub numbers_below : ℕ → ℕ → NumberedLine → Result (List ℕ) TextFault

@@ -1,5 +1,5 @@
--- The text of a grid, of moves and of a verdict, apart from reading: lines of tokens with one space between them.
-use Rattle.std.specs.Prelude.{◌<◌, ◌≤◌, ℕ, List, [], ◌∷◌, ◌++◌, codes, length, map}
+-- The text of a grid, of a braid, of moves and of a verdict, apart from reading: lines of tokens with one space between them.
+use Rattle.std.specs.Prelude.{◌<◌, ◌≤◌, ◌+◌, ℕ, ℤ, pos, negsuc, List, [], ◌∷◌, ◌++◌, codes, length, map}
 use Rattle.std.specs.List.{AllByRecursion, range_with_len}
 use Rattle.std.specs.Fmt.{decimal}
 use Rattle.arrayvec.specs.ArrayVec.{ArrayVec}
@@ -7,7 +7,8 @@ use Rattle.grid_core.specs.declared.mark.Kind.{Kind}
 use Rattle.grid_core.specs.declared.mark.Kind.TheVariants.{Cross, Ring}
 use Rattle.grid_core.specs.declared.mark.Corner.{Corner}
 use Rattle.grid_core.specs.declared.mark.Corner.TheVariants.{LowLeft, LowRight, HighLeft, HighRight}
-use Rattle.grid_core.specs.Diagram.{Diagram}
+use Rattle.grid_core.specs.Diagram.{Diagram, IsGrid}
+use Rattle.braid_core.specs.Braid.{Word, IsBraid}
 use Rattle.grid_moves.specs.declared.step.Move.{Move}
 use Rattle.grid_moves.specs.declared.step.Move.TheVariants.{ShiftColumns, ShiftRows, ExchangeColumns, ExchangeRows, Stabilise, Destabilise}
 use Rattle.quandle_core.specs.Quandle.{Table, over}
@@ -17,6 +18,8 @@ use Rattle.text_lines.specs.Spelled.{lines_text}
 use Rattle.knot_text.specs.declared.steps.TheConstants.{MAX_NUMBER, MAX_PLACE}
 use Rattle.knot_text.specs.declared.names.QuandleName.{QuandleName}
 use Rattle.knot_text.specs.declared.names.QuandleName.TheVariants as name
+use Rattle.knot_text.specs.declared.diagram.Diagram.{Diagram as Given}
+use Rattle.knot_text.specs.declared.diagram.Diagram.TheVariants.{Grid, Braid}
 use Rattle.knot_text.specs.declared.verdict.Verdict.{Verdict}
 use Rattle.knot_text.specs.declared.verdict.Verdict.TheVariants.{Equal, Different, UnknownBudget, UnknownExhausted}
 use Rattle.knot_text.specs.Names.{NamedQuandle, Names}
@@ -32,6 +35,18 @@ grid_lines d = rows_tokens (codes "x") d.x ∷ rows_tokens (codes "o") d.o ∷ [
 
 abbrev pub grid_text : Diagram → List ℕ
 grid_text d = lines_text (grid_lines d)
+
+-- ---- braids, which no call prints
+
+abbrev pub letter_token : ℤ → List ℕ
+letter_token (pos k) = decimal k
+letter_token (negsuc k) = codes "-" ++ decimal (k + 1)
+
+abbrev pub braid_lines : Word → List (List (List ℕ))
+braid_lines b = (codes "braid" ∷ decimal b.strands ∷ map letter_token b.letters) ∷ []
+
+abbrev pub braid_text : Word → List ℕ
+braid_text b = lines_text (braid_lines b)
 
 -- ---- moves
 
@@ -97,6 +112,9 @@ table_lines other t = []
 abbrev pub quandle_lines : List ℕ → NamedQuandle → List (List (List ℕ))
 quandle_lines word q = (word ∷ name_tokens q.name q.table.order) ∷ table_lines q.name q.table
 
+abbrev pub quandle_text : NamedQuandle → List ℕ
+quandle_text q = lines_text (quandle_lines (codes "quandle") q)
+
 -- the factor of an Alexander quandle is below its order
 abbrev pub HasFactor : QuandleName → Type 0
 HasFactor (name.Alexander n a) = a < n
@@ -132,3 +150,22 @@ HasVerdictText one two (Equal moves) = HaveText moves
 HasVerdictText one two (Different q first second) = HasQuandleText q × HasListText one q.table.order first × HasListText two q.table.order second
 HasVerdictText one two (UnknownBudget budget) = budget ≤ MAX_NUMBER
 HasVerdictText one two (UnknownExhausted cap admitted) = (cap ≤ MAX_NUMBER) × (admitted ≤ MAX_NUMBER)
+
+-- ---- diagrams
+
+abbrev pub diagram_lines : Given → List (List (List ℕ))
+diagram_lines (Grid d) = grid_lines d
+diagram_lines (Braid b) = braid_lines b
+
+-- the diagram is a grid, or a braid
+abbrev pub HasDiagramText : Given → Type 0
+HasDiagramText (Grid d) = IsGrid d
+HasDiagramText (Braid b) = IsBraid b
+
+-- ---- colours
+
+abbrev pub colours_lines : ArrayVec ℕ → List (List (List ℕ))
+colours_lines c = (codes "colours" ∷ map decimal c.items) ∷ []
+
+abbrev pub colours_text : ArrayVec ℕ → List ℕ
+colours_text c = lines_text (colours_lines c)

@@ -101,3 +101,13 @@ unfoldable pub last_count : NumberedLine → Result ℕ TextFault
 last_count line = do
   value ← last_number line
   at_most MAX_NUMBER value.1.number value.0
+
+-- ---- all tokens of a line
+
+-- the tokens of line n, each as it is read alone
+unfoldable pub each_token : {A : Type 0} → (List ℕ → Option A) → ℕ → List (List ℕ) → Result (List A) TextFault
+each_token read n [] = Ok []
+each_token read n (token ∷ tokens) = do
+  first ← or_malformed n (read token)
+  others ← each_token read n tokens
+  Ok (first ∷ others)

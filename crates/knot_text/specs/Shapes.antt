@@ -1,32 +1,46 @@
--- The whole text of a problem, a check, a replay and a listing of colourings.
-use Rattle.std.specs.Prelude.{ℕ, List, Result, Ok, None}
+-- The whole text of a problem, a check, a replay, a listing of colourings, a closure and a lone diagram.
+use Rattle.std.specs.Prelude.{ℕ, List, codes, Result, Ok, if◌then◌else◌}
 use Rattle.grid_core.specs.Diagram.{Diagram as Marks, size}
-use Rattle.text_lines.specs.Lines.{Text, text_of}
+use Rattle.braid_closure.specs.Closure.{closure}
+use Rattle.text_lines.specs.Lines.{Text, text_of, begins}
 use Rattle.knot_text.specs.declared.fault.TextFault.{TextFault}
 use Rattle.knot_text.specs.declared.diagram.Diagram.{Diagram}
-use Rattle.knot_text.specs.declared.diagram.Diagram.TheVariants.{Grid}
+use Rattle.knot_text.specs.declared.diagram.Diagram.TheVariants.{Grid, Braid}
 use Rattle.knot_text.specs.declared.verdict.Verdict.{Verdict}
 use Rattle.knot_text.specs.declared.shapes.ProblemText.{ProblemText}
 use Rattle.knot_text.specs.declared.shapes.ReplayText.{ReplayText}
 use Rattle.knot_text.specs.declared.shapes.ColourText.{ColourText}
+use Rattle.knot_text.specs.declared.shapes.CloseText.{CloseText}
 use Rattle.knot_text.specs.Reading.{◌>>=◌, text_end}
 use Rattle.knot_text.specs.GridItem.{grid_item}
+use Rattle.knot_text.specs.BraidItem.{braid_item}
 use Rattle.knot_text.specs.MovesItem.{moves_item}
 use Rattle.knot_text.specs.QuandleItem.{quandle_list}
+use Rattle.knot_text.specs.ColoursItem.{coloured}
 use Rattle.knot_text.specs.VerdictItem.{verdict_item}
 
--- the grid of a diagram
+-- the grid of a diagram: a braid stands for its closure
 abbrev pub grid_of : Diagram → Marks
 grid_of (Grid d) = d
+grid_of (Braid b) = closure b
 
 -- the number of its columns
 abbrev pub columns : Diagram → ℕ
 columns d = size (grid_of d)
 
-unfoldable pub diagram_item : Text → Result (Diagram × Text) TextFault
-diagram_item text = do
+abbrev pub braid_diagram : Text → Result (Diagram × Text) TextFault
+braid_diagram text = do
+  braid ← braid_item text
+  Ok (Braid braid.0, braid.1)
+
+abbrev pub grid_diagram : Text → Result (Diagram × Text) TextFault
+grid_diagram text = do
   grid ← grid_item text
   Ok (Grid grid.0, grid.1)
+
+-- a braid where a line that begins with `braid` is next, else a grid
+unfoldable pub diagram_item : Text → Result (Diagram × Text) TextFault
+diagram_item text = if begins (codes "braid") text then braid_diagram text else grid_diagram text
 
 -- two diagrams and any number of quandles, without which the built-in list stands
 unfoldable pub problem_item : Text → Result (ProblemText × Text) TextFault
@@ -51,13 +65,14 @@ check_in text = do
   end ← text_end verdict.1
   Ok (problem.0, verdict.0)
 
--- a diagram and moves
+-- a diagram and moves, and perhaps a quandle and a colour for each column of the diagram
 unfoldable pub replay_in : Text → Result ReplayText TextFault
 replay_in text = do
   diagram ← diagram_item text
   moves ← moves_item diagram.1
-  end ← text_end moves.1
-  Ok (record { diagram = diagram.0; moves = moves.0; colours = None })
+  colours ← coloured (columns diagram.0) moves.1
+  end ← text_end colours.1
+  Ok (record { diagram = diagram.0; moves = moves.0; colours = colours.0 })
 
 -- a diagram and any number of quandles
 unfoldable pub colour_in : Text → Result ColourText TextFault
@@ -66,6 +81,21 @@ colour_in text = do
   listed ← quandle_list diagram.1
   end ← text_end listed.1
   Ok (record { diagram = diagram.0; quandles = listed.0 })
+
+-- a braid and any number of quandles
+unfoldable pub close_in : Text → Result CloseText TextFault
+close_in text = do
+  braid ← braid_item text
+  listed ← quandle_list braid.1
+  end ← text_end listed.1
+  Ok (record { braid = braid.0; quandles = listed.0 })
+
+-- a diagram, and nothing behind it
+unfoldable pub lone_diagram_in : Text → Result Diagram TextFault
+lone_diagram_in text = do
+  diagram ← diagram_item text
+  end ← text_end diagram.1
+  Ok diagram.0
 
 -- the same of bytes
 abbrev pub problem_of : List ℕ → Result ProblemText TextFault
@@ -79,3 +109,9 @@ replay_of bytes = replay_in (text_of bytes)
 
 abbrev pub colour_of : List ℕ → Result ColourText TextFault
 colour_of bytes = colour_in (text_of bytes)
+
+abbrev pub close_of : List ℕ → Result CloseText TextFault
+close_of bytes = close_in (text_of bytes)
+
+abbrev pub lone_diagram_of : List ℕ → Result Diagram TextFault
+lone_diagram_of bytes = lone_diagram_in (text_of bytes)

@@ -22,8 +22,8 @@ equal_at line text = do
   Ok (Equal moves.0, moves.1)
 
 -- a line of colours, one below the order for each column
-unfoldable pub colours_item : ℕ → ℕ → Text → Result (ArrayVec ℕ × Text) TextFault
-colours_item width order text = do
+unfoldable pub colour_line : ℕ → ℕ → Text → Result (ArrayVec ℕ × Text) TextFault
+colour_line width order text = do
   line ← next_line text
   colours ← numbers_below width order line.0
   Ok (record { items = colours }, line.1)
@@ -35,7 +35,7 @@ list_item width order text = do
   rest ← word (codes "list") line.0
   count ← last_number rest
   few ← at_most MAX_COLOURINGS count.1.number count.0
-  in_turn (colours_item width order) few line.1
+  in_turn (colour_line width order) few line.1
 
 -- `different`, the name of a quandle, and a list for each of two diagrams with so many columns
 unfoldable pub different_at : ℕ → ℕ → NumberedLine → Text → Result (Verdict × Text) TextFault

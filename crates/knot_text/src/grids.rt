@@ -4,28 +4,13 @@ ghost use Rattle.grid_core.specs.declared.grid.TheConstants.{MAX_SIZE};
 ghost use Rattle.std.specs.List.{list_any, range_with_len};
 ghost use Rattle.grid_core.specs.Fault.{is_repeated};
 ghost use Rattle.knot_text.specs.Reading.{Gives};
-ghost use Rattle.knot_text.specs.Kept.{CutsOrFails};
-ghost use Rattle.knot_text.specs.GridItem.{rows_at, are_rows, x_at, o_at, grid_item};
+ghost use Rattle.knot_text.specs.GridItem.{are_rows, x_at, o_at, grid_item};
 
 use crate::fault::TextFault;
-use crate::rows::{all_below, numbers};
-use crate::steps::{next_line, word};
+use crate::rows::{all_below, numbers_behind};
+use crate::steps::next_line;
 use grid_core::{Grid, Rows};
 use text_lines::{Line, Lines};
-
-/// A letter and at most `MAX_SIZE` numbers, each cut down to at most 255.
-#[tactic(auto, unfolding(crate::specs::GridItem::rows_at))]
-fn rows_at(letter: &[u8], line: &mut Line) -> Result<Rows, TextFault>
-    ensures { CutsOrFails result (rows_at letter.now line.old) }
-{
-    word(line, letter)?;
-    let at = line.number();
-    let kept = numbers(line)?;
-    if kept.more || kept.long {
-        return Err(TextFault::Limit { line: at });
-    }
-    Ok(kept.first)
-}
 
 /// Two or more numbers, each of 0 to n-1 once.
 #[tactic(auto, unfolding(crate::specs::GridItem::x_at))]
@@ -33,7 +18,7 @@ fn x_at(line: &mut Line) -> Result<Rows, TextFault>
     ensures { Gives (λ r. r.items) result (x_at line.old) }
 {
     let at = line.number();
-    let rows = rows_at(b"x", line)?;
+    let rows = numbers_behind(b"x", line)?;
     if !are_rows(rows.as_slice()) {
         return Err(TextFault::Malformed { line: at });
     }
@@ -46,7 +31,7 @@ fn o_at(x: &Rows, line: &mut Line) -> Result<Grid, TextFault>
     ensures { Gives (λ g. g) result (o_at x.now.items line.old) }
 {
     let at = line.number();
-    let rows = rows_at(b"o", line)?;
+    let rows = numbers_behind(b"o", line)?;
     if !all_below(rows.as_slice(), x.len() as u8) {
         return Err(TextFault::Malformed { line: at });
     }

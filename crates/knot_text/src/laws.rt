@@ -1,18 +1,30 @@
 //! Laws of texts, over the definitions alone.
-ghost use Rattle.std.specs.Prelude.{◌≡◌, ◌≤◌, ◌+◌, ℕ, List, ◌++◌, length, Ok, codes, false, true};
+ghost use Rattle.std.specs.Prelude.{◌≡◌, ◌≤◌, ◌+◌, ◌↔◌, ℕ, List, ◌++◌, length, Some, None, Ok, codes, false, true};
 ghost use Rattle.grid_core.specs.Diagram.{Diagram as Marks, IsGrid, size};
+ghost use Rattle.grid_core.specs.declared.grid.TheConstants.{MAX_SIZE};
+ghost use Rattle.quandle_core.specs.declared.quandle.TheConstants.{MAX_ORDER};
+ghost use Rattle.arrayvec.specs.ArrayVec.{ArrayVec};
+ghost use Rattle.colour_rows.specs.Colouring.{AreColours};
+ghost use Rattle.braid_core.specs.Braid.{Word, IsBraid};
+ghost use Rattle.braid_closure.specs.Closure.{closure_size};
 ghost use Rattle.text_lines.specs.Lines.{NumberedLine, Text, first_starts, are_whole_lines, text_from};
+ghost use Rattle.text_lines.specs.Spelled.{lines_text};
 ghost use Rattle.knot_text.specs.declared.diagram.Diagram.TheVariants as diagram;
-ghost use Rattle.knot_text.specs.Names.{built_in};
+ghost use Rattle.knot_text.specs.Names.{NamedQuandle, built_in};
 ghost use Rattle.knot_text.specs.GridItem.{grid_item};
+ghost use Rattle.knot_text.specs.BraidItem.{braid_item};
 ghost use Rattle.knot_text.specs.MovesItem.{moves_item};
 ghost use Rattle.knot_text.specs.QuandleItem.{quandle_item};
+ghost use Rattle.knot_text.specs.ColoursItem.{colours_item};
 ghost use Rattle.knot_text.specs.VerdictItem.{verdict_item};
-ghost use Rattle.knot_text.specs.Shapes.{columns, problem_item, problem_in, check_in, replay_in, colour_in, problem_of, check_of, replay_of, colour_of};
-ghost use Rattle.knot_text.specs.Printed.{grid_text, moves_text, verdict_lines, verdict_text, HaveText, HasVerdictText};
+ghost use Rattle.knot_text.specs.Shapes.{grid_of, columns, diagram_item, problem_item, problem_in, check_in, replay_in, colour_in, close_in, lone_diagram_in, problem_of, check_of, replay_of, colour_of, close_of, lone_diagram_of};
+ghost use Rattle.knot_text.specs.Printed.{grid_text, braid_text, moves_text, verdict_lines, verdict_text, HaveText, HasVerdictText};
+ghost use Rattle.knot_text.specs.Printed.{grid_lines, moves_lines, quandle_lines, quandle_text, braid_lines, diagram_lines, colours_lines, colours_text, HasQuandleText, HasDiagramText};
+ghost use Rattle.knot_text.specs.WrittenThere.{StandInFront, said_by, HasProblemText, problem_lines, IsProblemText, IsCheckText, HasReplayText, replay_lines, IsColourText, IsCloseText};
 ghost use Rattle.knot_text.specs.FirstBadLine.{put_behind, IsStable, FailsFirst};
 
-use crate::shapes::{ColourText, ProblemText, ReplayText};
+use crate::diagram::Diagram;
+use crate::shapes::{CloseText, ColourText, ProblemText, ReplayText};
 use crate::verdict::Verdict;
 use grid_moves::Move;
 
@@ -20,6 +32,13 @@ use grid_moves::Move;
 pub fn a_printed_grid_is_read()
     ensures { (n : ℕ) (d : Marks) (more : List ℕ) → IsGrid d
         → grid_item (text_from n (grid_text d ++ more)) ≡ Ok (d, text_from (n + 2) more) }
+{}
+
+/// Each braid has a text, which is read as this braid, whatever stands behind it; and what is read as a braid is one.
+pub fn a_written_braid_is_read()
+    ensures text { (n : ℕ) (b : Word) (more : List ℕ) → IsBraid b
+        → braid_item (text_from n (braid_text b ++ more)) ≡ Ok (b, text_from (n + 1) more) }
+    ensures braid { (text : Text) (b : Word) (rest : Text) → braid_item text ≡ Ok (b, rest) → IsBraid b }
 {}
 
 /// Printed moves are read back, whatever stands behind them, if there are few enough.
@@ -34,10 +53,13 @@ pub fn a_printed_verdict_is_read()
         → verdict_item one two (text_from n (verdict_text v ++ more)) ≡ Ok (v, text_from (n + length (verdict_lines v)) more) }
 {}
 
-/// A verdict that is printed behind the text of its problem is read with it.
+/// A verdict that is printed behind the text of its problem is read with it, behind a line feed where the last line of
+/// the problem lacks one.
 pub fn a_verdict_behind_its_problem_is_read()
-    ensures { (bytes : List ℕ) (p : ProblemText) (v : Verdict) → are_whole_lines bytes ≡ true → problem_of bytes ≡ Ok p
+    ensures whole { (bytes : List ℕ) (p : ProblemText) (v : Verdict) → are_whole_lines bytes ≡ true → problem_of bytes ≡ Ok p
         → HasVerdictText (columns p.first) (columns p.second) v → check_of (bytes ++ verdict_text v) ≡ Ok (p, v) }
+    ensures feed { (bytes : List ℕ) (p : ProblemText) (v : Verdict) → are_whole_lines bytes ≡ false → problem_of bytes ≡ Ok p
+        → HasVerdictText (columns p.first) (columns p.second) v → check_of (bytes ++ (codes "\n" ++ verdict_text v)) ≡ Ok (p, v) }
 {}
 
 /// Two printed grids and a printed verdict are a problem with the built-in list of quandles, and this verdict.
@@ -47,13 +69,24 @@ pub fn a_printed_certificate_is_read()
         ≡ Ok (record { first = diagram.Grid a; second = diagram.Grid b; quandles = built_in }, v) }
 {}
 
-/// A text has at most one reading of each shape.
+/// A text is read by what its lines say: texts of the same tokens in the same lines have one reading of each shape,
+/// whatever blanks, skipped lines and carriage returns they have.
 pub fn a_text_has_one_reading()
-    ensures problem { (bytes : List ℕ) (p q : ProblemText) → problem_of bytes ≡ Ok p → problem_of bytes ≡ Ok q → p ≡ q }
-    ensures check { (bytes : List ℕ) (p q : ProblemText) (v w : Verdict)
-        → check_of bytes ≡ Ok (p, v) → check_of bytes ≡ Ok (q, w) → (p ≡ q) × (v ≡ w) }
-    ensures replay { (bytes : List ℕ) (p q : ReplayText) → replay_of bytes ≡ Ok p → replay_of bytes ≡ Ok q → p ≡ q }
-    ensures colour { (bytes : List ℕ) (p q : ColourText) → colour_of bytes ≡ Ok p → colour_of bytes ≡ Ok q → p ≡ q }
+    ensures problem { (a b : List ℕ) (p : ProblemText) → said_by a ≡ said_by b → problem_of a ≡ Ok p → problem_of b ≡ Ok p }
+    ensures check { (a b : List ℕ) (p : ProblemText) (v : Verdict) → said_by a ≡ said_by b → check_of a ≡ Ok (p, v)
+        → check_of b ≡ Ok (p, v) }
+    ensures replay { (a b : List ℕ) (r : ReplayText) → said_by a ≡ said_by b → replay_of a ≡ Ok r → replay_of b ≡ Ok r }
+    ensures colour { (a b : List ℕ) (c : ColourText) → said_by a ≡ said_by b → colour_of a ≡ Ok c → colour_of b ≡ Ok c }
+    ensures close { (a b : List ℕ) (c : CloseText) → said_by a ≡ said_by b → close_of a ≡ Ok c → close_of b ≡ Ok c }
+    ensures diagram { (a b : List ℕ) (d : Diagram) → said_by a ≡ said_by b → lone_diagram_of a ≡ Ok d → lone_diagram_of b ≡ Ok d }
+{}
+
+/// A printed text is that of one value alone.
+pub fn a_printed_text_has_one_value()
+    ensures grid { (d e : Marks) → IsGrid d → IsGrid e → grid_text d ≡ grid_text e → d ≡ e }
+    ensures moves { (a b : List Move) → HaveText a → HaveText b → moves_text a ≡ moves_text b → a ≡ b }
+    ensures verdict { (one two : ℕ) (v w : Verdict) → 1 ≤ one → 1 ≤ two → HasVerdictText one two v → HasVerdictText one two w
+        → verdict_text v ≡ verdict_text w → v ≡ w }
 {}
 
 /// Each fault is that of the first bad line: it names this line, all lines before are good, and no later line changes
@@ -63,13 +96,18 @@ pub fn a_fault_is_that_of_the_first_bad_line()
     ensures check { FailsFirst check_in }
     ensures replay { FailsFirst replay_in }
     ensures colour { FailsFirst colour_in }
+    ensures close { FailsFirst close_in }
+    ensures diagram { FailsFirst lone_diagram_in }
 {}
 
 /// An item is read from the front of a text in the same way whatever whole lines are put behind the text.
 pub fn items_are_read_whatever_stands_behind()
     ensures grid { IsStable grid_item }
+    ensures braid { IsStable braid_item }
+    ensures diagram { IsStable diagram_item }
     ensures quandle { IsStable quandle_item }
     ensures moves { IsStable moves_item }
+    ensures colours { (width order : ℕ) → IsStable (colours_item width order) }
     ensures verdict { (one two : ℕ) → IsStable (verdict_item one two) }
 {}
 
@@ -78,4 +116,70 @@ pub fn a_problem_is_read_before_other_lines()
     ensures { (text : Text) (p : ProblemText) (rest : Text) → problem_item text ≡ Ok (p, rest)
         → (more : List NumberedLine) (ending : ℕ) → first_starts (codes "quandle") more ≡ false
         → problem_item (put_behind text more ending) ≡ Ok (p, put_behind rest more ending) }
+{}
+
+/// Each diagram that is read has a grid, which for a braid is its closure; the number of columns is the size of this grid,
+/// and for a braid of m strands and l letters it is l + 2m.
+pub fn a_read_diagram_has_a_grid()
+    ensures grid { (text : Text) (d : Diagram) (rest : Text) → diagram_item text ≡ Ok (d, rest) → IsGrid (grid_of d) }
+    ensures braid { (b : Word) → IsBraid b → IsGrid (grid_of (diagram.Braid b)) }
+    ensures columns { (b : Word) → IsBraid b → columns (diagram.Braid b) ≡ closure_size b }
+{}
+
+/// The colours that a replay is given are one below the order of their quandle for each column of its diagram.
+pub fn the_colours_of_a_replay_are_colours()
+    ensures { (bytes : List ℕ) (r : ReplayText) (q : NamedQuandle) (c : ArrayVec ℕ) → replay_of bytes ≡ Ok r → r.colours ≡ Some (q, c)
+        → AreColours (columns r.diagram) q.table.order c.items }
+{}
+
+/// An item is read as a value exactly where the value has a text and the lines of this text stand in front of what is
+/// left, token for token. So whatever else a line says is refused, and all else is read.
+pub fn what_is_read_is_written_there()
+    ensures grid { (text : Text) (d : Marks) (rest : Text)
+        → grid_item text ≡ Ok (d, rest) ↔ (IsGrid d × StandInFront (grid_lines d) text rest) }
+    ensures braid { (text : Text) (b : Word) (rest : Text)
+        → braid_item text ≡ Ok (b, rest) ↔ (IsBraid b × StandInFront (braid_lines b) text rest) }
+    ensures diagram { (text : Text) (d : Diagram) (rest : Text)
+        → diagram_item text ≡ Ok (d, rest) ↔ (HasDiagramText d × StandInFront (diagram_lines d) text rest) }
+    ensures moves { (text : Text) (moves : List Move) (rest : Text)
+        → moves_item text ≡ Ok (moves, rest) ↔ (HaveText moves × StandInFront (moves_lines (codes "moves") moves) text rest) }
+    ensures quandle { (text : Text) (q : NamedQuandle) (rest : Text)
+        → quandle_item text ≡ Ok (q, rest) ↔ (HasQuandleText q × StandInFront (quandle_lines (codes "quandle") q) text rest) }
+    ensures colours { (width order : ℕ) (text : Text) (c : ArrayVec ℕ) (rest : Text) → width ≤ MAX_SIZE → order ≤ MAX_ORDER
+        → colours_item width order text ≡ Ok (c, rest) ↔ (AreColours width order c.items × StandInFront (colours_lines c) text rest) }
+    ensures verdict { (one two : ℕ) (text : Text) (v : Verdict) (rest : Text)
+        → verdict_item one two text ≡ Ok (v, rest) ↔ (HasVerdictText one two v × StandInFront (verdict_lines v) text rest) }
+{}
+
+/// A text is read as a value exactly where the value has a text and the lines that say something are the lines of this
+/// text, token for token: those of its items in order, and no others. Of the quandles of a problem these are the lines of
+/// those that are listed; where there are none, the built-in list stands for them.
+pub fn a_text_is_read_as_what_it_says()
+    ensures problem { (bytes : List ℕ) (p : ProblemText) → problem_of bytes ≡ Ok p ↔ IsProblemText (said_by bytes) p }
+    ensures check { (bytes : List ℕ) (p : ProblemText) (v : Verdict) → check_of bytes ≡ Ok (p, v) ↔ IsCheckText (said_by bytes) p v }
+    ensures replay { (bytes : List ℕ) (r : ReplayText) → replay_of bytes ≡ Ok r ↔ (HasReplayText r × (said_by bytes ≡ replay_lines r)) }
+    ensures colour { (bytes : List ℕ) (c : ColourText) → colour_of bytes ≡ Ok c ↔ IsColourText (said_by bytes) c }
+    ensures close { (bytes : List ℕ) (c : CloseText) → close_of bytes ≡ Ok c ↔ IsCloseText (said_by bytes) c }
+    ensures diagram { (bytes : List ℕ) (d : Diagram)
+        → lone_diagram_of bytes ≡ Ok d ↔ (HasDiagramText d × (said_by bytes ≡ diagram_lines d)) }
+{}
+
+/// A printed grid and printed moves are read as a replay, and with a printed quandle and printed colours behind them as one
+/// that carries colours.
+pub fn a_printed_replay_is_read()
+    ensures moves { (d : Marks) (moves : List Move) → IsGrid d → HaveText moves
+        → replay_of (grid_text d ++ moves_text moves) ≡ Ok (record { diagram = diagram.Grid d; moves = moves; colours = None }) }
+    ensures colours { (d : Marks) (moves : List Move) (q : NamedQuandle) (c : ArrayVec ℕ) → IsGrid d → HaveText moves → HasQuandleText q
+        → AreColours (size d) q.table.order c.items
+        → replay_of (grid_text d ++ (moves_text moves ++ (quandle_text q ++ colours_text c)))
+        ≡ Ok (record { diagram = diagram.Grid d; moves = moves; colours = Some (q, c) }) }
+    ensures any { (r : ReplayText) → HasReplayText r → replay_of (lines_text (replay_lines r)) ≡ Ok r }
+{}
+
+/// The printed lines of the items of a problem are read as this problem, those of a problem and a verdict as both.
+pub fn a_printed_problem_is_read()
+    ensures problem { (listed : List NamedQuandle) (p : ProblemText) → HasProblemText listed p
+        → problem_of (lines_text (problem_lines listed p)) ≡ Ok p }
+    ensures check { (listed : List NamedQuandle) (p : ProblemText) (v : Verdict) → HasProblemText listed p
+        → HasVerdictText (columns p.first) (columns p.second) v → check_of (lines_text (problem_lines listed p ++ verdict_lines v)) ≡ Ok (p, v) }
 {}

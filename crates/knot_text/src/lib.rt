@@ -2,11 +2,12 @@
 //! A text is read exactly as its definition says, or refused at its first bad line, and what is printed is read back.
 #![tactic(auto)]
 
+mod braids;
+mod colours;
 mod diagram;
 mod fault;
 mod grids;
 pub mod laws;
-mod lines;
 mod moves;
 mod names;
 mod printing;
@@ -22,9 +23,10 @@ mod verdicts;
 pub use diagram::Diagram;
 pub use fault::TextFault;
 pub use names::{Listed, QuandleName};
-pub use printing::{print_grid, print_moves, print_verdict};
+pub use printing::{print_grid, print_moves, print_verdict, push_list, push_quandle};
 pub use quandles::MAX_QUANDLES;
 pub use shapes::{
-    ColourText, ProblemText, ReplayText, read_check, read_colour, read_problem, read_replay,
+    CloseText, ColourText, ProblemText, ReplayText, read_check, read_close, read_colour,
+    read_diagram, read_problem, read_replay,
 };
 pub use verdict::Verdict;

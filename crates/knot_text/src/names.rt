@@ -8,7 +8,7 @@ ghost use Rattle.knot_text.specs.declared.names.QuandleName.TheVariants as name;
 use quandle_core::{MAX_ORDER, Quandle};
 use std::marker::Model;
 
-/// What a text calls a quandle. Orders are from 1 to `MAX_ORDER`.
+/// What a text calls a quandle. Only a `Listed` keeps it to orders from 1 to `MAX_ORDER`.
 #[derive(Clone, Copy, Debug, PartialEq, Eq)]
 pub enum QuandleName {
     /// The trivial quandle of this order.

@@ -7,7 +7,6 @@ ghost use Rattle.text_lines.specs.Spelled.{line_text, lines_text};
 ghost use Rattle.knot_text.specs.Names.{NamedQuandle};
 ghost use Rattle.knot_text.specs.Printed.{kind_word, corner_word, grid_text, move_tokens, moves_lines, moves_text, row_tokens, table_lines, quandle_lines, name_tokens, list_lines, verdict_text};
 
-use crate::lines::{push_counted, push_number, push_number_line, push_paired, push_word_line};
 use crate::names::{Listed, QuandleName};
 use crate::verdict::Verdict;
 use arrayvec::ArrayVec;
@@ -17,8 +16,9 @@ use grid_moves::Move;
 use knot_ports::OutOfMemory;
 use quandle_core::{MAX_ORDER, Quandle};
 use std::alloc::{AllocError, Global};
+use text_lines::{push_counted, push_number, push_number_line, push_paired, push_word_line};
 
-/// The text of a grid: the line `x` with the rows of its Xs by column, and the line `o` with those of its Os.
+/// The text of a grid: the line `x` with the rows of its Xs by column, and the line `o` with those of its Os; or want of memory.
 pub fn print_grid(alloc: Global, grid: &Grid) -> Result<Vec<u8>, OutOfMemory>
     ensures { IfOk result (λ v. v.items ≡ grid_text grid.now) }
 {
@@ -28,7 +28,8 @@ pub fn print_grid(alloc: Global, grid: &Grid) -> Result<Vec<u8>, OutOfMemory>
     Ok(out)
 }
 
-/// The text of moves: the line `moves` with how many there are, and a line for each.
+/// The text of moves: the line `moves` with how many there are, and a line for each; or want of memory.
+/// It is read back wherever there are at most `MAX_NUMBER` moves.
 pub fn print_moves(alloc: Global, moves: &[Move]) -> Result<Vec<u8>, OutOfMemory>
     ensures { IfOk result (λ v. v.items ≡ moves_text moves.now) }
 {
@@ -38,7 +39,11 @@ pub fn print_moves(alloc: Global, moves: &[Move]) -> Result<Vec<u8>, OutOfMemory
     Ok(out)
 }
 
-/// The text of a verdict, with its evidence.
+/// The text of a verdict, with its evidence; or want of memory.
+///
+/// It is read back behind two diagrams wherever its numbers are at most `MAX_NUMBER`, a list has at most `MAX_COLOURINGS`
+/// members, each with a colour below the order for each column of its diagram, and an Alexander quandle's factor is below
+/// its order.
 pub fn print_verdict(alloc: Global, verdict: &Verdict) -> Result<Vec<u8>, OutOfMemory>
     ensures { IfOk result (λ v. v.items ≡ verdict_text verdict.now) }
 {
@@ -89,7 +94,7 @@ fn push_different(
 ) -> Result<(), AllocError>
     ensures { OnOk result (out.new.items ≡ out.old.items ++ lines_text (quandle_lines (codes "different") listed.now ++ (list_lines first.now ++ list_lines second.now))) }
 {
-    push_quandle(out, listed)?;
+    push_quandle(out, b"different", listed)?;
     push_list(out, first)?;
     push_list(out, second)
 }
@@ -164,31 +169,28 @@ fn corner_word(corner: Corner) -> &'static [u8]
     }
 }
 
-/// Appends `different` with the name of a quandle, and the lines of a table.
-fn push_quandle(out: &mut Vec<u8>, listed: &Listed) -> Result<(), AllocError>
-    ensures { OnOk result (out.new.items ≡ out.old.items ++ lines_text (quandle_lines (codes "different") listed.now)) }
+/// Appends a line of a word and the name of a quandle, and behind it the lines of a table.
+/// Where memory is wanting, a part of it may have been appended.
+pub fn push_quandle(out: &mut Vec<u8>, word: &[u8], listed: &Listed) -> Result<(), AllocError>
+    ensures { OnOk result (out.new.items ≡ out.old.items ++ lines_text (quandle_lines word.now listed.now)) }
 {
+    out.extend_from_slice(word)?;
     match listed.name() {
-        QuandleName::Trivial(n) => push_counted(out, b"different trivial ", u64::from(n)),
-        QuandleName::Dihedral(n) => push_counted(out, b"different dihedral ", u64::from(n)),
-        QuandleName::Tetrahedral => out.extend_from_slice(b"different tetrahedral\n"),
+        QuandleName::Trivial(n) => push_counted(out, b" trivial ", u64::from(n)),
+        QuandleName::Dihedral(n) => push_counted(out, b" dihedral ", u64::from(n)),
+        QuandleName::Tetrahedral => out.extend_from_slice(b" tetrahedral\n"),
         QuandleName::Alexander(n, factor) => {
-            push_paired(
-                out,
-                b"different alexander ",
-                u64::from(n),
-                u64::from(factor),
-            )
+            push_paired(out, b" alexander ", u64::from(n), u64::from(factor))
         }
         QuandleName::Table => push_table(out, listed.quandle()),
     }
 }
 
-/// Appends `different` with a table.
+/// Appends `table` with the order of a quandle behind a word, and its lines.
 fn push_table(out: &mut Vec<u8>, quandle: &Quandle) -> Result<(), AllocError>
-    ensures { OnOk result (out.new.items ≡ out.old.items ++ ((codes "different table " ++ (decimal quandle.now.order ++ codes "\n")) ++ lines_text (map (row_tokens quandle.now) (range_with_len 0 quandle.now.order)))) }
+    ensures { OnOk result (out.new.items ≡ out.old.items ++ ((codes " table " ++ (decimal quandle.now.order ++ codes "\n")) ++ lines_text (map (row_tokens quandle.now) (range_with_len 0 quandle.now.order)))) }
 {
-    push_counted(out, b"different table ", u64::from(quandle.order()))?;
+    push_counted(out, b" table ", u64::from(quandle.order()))?;
     push_rows(out, quandle)
 }
 
@@ -214,8 +216,9 @@ fn row_of(quandle: &Quandle, x: u8) -> ArrayVec<u8, MAX_ORDER>
     row
 }
 
-/// Appends `list` with how many there are, and a line for each.
-fn push_list(out: &mut Vec<u8>, colourings: &[Colouring]) -> Result<(), AllocError>
+/// Appends `list` with how many colourings there are, and a line of colours by column for each.
+/// Where memory is wanting, a part of it may have been appended.
+pub fn push_list(out: &mut Vec<u8>, colourings: &[Colouring]) -> Result<(), AllocError>
     ensures { OnOk result (out.new.items ≡ out.old.items ++ lines_text (list_lines colourings.now)) }
 {
     push_counted(out, b"list ", colourings.len() as u64)?;

@@ -181,7 +181,7 @@ pub(crate) fn quandle_at(line: &mut Line, lines: &mut Lines) -> Result<Listed, T
 
 /// A quandle item.
 #[tactic(auto, unfolding(crate::specs::QuandleItem::quandle_item))]
-fn quandle_item(lines: &mut Lines) -> Result<Listed, TextFault>
+pub(crate) fn quandle_item(lines: &mut Lines) -> Result<Listed, TextFault>
     ensures { Gives (λ q. (q, lines.new)) result (quandle_item lines.old) }
 {
     let mut line = next_line(lines)?;

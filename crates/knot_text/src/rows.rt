@@ -4,11 +4,11 @@ ghost use Rattle.arrayvec.specs.ArrayVec.{array_vec_len};
 ghost use Rattle.std.specs.List.{list_all};
 ghost use Rattle.grid_core.specs.declared.grid.TheConstants.{MAX_SIZE};
 ghost use Rattle.knot_text.specs.Reading.{Gives};
-ghost use Rattle.knot_text.specs.Numbers.{numbers, numbers_below};
-ghost use Rattle.knot_text.specs.Kept.{low, Tells, KeepsOrFails, are_kept_below};
+ghost use Rattle.knot_text.specs.Numbers.{numbers, numbers_behind, numbers_below};
+ghost use Rattle.knot_text.specs.Kept.{low, Tells, KeepsOrFails, CutsOrFails, are_kept_below};
 
 use crate::fault::TextFault;
-use crate::steps::MAX_NUMBER;
+use crate::steps::{MAX_NUMBER, word};
 use grid_core::{MAX_SIZE, Rows};
 use text_lines::Line;
 
@@ -24,7 +24,7 @@ pub struct Kept {
 }
 
 /// All tokens that are left of a line, as numbers.
-pub(crate) fn numbers(line: &mut Line) -> Result<Kept, TextFault>
+fn numbers(line: &mut Line) -> Result<Kept, TextFault>
     ensures { KeepsOrFails result (numbers line.old) }
 {
     let at = line.number();
@@ -59,6 +59,20 @@ fn low(value: u32) -> u8
     ensures { result ≡ low value }
 {
     if value < 255 { value as u8 } else { 255 }
+}
+
+/// A word and at most `MAX_SIZE` numbers, each cut down to at most 255.
+#[tactic(auto, unfolding(crate::specs::Numbers::numbers_behind))]
+pub(crate) fn numbers_behind(expected: &[u8], line: &mut Line) -> Result<Rows, TextFault>
+    ensures { CutsOrFails result (numbers_behind expected.now line.old) }
+{
+    word(line, expected)?;
+    let at = line.number();
+    let kept = numbers(line)?;
+    if kept.more || kept.long {
+        return Err(TextFault::Limit { line: at });
+    }
+    Ok(kept.first)
 }
 
 /// So many numbers below the order, which is at most 255.

@@ -1,8 +1,10 @@
 //! The whole texts of the jobs.
 ghost use Rattle.std.specs.Prelude.{◌≡◌};
 ghost use Rattle.knot_text.specs.Reading.{Gives};
-ghost use Rattle.knot_text.specs.Shapes.{diagram_item, problem_item, problem_of, check_of, replay_of, colour_of};
+ghost use Rattle.knot_text.specs.Shapes.{diagram_item, problem_item, problem_of, check_of, replay_of, colour_of, close_of, lone_diagram_of};
 
+use crate::braids::braid_item;
+use crate::colours::coloured;
 use crate::diagram::Diagram;
 use crate::fault::TextFault;
 use crate::grids::grid_item;
@@ -12,6 +14,7 @@ use crate::quandles::quandle_list;
 use crate::steps::text_end;
 use crate::verdict::Verdict;
 use crate::verdicts::verdict_item;
+use braid_core::Braid;
 use colour_rows::Colouring;
 use grid_core::Items;
 use grid_moves::Move;
@@ -26,7 +29,8 @@ pub struct ProblemText {
     pub quandles: Items<Listed>,
 }
 
-/// A diagram, moves to be made on it, and a quandle with colours that are to be carried.
+/// A diagram, moves to be made on it, and perhaps a quandle with a colour below its order for each column of the diagram,
+/// which are to be carried.
 #[derive(Drop)]
 pub struct ReplayText {
     pub diagram: Diagram,
@@ -41,10 +45,17 @@ pub struct ColourText {
     pub quandles: Items<Listed>,
 }
 
+/// A braid that is to be closed, and the quandles by which the fixed points of its action are to be listed.
+#[derive(Drop)]
+pub struct CloseText {
+    pub braid: Braid,
+    pub quandles: Items<Listed>,
+}
+
 /// The problem that a text states: two diagrams, and any number of quandles. Without a quandle item the built-in list
 /// stands: the trivial one of order 2, the dihedral one of order 3, the tetrahedral one, the dihedral ones of order 5 and 7.
 ///
-/// Else the fault of the first bad line.
+/// Else the fault of the first bad line, or want of memory.
 #[tactic(auto, unfolding(crate::specs::Shapes::problem_in))]
 pub fn read_problem(alloc: Global, bytes: &[u8]) -> Result<ProblemText, TextFault>
     ensures { Gives (λ p. p) result (problem_of bytes.now) }
@@ -55,7 +66,7 @@ pub fn read_problem(alloc: Global, bytes: &[u8]) -> Result<ProblemText, TextFaul
     Ok(problem)
 }
 
-/// A problem and a verdict on its two diagrams, which stands behind it. Else the fault of the first bad line.
+/// A problem and a verdict on its two diagrams, which stands behind it. Else the fault of the first bad line, or want of memory.
 #[tactic(auto, unfolding(crate::specs::Shapes::check_in))]
 pub fn read_check(alloc: Global, bytes: &[u8]) -> Result<(ProblemText, Verdict), TextFault>
     ensures { Gives (λ p. p) result (check_of bytes.now) }
@@ -69,40 +80,69 @@ pub fn read_check(alloc: Global, bytes: &[u8]) -> Result<(ProblemText, Verdict),
     Ok((problem, verdict))
 }
 
-/// A diagram and moves to be made on it. Else the fault of the first bad line.
+/// A diagram and moves to be made on it, and then nothing, or a quandle and a colour below its order for each column of
+/// the diagram. Else the fault of the first bad line, or want of memory. Whether the moves are legal and the colours a colouring is not asked.
 #[tactic(auto, unfolding(crate::specs::Shapes::replay_in))]
 pub fn read_replay(alloc: Global, bytes: &[u8]) -> Result<ReplayText, TextFault>
     ensures { Gives (λ r. r) result (replay_of bytes.now) }
 {
     let mut lines = Lines::new(bytes);
-    let diagram = diagram_item(&mut lines)?;
+    let diagram = diagram_item(alloc, &mut lines)?;
     let moves = moves_item(alloc, &mut lines)?;
+    let colours = coloured(diagram.columns(), &mut lines)?;
     text_end(&mut lines)?;
     Ok(ReplayText {
         diagram,
         moves: Items::from_vec(moves),
-        colours: None,
+        colours,
     })
 }
 
-/// A diagram and any number of quandles, without which the built-in list stands. Else the fault of the first bad line.
+/// A diagram and any number of quandles, without which the built-in list stands. Else the fault of the first bad line, or want of memory.
 #[tactic(auto, unfolding(crate::specs::Shapes::colour_in))]
 pub fn read_colour(alloc: Global, bytes: &[u8]) -> Result<ColourText, TextFault>
     ensures { Gives (λ c. c) result (colour_of bytes.now) }
 {
     let mut lines = Lines::new(bytes);
-    let diagram = diagram_item(&mut lines)?;
+    let diagram = diagram_item(alloc, &mut lines)?;
     let quandles = quandle_list(alloc, &mut lines)?;
     text_end(&mut lines)?;
     Ok(ColourText { diagram, quandles })
 }
 
-/// A diagram.
+/// A braid and any number of quandles, without which the built-in list stands. Else the fault of the first bad line, or want of memory.
+#[tactic(auto, unfolding(crate::specs::Shapes::close_in))]
+pub fn read_close(alloc: Global, bytes: &[u8]) -> Result<CloseText, TextFault>
+    ensures { Gives (λ c. c) result (close_of bytes.now) }
+{
+    let mut lines = Lines::new(bytes);
+    let braid = braid_item(alloc, &mut lines)?;
+    let quandles = quandle_list(alloc, &mut lines)?;
+    text_end(&mut lines)?;
+    Ok(CloseText { braid, quandles })
+}
+
+/// A diagram, and nothing behind it. Else the fault of the first bad line, or want of memory.
+#[tactic(auto, unfolding(crate::specs::Shapes::lone_diagram_in))]
+pub fn read_diagram(alloc: Global, bytes: &[u8]) -> Result<Diagram, TextFault>
+    ensures { Gives (λ d. d) result (lone_diagram_of bytes.now) }
+{
+    let mut lines = Lines::new(bytes);
+    let lone = diagram_item(alloc, &mut lines)?;
+    text_end(&mut lines)?;
+    Ok(lone)
+}
+
+/// A braid where a line that begins with `braid` is next, else a grid. Takes memory for the letters of a braid alone.
 #[tactic(auto, unfolding(crate::specs::Shapes::diagram_item))]
-fn diagram_item(lines: &mut Lines) -> Result<Diagram, TextFault>
+fn diagram_item(alloc: Global, lines: &mut Lines) -> Result<Diagram, TextFault>
     ensures { Gives (λ d. (d, lines.new)) result (diagram_item lines.old) }
 {
-    Ok(Diagram::Grid(grid_item(lines)?))
+    if lines.begins(b"braid") {
+        Ok(Diagram::Braid(braid_item(alloc, lines)?))
+    } else {
+        Ok(Diagram::Grid(grid_item(lines)?))
+    }
 }
 
 /// Two diagrams and any number of quandles.
@@ -110,8 +150,8 @@ fn diagram_item(lines: &mut Lines) -> Result<Diagram, TextFault>
 fn problem_item(alloc: Global, lines: &mut Lines) -> Result<ProblemText, TextFault>
     ensures { Gives (λ p. (p, lines.new)) result (problem_item lines.old) }
 {
-    let first = diagram_item(lines)?;
-    let second = diagram_item(lines)?;
+    let first = diagram_item(alloc, lines)?;
+    let second = diagram_item(alloc, lines)?;
     let quandles = quandle_list(alloc, lines)?;
     Ok(ProblemText {
         first,

@@ -8,7 +8,7 @@ use text_lines::{Line, Lines};
 /// The greatest number that a text may have, of nine digits: each one above it exceeds a limit.
 pub const MAX_NUMBER: u32 = 999_999_999;
 
-/// The greatest place that a move may name.
+/// The greatest number of a move line.
 pub const MAX_PLACE: u32 = u8::MAX as u32;
 
 /// The line that is due.

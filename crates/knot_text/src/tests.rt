@@ -1,4 +1,5 @@
 //! Texts read and printed by the built program, against tables written by hand.
+mod braids;
 mod checks;
 mod grids;
 mod printed;

@@ -17,11 +17,11 @@ pub enum Verdict {
         first: Items<Colouring>,
         second: Items<Colouring>,
     },
-    /// A search ended since it had this budget of diagrams.
+    /// A search admitted as many diagrams as this budget, and refused a further one.
     UnknownBudget {
         budget: u32,
     },
-    /// A search over all diagrams of size at most `cap` admitted so many, and did not join the two.
+    /// Moves within size `cap` reach this many canonical diagrams from the two, and no list of moves within `cap` joins them.
     UnknownExhausted {
         cap: u32,
         admitted: u32,

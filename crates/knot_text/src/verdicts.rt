@@ -2,7 +2,7 @@
 ghost use Rattle.std.specs.Prelude.{◌≡◌, ◌≤◌};
 ghost use Rattle.grid_core.specs.declared.grid.TheConstants.{MAX_SIZE};
 ghost use Rattle.knot_text.specs.Reading.{Gives, in_turn};
-ghost use Rattle.knot_text.specs.VerdictItem.{equal_at, colours_item, list_item, different_at, budget_at, exhausted_at, unknown_at, unknown_item, verdict_item};
+ghost use Rattle.knot_text.specs.VerdictItem.{equal_at, colour_line, list_item, different_at, budget_at, exhausted_at, unknown_at, unknown_item, verdict_item};
 
 use crate::fault::TextFault;
 use crate::moves::move_lines;
@@ -29,10 +29,10 @@ fn equal_at(alloc: Global, line: &mut Line, lines: &mut Lines) -> Result<Verdict
 }
 
 /// A line of colours.
-#[tactic(auto, unfolding(crate::specs::VerdictItem::colours_item))]
-fn colours_item(width: u8, order: u8, lines: &mut Lines) -> Result<Colouring, TextFault>
+#[tactic(auto, unfolding(crate::specs::VerdictItem::colour_line))]
+fn colour_line(width: u8, order: u8, lines: &mut Lines) -> Result<Colouring, TextFault>
     requires { width ≤ MAX_SIZE }
-    ensures { Gives (λ c. (c, lines.new)) result (colours_item width order lines.old) }
+    ensures { Gives (λ c. (c, lines.new)) result (colour_line width order lines.old) }
 {
     let mut line = next_line(lines)?;
     numbers_below(width, order, &mut line)
@@ -47,11 +47,11 @@ fn colour_lines(
     lines: &mut Lines,
 ) -> Result<Vec<Colouring>, TextFault>
     requires { width ≤ MAX_SIZE }
-    ensures { Gives (λ v. (v.items, lines.new)) result (in_turn (colours_item width order) count lines.old) }
+    ensures { Gives (λ v. (v.items, lines.new)) result (in_turn (colour_line width order) count lines.old) }
 {
     let mut colourings = Vec::new(alloc);
     for _ in 0..count {
-        colourings.push(colours_item(width, order, lines)?)?;
+        colourings.push(colour_line(width, order, lines)?)?;
     }
     Ok(colourings)
 }

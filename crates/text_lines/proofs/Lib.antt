@@ -4,6 +4,8 @@ mod Ends
 mod Steps
 mod Digits
 pub mod Parted
+pub mod LastFeed
 pub mod Written
 pub mod NumberTexts
 mod WorkedRows
+pub mod LineTexts

@@ -1,5 +1,5 @@
 //! Laws of texts, over the definitions alone.
-ghost use Rattle.std.specs.Prelude.{◌≡◌, ◌<◌, ◌+◌, ◌^◌, ◌⊎◌, ℕ, List, ◌++◌, length, Some, true};
+ghost use Rattle.std.specs.Prelude.{◌≡◌, ◌<◌, ◌+◌, ◌^◌, ◌⊎◌, ℕ, List, ◌++◌, codes, length, Some, false, true};
 ghost use Rattle.std.specs.List.{list_all};
 ghost use Rattle.std.specs.Fmt.{decimal};
 ghost use Rattle.text_lines.specs.Lines.{line_count, are_whole_lines, text_from};
@@ -13,6 +13,12 @@ pub fn a_text_goes_on_behind_whole_lines()
         → (text_from n (front ++ back)).lines ≡ (text_from n front).lines ++ (text_from (n + line_count front) back).lines }
     ensures ending { (n : ℕ) (front back : List ℕ) → are_whole_lines front ≡ true
         → (text_from n (front ++ back)).ending ≡ (text_from (n + line_count front) back).ending }
+{}
+
+/// A line feed behind a last line that lacks it changes no line, nor where the text ends; then the bytes are whole lines.
+pub fn a_last_line_may_lack_its_feed()
+    ensures same { (n : ℕ) (bytes : List ℕ) → are_whole_lines bytes ≡ false → text_from n (bytes ++ codes "\n") ≡ text_from n bytes }
+    ensures whole { (bytes : List ℕ) → are_whole_lines (bytes ++ codes "\n") ≡ true }
 {}
 
 /// Lines that are written with one space between their tokens are read as these tokens, whatever stands behind them.

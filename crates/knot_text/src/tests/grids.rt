@@ -90,7 +90,7 @@ fn a_problem_has_two_diagrams(rt: HostRuntime) -> Result<(), Fail> {
         (b"x 0 1\no 1 0\nx 0 1\no 1 0\n", None),
         (b"x 0 1\no 1 0\nx 0 1\no 1 0\nx 0 1\n", malformed(5)),
         (b"x 0 1\no 1 0\nx 0 1\no 1 0\nequal 0\n", malformed(5)),
-        (b"braid 2 1 1 1\n", malformed(1)),
+        (b"braid 2 1 1 1\nx 0 1\no 1 0\nbraid 2\n", malformed(4)),
         (b"x 0 1\no 1 0\n\nx 0 1\no 0 1", malformed(5)),
     ];
     for (text, fault) in rows {

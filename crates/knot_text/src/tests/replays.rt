@@ -1,5 +1,6 @@
 //! Moves, behind the unknot.
 use crate::fault::TextFault;
+use crate::names::QuandleName;
 use crate::shapes::read_replay;
 use crate::tests::{limit, malformed};
 use grid_core::{Corner, Kind};
@@ -25,12 +26,57 @@ fn the_item_of_moves_is_counted(rt: HostRuntime) -> Result<(), Fail> {
         (b"moves 999999999\n", malformed(4)),
         (b"moves 1000000000\n", limit(3)),
         (b"moves 1\nshift rows 1\nshift rows 1\n", malformed(5)),
-        (b"moves 0\nquandle trivial 2\n", malformed(4)),
+        (b"moves 0\nquandle trivial 2\n", malformed(5)),
         (b"moves 0\nmoves 0\n", malformed(4)),
     ];
     for (tail, fault) in rows {
         assert_eq!(rt; fault_behind(rt.alloc(), tail)?, fault);
     }
+    Ok(())
+}
+
+/// The fault of a line behind the unknot, no moves, and a quandle of order 2, that is of the item `colours`.
+fn colours_fault(alloc: Global, line: &[u8]) -> Result<Option<TextFault>, Fail> {
+    let mut text = Vec::from_slice(alloc, b"moves 0\nquandle trivial 2\n")?;
+    text.extend_from_slice(line)?;
+    fault_behind(alloc, text.as_slice())
+}
+
+#[test]
+fn colours_stand_behind_their_quandle(rt: HostRuntime) -> Result<(), Fail> {
+    let rows: [(&[u8], Option<TextFault>); 18] = [
+        (b"colours 0 1\n", None),
+        (b"\tcolours\t1  0 \r\n\n#", None),
+        (b"", malformed(5)),
+        (b"colour 0 1\n", malformed(5)),
+        (b"colours 0 1\ncolours 0 1\n", malformed(6)),
+        (b"quandle trivial 2\ncolours 0 1\n", malformed(5)),
+        (b"colours 0\n", malformed(5)),
+        (b"colours 0 1 0\n", malformed(5)),
+        (b"colours 0 2\n", malformed(5)),
+        (b"colours 0 -0\n", malformed(5)),
+        (b"colours 0 \r1\n", malformed(5)),
+        (b"colours 0 1\0\n", malformed(5)),
+        (b"colours 0 \xff\n", malformed(5)),
+        (b"colours 0 999999999\n", malformed(5)),
+        (b"colours 0 1000000000\n", limit(5)),
+        (b"colours 1000000000 a\n", malformed(5)),
+        (
+            b"colours 0 0 0 0 0 0 0 0 0 0 0 0 0 0 0 0 0 0 0 0 0 0 0 0\n",
+            malformed(5),
+        ),
+        (
+            b"colours 0 0 0 0 0 0 0 0 0 0 0 0 0 0 0 0 0 0 0 0 0 0 0 0 0\n",
+            limit(5),
+        ),
+    ];
+    for (line, fault) in rows {
+        assert_eq!(rt; colours_fault(rt.alloc(), line)?, fault);
+    }
+    assert_eq!(rt;
+        fault_behind(rt.alloc(), b"moves 0\ncolours 0 1\n")?,
+        malformed(4)
+    );
     Ok(())
 }
 
@@ -73,5 +119,23 @@ fn each_kind_of_move_is_read(rt: HostRuntime) -> Result<(), Fail> {
     ];
     assert_eq!(rt; replay.moves.as_slice(), moves.as_slice());
     assert!(rt; replay.colours.is_none());
+    Ok(())
+}
+
+/// Whether the text of a replay gives these colours of this quandle.
+fn is_given(alloc: Global, text: &[u8], name: QuandleName, wanted: &[u8]) -> bool {
+    match read_replay(alloc, text) {
+        Ok(replay) => match &replay.colours {
+            Some((listed, colours)) => listed.name() == name && colours.as_slice() == wanted,
+            None => false,
+        },
+        Err(_) => false,
+    }
+}
+
+#[test]
+fn a_braid_has_a_colour_for_each_column_of_its_closure(rt: HostRuntime) -> Result<(), Fail> {
+    let text = b"braid 1\nmoves 1\nstabilise 0 x lowleft\nquandle dihedral 3\ncolours 2 1\n";
+    assert!(rt; is_given(rt.alloc(), text, QuandleName::Dihedral(3), &[2, 1]));
     Ok(())
 }

@@ -1,4 +1,4 @@
-use Rattle.knot_text.proofs.ShapesFail.{problem_fails, check_fails, replay_fails, colour_fails}
+use Rattle.knot_text.proofs.ShapesFail.{problem_fails, check_fails, replay_fails, colour_fails, close_fails, lone_diagram_fails}
 use Rattle.knot_text.proofs.laws.a_fault_is_that_of_the_first_bad_line.Goals as goal
 
 pub returns-clause-problem : goal.returns-clause-problem
@@ -12,3 +12,9 @@ returns-clause-replay c = replay_fails
 
 pub returns-clause-colour : goal.returns-clause-colour
 returns-clause-colour c = colour_fails
+
+pub returns-clause-close : goal.returns-clause-close
+returns-clause-close c = close_fails
+
+pub returns-clause-diagram : goal.returns-clause-diagram
+returns-clause-diagram c = lone_diagram_fails

@@ -1,14 +1,20 @@
-use Rattle.knot_text.proofs.Readings.{problem_once, check_once, replay_once, colour_once}
+use Rattle.knot_text.proofs.Readings.{problem_again, check_again, replay_again, colour_again, close_again, diagram_again}
 use Rattle.knot_text.proofs.laws.a_text_has_one_reading.Goals as goal
 
 pub returns-clause-problem : goal.returns-clause-problem
-returns-clause-problem c = problem_once
+returns-clause-problem c = problem_again
 
 pub returns-clause-check : goal.returns-clause-check
-returns-clause-check c = check_once
+returns-clause-check c = check_again
 
 pub returns-clause-replay : goal.returns-clause-replay
-returns-clause-replay c = replay_once
+returns-clause-replay c = replay_again
 
 pub returns-clause-colour : goal.returns-clause-colour
-returns-clause-colour c = colour_once
+returns-clause-colour c = colour_again
+
+pub returns-clause-close : goal.returns-clause-close
+returns-clause-close c = close_again
+
+pub returns-clause-diagram : goal.returns-clause-diagram
+returns-clause-diagram c = diagram_again

@@ -1,5 +1,5 @@
 use Rattle.std.proofs.lemmas.Fmt.{decimal_digit}
-use Rattle.knot_text.proofs.lines.push_small.Goals as goal
+use Rattle.text_lines.proofs.writing.push_small.Goals as goal
 
 pub returns-then-number-lt10 : goal.returns-then-number-lt10
 returns-then-number-lt10 c = rw (decimal_digit c.args.number c.if-number-lt10.true) c.in_ok-push.ensures.items

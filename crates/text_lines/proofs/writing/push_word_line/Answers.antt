@@ -1,7 +1,7 @@
 use Rattle.std.proofs.Common.{rules, append_assoc}
-use Rattle.knot_text.proofs.LineTexts.{spaced_numbers}
+use Rattle.text_lines.proofs.LineTexts.{spaced_numbers}
 use Rattle.std.proofs.lemmas.Result.{IfOk-equal}
-use Rattle.knot_text.proofs.lines.push_word_line.Goals as goal
+use Rattle.text_lines.proofs.writing.push_word_line.Goals as goal
 
 pub returns : goal.returns
 returns c = search (rules, IfOk-equal, append_assoc, spaced_numbers)

@@ -1,4 +1,4 @@
-//! Lines of numbers and words, written at the end of a text.
+//! Lines of words and numbers, written at the end of a text.
 ghost use Rattle.std.specs.Prelude.{◌≡◌, ◌++◌, ◌∷◌, codes, map, OnOk};
 ghost use Rattle.std.specs.List.{flat_map};
 ghost use Rattle.std.specs.Fmt.{decimal};
@@ -7,8 +7,8 @@ ghost use Rattle.text_lines.specs.Spelled.{spaced, line_bytes, line_text};
 use itoa::Buffer;
 use std::alloc::AllocError;
 
-/// Appends a number.
-pub(crate) fn push_number(out: &mut Vec<u8>, number: u64) -> Result<(), AllocError>
+/// Appends a number in decimal, without leading zeros.
+pub fn push_number(out: &mut Vec<u8>, number: u64) -> Result<(), AllocError>
     ensures { OnOk result (out.new.items ≡ out.old.items ++ decimal number) }
 {
     let mut buffer = Buffer::new();
@@ -37,12 +37,8 @@ fn push_spaced(out: &mut Vec<u8>, numbers: &[u8]) -> Result<(), AllocError>
     Ok(())
 }
 
-/// Appends a line of a word and numbers.
-pub(crate) fn push_word_line(
-    out: &mut Vec<u8>,
-    word: &[u8],
-    numbers: &[u8],
-) -> Result<(), AllocError>
+/// Appends a line of a word and numbers, with one space between them.
+pub fn push_word_line(out: &mut Vec<u8>, word: &[u8], numbers: &[u8]) -> Result<(), AllocError>
     ensures { OnOk result (out.new.items ≡ out.old.items ++ line_text (word.now ∷ map decimal numbers.now)) }
 {
     out.extend_from_slice(word)?;
@@ -63,8 +59,8 @@ fn push_numbers(out: &mut Vec<u8>, numbers: &[u8]) -> Result<(), AllocError>
     }
 }
 
-/// Appends a line of numbers.
-pub(crate) fn push_number_line(out: &mut Vec<u8>, numbers: &[u8]) -> Result<(), AllocError>
+/// Appends a line of numbers, with one space between them.
+pub fn push_number_line(out: &mut Vec<u8>, numbers: &[u8]) -> Result<(), AllocError>
     ensures { OnOk result (out.new.items ≡ out.old.items ++ line_text (map decimal numbers.now)) }
 {
     push_numbers(out, numbers)?;
@@ -72,7 +68,7 @@ pub(crate) fn push_number_line(out: &mut Vec<u8>, numbers: &[u8]) -> Result<(), 
 }
 
 /// Appends words, of which the last ends with a space, and a number that ends the line.
-pub(crate) fn push_counted(out: &mut Vec<u8>, words: &[u8], number: u64) -> Result<(), AllocError>
+pub fn push_counted(out: &mut Vec<u8>, words: &[u8], number: u64) -> Result<(), AllocError>
     ensures { OnOk result (out.new.items ≡ out.old.items ++ (words.now ++ (decimal number ++ codes "\n"))) }
 {
     out.extend_from_slice(words)?;
@@ -81,7 +77,7 @@ pub(crate) fn push_counted(out: &mut Vec<u8>, words: &[u8], number: u64) -> Resu
 }
 
 /// Appends words, of which the last ends with a space, and two numbers that end the line.
-pub(crate) fn push_paired(
+pub fn push_paired(
     out: &mut Vec<u8>,
     words: &[u8],
     first: u64,

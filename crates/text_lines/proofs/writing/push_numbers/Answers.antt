@@ -1,7 +1,7 @@
 use Rattle.std.proofs.lemmas.Result.{on_ok_weaker}
 use Rattle.std.proofs.Common.{arith}
-use Rattle.knot_text.proofs.LineTexts.{numbers_joined}
-use Rattle.knot_text.proofs.lines.push_numbers.Goals as goal
+use Rattle.text_lines.proofs.LineTexts.{numbers_joined}
+use Rattle.text_lines.proofs.writing.push_numbers.Goals as goal
 
 pub returns-in_ok-push_small-in-len1-up : goal.returns-in_ok-push_small-in-len1-up
 returns-in_ok-push_small-in-len1-up c =

@@ -1,0 +1,154 @@
+-- Of two readers, the first word of the next line decides which one reads.
+use Rattle.std.proofs.Common.{◌≡◌, ℕ, List, [], ◌∷◌, ◌++◌, Bool, true, false, cond, Result, Ok, Err, refl, sym, ap, ◌∙◌, inl, inr, ◌⊎◌}
+use Rattle.text_lines.specs.Lines.{NumberedLine, Text, first_starts}
+use Rattle.knot_text.specs.declared.fault.TextFault.{TextFault}
+use Rattle.knot_text.specs.declared.fault.TextFault.TheVariants.{Malformed}
+use Rattle.knot_text.specs.FirstBadLine.{lines_then, AreGood, FailsAtLine, FailsAtEnd, FailsFirst}
+use Rattle.knot_text.proofs.Steady.{Anywhere, Took, AreTaken, BadLine, Steady}
+use Rattle.knot_text.proofs.FirstFault.{nothing_good, ok_again}
+
+-- the first reader where a line that begins with this word is next, else the second
+abbrev pub choice : {B : Type 0} → List ℕ → (Text → Result B TextFault) → (Text → Result B TextFault) → Text → Result B TextFault
+choice w r s text = cond (first_starts w text.lines) (r text) (s text)
+
+-- a reader that is this one where the first word is the given one, or where it is not
+abbrev Agrees : {B : Type 0} → List ℕ → Bool → (Text → Result B TextFault) → (Text → Result B TextFault) → Type 0
+Agrees w b c q = (text : Text) → first_starts w text.lines ≡ b → c text ≡ q text
+
+first_agrees : {B : Type 0} (w : List ℕ) (r s : Text → Result B TextFault) → Agrees w true (choice w r s) r
+first_agrees w r s text is = rw is refl
+
+second_agrees : {B : Type 0} (w : List ℕ) (r s : Text → Result B TextFault) → Agrees w false (choice w r s) s
+second_agrees w r s text is = rw is refl
+
+-- the line that is first, with others behind it
+same_start : (w : List ℕ) (xs ys zs : List NumberedLine) (line : NumberedLine) → first_starts w (xs ++ line ∷ zs) ≡ first_starts w (xs ++ line ∷ ys)
+same_start w [] ys zs line = refl
+same_start w (x ∷ xs) ys zs line = refl
+
+-- ---- readers of items
+
+-- a line is due
+abbrev pub IsDue : {B : Type 0} → (Text → Result B TextFault) → Type 0
+IsDue read = (ending : ℕ) → read (lines_then [] ending) ≡ Err (Malformed ending)
+
+-- so one is taken
+used_start : {A : Type 0} (w : List ℕ) (q : Text → Result (A × Text) TextFault) (value : A) (used ls more : List NumberedLine) → IsDue q → ((ending : ℕ) → q (lines_then (used ++ []) ending) ≡ Ok (value, lines_then [] ending))
+    → first_starts w (used ++ more) ≡ first_starts w (used ++ ls)
+used_start w q value [] ls more due again = absurd (let no = sym (due 0) ∙ again 0 in cc)
+used_start w q value (x ∷ used) ls more due again = refl
+
+took_by : {A : Type 0} (w : List ℕ) (b : Bool) (c q : Text → Result (A × Text) TextFault) → Agrees w b c q → IsDue q → Steady Anywhere q
+    → (text : Text) → first_starts w text.lines ≡ b → (value : A) (rest : Text) → c text ≡ Ok (value, rest) → Took Anywhere c text value rest
+took_by w b c q agrees due steady text begin value rest is =
+    let t = steady.took text value rest (sym (agrees text begin) ∙ is) in
+    let start : first_starts w (t.used ++ rest.lines) ≡ b = sym (ap (first_starts w) t.lines) ∙ begin in
+    record {
+      used = t.used;
+      lines = t.lines;
+      ending = t.ending;
+      stops = tt;
+      again = λ more e stop.
+          agrees (lines_then (t.used ++ more) e) (used_start w q value t.used rest.lines more due (λ ending. t.again [] ending tt) ∙ start) ∙ t.again more e tt;
+    }
+
+good_by : {A : Type 0} (w : List ℕ) (b : Bool) (c q : Text → Result (A × Text) TextFault) → Agrees w b c q → IsDue c
+    → (front behind : List NumberedLine) (line : NumberedLine) → first_starts w (front ++ line ∷ behind) ≡ b → AreTaken q front → AreTaken c front
+good_by w b c q agrees due [] behind line begin good e = inr (due e)
+good_by w b c q agrees due (x ∷ front) behind line begin good e = elim (good e) [
+  | inl taken ↦ inl (taken.0, agrees (lines_then (x ∷ front) e) begin ∙ taken.1)
+  | inr more ↦ inr (agrees (lines_then (x ∷ front) e) begin ∙ more)
+]
+
+failed_by : {A : Type 0} (w : List ℕ) (b : Bool) (c q : Text → Result (A × Text) TextFault) → Agrees w b c q → IsDue c → Steady Anywhere q
+    → (text : Text) → first_starts w text.lines ≡ b → (fault : TextFault) → c text ≡ Err fault → BadLine c text fault ⊎ FailsAtEnd c text fault
+failed_by w b c q agrees due steady text begin fault is = elim (steady.failed text fault (sym (agrees text begin) ∙ is)) [
+  | inl bad ↦
+      let start : first_starts w (bad.front ++ bad.line ∷ bad.behind) ≡ b = sym (ap (first_starts w) bad.lines) ∙ begin in
+      inl (record {
+        front = bad.front;
+        line = bad.line;
+        behind = bad.behind;
+        lines = bad.lines;
+        names = bad.names;
+        good = good_by w b c q agrees due bad.front bad.behind bad.line start bad.good;
+        decided = λ behind e. agrees (lines_then (bad.front ++ bad.line ∷ behind) e) (same_start w bad.front bad.behind behind bad.line ∙ start) ∙ bad.decided behind e;
+      })
+  | inr end ↦ inr (record { names = end.names; due = λ e. agrees (lines_then text.lines e) begin ∙ end.due e })
+]
+
+pub choice_steady : {A : Type 0} (w : List ℕ) (r s : Text → Result (A × Text) TextFault) → IsDue r → IsDue s → Steady Anywhere r → Steady Anywhere s → Steady Anywhere (choice w r s)
+choice_steady {A} w r s r_due s_due first second = record {
+  took = λ text value rest is. took text (first_starts w text.lines) refl value rest is;
+  failed = λ text fault is. failed text (first_starts w text.lines) refl fault is;
+}
+  where
+    due : IsDue (choice w r s)
+    due ending = s_due ending
+
+    took : (text : Text) (t : Bool) → first_starts w text.lines ≡ t → (value : A) (rest : Text) → choice w r s text ≡ Ok (value, rest) → Took Anywhere (choice w r s) text value rest
+    took text true begin value rest is = took_by w true (choice w r s) r (first_agrees w r s) r_due first text begin value rest is
+    took text false begin value rest is = took_by w false (choice w r s) s (second_agrees w r s) s_due second text begin value rest is
+
+    failed : (text : Text) (t : Bool) → first_starts w text.lines ≡ t → (fault : TextFault) → choice w r s text ≡ Err fault → BadLine (choice w r s) text fault ⊎ FailsAtEnd (choice w r s) text fault
+    failed text true begin fault is = failed_by w true (choice w r s) r (first_agrees w r s) due first text begin fault is
+    failed text false begin fault is = failed_by w false (choice w r s) s (second_agrees w r s) due second text begin fault is
+
+-- ---- readers of whole texts
+
+whole_good : {B : Type 0} (w : List ℕ) (b : Bool) (c q : Text → Result B TextFault) → Agrees w b c q → AreGood c []
+    → (front behind : List NumberedLine) (line : NumberedLine) → first_starts w (front ++ line ∷ behind) ≡ b → AreGood q front → AreGood c front
+whole_good w b c q agrees none [] behind line begin good e = none e
+whole_good w b c q agrees none (x ∷ front) behind line begin good e = elim (good e) [
+  | inl ok ↦ inl (ok_again (q (lines_then (x ∷ front) e)) (c (lines_then (x ∷ front) e)) (agrees (lines_then (x ∷ front) e) begin) ok)
+  | inr more ↦ inr (agrees (lines_then (x ∷ front) e) begin ∙ more)
+]
+
+fails_by : {B : Type 0} (w : List ℕ) (b : Bool) (c q : Text → Result B TextFault) → Agrees w b c q → AreGood c [] → FailsFirst q
+    → (text : Text) → first_starts w text.lines ≡ b → (fault : TextFault) → c text ≡ Err fault → FailsAtLine c text fault ⊎ FailsAtEnd c text fault
+fails_by w b c q agrees none fails text begin fault is = elim (fails text fault (sym (agrees text begin) ∙ is)) [
+  | inl bad ↦
+      let start : first_starts w (bad.front ++ bad.line ∷ bad.behind) ≡ b = sym (ap (first_starts w) bad.lines) ∙ begin in
+      inl (record {
+        front = bad.front;
+        line = bad.line;
+        behind = bad.behind;
+        lines = bad.lines;
+        first = record {
+          names = bad.first.names;
+          good = whole_good w b c q agrees none bad.front bad.behind bad.line start bad.first.good;
+          decided = λ behind e. agrees (lines_then (bad.front ++ bad.line ∷ behind) e) (same_start w bad.front bad.behind behind bad.line ∙ start) ∙ bad.first.decided behind e;
+        };
+      })
+  | inr end ↦ inr (record { names = end.names; due = λ e. agrees (lines_then text.lines e) begin ∙ end.due e })
+]
+
+pub choice_fails : {B : Type 0} (w : List ℕ) (r s : Text → Result B TextFault) → FailsFirst r → FailsFirst s → FailsFirst (choice w r s)
+choice_fails w r s first second text fault is = by text (first_starts w text.lines) refl is
+  where
+    none : AreGood (choice w r s) []
+    none = nothing_good s second
+
+    by : (text : Text) (t : Bool) → first_starts w text.lines ≡ t → choice w r s text ≡ Err fault → FailsAtLine (choice w r s) text fault ⊎ FailsAtEnd (choice w r s) text fault
+    by text true begin is = fails_by w true (choice w r s) r (first_agrees w r s) none first text begin fault is
+    by text false begin is = fails_by w false (choice w r s) s (second_agrees w r s) none second text begin fault is
+
+-- the same reader in another form
+pub same_fails : {B : Type 0} (q c : Text → Result B TextFault) → ((text : Text) → c text ≡ q text) → FailsFirst q → FailsFirst c
+same_fails q c same fails text fault is = elim (fails text fault (sym (same text) ∙ is)) [
+  | inl bad ↦ inl (record {
+    front = bad.front;
+    line = bad.line;
+    behind = bad.behind;
+    lines = bad.lines;
+    first = record {
+      names = bad.first.names;
+      good = λ e. elim (bad.first.good e) [
+        | inl ok ↦ inl (ok_again (q (lines_then bad.front e)) (c (lines_then bad.front e)) (same (lines_then bad.front e)) ok)
+        | inr more ↦ inr (same (lines_then bad.front e) ∙ more)
+      ];
+      decided = λ behind e. same (lines_then (bad.front ++ bad.line ∷ behind) e) ∙ bad.first.decided behind e;
+    };
+  })
+  | inr end ↦ inr (record { names = end.names; due = λ e. same (lines_then text.lines e) ∙ end.due e })
+]

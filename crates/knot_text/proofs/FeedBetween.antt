@@ -1,0 +1,15 @@
+-- A verdict behind its problem, with a line feed between them.
+use Rattle.std.proofs.Common.{◌≡◌, ℕ, List, ◌++◌, false, Ok, sym, ap, ◌∙◌, append_assoc, codes}
+use Rattle.text_lines.specs.Lines.{are_whole_lines}
+use Rattle.text_lines.proofs.LastFeed.{feed_added, feed_ends}
+use Rattle.knot_text.specs.declared.verdict.Verdict.{Verdict}
+use Rattle.knot_text.specs.declared.shapes.ProblemText.{ProblemText}
+use Rattle.knot_text.specs.Shapes.{columns, problem_in, problem_of, check_of}
+use Rattle.knot_text.specs.Printed.{verdict_text, HasVerdictText}
+use Rattle.knot_text.proofs.ReadBack.{verdict_behind}
+
+pub verdict_behind_feed : (bytes : List ℕ) (p : ProblemText) (v : Verdict) → are_whole_lines bytes ≡ false → problem_of bytes ≡ Ok p
+    → HasVerdictText (columns p.first) (columns p.second) v → check_of (bytes ++ (codes "\n" ++ verdict_text v)) ≡ Ok (p, v)
+verdict_behind_feed bytes p v lacks is fits =
+    let same : problem_of (bytes ++ codes "\n") ≡ Ok p = ap problem_in (feed_added 0 bytes lacks) ∙ is in
+    ap check_of (sym (append_assoc bytes (codes "\n") (verdict_text v))) ∙ verdict_behind (bytes ++ codes "\n") p v (feed_ends bytes) same fits

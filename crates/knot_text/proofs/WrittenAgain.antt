@@ -1,0 +1,102 @@
+-- What is written in front of a text is read from it.
+use Rattle.std.proofs.Common.{◌≡◌, ℕ, ◌≤◌, ◌+◌, List, [], ◌∷◌, ◌++◌, length, drop, Result, Ok, refl, sym, ap, ap₂, ◌∙◌, codes}
+use Rattle.std.proofs.Math.Seq.{drop-append_seam}
+use Rattle.std.proofs.lemmas.List.{map-append, length-map}
+use Rattle.arrayvec.specs.ArrayVec.{ArrayVec}
+use Rattle.grid_core.specs.declared.grid.TheConstants.{MAX_SIZE}
+use Rattle.grid_core.specs.Diagram.{Diagram as Marks, IsGrid}
+use Rattle.braid_core.specs.Braid.{Word, IsBraid}
+use Rattle.colour_rows.specs.Colouring.{AreColours}
+use Rattle.quandle_core.specs.declared.quandle.TheConstants.{MAX_ORDER}
+use Rattle.grid_moves.specs.declared.step.Move.{Move}
+use Rattle.text_lines.specs.Lines.{NumberedLine, Text}
+use Rattle.text_lines.specs.Spelled.{numbered}
+use Rattle.knot_text.specs.declared.fault.TextFault.{TextFault}
+use Rattle.knot_text.specs.declared.verdict.Verdict.{Verdict}
+use Rattle.knot_text.specs.Names.{NamedQuandle}
+use Rattle.knot_text.specs.Reading.{next_line}
+use Rattle.knot_text.specs.GridItem.{grid_item}
+use Rattle.knot_text.specs.BraidItem.{braid_item}
+use Rattle.knot_text.specs.MovesItem.{moves_item}
+use Rattle.knot_text.specs.QuandleItem.{quandle_item}
+use Rattle.knot_text.specs.ColoursItem.{colours_item}
+use Rattle.knot_text.specs.VerdictItem.{verdict_item}
+use Rattle.knot_text.specs.Printed.{grid_lines, braid_lines, moves_lines, HaveText, name_tokens, quandle_lines, HasQuandleText, colours_lines, verdict_lines, HasVerdictText}
+use Rattle.knot_text.specs.WrittenThere.{tokens_by_line, StandInFront}
+use Rattle.knot_text.proofs.StepsAgain.{lines_before, word_again}
+use Rattle.knot_text.proofs.GridAgain.{grid_again}
+use Rattle.knot_text.proofs.MovesAgain.{moves_again}
+use Rattle.knot_text.proofs.QuandleAgain.{quandle_again}
+use Rattle.knot_text.proofs.VerdictAgain.{verdict_again}
+use Rattle.knot_text.proofs.BraidAgain.{braid_again}
+use Rattle.knot_text.proofs.ColoursAgain.{colours_again}
+use Rattle.knot_text.proofs.Says.{Says, in_front_is}
+use Rattle.knot_text.proofs.ItemsSay.{IsWritten, grid_says, braid_says, moves_say, colours_say}
+use Rattle.knot_text.proofs.QuandleSays.{quandle_says}
+use Rattle.knot_text.proofs.VerdictSays.{verdict_says}
+use Rattle.knot_text.proofs.Alike.{Alike, SameText, SameLeft}
+use Rattle.knot_text.proofs.ItemsAlike.{grid_alike, braid_alike, moves_alike, quandle_alike, colours_alike, verdict_alike}
+
+-- ---- lines in front
+
+pub numbered_tokens : (n : ℕ) (lines : List (List (List ℕ))) → tokens_by_line (numbered n lines) ≡ lines
+numbered_tokens n [] = refl
+numbered_tokens n (tokens ∷ lines) = ap (λ (ls : List (List (List ℕ))). tokens ∷ ls) (numbered_tokens (n + 1) lines)
+
+tokens_parted : (xs ys : List NumberedLine) → tokens_by_line (xs ++ ys) ≡ tokens_by_line xs ++ tokens_by_line ys
+tokens_parted xs ys = map-append (λ (line : NumberedLine). line.tokens) xs ys
+
+-- the tokens of the text are these, and those of the rest
+front_tokens : {printed : List (List (List ℕ))} {text rest : Text} → StandInFront printed text rest → tokens_by_line text.lines ≡ printed ++ tokens_by_line rest.lines
+front_tokens {rest = rest} there =
+    ap tokens_by_line there.lines ∙ tokens_parted there.front rest.lines ∙ ap (λ (ls : List (List (List ℕ))). ls ++ tokens_by_line rest.lines) there.tokens
+
+-- so many lines are in front
+front_length : {printed : List (List (List ℕ))} {text rest : Text} (there : StandInFront printed text rest) → length there.front ≡ length printed
+front_length there = sym (length-map there.front (λ (line : NumberedLine). line.tokens)) ∙ ap (λ (ls : List (List (List ℕ))). length ls) there.tokens
+
+left_lines : {printed : List (List (List ℕ))} {text rest : Text} → StandInFront printed text rest → rest.lines ≡ drop (length printed) text.lines
+left_lines {text = text} {rest = rest} there =
+    sym (ap (λ (n : ℕ). drop n text.lines) (sym (front_length there)) ∙ ap (drop (length there.front)) there.lines ∙ drop-append_seam there.front rest.lines)
+
+-- what is left is determined
+pub one_rest : {printed : List (List (List ℕ))} {text one two : Text} → StandInFront printed text one → StandInFront printed text two → one ≡ two
+one_rest first second =
+    ap₂ (λ (ls : List NumberedLine) (e : ℕ). record { lines = ls; ending = e }) (left_lines first ∙ sym (left_lines second)) (first.ending ∙ sym second.ending)
+
+-- ---- an item
+
+-- one that is read behind no lines is read from each text with its tokens
+pub read_again : {A : Type 0} (Has : A → Type 0) (lines : A → List (List (List ℕ))) (item : Text → Result (A × Text) TextFault) → ((t u : Text) → SameText t u → Alike SameLeft (item t) (item u)) → ((t : Text) → Says (item t) (IsWritten Has lines t))
+    → (value : A) (text rest : Text) → item (lines_before (numbered 0 (lines value)) rest) ≡ Ok (value, rest) → StandInFront (lines value) text rest → item text ≡ Ok (value, rest)
+read_again Has lines item alike says value text rest again there =
+    let t = lines_before (numbered 0 (lines value)) rest in
+    let same : SameText t text = tokens_parted (numbered 0 (lines value)) rest.lines ∙ ap (λ (ls : List (List (List ℕ))). ls ++ tokens_by_line rest.lines) (numbered_tokens 0 (lines value)) ∙ sym (front_tokens there) in
+    let found = (alike t text same).of (value, rest) again in
+    let x = found.0 in
+    let left : StandInFront (lines value) text x.1 = in_front_is (ap lines (sym found.2.0)) ((says text).of x found.1).1 in
+    found.1 ∙ ap₂ (λ v (s : Text). Ok (v, s)) (sym found.2.0) (one_rest left there)
+
+pub grid_written : (text : Text) (d : Marks) (rest : Text) → IsGrid d → StandInFront (grid_lines d) text rest → grid_item text ≡ Ok (d, rest)
+grid_written text d rest grid there = read_again IsGrid grid_lines grid_item grid_alike grid_says d text rest (grid_again 0 d rest grid) there
+
+pub braid_written : (text : Text) (b : Word) (rest : Text) → IsBraid b → StandInFront (braid_lines b) text rest → braid_item text ≡ Ok (b, rest)
+braid_written text b rest braid there = read_again IsBraid braid_lines braid_item braid_alike braid_says b text rest (braid_again 0 b rest braid) there
+
+pub moves_written : (text : Text) (moves : List Move) (rest : Text) → HaveText moves → StandInFront (moves_lines (codes "moves") moves) text rest → moves_item text ≡ Ok (moves, rest)
+moves_written text moves rest fits there = read_again HaveText (moves_lines (codes "moves")) moves_item moves_alike moves_say moves text rest (moves_again 0 moves rest fits) there
+
+item_again : (q : NamedQuandle) (rest : Text) → HasQuandleText q → quandle_item (lines_before (numbered 0 (quandle_lines (codes "quandle") q)) rest) ≡ Ok (q, rest)
+unfolding quandle_item next_line
+item_again q rest fits = rw (word_again (codes "quandle") 1 (name_tokens q.name q.table.order), quandle_again 1 q.name q.table rest fits.names fits.factor) refl
+
+pub quandle_written : (text : Text) (q : NamedQuandle) (rest : Text) → HasQuandleText q → StandInFront (quandle_lines (codes "quandle") q) text rest → quandle_item text ≡ Ok (q, rest)
+quandle_written text q rest fits there = read_again HasQuandleText (quandle_lines (codes "quandle")) quandle_item quandle_alike quandle_says q text rest (item_again q rest fits) there
+
+pub colours_written : (width order : ℕ) (text : Text) (c : ArrayVec ℕ) (rest : Text) → width ≤ MAX_SIZE → order ≤ MAX_ORDER → AreColours width order c.items → StandInFront (colours_lines c) text rest → colours_item width order text ≡ Ok (c, rest)
+colours_written width order text c rest fits most are there =
+    read_again (λ c. AreColours width order c.items) colours_lines (colours_item width order) (colours_alike width order) (colours_say width order) c text rest (colours_again width order 0 c rest fits most are) there
+
+pub verdict_written : (one two : ℕ) (text : Text) (v : Verdict) (rest : Text) → HasVerdictText one two v → StandInFront (verdict_lines v) text rest → verdict_item one two text ≡ Ok (v, rest)
+verdict_written one two text v rest fits there =
+    read_again (HasVerdictText one two) verdict_lines (verdict_item one two) (verdict_alike one two) (verdict_says one two) v text rest (verdict_again one two 0 v rest fits) there

@@ -1,0 +1,88 @@
+-- What it means that a value is written in a text, where it is read: the printed lines of the value stand there, token for token.
+use Rattle.std.specs.Prelude.{◌≡◌, ◌≤◌, ℕ, List, [], ◌++◌, codes, length, map, Option, Some, None}
+use Rattle.std.specs.List.{AllByRecursion, flat_map}
+use Rattle.arrayvec.specs.ArrayVec.{ArrayVec}
+use Rattle.braid_core.specs.Braid.{IsBraid}
+use Rattle.colour_rows.specs.Colouring.{AreColours}
+use Rattle.text_lines.specs.Lines.{NumberedLine, Text, text_of}
+use Rattle.knot_text.specs.declared.verdict.Verdict.{Verdict}
+use Rattle.knot_text.specs.declared.quandles.TheConstants.{MAX_QUANDLES}
+use Rattle.knot_text.specs.declared.shapes.ProblemText.{ProblemText}
+use Rattle.knot_text.specs.declared.shapes.ReplayText.{ReplayText}
+use Rattle.knot_text.specs.declared.shapes.ColourText.{ColourText}
+use Rattle.knot_text.specs.declared.shapes.CloseText.{CloseText}
+use Rattle.knot_text.specs.Names.{NamedQuandle, or_built_in}
+use Rattle.knot_text.specs.Printed.{moves_lines, HaveText, quandle_lines, HasQuandleText, verdict_lines, HasVerdictText, braid_lines, diagram_lines, HasDiagramText, colours_lines}
+use Rattle.knot_text.specs.Shapes.{columns}
+
+-- the tokens of each line
+abbrev pub tokens_by_line : List NumberedLine → List (List (List ℕ))
+tokens_by_line lines = map (λ (line : NumberedLine). line.tokens) lines
+
+-- the front of the text is these printed lines, and the rest is all that stands behind them
+pub record StandInFront (printed : List (List (List ℕ))) (text rest : Text) : Type 0 where
+  pub front : List NumberedLine
+  pub lines : text.lines ≡ front ++ rest.lines
+  pub tokens : tokens_by_line front ≡ printed
+  pub ending : rest.ending ≡ text.ending
+
+-- ---- whole texts: the lines of their items in order, and no others
+
+-- what the bytes say: the tokens of each line that is not skipped
+abbrev pub said_by : List ℕ → List (List (List ℕ))
+said_by bytes = tokens_by_line (text_of bytes).lines
+
+-- these quandles are listed; where there are none, the built-in list stands for them
+pub record AreListed (listed quandles : List NamedQuandle) : Type 0 where
+  pub few : length listed ≤ MAX_QUANDLES
+  pub each : AllByRecursion HasQuandleText listed
+  pub stand : quandles ≡ or_built_in listed
+
+abbrev pub listed_lines : List NamedQuandle → List (List (List ℕ))
+listed_lines listed = flat_map (quandle_lines (codes "quandle")) listed
+
+-- two diagrams and the quandles that are listed
+pub record HasProblemText (listed : List NamedQuandle) (p : ProblemText) : Type 0 where
+  pub first : HasDiagramText p.first
+  pub second : HasDiagramText p.second
+  pub quandles : AreListed listed p.quandles
+
+abbrev pub problem_lines : List NamedQuandle → ProblemText → List (List (List ℕ))
+problem_lines listed p = diagram_lines p.first ++ (diagram_lines p.second ++ listed_lines listed)
+
+abbrev pub IsProblemText : List (List (List ℕ)) → ProblemText → Type 0
+IsProblemText lines p = (listed : List NamedQuandle) × HasProblemText listed p × (lines ≡ problem_lines listed p)
+
+-- and a verdict on the two diagrams
+abbrev pub IsCheckText : List (List (List ℕ)) → ProblemText → Verdict → Type 0
+IsCheckText lines p v =
+    (listed : List NamedQuandle) × HasProblemText listed p × HasVerdictText (columns p.first) (columns p.second) v
+    × (lines ≡ problem_lines listed p ++ verdict_lines v)
+
+-- a quandle, and a colour for each of so many columns, or nothing
+abbrev pub given_lines : Option (NamedQuandle × ArrayVec ℕ) → List (List (List ℕ))
+given_lines None = []
+given_lines (Some given) = quandle_lines (codes "quandle") given.0 ++ colours_lines given.1
+
+abbrev pub HasGivenText : ℕ → Option (NamedQuandle × ArrayVec ℕ) → Type 0
+HasGivenText width None = Unit {0}
+HasGivenText width (Some given) = HasQuandleText given.0 × AreColours width given.0.table.order given.1.items
+
+-- a diagram, moves, and perhaps a quandle and colours
+pub record HasReplayText (r : ReplayText) : Type 0 where
+  pub diagram : HasDiagramText r.diagram
+  pub moves : HaveText r.moves
+  pub colours : HasGivenText (columns r.diagram) r.colours
+
+abbrev pub replay_lines : ReplayText → List (List (List ℕ))
+replay_lines r = diagram_lines r.diagram ++ (moves_lines (codes "moves") r.moves ++ given_lines r.colours)
+
+-- a diagram and the quandles that are listed
+abbrev pub IsColourText : List (List (List ℕ)) → ColourText → Type 0
+IsColourText lines c =
+    (listed : List NamedQuandle) × HasDiagramText c.diagram × AreListed listed c.quandles × (lines ≡ diagram_lines c.diagram ++ listed_lines listed)
+
+-- a braid and the quandles that are listed
+abbrev pub IsCloseText : List (List (List ℕ)) → CloseText → Type 0
+IsCloseText lines c =
+    (listed : List NamedQuandle) × IsBraid c.braid × AreListed listed c.quandles × (lines ≡ braid_lines c.braid ++ listed_lines listed)
