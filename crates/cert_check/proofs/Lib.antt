@@ -1,1 +1,4 @@
+pub mod FirstDifference
+pub mod ListCauses
 pub mod Rulings
+mod WorkedRows

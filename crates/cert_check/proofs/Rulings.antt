@@ -1,28 +1,63 @@
--- On a list of moves between two diagrams there is one ruling.
-use Rattle.std.proofs.Common.{◌≡◌, ◌≢◌, ◌⊎◌, Bool, true, false, List, ℕ, subst, ap, ap₂, refl, inl, inr}
+-- On a verdict on two diagrams there is one ruling.
+use Rattle.std.proofs.Common.{◌≡◌, ◌≢◌, ◌∙◌, ◌⊎◌, ◌↔◌, Bool, true, false, List, ℕ, Option, Some, None, Result, Ok, Err, IfOk, length, subst, ap, ap₂, sym, refl, inl, inr}
 use Rattle.std.specs.Str.{bytes_eq}
 use Rattle.std.proofs.lemmas.Slice.Eq.{bytes_eq-Decides}
+use Rattle.arrayvec.specs.ArrayVec.{ArrayVec}
 use Rattle.grid_core.specs.Diagram.{Diagram, IsGrid}
 use Rattle.grid_moves.specs.declared.step.Move.{Move}
+use Rattle.grid_moves.specs.declared.step.MoveFault.{MoveFault}
 use Rattle.grid_moves.proofs.Stopped.{joins_once, not_both, stops_once, joins_or_stops}
-use Rattle.grid_moves.specs.Joining.{Joins}
+use Rattle.grid_moves.specs.Joining.{Joins, StopsAt, Equivalent}
+use Rattle.quandle_core.specs.Quandle.{Table, IsQuandle}
+use Rattle.colour_list.specs.Listing.{lists_of}
+use Rattle.colour_laws.proofs.Counted.{equivalent_lengths}
+use Rattle.knot_text.specs.Names.{NamedQuandle}
+use Rattle.knot_text.specs.declared.verdict.Verdict.{Verdict}
+use Rattle.knot_text.specs.declared.verdict.Verdict.TheVariants.{Equal, Different, UnknownBudget, UnknownExhausted}
 use Rattle.cert_check.specs.declared.ruling.Ruling.{Ruling}
 use Rattle.cert_check.specs.declared.ruling.Ruling.TheVariants.{Accepted, Rejected}
-use Rattle.cert_check.specs.declared.ruling.Why.TheVariants.{Step, OtherEnd}
-use Rattle.cert_check.specs.Ruling.{Rules}
+use Rattle.cert_check.specs.declared.ruling.Why.{Why}
+use Rattle.cert_check.specs.declared.ruling.Why.TheVariants as why
+use Rattle.cert_check.specs.Evidence.{TellsApart, Holds}
+use Rattle.cert_check.specs.Cause.{LeadsElsewhere, IsCauseOfMoves, IsCause, cause_of_lists}
+use Rattle.cert_check.specs.Ruling.{RulesOn}
+use Rattle.cert_check.proofs.ListCauses.{tells_apart, no_cause_where_told_apart}
 
-pub ruled_once : (moves : List Move) (d e : Diagram) (ruling other : Ruling) → Rules d moves e ruling → Rules d moves e other → ruling ≡ other
-ruled_once moves d e Accepted Accepted one two = refl
-ruled_once moves d e Accepted (Rejected (Step place fault)) one two = absurd (not_both moves d e place fault two one)
-ruled_once moves d e Accepted (Rejected OtherEnd) one two = absurd (two.1.1 (joins_once moves d two.0 e two.1.0 one))
-ruled_once moves d e (Rejected (Step place fault)) Accepted one two = absurd (not_both moves d e place fault one two)
-ruled_once moves d e (Rejected OtherEnd) Accepted one two = absurd (one.1.1 (joins_once moves d one.0 e one.1.0 two))
-ruled_once moves d e (Rejected (Step place fault)) (Rejected (Step place' fault')) one two =
-    let same = stops_once moves d place place' fault fault' one two in
-    ap₂ (λ p f. Rejected (Step p f)) same.0 same.1
-ruled_once moves d e (Rejected (Step place fault)) (Rejected OtherEnd) one two = absurd (not_both moves d two.0 place fault one two.1.0)
-ruled_once moves d e (Rejected OtherEnd) (Rejected (Step place fault)) one two = absurd (not_both moves d one.0 place fault two one.1.0)
-ruled_once moves d e (Rejected OtherEnd) (Rejected OtherEnd) one two = refl
+-- ---- moves
+
+-- a list of moves stops, or leads elsewhere
+abbrev Stops : Diagram → List Move → Why → Type 0
+Stops d moves cause = (place : ℕ) × ((fault : MoveFault) × (StopsAt d moves place fault × (cause ≡ why.Step place fault)))
+
+cause_of_moves : (d e : Diagram) (moves : List Move) (cause : Why) → IsCauseOfMoves d e moves cause → Stops d moves cause ⊎ (LeadsElsewhere d e moves × (cause ≡ why.OtherEnd))
+cause_of_moves d e moves (why.Step place fault) is = inl (place, (fault, (is, refl)))
+cause_of_moves d e moves why.OtherEnd is = inr (is, refl)
+cause_of_moves d e moves (why.Wide which bottoms) is = absurd is
+cause_of_moves d e moves (why.List which place) is = absurd is
+cause_of_moves d e moves why.SameLength is = absurd is
+cause_of_moves d e moves why.NoEvidence is = absurd is
+
+-- moves that have a cause do not join
+not_joined : (d e : Diagram) (moves : List Move) (cause : Why) → IsCauseOfMoves d e moves cause → Joins d moves e → ⊥
+not_joined d e moves cause is joined = elim (cause_of_moves d e moves cause is) [
+  | inl stops ↦ not_both moves d e stops.0 stops.1.0 stops.1.1.0 joined
+  | inr other ↦ other.0.1.1 (joins_once moves d other.0.0 e other.0.1.0 joined)
+]
+
+-- and have one
+one_cause_of_moves : (d e : Diagram) (moves : List Move) (cause cause' : Why) → IsCauseOfMoves d e moves cause → IsCauseOfMoves d e moves cause' → cause ≡ cause'
+one_cause_of_moves d e moves cause cause' is is' = elim (cause_of_moves d e moves cause is) [
+  | inl stops ↦ elim (cause_of_moves d e moves cause' is') [
+    | inl stops' ↦
+        let same = stops_once moves d stops.0 stops'.0 stops.1.0 stops'.1.0 stops.1.1.0 stops'.1.1.0 in
+        stops.1.1.1 ∙ ap₂ (λ (p : ℕ) (f : MoveFault). why.Step p f) same.0 same.1 ∙ sym stops'.1.1.1
+    | inr other' ↦ absurd (not_both moves d other'.0.0 stops.0 stops.1.0 stops.1.1.0 other'.0.1.0)
+  ]
+  | inr other ↦ elim (cause_of_moves d e moves cause' is') [
+    | inl stops' ↦ absurd (not_both moves d other.0.0 stops'.0 stops'.1.0 stops'.1.1.0 other.0.1.0)
+    | inr other' ↦ other.1 ∙ sym other'.1
+  ]
+]
 
 same_by : (d e : Diagram) (a b : Bool) → bytes_eq d.x e.x ≡ a → bytes_eq d.o e.o ≡ b → (d ≡ e) ⊎ (d ≢ e)
 same_by d e true true x o =
@@ -30,12 +65,75 @@ same_by d e true true x o =
 same_by d e true false x o = inr (λ same. let yes = (bytes_eq-Decides d.o e.o).1 (ap (λ (f : Diagram). f.o) same) in absurd cc)
 same_by d e false b x o = inr (λ same. let yes = (bytes_eq-Decides d.x e.x).1 (ap (λ (f : Diagram). f.x) same) in absurd cc)
 
-pub some_ruling : (moves : List Move) (d e : Diagram) → IsGrid d → (ruling : Ruling) × Rules d moves e ruling
-some_ruling moves d e grid =
+some_ruling_on_moves : (d e : Diagram) (moves : List Move) → IsGrid d → (ruling : Ruling) × RulesOn d e (Equal moves) ruling
+some_ruling_on_moves d e moves grid =
     elim (joins_or_stops moves d grid) [
       | inl joined ↦ elim (same_by joined.0 e (bytes_eq joined.0.x e.x) (bytes_eq joined.0.o e.o) refl refl) [
         | inl same ↦ (Accepted, subst (λ f. Joins d moves f) same joined.1)
-        | inr other ↦ (Rejected OtherEnd, (joined.0, (joined.1, other)))
+        | inr other ↦ (Rejected why.OtherEnd, (joined.0, (joined.1, other)))
       ]
-      | inr stop ↦ (Rejected (Step stop.0 stop.1.0), stop.1.1)
+      | inr stop ↦ (Rejected (why.Step stop.0 stop.1.0), stop.1.1)
     ]
+
+-- ---- lists of colourings
+
+-- lists that have a cause do not tell apart
+not_told : (t : Table) (d e : Diagram) (one two : List (List ℕ)) (cause : Why) → cause_of_lists t d e one two ≡ Some cause → TellsApart t d e one two → ⊥
+not_told t d e one two cause is told =
+    let no : ◌≡◌ {A = Option Why} None (Some cause) = sym (no_cause_where_told_apart t d e one two told) ∙ is in
+    cc
+
+-- lists of which no cause was found by the same quandle
+pub accepted_lists : (d e : Diagram) (listed : NamedQuandle) (one two : List (ArrayVec ℕ)) (t : Table) (o : Option Why) → t ≡ listed.table → o ≡ cause_of_lists t d e (lists_of one) (lists_of two) → o ≡ None → RulesOn d e (Different listed one two) Accepted
+accepted_lists d e listed one two t o same found none =
+    tells_apart listed.table d e (lists_of one) (lists_of two) (sym (ap (λ (z : Table). cause_of_lists z d e (lists_of one) (lists_of two)) same) ∙ sym found ∙ none)
+
+some_ruling_on_lists : (d e : Diagram) (listed : NamedQuandle) (one two : List (ArrayVec ℕ)) → (ruling : Ruling) × RulesOn d e (Different listed one two) ruling
+some_ruling_on_lists d e listed one two = by (cause_of_lists listed.table d e (lists_of one) (lists_of two)) refl
+  where
+    by : (o : Option Why) → cause_of_lists listed.table d e (lists_of one) (lists_of two) ≡ o → (ruling : Ruling) × RulesOn d e (Different listed one two) ruling
+    by None none = (Accepted, tells_apart listed.table d e (lists_of one) (lists_of two) none)
+    by (Some cause) is = (Rejected cause, is)
+
+-- ---- verdicts
+
+-- evidence that holds has no cause
+pub not_held : (d e : Diagram) (verdict : Verdict) (cause : Why) → IsCause d e verdict cause → Holds d e verdict → ⊥
+not_held d e (Equal moves) cause is holds = not_joined d e moves cause is holds
+not_held d e (Different listed one two) cause is holds = not_told listed.table d e (lists_of one) (lists_of two) cause is holds
+not_held d e (UnknownBudget budget) cause is holds = holds
+not_held d e (UnknownExhausted cap admitted) cause is holds = holds
+
+-- and evidence that does not has one first cause
+one_cause : (d e : Diagram) (verdict : Verdict) (cause cause' : Why) → IsCause d e verdict cause → IsCause d e verdict cause' → cause ≡ cause'
+one_cause d e (Equal moves) cause cause' is is' = one_cause_of_moves d e moves cause cause' is is'
+one_cause d e (Different listed one two) cause cause' is is' = let same : ◌≡◌ {A = Option Why} (Some cause) (Some cause') = sym is ∙ is' in cc
+one_cause d e (UnknownBudget budget) cause cause' is is' = is ∙ sym is'
+one_cause d e (UnknownExhausted cap admitted) cause cause' is is' = is ∙ sym is'
+
+pub ruled_once : (d e : Diagram) (verdict : Verdict) (ruling other : Ruling) → RulesOn d e verdict ruling → RulesOn d e verdict other → ruling ≡ other
+ruled_once d e verdict Accepted Accepted one two = refl
+ruled_once d e verdict Accepted (Rejected cause) one two = absurd (not_held d e verdict cause two one)
+ruled_once d e verdict (Rejected cause) Accepted one two = absurd (not_held d e verdict cause one two)
+ruled_once d e verdict (Rejected cause) (Rejected cause') one two = ap (λ (z : Why). Rejected z) (one_cause d e verdict cause cause' one two)
+
+pub some_ruling : (d e : Diagram) (verdict : Verdict) → IsGrid d → (ruling : Ruling) × RulesOn d e verdict ruling
+some_ruling d e (Equal moves) grid = some_ruling_on_moves d e moves grid
+some_ruling d e (Different listed one two) grid = some_ruling_on_lists d e listed one two
+some_ruling d e (UnknownBudget budget) grid = (Rejected why.NoEvidence, refl)
+some_ruling d e (UnknownExhausted cap admitted) grid = (Rejected why.NoEvidence, refl)
+
+pub accepted_where_held : (d e : Diagram) (verdict : Verdict) (ruling : Ruling) → RulesOn d e verdict ruling → (ruling ≡ Accepted) ↔ Holds d e verdict
+accepted_where_held d e verdict ruling rules =
+    ((λ accepted. subst (λ (r : Ruling). RulesOn d e verdict r) accepted rules), (λ holds. ruled_once d e verdict ruling Accepted rules holds))
+
+-- the same of a call that may want memory
+pub accepted_if_ruled : {E : Type 0} (result : Result Ruling E) (d e : Diagram) (verdict : Verdict) → IfOk result (λ ruling. RulesOn d e verdict ruling) → IfOk result (λ ruling. (ruling ≡ Accepted) ↔ Holds d e verdict)
+accepted_if_ruled (Ok ruling) d e verdict rules = accepted_where_held d e verdict ruling rules
+accepted_if_ruled (Err fault) d e verdict rules = tt
+
+-- ---- what an accepted verdict means
+
+pub told_apart : (t : Table) (d e : Diagram) (one two : List (List ℕ)) → IsQuandle t → TellsApart t d e one two → Equivalent d e → ⊥
+told_apart t d e one two quandle told equivalent =
+    told.differ (ap (λ (z : List (List ℕ)). length z) told.first ∙ equivalent_lengths t quandle d e equivalent ∙ sym (ap (λ (z : List (List ℕ)). length z) told.second))

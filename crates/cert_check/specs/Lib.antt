@@ -1,1 +1,10 @@
+pub mod Evidence
+pub mod Cause
 pub mod Ruling
+pub use Rattle.grid_core.specs.Diagram
+pub use Rattle.grid_core.specs.Parts
+pub use Rattle.grid_moves.specs.Joining
+pub use Rattle.quandle_core.specs.Quandle
+pub use Rattle.colour_list.specs.Listing
+pub use Rattle.colour_list.specs.Fits
+pub use Rattle.knot_text.specs.Shapes

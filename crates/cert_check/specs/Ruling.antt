@@ -1,23 +1,12 @@
--- What a checker of moves answers, and when.
-use Rattle.std.specs.Prelude.{◌≢◌, List}
+-- What a checker of evidence answers.
 use Rattle.grid_core.specs.Diagram.{Diagram}
-use Rattle.grid_moves.specs.declared.step.Move.{Move}
-use Rattle.grid_moves.specs.Joining.{Joins, StopsAt}
+use Rattle.knot_text.specs.declared.verdict.Verdict.{Verdict}
 use Rattle.cert_check.specs.declared.ruling.Ruling.{Ruling}
 use Rattle.cert_check.specs.declared.ruling.Ruling.TheVariants.{Accepted, Rejected}
-use Rattle.cert_check.specs.declared.ruling.Why.{Why}
-use Rattle.cert_check.specs.declared.ruling.Why.TheVariants.{Step, OtherEnd}
+use Rattle.cert_check.specs.Evidence.{Holds}
+use Rattle.cert_check.specs.Cause.{IsCause}
 
--- the moves lead from d, but not to e
-abbrev pub LeadsElsewhere : Diagram → List Move → Diagram → Type 0
-LeadsElsewhere d moves e = (f : Diagram) × (Joins d moves f × (f ≢ e))
-
--- the first cause for which the moves do not join d to e
-abbrev pub IsCause : Diagram → List Move → Diagram → Why → Type 0
-IsCause d moves e (Step place fault) = StopsAt d moves place fault
-IsCause d moves e OtherEnd = LeadsElsewhere d moves e
-
--- accepted where the moves join d to e, else rejected for the first cause
-abbrev pub Rules : Diagram → List Move → Diagram → Ruling → Type 0
-Rules d moves e Accepted = Joins d moves e
-Rules d moves e (Rejected why) = IsCause d moves e why
+-- a verdict on d and e is accepted where its evidence holds, else rejected for the first cause
+abbrev pub RulesOn : Diagram → Diagram → Verdict → Ruling → Type 0
+RulesOn d e verdict Accepted = Holds d e verdict
+RulesOn d e verdict (Rejected cause) = IsCause d e verdict cause

@@ -1,10 +1,15 @@
-//! The checker of certificates, which rules on evidence that somebody else found.
+//! The checker of evidence: it rules on a verdict on two diagrams that somebody else found.
 //! It accepts exactly what holds, and otherwise names the first cause.
 #![tactic(auto)]
 
 pub mod laws;
+mod lists;
 mod moves;
 mod ruling;
+#[cfg(test)]
+mod tests;
+mod verdict;
 
 pub use moves::check_moves;
 pub use ruling::{Ruling, Why};
+pub use verdict::check;

@@ -1,17 +1,21 @@
-//! The ruling on a list of moves between two diagrams.
-ghost use Rattle.cert_check.specs.Ruling.{Rules};
+//! The ruling on a list of moves.
+ghost use Rattle.std.specs.Prelude.{◌≡◌, ◌↔◌};
+ghost use Rattle.grid_moves.specs.Joining.{Joins};
+ghost use Rattle.cert_check.specs.Ruling.{RulesOn};
 
 use crate::ruling::{Ruling, Why};
 use grid_core::Grid;
 use grid_moves::{Move, apply_all};
+use knot_text::Verdict;
 
-/// Whether the steps join the first grid to the second: accepted exactly where they do.
-/// Else rejected, for the first step that is not legal where it is made, or, where all are legal,
-/// for the other diagram that they lead to. It takes no memory, and one pass over the steps.
-pub fn check_moves(first: &Grid, second: &Grid, steps: &[Move]) -> Ruling
-    ensures { Rules first.now steps.now second.now result }
+/// Whether the moves join the first grid to the second: accepted exactly where they do.
+/// Else rejected, for the first move that is not legal where it is made, or, where all are legal,
+/// for the other diagram that they lead to. It takes no memory, and one pass over the moves.
+pub fn check_moves(first: &Grid, second: &Grid, moves: &[Move]) -> Ruling
+    ensures ruling { RulesOn first.now second.now (Verdict.Equal moves.now) result }
+    ensures accepted { (result ≡ Ruling.Accepted) ↔ Joins first.now moves.now second.now }
 {
-    match apply_all(first, steps) {
+    match apply_all(first, moves) {
         Err((place, fault)) => Ruling::Rejected(Why::Step { place, fault }),
         Ok(end) if end.same_as(second) => Ruling::Accepted,
         Ok(_) => Ruling::Rejected(Why::OtherEnd),
