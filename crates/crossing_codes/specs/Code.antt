@@ -1,0 +1,49 @@
+-- Planar diagram codes of grid diagrams, in the order of the KnotTheory package.
+use Rattle.std.specs.Prelude.{ℕ, Bool, true, false, map, length, ℤ, pos, negsuc, ◌*ℤ◌, ◌-ℤ◌, neg_ℤ, int_lt, if◌then◌else◌}
+use Rattle.grid_core.specs.Diagram.{Diagram}
+use Rattle.grid_core.specs.Parts.{is_up}
+use Rattle.crossing_codes.specs.declared.crossing.Code.{Code}
+use Rattle.crossing_codes.specs.declared.crossing.Crossing.{Crossing}
+use Rattle.crossing_codes.specs.Passages.{Crossed, crossings, through, is_rightward, passages}
+use Rattle.crossing_codes.specs.Edges.{edge_from, edge_to, loops}
+
+-- the directions in which a column and a row run
+pub record Direction : Type 0 where
+  pub x : ℤ
+  pub y : ℤ
+
+abbrev pub column_direction : Diagram → ℕ → Direction
+column_direction d c = record { x = pos 0; y = if is_up d c then pos 1 else negsuc 0 }
+
+abbrev pub row_direction : Diagram → ℕ → Direction
+row_direction d r = record { x = if is_rightward d r then pos 1 else negsuc 0; y = pos 0 }
+
+-- a crossing is positive where ox uy - oy ux is, for the direction o of the strand over and u of the strand under
+abbrev pub is_positive_turn : Direction → Direction → Bool
+is_positive_turn o u = int_lt (pos 0) ((o.x *ℤ u.y) -ℤ (o.y *ℤ u.x))
+
+abbrev pub is_positive : Diagram → Crossed → Bool
+is_positive d at = is_positive_turn (column_direction d at.column) (row_direction d at.row)
+
+-- the other way, and a quarter turn counterclockwise
+abbrev pub opposite : Direction → Direction
+opposite v = record { x = neg_ℤ v.x; y = neg_ℤ v.y }
+
+abbrev pub turned_left : Direction → Direction
+turned_left v = record { x = neg_ℤ v.y; y = v.x }
+
+-- the edges counterclockwise from that on which the strand under comes: at a positive crossing the strand over runs from the fourth to the second, at a negative one from the second to the fourth
+abbrev pub crossing : Diagram → Crossed → Crossing
+crossing d at =
+    let under = through false at in
+    let over = through true at in
+    record {
+      first = edge_from d under;
+      second = if is_positive d at then edge_to d over else edge_from d over;
+      third = edge_to d under;
+      fourth = if is_positive d at then edge_from d over else edge_to d over;
+      positive = is_positive d at;
+    }
+
+abbrev pub code : Diagram → Code
+code d = record { crossings = map (crossing d) (crossings d); edges = length (passages d); loops = length (loops d) }

@@ -1,0 +1,38 @@
+-- The colours of the edges and loops of a diagram's code that a colouring of its columns gives.
+use Rattle.std.specs.Prelude.{ℕ, ◌+◌, ◌-◌, ◌==◌, List, [], ◌∷◌, ◌++◌, map, filter, fold, length, slice_index, if◌then◌else◌}
+use Rattle.std.specs.List.{range_with_len, position_or_len, list_any}
+use Rattle.grid_core.specs.Diagram.{Diagram}
+use Rattle.grid_core.specs.Parts.{covers, ends}
+use Rattle.quandle_core.specs.Quandle.{Table}
+use Rattle.colour_rows.specs.Walk.{under}
+use Rattle.crossing_codes.specs.declared.passage.Passage.{Passage}
+use Rattle.crossing_codes.specs.Components.{component}
+use Rattle.crossing_codes.specs.Passages.{passages, passages_from, is_rightward}
+use Rattle.crossing_codes.specs.Edges.{place, loops}
+
+-- the colour of the walk of row r when it has come to column c, before it passes under it
+abbrev pub walk_to : Table → Diagram → List ℕ → ℕ → ℕ → ℕ
+walk_to t d colours r c =
+    fold (under t d colours) (slice_index colours (ends d r).low)
+    (filter (λ b. covers d b r) (range_with_len ((ends d r).low + 1) (c - (ends d r).low - 1)))
+
+-- the colour of the walk of row r on the side of column c from which its strand comes, which is that of the row's O
+abbrev pub walk_before : Table → Diagram → List ℕ → ℕ → ℕ → ℕ
+walk_before t d colours r c =
+    if is_rightward d r then walk_to t d colours r c else under t d colours (walk_to t d colours r c) c
+
+-- the colour with which the strand comes to a passage: the column's own, or that of the row's walk at this place
+abbrev pub arriving : Table → Diagram → List ℕ → Passage → ℕ
+arriving t d colours p = if p.over then slice_index colours p.column else walk_before t d colours p.row p.column
+
+-- the colours of the edges, each the one that leads to a passage, and then of the loops
+abbrev pub edge_colours : Table → Diagram → List ℕ → List ℕ
+edge_colours t d colours = map (arriving t d colours) (passages d) ++ map (slice_index colours) (loops d)
+
+-- the place in the list of the edge or loop on which column c begins: of the edge that leads to the first passage from there on, or of the loop
+abbrev pub strand_by : Diagram → ℕ → List Passage → ℕ
+strand_by d c [] = length (passages d) + position_or_len (λ s. list_any (λ b. b == c) (component d s)) (loops d)
+strand_by d c (p ∷ ps) = place d p
+
+abbrev pub strand : Diagram → ℕ → ℕ
+strand d c = strand_by d c (passages_from d c)

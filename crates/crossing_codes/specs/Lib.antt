@@ -1,0 +1,16 @@
+pub mod Components
+pub mod Passages
+pub mod Edges
+pub mod Code
+pub mod CodeColouring
+pub mod EdgeColours
+pub mod Printed
+pub mod Layout
+pub mod OnTheWay
+pub use Rattle.grid_core.specs.Diagram
+pub use Rattle.grid_core.specs.Span
+pub use Rattle.grid_core.specs.Parts
+pub use Rattle.quandle_core.specs.Quandle
+pub use Rattle.colour_rows.specs.Walk
+pub use Rattle.colour_rows.specs.Colouring
+pub use Rattle.colour_list.specs.Listing

@@ -1,0 +1,83 @@
+//! Laws of crossing codes, over the definitions alone.
+ghost use Rattle.std.specs.Prelude.{◌≡◌, ◌<◌, ◌≤◌, ◌+◌, ◌*◌, ◌++◌, ◌↔◌, ℕ, true, false, List, map, flat_map, length, slice_index, Contains, IsPermutation, if◌then◌else◌};
+ghost use Rattle.std.specs.List.{range_with_len};
+ghost use Rattle.grid_core.specs.Diagram.{Diagram, IsGrid, size};
+ghost use Rattle.grid_core.specs.Span.{lies_within};
+ghost use Rattle.grid_core.specs.Parts.{covers, ends};
+ghost use Rattle.quandle_core.specs.Quandle.{Table, IsQuandle};
+ghost use Rattle.colour_rows.specs.Colouring.{IsColouring};
+ghost use Rattle.colour_list.specs.Listing.{colourings};
+ghost use Rattle.crossing_codes.specs.Components.{component, starts};
+ghost use Rattle.crossing_codes.specs.Passages.{Crossed, crossings, through, passages, passages_from};
+ghost use Rattle.crossing_codes.specs.Edges.{leads_to, edges_after, edge_from, edge_to};
+ghost use Rattle.crossing_codes.specs.Code.{Direction, column_direction, row_direction, opposite, turned_left, is_positive, code};
+ghost use Rattle.crossing_codes.specs.CodeColouring.{edge_colour, is_code_colouring, code_colourings};
+ghost use Rattle.crossing_codes.specs.EdgeColours.{edge_colours, strand};
+
+/// The edge colours of each colouring are a colouring of the code, and each colouring of the code is the edge colours of exactly one colouring. So there are as many.
+pub fn code_colourings_are_the_colourings()
+    ensures coloured { (t : Table) (d : Diagram) (colours : List ℕ) → IsQuandle t → IsGrid d
+        → IsColouring t d colours
+        → is_code_colouring t (code d) (edge_colours t d colours) ≡ true }
+    ensures onto { (t : Table) (d : Diagram) (edges : List ℕ) → IsQuandle t → IsGrid d
+        → is_code_colouring t (code d) edges ≡ true
+        → (colours : List ℕ) × IsColouring t d colours × (edge_colours t d colours ≡ edges) }
+    ensures one { (t : Table) (d : Diagram) (colours others : List ℕ) → IsQuandle t → IsGrid d
+        → IsColouring t d colours
+        → IsColouring t d others
+        → edge_colours t d colours ≡ edge_colours t d others
+        → colours ≡ others }
+    ensures count { (t : Table) (d : Diagram) → IsQuandle t → IsGrid d → length (code_colourings t (code d)) ≡ length (colourings t d) }
+{}
+
+/// Each column has the colour of the edge or loop on which it begins, and of the edges between which it passes over a row.
+pub fn a_column_has_the_colour_of_its_edges()
+    ensures begins { (t : Table) (d : Diagram) (colours : List ℕ) (c : ℕ) → IsQuandle t → IsGrid d → IsColouring t d colours
+        → c < size d
+        → slice_index (edge_colours t d colours) (strand d c) ≡ slice_index colours c }
+    ensures comes { (t : Table) (d : Diagram) (colours : List ℕ) (at : Crossed) → IsQuandle t → IsGrid d → IsColouring t d colours
+        → Contains (crossings d) at
+        → edge_colour (edge_colours t d colours) (edge_from d (through true at)) ≡ slice_index colours at.column }
+    ensures goes { (t : Table) (d : Diagram) (colours : List ℕ) (at : Crossed) → IsQuandle t → IsGrid d → IsColouring t d colours
+        → Contains (crossings d) at
+        → edge_colour (edge_colours t d colours) (edge_to d (through true at)) ≡ slice_index colours at.column }
+{}
+
+/// A crossing stands where a column covers a row and lies strictly between the row's ends.
+pub fn where_crossings_stand()
+    ensures { (d : Diagram) (at : Crossed)
+        → Contains (crossings d) at ↔ ((at.row < size d) × (covers d at.column at.row ≡ true) × (lies_within (ends d at.row) at.column ≡ true)) }
+{}
+
+/// The components share out the columns: each column is in exactly one, and none comes before the start of its component.
+pub fn the_components_share_out_the_columns()
+    ensures each { (d : Diagram) → IsGrid d → IsPermutation (range_with_len 0 (size d)) (flat_map (component d) (starts d)) }
+    ensures least { (d : Diagram) (s c : ℕ) → Contains (starts d) s → Contains (component d s) c → s ≤ c }
+{}
+
+/// Each crossing is passed once over and once under, so there are twice as many passages as crossings.
+pub fn each_crossing_is_passed_twice()
+    ensures each { (d : Diagram) → IsGrid d → IsPermutation (passages d) (map (through true) (crossings d) ++ map (through false) (crossings d)) }
+    ensures count { (d : Diagram) → IsGrid d → length (passages d) ≡ 2 * length (crossings d) }
+{}
+
+/// Each edge leads to one passage, and each comes from one.
+pub fn each_edge_lies_between_two_passages()
+    ensures ends { (d : Diagram) → IsGrid d → map (edge_from d) (passages d) ≡ range_with_len 1 (length (passages d)) }
+    ensures begins { (d : Diagram) → IsGrid d → map (edge_to d) (passages d) ≡ edges_after d }
+    ensures each { (d : Diagram) → IsGrid d → IsPermutation (range_with_len 1 (length (passages d))) (edges_after d) }
+{}
+
+/// The edges of a component are consecutive, and lie between its passages in their order, the last of which leads back to the first edge.
+pub fn the_edges_of_a_component_are_consecutive()
+    ensures { (d : Diagram) (s : ℕ) → IsGrid d → Contains (starts d) s
+        → (b : ℕ) × (map (edge_from d) (passages_from d s) ≡ range_with_len (b + 1) (length (passages_from d s)))
+        × (map (edge_to d) (passages_from d s) ≡ leads_to b (length (passages_from d s))) }
+{}
+
+/// The edges of a crossing stand counterclockwise: the second one leaves the crossing a quarter turn from the first, on which the strand under comes.
+/// That is the edge on which the strand over leaves at a positive crossing, and the one on which it comes at a negative one.
+pub fn the_edges_of_a_crossing_stand_counterclockwise()
+    ensures { (d : Diagram) (at : Crossed)
+        → (if is_positive d at then column_direction d at.column else opposite (column_direction d at.column)) ≡ turned_left (opposite (row_direction d at.row)) }
+{}
