@@ -1,0 +1,29 @@
+-- Keys: a grid as two numbers.
+use Rattle.std.specs.Prelude.{ℕ, ◌+◌, ◌-◌, ◌*◌, ◌/◌, ◌%◌, ◌^◌, List, [], ◌∷◌, ◌++◌, length, replicate}
+use Rattle.std.specs.Ordering.{nat_cmp, ordering_then}
+use Rattle.std.specs.declared.cmp.Ordering.{Ordering}
+use Rattle.grid_core.specs.declared.grid.TheConstants.{MAX_SIZE}
+use Rattle.grid_core.specs.Diagram.{Diagram, size}
+use Rattle.grid_canon.specs.declared.packed.TheConstants.{BASE}
+use Rattle.grid_canon.specs.declared.packed.Packed.{Packed}
+
+-- the number with these digits to the base, the highest first
+abbrev pub number : List ℕ → ℕ
+number [] = 0
+number (digit ∷ digits) = digit * BASE ^ length digits + number digits
+
+-- the rows by column, with 0 for each column from their number to the greatest size
+abbrev pub filled : List ℕ → List ℕ
+filled rows = rows ++ replicate (MAX_SIZE - length rows) 0
+
+-- the key of a diagram: its size and the rows of its Xs, and the rows of its Os
+abbrev pub key_of : Diagram → Packed
+key_of d = record { first = number (size d ∷ filled d.x); second = number (filled d.o) }
+
+-- the order of keys: by the first number, then by the second
+abbrev pub compare_keys : Packed → Packed → Ordering
+compare_keys p q = ordering_then (nat_cmp p.first q.first) (nat_cmp p.second q.second)
+
+-- the digit of column c in the number of a key; only private clauses and proofs cite it
+abbrev pub digit_at : ℕ → ℕ → ℕ
+digit_at value c = value / BASE ^ (MAX_SIZE - 1 - c) % BASE

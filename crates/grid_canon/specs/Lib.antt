@@ -1,0 +1,9 @@
+pub mod Translate
+pub mod Shifts
+pub mod Order
+pub mod Canonical
+pub mod Cornered
+pub mod Key
+pub mod LeastKey
+pub use Rattle.grid_core.specs.Diagram
+pub use Rattle.grid_moves.specs.Shift

@@ -1,0 +1,14 @@
+//! One name for all translates of a grid diagram: the least of them, with the shifts that reach it, and the key of two numbers.
+//! Two diagrams are translates of each other exactly where their canonical forms have one key.
+#![tactic(auto)]
+
+pub mod laws;
+mod least;
+mod packed;
+#[cfg(test)]
+mod tests;
+mod translation;
+
+pub use least::{LeastForm, LeastKey, canonical, canonical_key};
+pub use packed::{BASE, Packed, pack, unpack};
+pub use translation::translate;

@@ -1,0 +1,199 @@
+//! Canonical forms and keys on worked examples, and the plain search over all translates beside them.
+ghost use Rattle.std.specs.Prelude.{◌<◌, ◌≤◌};
+
+use crate::{LeastForm, LeastKey, Packed, canonical, canonical_key, pack, translate, unpack};
+use grid_core::{Grid, MAX_SIZE};
+use std::test::Fail;
+
+/// The form with its shifts, as (x, o, columns, rows), is the canonical one of two lists.
+fn has_form(x: &[u8], o: &[u8], form_x: &[u8], form_o: &[u8], columns: u8, rows: u8) -> bool {
+    match (Grid::new(x, o), Grid::new(form_x, form_o)) {
+        (Ok(grid), Ok(expected)) => {
+            let form = canonical(&grid);
+            form.grid.same_as(&expected) && form.columns == columns && form.rows == rows
+        }
+        _ => false,
+    }
+}
+
+#[test]
+fn canonical_forms_are_those_worked_out(rt: HostRuntime) -> Result<(), Fail> {
+    let cases: [(&[u8], &[u8], &[u8], &[u8], u8, u8); 5] = [
+        (
+            &[4, 3, 2, 1, 0],
+            &[2, 1, 0, 4, 3],
+            &[0, 4, 3, 2, 1],
+            &[3, 2, 1, 0, 4],
+            0,
+            4,
+        ),
+        (
+            &[0, 1, 2, 3, 4],
+            &[2, 3, 4, 0, 1],
+            &[0, 1, 2, 3, 4],
+            &[2, 3, 4, 0, 1],
+            0,
+            0,
+        ),
+        (
+            &[0, 1, 2, 3],
+            &[2, 3, 1, 0],
+            &[0, 1, 2, 3],
+            &[1, 3, 0, 2],
+            3,
+            3,
+        ),
+        (&[0, 1], &[1, 0], &[0, 1], &[1, 0], 0, 0),
+        (&[1, 0], &[0, 1], &[0, 1], &[1, 0], 0, 1),
+    ];
+    for (x, o, form_x, form_o, columns, rows) in cases {
+        assert!(rt;
+            has_form(x, o, form_x, form_o, columns, rows),
+            "{x:?} {o:?}"
+        );
+    }
+    Ok(())
+}
+
+/// The least of all translates with its least shifts, by the order of keys.
+fn plain_form(grid: &Grid) -> (Packed, u8, u8) {
+    let size = grid.size();
+    let mut best = (pack(grid), 0, 0);
+    for columns in 0..size {
+        for rows in 0..size {
+            let key = pack(&translate(grid, columns, rows));
+            if key < best.0 {
+                best = (key, columns, rows);
+            }
+        }
+    }
+    best
+}
+
+/// Whether the form is that of the plain search, and its key is read back.
+fn is_plain(grid: &Grid) -> bool {
+    let form = canonical(grid);
+    let again = form.copy();
+    let key = pack(&form.grid);
+    let least = LeastKey {
+        key,
+        columns: again.columns,
+        rows: again.rows,
+    };
+    canonical_key(grid) == least
+        && plain_form(grid) == (key, least.columns, least.rows)
+        && is_read_back(&form, key)
+}
+
+/// Whether a key gives the grid of a form.
+fn is_read_back(form: &LeastForm, key: Packed) -> bool {
+    match unpack(key) {
+        Some(grid) => grid.same_as(&form.grid),
+        None => false,
+    }
+}
+
+#[test]
+fn the_plain_search_over_all_translates_agrees(rt: HostRuntime) -> Result<(), Fail> {
+    let cases: [(&[u8], &[u8]); 7] = [
+        (&[0, 1], &[1, 0]),
+        (&[1, 0, 2], &[0, 2, 1]),
+        (&[4, 3, 2, 1, 0], &[2, 1, 0, 4, 3]),
+        (&[0, 1, 2, 3], &[2, 3, 1, 0]),
+        (&[4, 3, 2, 0, 1, 5, 6], &[6, 5, 4, 3, 2, 1, 0]),
+        (&[1, 0, 3, 2, 5, 4], &[0, 1, 2, 3, 4, 5]),
+        (
+            &[0, 1, 2, 3, 4, 5, 6, 7, 8, 9],
+            &[1, 0, 3, 2, 5, 4, 7, 6, 9, 8],
+        ),
+    ];
+    for (x, o) in cases {
+        let Ok(grid) = Grid::new(x, o) else {
+            return Err(Fail::from("no grid"));
+        };
+        assert!(rt; is_plain(&grid), "{x:?} {o:?}");
+    }
+    Ok(())
+}
+
+/// One more as the size in a key: a digit has five bits, and stands before one for each column.
+const SIZE_DIGIT: u128 = 1 << (5 * MAX_SIZE);
+
+/// One more as the row of the second column.
+const SECOND_ROW: u128 = 1 << (5 * (MAX_SIZE - 2));
+
+#[test]
+fn numbers_that_are_no_key_are_refused(rt: HostRuntime) -> Result<(), Fail> {
+    let Ok(unknot) = Grid::new(&[0, 1], &[1, 0]) else {
+        return Err(Fail::from("no grid"));
+    };
+    let key = pack(&unknot);
+    let wrong = [
+        // a row out of range, a row twice, a number behind the last column, another size
+        (key.first + SECOND_ROW, key.second),
+        (key.first - SECOND_ROW, key.second),
+        (key.first + 1, key.second),
+        (key.first, key.second + 1),
+        (key.first + SIZE_DIGIT, key.second),
+        (key.first - 2 * SIZE_DIGIT, key.second),
+        (key.first, key.second + SIZE_DIGIT),
+        (u128::MAX, u128::MAX),
+    ];
+    assert!(rt; unpack(key).is_some());
+    for (first, second) in wrong {
+        assert!(rt;
+            unpack(Packed { first, second }).is_none(),
+            "{first} {second}"
+        );
+    }
+    Ok(())
+}
+
+#[test]
+fn there_are_as_many_canonical_diagrams_as_were_counted(rt: HostRuntime) -> Result<(), Fail> {
+    assert_eq!(rt; canonical_diagrams(2, 4), 1);
+    assert_eq!(rt; canonical_diagrams(3, 27), 4);
+    assert_eq!(rt; canonical_diagrams(4, 256), 19);
+    Ok(())
+}
+
+/// The number of canonical diagrams of a size, among all pairs of lists of as many rows.
+fn canonical_diagrams(n: u8, lists: u16) -> u32
+    requires least { 1 < n }
+    requires most { n ≤ 4 }
+{
+    let mut count: u32 = 0;
+    for first in 0..lists {
+        for second in 0..lists {
+            if is_canonical(digits(first, n), digits(second, n), n) {
+                count = count.saturating_add(1);
+            }
+        }
+    }
+    count
+}
+
+/// Whether the first rows of two lists are a diagram that is its own canonical form.
+fn is_canonical(x: [u8; 4], o: [u8; 4], n: u8) -> bool
+    requires { n ≤ 4 }
+{
+    let (x, _) = x.split_at(n as usize);
+    let (o, _) = o.split_at(n as usize);
+    match Grid::new(x, o) {
+        Ok(grid) => canonical(&grid).grid.same_as(&grid),
+        Err(_) => false,
+    }
+}
+
+/// The four last digits of a number to a base, the last one first.
+fn digits(number: u16, base: u8) -> [u8; 4]
+    requires { 1 < base }
+{
+    let mut digits = [0; 4];
+    let mut rest = number;
+    for digit in digits.iter_mut() {
+        *digit = (rest % u16::from(base)) as u8;
+        rest /= u16::from(base);
+    }
+    digits
+}

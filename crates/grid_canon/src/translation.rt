@@ -1,0 +1,65 @@
+//! Translates.
+ghost use Rattle.std.specs.Prelude.{◌≡◌, ◌<◌, ◌≤◌, ◌+◌, ◌++◌, length, map};
+ghost use Rattle.std.specs.List.{All};
+ghost use Rattle.grid_core.specs.declared.grid.TheConstants.{MAX_SIZE};
+ghost use Rattle.grid_core.specs.Diagram.{size};
+ghost use Rattle.grid_moves.specs.Shift.{shifted};
+ghost use Rattle.grid_canon.specs.Translate.{turned, translate};
+
+use arrayvec::ArrayVec;
+use grid_core::{Grid, Kind, Rows};
+
+/// The grid after the shift of columns by `columns` and the shift of rows by `rows`, each from 0 to n - 1, where 0 means none.
+/// Takes no memory.
+pub fn translate(grid: &Grid, columns: u8, rows: u8) -> Grid
+    requires of_columns { columns < size grid.now }
+    requires of_rows { rows < size grid.now }
+    ensures { result ≡ translate grid.now columns rows }
+{
+    let size = grid.size();
+    Grid::of_rows(
+        turned(grid.rows(Kind::Cross), columns, rows, size),
+        turned(grid.rows(Kind::Ring), columns, rows, size),
+    )
+}
+
+/// The rows of a kind after both shifts.
+fn turned(list: &[u8], columns: u8, rows: u8, size: u8) -> Rows
+    requires size { size ≤ MAX_SIZE }
+    requires list { length list.now ≡ size }
+    requires inside { All (λ r. r < size) list.now }
+    requires of_columns { columns < size }
+    requires of_rows { rows < size }
+    ensures { result.items ≡ turned size columns rows list.now }
+{
+    let (left, right) = list.split_at(columns as usize);
+    let mut turned = ArrayVec::new();
+    push_lowered(&mut turned, right, rows, size);
+    push_lowered(&mut turned, left, rows, size);
+    turned
+}
+
+/// Appends some rows, each lower by a number, round the circle of as many as the size.
+fn push_lowered(list: &mut Rows, rows: &[u8], by: u8, size: u8)
+    requires room { length list.old.items + length rows.now ≤ MAX_SIZE }
+    requires by { by < size }
+    requires inside { All (λ r. r < size) rows.now }
+    ensures { list.new.items ≡ list.old.items ++ map (shifted size by) rows.now }
+{
+    for row in rows {
+        list.push(lowered(*row, by, size));
+    }
+}
+
+/// The new number of a row, of as many as the size, when the lowest `by` go to the top.
+pub(crate) fn lowered(row: u8, by: u8, size: u8) -> u8
+    requires by { by < size }
+    requires inside { row < size }
+    ensures { result ≡ shifted size by row }
+{
+    if row < by {
+        row + (size - by)
+    } else {
+        row - by
+    }
+}

@@ -1,0 +1,14 @@
+pub mod Extended
+pub mod Sides
+pub mod BlockRows
+pub mod Circle
+pub mod Rounds
+pub mod Turns
+pub mod BlockTurns
+pub mod Members
+pub mod Matched
+pub mod Complete
+pub mod Determined
+pub mod Linked
+pub mod Closed
+mod WorkedRows

@@ -1,0 +1,244 @@
+-- Each move that is no shift, on any translate, is matched by one of the tries: both lead to translates of each other.
+use Rattle.std.proofs.Common.{◌≡◌, ◌<◌, ◌+◌, ◌++◌, ◌∷◌, ◌∙◌, [], ℕ, List, true, false, map, arith, sym, ap, ap₂, subst, zero-add, ◌%◌}
+use Rattle.std.proofs.Math.Nat.{mod-eq_of_lt}
+use Rattle.std.specs.List.{Contains, range_with_len, flat_map}
+use Rattle.grid_core.specs.declared.mark.Kind.{Kind}
+use Rattle.grid_core.specs.declared.mark.Kind.TheVariants.{Cross, Ring}
+use Rattle.grid_core.specs.declared.mark.Corner.{Corner}
+use Rattle.grid_core.specs.declared.mark.Corner.TheVariants.{LowLeft, LowRight, HighLeft, HighRight}
+use Rattle.grid_core.specs.Diagram.{Diagram, IsGrid, size, row_of}
+use Rattle.grid_core.proofs.Marks.{row_below, mark_below}
+use Rattle.grid_moves.specs.declared.step.Move.{Move}
+use Rattle.grid_moves.specs.declared.step.Move.TheVariants.{ShiftColumns, ShiftRows, ExchangeColumns, ExchangeRows, Stabilise, Destabilise}
+use Rattle.grid_moves.specs.Shift.{shifted}
+use Rattle.grid_moves.specs.Step.{Step}
+use Rattle.grid_moves.proofs.Shifted.{shifted_below}
+use Rattle.grid_canon.specs.Translate.{translate, translates}
+use Rattle.grid_canon.proofs.Turned.{origin, origin-below, origin-shifted, size-translate, row_of-translate, translate-translate}
+use Rattle.grid_canon.proofs.Joined.{at_origin}
+use Rattle.grid_canon.proofs.LeastTranslates.{translates_contains, contains_left, contains_right, flat_map_contains, range_contains, map_contains}
+use Rattle.next_moves.specs.Neighbours.{is_shift}
+use Rattle.next_moves.specs.Tries.{Try, turn, place, tries, column_exchange, row_exchange, destabilisation, destabilisations, stabilisation, stabilisations, corners}
+use Rattle.next_moves.proofs.Members.{contains_first, contains_later}
+use Rattle.next_moves.proofs.Sides.{turn-below, place-below, first_origin}
+use Rattle.next_moves.proofs.Rounds.{brought, brought_next, brought_from}
+use Rattle.next_moves.proofs.Turns.{exchange_columns_turned, exchange_rows_turned}
+use Rattle.next_moves.proofs.BlockTurns.{stabilise_turned, destabilise_turned}
+
+-- a try on d leads to a translate of e
+pub record Matched (d e : Diagram) : Type 0 where
+  pub try : Try
+  pub among : Contains (tries (size d)) try
+  pub columns : try.before.0 < size d
+  pub rows : try.before.1 < size d
+  pub result : Diagram
+  pub step : Step (translate d try.before.0 try.before.1) try.step result
+  pub same : Contains (translates e) result
+
+-- the parts of the list of tries
+module _ (n : ℕ) where
+  abbrev columns_part : List Try
+  columns_part = map (column_exchange n) (range_with_len 0 n)
+
+  abbrev rows_part : List Try
+  rows_part = map (row_exchange n) (range_with_len 0 n)
+
+  abbrev blocks_part : List Try
+  blocks_part = flat_map (destabilisations n) (range_with_len 0 n)
+
+  abbrev marks_part : List Try
+  marks_part = flat_map stabilisations (range_with_len 0 n)
+
+  tries_column : (q : ℕ) → q < n → Contains (tries n) (column_exchange n q)
+  tries_column q lt =
+      contains_left (columns_part ++ rows_part ++ blocks_part) marks_part (column_exchange n q)
+      (contains_left (columns_part ++ rows_part) blocks_part (column_exchange n q)
+      (contains_left columns_part rows_part (column_exchange n q) (map_contains (column_exchange n) (range_with_len 0 n) q (range_contains n q lt))))
+
+  tries_row : (q : ℕ) → q < n → Contains (tries n) (row_exchange n q)
+  tries_row q lt =
+      contains_left (columns_part ++ rows_part ++ blocks_part) marks_part (row_exchange n q)
+      (contains_left (columns_part ++ rows_part) blocks_part (row_exchange n q)
+      (contains_right columns_part rows_part (row_exchange n q) (map_contains (row_exchange n) (range_with_len 0 n) q (range_contains n q lt))))
+
+  tries_block : (q s : ℕ) → q < n → s < n → Contains (tries n) (destabilisation n q s)
+  tries_block q s hq hs =
+      contains_left (columns_part ++ rows_part ++ blocks_part) marks_part (destabilisation n q s)
+      (contains_right (columns_part ++ rows_part) blocks_part (destabilisation n q s)
+      (flat_map_contains (destabilisations n) (range_with_len 0 n) q (destabilisation n q s) (range_contains n q hq) (map_contains (destabilisation n q) (range_with_len 0 n) s (range_contains n s hs))))
+
+  tries_mark : (q : ℕ) (kind : Kind) (corner : Corner) → q < n → Contains (tries n) (stabilisation q kind corner)
+  tries_mark q kind corner hq =
+      contains_right (columns_part ++ rows_part ++ blocks_part) marks_part (stabilisation q kind corner)
+      (flat_map_contains stabilisations (range_with_len 0 n) q (stabilisation q kind corner) (range_contains n q hq) (of_kind kind))
+    where
+      each : (corner : Corner) → Contains corners corner
+      each LowLeft = contains_first LowLeft (LowRight ∷ HighLeft ∷ HighRight ∷ [])
+      each LowRight = contains_later LowLeft (LowRight ∷ HighLeft ∷ HighRight ∷ []) LowRight (contains_first LowRight (HighLeft ∷ HighRight ∷ []))
+      each HighLeft = contains_later LowLeft (LowRight ∷ HighLeft ∷ HighRight ∷ []) HighLeft (contains_later LowRight (HighLeft ∷ HighRight ∷ []) HighLeft (contains_first HighLeft (HighRight ∷ [])))
+      each HighRight = contains_later LowLeft (LowRight ∷ HighLeft ∷ HighRight ∷ []) HighRight (contains_later LowRight (HighLeft ∷ HighRight ∷ []) HighRight (contains_later HighLeft (HighRight ∷ []) HighRight (contains_first HighRight [])))
+
+      of_kind : (kind : Kind) → Contains (stabilisations q) (stabilisation q kind corner)
+      of_kind Cross = contains_left (map (stabilisation q Cross) corners) (map (stabilisation q Ring) corners) (stabilisation q Cross corner) (map_contains (stabilisation q Cross) corners corner (each corner))
+      of_kind Ring = contains_right (map (stabilisation q Cross) corners) (map (stabilisation q Ring) corners) (stabilisation q Ring corner) (map_contains (stabilisation q Ring) corners corner (each corner))
+
+-- a translate of a translate, by what its shifts come to
+brought_translate : (d : Diagram) (a b k l t u : ℕ) → IsGrid d → a < size d → b < size d → k < size d → l < size d → origin (size d) k a ≡ t → origin (size d) l b ≡ u → translate (translate d a b) k l ≡ translate d t u
+brought_translate d a b k l t u grid ha hb hk hl et eu = translate-translate d a b k l grid ha hb hk hl ∙ ap₂ (λ (z w : ℕ). translate d z w) et eu
+
+-- back to where it was not shifted
+origin_of_zero : (n b : ℕ) → b < n → origin n b 0 ≡ b
+origin_of_zero n b lt = ap (λ (z : ℕ). z % n) (zero-add b) ∙ at_zero
+  where
+    at_zero : b % n ≡ b
+    at_zero = mod-eq_of_lt lt
+
+back_to_zero : (n b : ℕ) → b < n → origin n (shifted n b 0) b ≡ 0
+back_to_zero n b lt = brought_from n b 0 b 0 lt (omega (arith, lt)) lt (omega (arith, lt)) (at_origin n b lt ∙ sym (origin_of_zero n b lt))
+
+match_columns : (d : Diagram) (a b c : ℕ) (e : Diagram) → IsGrid d → a < size d → b < size d → Step (translate d a b) (ExchangeColumns c) e → Matched d e
+match_columns d a b c e grid ha hb step =
+    let n : ℕ = size d in
+    let long : size (translate d a b) ≡ n = size-translate d a b ha in
+    let inside : c + 1 < n = omega (arith, step.marks.inside, long) in
+    let hc : c < n = omega (arith, inside) in
+    let q : ℕ = origin n a c in
+    let hq : q < n = origin-below n a c ha hc in
+    let p : ℕ = place n q in
+    let p1 : p + 1 < n = place-below n q grid.least hq in
+    let hp : p < n = omega (arith, p1) in
+    let k : ℕ = shifted n p c in
+    let l : ℕ = shifted n b 0 in
+    let hk : k < n = shifted_below n p c hp hc in
+    let hl : l < n = shifted_below n b 0 hb (omega (arith, hb)) in
+    let there : translate (translate d a b) k l ≡ translate d (turn n q) 0 =
+    brought_translate d a b k l (turn n q) 0 grid ha hb hk hl (brought_from n a c p (turn n q) ha hc hp (turn-below n q grid.least hq) (first_origin n q grid.least hq)) (back_to_zero n b hb) in
+    let first : origin n k p ≡ c = ap (λ (z : ℕ). origin n k z) (sym (brought n p c hp hc)) ∙ origin-shifted n k c hk hc in
+    let second : origin n k (p + 1) ≡ c + 1 = ap (λ (z : ℕ). origin n k z) (sym (brought_next n p c p1 inside)) ∙ origin-shifted n k (c + 1) hk inside in
+    let turned = exchange_columns_turned (translate d a b) e c p k l step (omega (arith, hk, long)) (omega (arith, hl, long)) (omega (arith, p1, long)) (ap (λ (z : ℕ). origin z k p) long ∙ first) (ap (λ (z : ℕ). origin z k (p + 1)) long ∙ second) in
+    record {
+      try = column_exchange n q;
+      among = tries_column n q hq;
+      columns = turn-below n q grid.least hq;
+      rows = omega (arith, hb);
+      result = translate e k l;
+      step = subst (λ t. Step t (ExchangeColumns p) (translate e k l)) there turned;
+      same = translates_contains e k l (omega (arith, hk, long, step.marks.renumbered.same_size)) (omega (arith, hl, long, step.marks.renumbered.same_size));
+    }
+
+match_rows : (d : Diagram) (a b r : ℕ) (e : Diagram) → IsGrid d → a < size d → b < size d → Step (translate d a b) (ExchangeRows r) e → Matched d e
+match_rows d a b r e grid ha hb step =
+    let n : ℕ = size d in
+    let long : size (translate d a b) ≡ n = size-translate d a b ha in
+    let inside : r + 1 < n = omega (arith, step.marks.inside, long) in
+    let hr : r < n = omega (arith, inside) in
+    let q : ℕ = origin n b r in
+    let hq : q < n = origin-below n b r hb hr in
+    let p : ℕ = place n q in
+    let p1 : p + 1 < n = place-below n q grid.least hq in
+    let hp : p < n = omega (arith, p1) in
+    let k : ℕ = shifted n a 0 in
+    let l : ℕ = shifted n p r in
+    let hk : k < n = shifted_below n a 0 ha (omega (arith, ha)) in
+    let hl : l < n = shifted_below n p r hp hr in
+    let there : translate (translate d a b) k l ≡ translate d 0 (turn n q) =
+    brought_translate d a b k l 0 (turn n q) grid ha hb hk hl (back_to_zero n a ha) (brought_from n b r p (turn n q) hb hr hp (turn-below n q grid.least hq) (first_origin n q grid.least hq)) in
+    let turned = exchange_rows_turned (translate d a b) e r p k l step (omega (arith, hk, long)) (omega (arith, hl, long)) (omega (arith, p1, long)) (ap (λ (z : ℕ). shifted z l r) long ∙ brought n p r hp hr) (ap (λ (z : ℕ). shifted z l (r + 1)) long ∙ brought_next n p r p1 inside) in
+    record {
+      try = row_exchange n q;
+      among = tries_row n q hq;
+      columns = omega (arith, ha);
+      rows = turn-below n q grid.least hq;
+      result = translate e k l;
+      step = subst (λ t. Step t (ExchangeRows p) (translate e k l)) there turned;
+      same = translates_contains e k l (omega (arith, hk, long, step.marks.renumbered.same_size)) (omega (arith, hl, long, step.marks.renumbered.same_size));
+    }
+
+match_marks : (d : Diagram) (a b c : ℕ) (kind : Kind) (corner : Corner) (e : Diagram) → IsGrid d → a < size d → b < size d → Step (translate d a b) (Stabilise c kind corner) e → Matched d e
+match_marks d a b c kind corner e grid ha hb step =
+    let n : ℕ = size d in
+    let long : size (translate d a b) ≡ n = size-translate d a b ha in
+    let stab = step.marks.1.1 in
+    let hc : c < n = omega (arith, stab.marked.inside, long) in
+    let q : ℕ = origin n a c in
+    let hq : q < n = origin-below n a c ha hc in
+    let s : ℕ = row_of kind d q in
+    let hs : s < n = row_below d grid kind q hq in
+    let r : ℕ = row_of kind (translate d a b) c in
+    let row : r ≡ shifted n b s = row_of-translate d a b grid ha kind c hc in
+    let hr : r < n = omega (arith, row, shifted_below n b s hb hs) in
+    let k : ℕ = shifted (size (translate d a b)) q c in
+    let l : ℕ = shifted (size (translate d a b)) s r in
+    let ek : k ≡ shifted n q c = ap (λ (z : ℕ). shifted z q c) long in
+    let el : l ≡ shifted n s r = ap (λ (z : ℕ). shifted z s r) long in
+    let hk : k < n = omega (arith, ek, shifted_below n q c hq hc) in
+    let hl : l < n = omega (arith, el, shifted_below n s r hs hr) in
+    let same_row : origin n 0 s ≡ origin n b r = at_origin n s hs ∙ sym (ap (λ (z : ℕ). origin n b z) row ∙ origin-shifted n b s hb hs) in
+    let zero_below : 0 < n = omega (arith, ha) in
+    let there : translate (translate d a b) k l ≡ translate d 0 0 =
+    brought_translate d a b k l 0 0 grid ha hb hk hl
+    (ap (λ (z : ℕ). origin n z a) ek ∙ brought_from n a c q 0 ha hc hq zero_below (at_origin n q hq))
+    (ap (λ (z : ℕ). origin n z b) el ∙ brought_from n b r s 0 hb hr hs zero_below same_row) in
+    let turned = stabilise_turned c kind corner (translate d a b) e q s step (omega (arith, hq, long)) (omega (arith, hs, long)) in
+    let grown : size e ≡ size (translate d a b) + 1 = stab.larger in
+    let k' : ℕ = shifted (size (translate d a b) + 1) q c in
+    let l' : ℕ = shifted (size (translate d a b) + 1) s r in
+    record {
+      try = stabilisation q kind corner;
+      among = tries_mark n q kind corner hq;
+      columns = zero_below;
+      rows = zero_below;
+      result = translate e k' l';
+      step = subst (λ t. Step t (Stabilise q kind corner) (translate e k' l')) there turned;
+      same = translates_contains e k' l' (omega (arith, grown, shifted_below (size (translate d a b) + 1) q c (omega (arith, hq, long)) (omega (arith, hc, long)))) (omega (arith, grown, shifted_below (size (translate d a b) + 1) s r (omega (arith, hs, long)) (omega (arith, hr, long))));
+    }
+
+match_blocks : (d : Diagram) (a b c r : ℕ) (e : Diagram) → IsGrid d → a < size d → b < size d → Step (translate d a b) (Destabilise c r) e → Matched d e
+match_blocks d a b c r e grid ha hb step =
+    let n : ℕ = size d in
+    let long : size (translate d a b) ≡ n = size-translate d a b ha in
+    let smaller : size e + 1 ≡ n = omega (arith, step.marks.undone.larger, long) in
+    let hc : c < n = omega (arith, step.marks.columns, long) in
+    let hr : r < n = omega (arith, step.marks.rows, long) in
+    let q : ℕ = origin n a c in
+    let s : ℕ = origin n b r in
+    let hq : q < n = origin-below n a c ha hc in
+    let hs : s < n = origin-below n b r hb hr in
+    let p : ℕ = place n q in
+    let u : ℕ = place n s in
+    let p1 : p + 1 < n = place-below n q grid.least hq in
+    let u1 : u + 1 < n = place-below n s grid.least hs in
+    let hp : p < n = omega (arith, p1) in
+    let hu : u < n = omega (arith, u1) in
+    let k : ℕ = shifted (size (translate d a b)) p c in
+    let l : ℕ = shifted (size (translate d a b)) u r in
+    let ek : k ≡ shifted n p c = ap (λ (z : ℕ). shifted z p c) long in
+    let el : l ≡ shifted n u r = ap (λ (z : ℕ). shifted z u r) long in
+    let hk : k < n = omega (arith, ek, shifted_below n p c hp hc) in
+    let hl : l < n = omega (arith, el, shifted_below n u r hu hr) in
+    let there : translate (translate d a b) k l ≡ translate d (turn n q) (turn n s) =
+    brought_translate d a b k l (turn n q) (turn n s) grid ha hb hk hl
+    (ap (λ (z : ℕ). origin n z a) ek ∙ brought_from n a c p (turn n q) ha hc hp (turn-below n q grid.least hq) (first_origin n q grid.least hq))
+    (ap (λ (z : ℕ). origin n z b) el ∙ brought_from n b r u (turn n s) hb hr hu (turn-below n s grid.least hs) (first_origin n s grid.least hs)) in
+    let ep : p < size e = omega (arith, p1, smaller) in
+    let eu : u < size e = omega (arith, u1, smaller) in
+    let turned = destabilise_turned c r (translate d a b) e p u step ep eu in
+    let in_column : c < size e = step.marks.undone.marked.inside in
+    let in_row : r < size e = mark_below e step.after step.marks.kind c r step.marks.undone.marked in
+    record {
+      try = destabilisation n q s;
+      among = tries_block n q s hq hs;
+      columns = turn-below n q grid.least hq;
+      rows = turn-below n s grid.least hs;
+      result = translate e (shifted (size e) p c) (shifted (size e) u r);
+      step = subst (λ t. Step t (Destabilise p u) (translate e (shifted (size e) p c) (shifted (size e) u r))) there turned;
+      same = translates_contains e (shifted (size e) p c) (shifted (size e) u r) (shifted_below (size e) p c ep in_column) (shifted_below (size e) u r eu in_row);
+    }
+
+pub matched : (move : Move) (d : Diagram) (a b : ℕ) (e : Diagram) → IsGrid d → a < size d → b < size d → is_shift move ≡ false → Step (translate d a b) move e → Matched d e
+matched (ShiftColumns k) d a b e grid ha hb turns step = absurd (let impossible : true ≡ false = turns in cc)
+matched (ShiftRows k) d a b e grid ha hb turns step = absurd (let impossible : true ≡ false = turns in cc)
+matched (ExchangeColumns c) d a b e grid ha hb turns step = match_columns d a b c e grid ha hb step
+matched (ExchangeRows r) d a b e grid ha hb turns step = match_rows d a b r e grid ha hb step
+matched (Stabilise c kind corner) d a b e grid ha hb turns step = match_marks d a b c kind corner e grid ha hb step
+matched (Destabilise c r) d a b e grid ha hb turns step = match_blocks d a b c r e grid ha hb step

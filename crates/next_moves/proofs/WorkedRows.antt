@@ -1,0 +1,38 @@
+-- Worked examples: what is tried, and what of it is legal.
+use Rattle.std.proofs.Common.{◌≡◌, ◌∷◌, [], refl, length, filter, map}
+use Rattle.grid_core.specs.Diagram.{Diagram}
+use Rattle.grid_core.proofs.WorkedRows.{unknot, left_trefoil}
+use Rattle.grid_moves.specs.declared.step.Move.TheVariants.{ExchangeColumns, ExchangeRows, Destabilise}
+use Rattle.next_moves.specs.Tries.{Try, tries, column_exchange, row_exchange, destabilisation}
+use Rattle.next_moves.specs.Offers.{is_offered}
+
+-- the last column and the first are exchanged behind a shift by 1
+last_columns : column_exchange 4 3 ≡ record { before = (1, 0); step = ExchangeColumns 2 }
+last_columns = refl
+
+first_rows : row_exchange 4 0 ≡ record { before = (0, 0); step = ExchangeRows 0 }
+first_rows = refl
+
+last_block : destabilisation 4 3 3 ≡ record { before = (1, 1); step = Destabilise 2 2 }
+last_block = refl
+
+-- 2n exchanges, n blocks for each column, 8n stabilisations
+as_many : length (tries 5) ≡ 75
+as_many = refl
+
+-- the left trefoil has no neighbour of its own size, and one for each stabilisation at the next
+no_neighbour : filter (is_offered left_trefoil 5) (tries 5) ≡ []
+no_neighbour = refl
+
+forty : length (filter (is_offered left_trefoil 6) (tries 5)) ≡ 40
+forty = refl
+
+nothing_from_the_unknot : filter (is_offered unknot 2) (tries 2) ≡ []
+nothing_from_the_unknot = refl
+
+-- an unknot of three columns: its six blocks with three marks, of which five lie across the cut
+abbrev three : Diagram
+three = record { x = 0 ∷ 1 ∷ 2 ∷ []; o = 1 ∷ 2 ∷ 0 ∷ [] }
+
+six_blocks : map (λ (t : Try). t.step) (filter (is_offered three 3) (tries 3)) ≡ Destabilise 0 0 ∷ Destabilise 0 1 ∷ Destabilise 1 1 ∷ Destabilise 1 1 ∷ Destabilise 1 0 ∷ Destabilise 1 1 ∷ []
+six_blocks = refl

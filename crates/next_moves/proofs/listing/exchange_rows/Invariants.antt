@@ -1,0 +1,12 @@
+use Rattle.std.proofs.Common.{◌≤◌, ◌+◌, length, map}
+use Rattle.std.specs.List.{range_with_len}
+use Rattle.grid_core.specs.Diagram.{size}
+use Rattle.next_moves.specs.Tries.{row_exchange}
+use Rattle.next_moves.specs.Extends.{Extends}
+use Rattle.next_moves.proofs.listing.exchange_rows.Given as goal
+
+abbrev pub invariant-loop-r : goal.invariant-loop-r
+invariant-loop-r l = record {
+  offered : Extends l.grid l.cap (map (row_exchange (size l.grid)) (range_with_len 0 l.r)) l.initial.list.items l.list.items;
+  fits : length l.list.items ≤ length l.initial.list.items + l.r;
+}

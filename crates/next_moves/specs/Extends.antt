@@ -1,0 +1,33 @@
+-- A list of offers in the making; only private clauses and proofs cite this file.
+use Rattle.std.specs.Prelude.{◌≡◌, ◌+◌, ◌==◌, ◌++◌, ℕ, List, if◌then◌else◌, nat_lt}
+use Rattle.grid_core.specs.declared.mark.Kind.TheVariants.{Cross, Ring}
+use Rattle.grid_core.specs.Diagram.{Diagram, size, row_of}
+use Rattle.next_moves.specs.declared.offer.Offer.{Offer}
+use Rattle.next_moves.specs.Tries.{Try}
+use Rattle.next_moves.specs.Offers.{IsOffersOf}
+
+-- the new list is the old one, followed by the offers of these tries
+pub record Extends (d : Diagram) (cap : ℕ) (list : List Try) (old new : List Offer) : Type 0 where
+  pub more : List Offer
+  pub is : new ≡ old ++ more
+  pub offers : IsOffersOf d cap list more
+
+-- the next number, round the circle of n
+abbrev pub next : ℕ → ℕ → ℕ
+next n c = if c + 1 == n then 0 else c + 1
+
+-- the first of the two rows where they are neighbours on the circle, else n
+abbrev pub first_of_pair : ℕ → ℕ → ℕ → ℕ
+first_of_pair n x o = if next n x == o then x else if next n o == x then o else n
+
+-- the row of a block of two rows with both marks of column c, if there is one
+abbrev pub row_of_both : Diagram → ℕ → ℕ
+row_of_both d c = first_of_pair (size d) (row_of Cross d c) (row_of Ring d c)
+
+-- one for the row itself
+abbrev pub counted : ℕ → ℕ → ℕ
+counted row r = if r == row then 1 else 0
+
+-- one for a row below
+abbrev pub passed : ℕ → ℕ → ℕ
+passed row r = if nat_lt row r then 1 else 0

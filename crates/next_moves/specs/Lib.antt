@@ -1,0 +1,12 @@
+pub mod Neighbours
+pub mod Tries
+pub mod Offers
+pub mod Links
+pub mod Extends
+pub mod Reach
+pub use Rattle.grid_core.specs.Diagram
+pub use Rattle.grid_moves.specs.Step
+pub use Rattle.grid_moves.specs.Joining
+pub use Rattle.grid_canon.specs.Translate
+pub use Rattle.grid_canon.specs.Canonical
+pub use Rattle.grid_canon.specs.Key

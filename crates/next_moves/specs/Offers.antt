@@ -1,0 +1,74 @@
+-- The ordered list of offers: one way to each neighbour of a diagram within a cap, or several.
+use Rattle.std.specs.Prelude.{◌≡◌, ◌<◌, ◌≤◌, ◌+◌, ◌-◌, ◌*◌, ◌&&◌, ℕ, List, Bool, map, filter, nat_le, length}
+use Rattle.std.specs.List.{All}
+use Rattle.std.specs.Option.{is_none}
+use Rattle.grid_core.specs.declared.grid.TheConstants.{MAX_SIZE}
+use Rattle.grid_core.specs.Diagram.{Diagram, IsGrid, size}
+use Rattle.grid_moves.specs.declared.step.Move.{Move}
+use Rattle.grid_moves.specs.declared.step.Move.TheVariants.{ShiftColumns, ShiftRows, ExchangeColumns, ExchangeRows, Stabilise, Destabilise}
+use Rattle.grid_moves.specs.Step.{Step}
+use Rattle.grid_moves.specs.MoveFault.{first_fault}
+use Rattle.grid_canon.specs.declared.packed.Packed.{Packed}
+use Rattle.grid_canon.specs.Translate.{translate}
+use Rattle.grid_canon.specs.Canonical.{IsCanonical, IsLeastForm}
+use Rattle.grid_canon.specs.Key.{key_of}
+use Rattle.next_moves.specs.declared.offer.Link.{Link}
+use Rattle.next_moves.specs.declared.offer.Offer.{Offer}
+use Rattle.next_moves.specs.Tries.{Try, tries}
+
+-- the size of the result of a move on a diagram of this size
+abbrev pub size_after : Move → ℕ → ℕ
+size_after (ShiftColumns k) n = n
+size_after (ShiftRows k) n = n
+size_after (ExchangeColumns c) n = n
+size_after (ExchangeRows r) n = n
+size_after (Stabilise c kind corner) n = n + 1
+size_after (Destabilise c r) n = n - 1
+
+-- the move is legal on its translate of d, and its result is not larger than the cap
+abbrev pub is_offered : Diagram → ℕ → Try → Bool
+is_offered d cap try =
+    is_none (first_fault (translate d try.before.0 try.before.1) try.step) && nat_le (size_after try.step (size d)) cap
+
+-- the link leads from d to the canonical form f: d shifted by `before`, moved by `step` and shifted by `after`, the least shifts to f
+pub record Leads (d : Diagram) (link : Link) (f : Diagram) : Type 0 where
+  pub columns : link.before.0 < size d
+  pub rows : link.before.1 < size d
+  pub moved : Diagram
+  pub step : Step (translate d link.before.0 link.before.1) link.step moved
+  pub form : IsLeastForm moved (record { grid = f; columns = link.after.0; rows = link.after.1 })
+
+-- the offer's link leads from d to the grid of its key
+pub record IsOfferOf (d : Diagram) (offer : Offer) : Type 0 where
+  pub form : Diagram
+  pub key : key_of form ≡ offer.key
+  pub leads : Leads d offer.link form
+
+abbrev pub try_of : Offer → Try
+try_of offer = record { before = offer.link.before; step = offer.link.step }
+
+-- of a list of tries, those that are legal within the cap, in order, each with what it leads to
+pub record IsOffersOf (d : Diagram) (cap : ℕ) (list : List Try) (offers : List Offer) : Type 0 where
+  pub order : map try_of offers ≡ filter (is_offered d cap) list
+  pub leads : All (IsOfferOf d) offers
+
+-- the whole list of offers of d within the cap
+abbrev pub IsOfferList : Diagram → ℕ → List Offer → Type 0
+IsOfferList d cap offers = IsOffersOf d cap (tries (size d)) offers
+
+-- what contracts see of a value of the type: the key of a canonical diagram, the cap, and its whole list of offers
+pub record Neighbourhood : Type 0 where
+  pub origin : Packed
+  pub cap : ℕ
+  pub offers : List Offer
+
+-- the list is whole: that of the canonical grid which the key names, within a cap that it keeps
+pub record IsWhole (n : Neighbourhood) : Type 0 where
+  pub diagram : Diagram
+  pub grid : IsGrid diagram
+  pub canonical : IsCanonical diagram
+  pub origin : key_of diagram ≡ n.origin
+  pub least : size diagram ≤ n.cap
+  pub most : n.cap ≤ MAX_SIZE
+  pub whole : IsOfferList diagram n.cap n.offers
+  pub count : length n.offers ≤ 12 * size diagram

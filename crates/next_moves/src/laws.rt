@@ -1,0 +1,95 @@
+//! Laws of neighbours and offers, over the definitions alone.
+ghost use Rattle.std.specs.Prelude.{◌≡◌, ◌≢◌, ◌≤◌, ℕ, List};
+ghost use Rattle.std.specs.List.{All, AllPairs, Contains};
+ghost use Rattle.grid_core.specs.Diagram.{Diagram, IsGrid, size};
+ghost use Rattle.grid_moves.specs.Joining.{Joins, JoinsWithin, WithinCap};
+ghost use Rattle.grid_canon.specs.Canonical.{IsCanonicalForm, IsCanonical};
+ghost use Rattle.grid_canon.specs.Key.{key_of};
+ghost use Rattle.next_moves.specs.Neighbours.{IsNeighbour};
+ghost use Rattle.next_moves.specs.Offers.{Leads, IsOfferList, Neighbourhood, IsWhole};
+ghost use Rattle.next_moves.specs.Links.{link_moves};
+ghost use Rattle.next_moves.specs.Reach.{IsReached, AreMembers};
+
+use crate::offer::{Link, Offer};
+
+/// Every neighbour is the key of some offer, over all translates and all moves but shifts.
+pub fn every_neighbour_is_offered()
+    ensures { (d f : Diagram) (cap : ℕ) (offers : List Offer)
+        → IsGrid d
+        → IsOfferList d cap offers
+        → IsNeighbour d cap f
+        → (offer : Offer) × (Contains offers offer × (key_of f ≡ offer.key)) }
+{}
+
+/// Every offer is a neighbour: its link leads from the diagram to the neighbour of its key.
+pub fn every_offer_is_a_neighbour()
+    ensures { (d : Diagram) (cap : ℕ) (offers : List Offer) (offer : Offer)
+        → IsGrid d
+        → IsOfferList d cap offers
+        → Contains offers offer
+        → (f : Diagram) × (IsNeighbour d cap f × (key_of f ≡ offer.key) × Leads d offer.link f) }
+{}
+
+/// A link that leads somewhere is a list of at most five moves that joins the two diagrams, and none on the way is larger than both ends.
+pub fn a_link_is_a_list_of_moves()
+    ensures joined { (d f : Diagram) (link : Link) → IsGrid d → Leads d link f → Joins d (link_moves link) f }
+    ensures within { (d f : Diagram) (link : Link) (cap : ℕ)
+        → IsGrid d
+        → Leads d link f
+        → size d ≤ cap
+        → size f ≤ cap
+        → JoinsWithin cap d (link_moves link) f }
+{}
+
+/// A link leads from a diagram to at most one, and a diagram has at most one list of offers within a cap.
+pub fn the_offers_are_determined()
+    ensures link { (d e f : Diagram) (link : Link) → Leads d link e → Leads d link f → e ≡ f }
+    ensures list { (d : Diagram) (cap : ℕ) (offers others : List Offer)
+        → IsOfferList d cap offers
+        → IsOfferList d cap others
+        → offers ≡ others }
+{}
+
+/// What is closed under neighbours is complete: a list of grids that has the form of a diagram, and with each of its
+/// diagrams all neighbours within the cap, has every canonical diagram that moves reach within the cap.
+pub fn what_is_closed_under_neighbours_has_all_that_moves_reach()
+    ensures { (members : List Diagram) (a : Diagram) (cap : ℕ)
+        → IsGrid a
+        → All IsGrid members
+        → ((f : Diagram) → IsCanonicalForm a f → Contains members f)
+        → ((f g : Diagram) → Contains members f → IsNeighbour f cap g → Contains members g)
+        → (f : Diagram)
+        → IsCanonical f
+        → WithinCap a f cap
+        → Contains members f }
+{}
+
+/// A list of different diagrams that moves reach from two diagrams, closed under neighbours and with both forms, is
+/// all that they reach.
+pub fn a_closed_list_of_what_is_reached_is_all_of_it()
+    ensures { (members : List Diagram) (a b : Diagram) (cap : ℕ)
+        → IsGrid a
+        → IsGrid b
+        → All IsGrid members
+        → AllPairs (λ d e. d ≢ e) members
+        → All (IsReached a b cap) members
+        → ((f : Diagram) → IsCanonicalForm a f → Contains members f)
+        → ((f : Diagram) → IsCanonicalForm b f → Contains members f)
+        → ((f g : Diagram) → Contains members f → IsNeighbour f cap g → Contains members g)
+        → AreMembers (IsReached a b cap) members }
+{}
+
+/// A neighbour within the cap is reached within the cap, and so is a canonical form.
+pub fn neighbours_and_forms_are_reached()
+    ensures neighbour { (d f : Diagram) (cap : ℕ) → IsGrid d → size d ≤ cap → IsNeighbour d cap f → WithinCap d f cap }
+    ensures form { (d f : Diagram) (cap : ℕ) → IsGrid d → size d ≤ cap → IsCanonicalForm d f → WithinCap d f cap }
+{}
+
+/// Whole lists of offers are those of the grid that their key names.
+pub fn offers_are_those_of_their_key()
+    ensures { (n : Neighbourhood) (d : Diagram)
+        → IsWhole n
+        → IsGrid d
+        → key_of d ≡ n.origin
+        → IsOfferList d n.cap n.offers }
+{}

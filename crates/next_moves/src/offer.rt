@@ -1,0 +1,36 @@
+//! Links and offers.
+
+use grid_canon::Packed;
+use grid_moves::Move;
+
+/// One way from a canonical diagram to a neighbour: the shifts before, the move, and the shifts after.
+/// Each pair is a shift of columns and a shift of rows, of which 0 means none.
+#[derive(Clone, Copy, Debug, PartialEq, Eq)]
+pub struct Link {
+    pub before: (u8, u8),
+    pub step: Move,
+    pub after: (u8, u8),
+}
+
+/// The blank with which an array of offers begins: no move.
+impl Default for Link {
+    ghost use Rattle.std.specs.Prelude.{◌≡◌};
+    ghost use Rattle.grid_moves.specs.declared.step.Move.TheVariants.{ShiftColumns};
+
+    ghost is_default = { λ l. l ≡ record { before = (0, 0); step = ShiftColumns 0; after = (0, 0) } };
+
+    fn default() -> Link {
+        Link {
+            before: (0, 0),
+            step: Move::ShiftColumns(0),
+            after: (0, 0),
+        }
+    }
+}
+
+/// A neighbour by its key, and the link that leads to it.
+#[derive(Clone, Copy, Debug, Default, PartialEq, Eq)]
+pub struct Offer {
+    pub key: Packed,
+    pub link: Link,
+}
