@@ -2,16 +2,7 @@
 //! All that it does is `run`; the words come from the system, and where it gives none main ends by itself.
 #![tactic(auto)]
 
-mod answer;
-mod colours;
-mod job;
-mod laws;
-mod printing;
-mod quandles;
-mod reading;
-mod run;
-mod status;
-
+use knot_jobs::run;
 use knot_ports::{StdSink, StdSource};
 use std::io;
 use std::process::ExitCode;
@@ -36,9 +27,6 @@ fn main(rt: HostRuntime) -> ExitCode {
     };
     let mut source = StdSource::new(rt.stdin());
     let mut sink = StdSink::new(rt.stdout());
-    let status = run::run(alloc, words.as_slice(), &mut source, &mut sink);
+    let status = run(alloc, words.as_slice(), &mut source, &mut sink);
     ExitCode::from(status.number())
 }
-
-#[cfg(test)]
-mod tests;

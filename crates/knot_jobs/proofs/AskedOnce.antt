@@ -1,0 +1,38 @@
+-- Words ask for one thing.
+use Rattle.std.proofs.Common.{◌≡◌, ◌∙◌, ap, sym, refl, ℕ, List}
+use Rattle.std.specs.Prelude.{unwrap_or, if◌then◌else◌}
+use Rattle.std.specs.Str.{bytes_eq}
+use Rattle.clap.specs.Walk.{Text}
+use Rattle.knot_jobs.specs.Words.{job_word, Asks, AsksNothing}
+use Rattle.knot_jobs.specs.declared.words.Asked.{Asked}
+use Rattle.knot_jobs.specs.declared.words.Job.{Job}
+use Rattle.knot_jobs.specs.declared.words.Job.TheVariants.{Check, Replay, Colour, Close, Code}
+use Rattle.knot_jobs.proofs.KnotReads.{one_number}
+
+-- the job that is called so
+abbrev job_of : List ℕ → Job
+job_of word = if bytes_eq word (job_word Check) then Check else (if bytes_eq word (job_word Replay) then Replay else (if bytes_eq word (job_word Colour) then Colour else (if bytes_eq word (job_word Close) then Close else Code)))
+
+job_of_word : (job : Job) → job_of (job_word job) ≡ job
+job_of_word Check = refl
+job_of_word Replay = refl
+job_of_word Colour = refl
+job_of_word Close = refl
+job_of_word Code = refl
+
+one_job : (a b : Job) → job_word a ≡ job_word b → a ≡ b
+one_job a b same = sym (job_of_word a) ∙ ap job_of same ∙ job_of_word b
+
+pub asked_once : (words : List Text) (a b : Asked) → Asks words a → Asks words b → a ≡ b
+asked_once words a b x y =
+    let job = one_job a.job b.job (ap (λ o. unwrap_or o (job_word a.job)) (sym x.job ∙ y.job)) in
+    λ i. record {
+      job = job i;
+      workers = one_number _ _ _ x.workers y.workers i;
+      budget = one_number _ _ _ x.budget y.budget i;
+      spare = one_number _ _ _ x.spare y.spare i;
+      seed = one_number _ _ _ x.seed y.seed i;
+    }
+
+pub never_both : (words : List Text) (a : Asked) → Asks words a → AsksNothing words → ⊥
+never_both words a x none = none x.taken a.job x.job

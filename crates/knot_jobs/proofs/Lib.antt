@@ -1,0 +1,10 @@
+mod OptionReads
+mod KnotReads
+mod WorkedWords
+mod WorkedAnswers
+mod Listed
+mod Along
+mod Grids
+mod AskedOnce
+mod Answered
+mod Endings

@@ -1,0 +1,9 @@
+pub mod Words
+pub mod Matched
+pub mod Lines
+pub mod Listings
+pub mod Closing
+pub mod Coding
+pub mod Replayed
+pub mod Answer
+pub mod Outcome

@@ -1,0 +1,49 @@
+-- The lines in which the jobs answer, as tokens, which are printed with one space between them.
+use Rattle.std.specs.Prelude.{ℕ, List, [], ◌∷◌, codes}
+use Rattle.std.specs.Fmt.{decimal}
+use Rattle.grid_moves.specs.declared.step.MoveFault.{MoveFault}
+use Rattle.grid_moves.specs.declared.step.MoveFault.TheVariants as fault
+use Rattle.text_lines.specs.Spelled.{line_text}
+use Rattle.cert_check.specs.declared.ruling.Ruling.{Ruling}
+use Rattle.cert_check.specs.declared.ruling.Ruling.TheVariants.{Accepted, Rejected}
+use Rattle.cert_check.specs.declared.ruling.Why.{Why}
+use Rattle.cert_check.specs.declared.ruling.Why.TheVariants as why
+
+-- why a move is not legal
+abbrev pub fault_tokens : MoveFault → List (List ℕ)
+fault_tokens fault.Range = codes "range" ∷ []
+fault_tokens fault.Touching = codes "touching" ∷ []
+fault_tokens fault.Interleaved = codes "interleaved" ∷ []
+fault_tokens (fault.Block marks) = codes "block" ∷ decimal marks ∷ []
+fault_tokens fault.Full = codes "full" ∷ []
+
+-- the first move that is not legal, by its place
+abbrev pub step_tokens : ℕ → MoveFault → List (List ℕ)
+step_tokens place fault = codes "step" ∷ decimal place ∷ fault_tokens fault
+
+-- why evidence does not hold
+abbrev pub why_tokens : Why → List (List ℕ)
+why_tokens (why.Step place fault) = step_tokens place fault
+why_tokens why.OtherEnd = codes "otherend" ∷ []
+why_tokens (why.Wide which bottoms) = codes "wide" ∷ decimal which ∷ decimal bottoms ∷ []
+why_tokens (why.List which place) = codes "list" ∷ decimal which ∷ decimal place ∷ []
+why_tokens why.SameLength = codes "samelength" ∷ []
+why_tokens why.NoEvidence = codes "noevidence" ∷ []
+
+abbrev pub rejected_line : List (List ℕ) → List ℕ
+rejected_line cause = line_text (codes "rejected" ∷ cause)
+
+abbrev pub ruling_line : Ruling → List ℕ
+ruling_line Accepted = line_text (codes "accepted" ∷ [])
+ruling_line (Rejected cause) = rejected_line (why_tokens cause)
+
+-- the first bad line of an input, by its number
+abbrev pub malformed_line : ℕ → List ℕ
+malformed_line n = line_text (codes "malformed" ∷ codes "line" ∷ decimal n ∷ [])
+
+abbrev pub limit_line : ℕ → List ℕ
+limit_line n = line_text (codes "limit" ∷ codes "line" ∷ decimal n ∷ [])
+
+-- too many bytes
+abbrev pub limit_bytes : List ℕ
+limit_bytes = line_text (codes "limit" ∷ codes "bytes" ∷ [])

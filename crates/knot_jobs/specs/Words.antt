@@ -1,0 +1,100 @@
+-- Which command lines are taken and what they ask for, by `clap`'s meaning of one simple command: a job, and four options
+-- with whole numbers.
+use Rattle.std.specs.Prelude.{◌≡◌, ◌≢◌, ◌≤◌, ◌^◌, ◌-◌, ℕ, List, [], ◌∷◌, Option, Some, true, codes, pos, map, option_map, string_bytes, String}
+use Rattle.std.specs.Str.Parse.{digits_value, without_leading_plus}
+use Rattle.std.specs.declared.alloc.Global.{Global}
+use Rattle.clap.specs.Walk.{Rule, Text, first_of, one_of}
+use Rattle.clap.specs.Simple.{App, new_app, new_rule, with_rule, matches_of}
+use Rattle.clap.specs.Faults.{fault_of}
+use Rattle.clap.specs.declared.builder.action.ArgAction.TheVariants.{Set}
+use Rattle.clap.specs.declared.builder.value_parser.ValueParser.TheVariants as parser
+use Rattle.knot_jobs.specs.declared.words.Asked.{Asked}
+use Rattle.knot_jobs.specs.declared.words.Job.{Job}
+use Rattle.knot_jobs.specs.declared.words.Job.TheVariants.{Check, Replay, Colour, Close, Code}
+
+-- ---- the command
+
+-- the job, which must be named
+abbrev pub job_rule : Rule
+job_rule = record (new_rule (codes "job")) { required = true; action = Some Set }
+
+-- an option with a whole number from the least to the most, and the default where it is not given
+abbrev pub number_rule : Text → ℕ → ℕ → Text → Rule
+number_rule name least most default = record (new_rule name) {
+  long = Some name;
+  action = Some Set;
+  parser = Some (parser.Signed (pos least) (pos most));
+  defaults = default ∷ [];
+}
+
+abbrev pub workers_rule : Rule
+workers_rule = number_rule (codes "workers") 1 64 (codes "1")
+
+abbrev pub budget_rule : Rule
+budget_rule = number_rule (codes "budget") 2 500000 (codes "20000")
+
+abbrev pub spare_rule : Rule
+spare_rule = number_rule (codes "spare") 0 4 (codes "1")
+
+-- the seed is any number of 64 bits
+abbrev pub seed_rule : Rule
+seed_rule = record (new_rule (codes "seed")) {
+  long = Some (codes "seed");
+  action = Some Set;
+  parser = Some (parser.Unsigned 0 (2 ^ 64 - 1));
+  defaults = codes "1" ∷ [];
+}
+
+abbrev pub knot_app : App
+knot_app =
+    with_rule (with_rule (with_rule (with_rule (with_rule (new_app (codes "knot")) job_rule) workers_rule) budget_rule) spare_rule) seed_rule
+
+-- ---- what words ask for
+
+-- the words as texts; the first is the program's name
+abbrev pub texts_of : List (String Global) → List Text
+texts_of words = map (λ w. string_bytes w) words
+
+-- `clap` takes the words: they have no fault
+abbrev pub AreTaken : List Text → Type 0
+AreTaken words = fault_of knot_app words ≡ []
+
+-- the word for the job
+abbrev pub job_given : List Text → Option Text
+job_given words = first_of (codes "job") (matches_of knot_app words)
+
+-- the number that a text of digits spells, with a plus before them or without. A minus is taken before zeros alone, where `clap`
+-- reads it as a number, and counts as one digit more, of value 0
+abbrev pub number_of : Text → ℕ
+number_of text = digits_value 10 (without_leading_plus text)
+
+-- the number of an option: what the words give, else its default
+abbrev pub number_given : Text → List Text → Option ℕ
+number_given name words = option_map number_of (one_of name (matches_of knot_app words))
+
+-- how a job is called
+abbrev pub job_word : Job → Text
+job_word Check = codes "check"
+job_word Replay = codes "replay"
+job_word Colour = codes "colour"
+job_word Close = codes "close"
+job_word Code = codes "code"
+
+-- the words are taken, and ask for this job with these numbers
+pub record Asks (words : List Text) (asked : Asked) : Type 0 where
+  pub taken : AreTaken words
+  pub job : job_given words ≡ Some (job_word asked.job)
+  pub workers : number_given (codes "workers") words ≡ Some asked.workers
+  pub budget : number_given (codes "budget") words ≡ Some asked.budget
+  pub spare : number_given (codes "spare") words ≡ Some asked.spare
+  pub seed : number_given (codes "seed") words ≡ Some asked.seed
+
+-- the words are refused, or their job is none that there is
+abbrev pub AsksNothing : List Text → Type 0
+AsksNothing words = AreTaken words → (job : Job) → job_given words ≢ Some (job_word job)
+
+-- each number lies between its bounds; a seed has 64 bits and no other bound
+pub record IsWithinBounds (asked : Asked) : Type 0 where
+  pub workers : (1 ≤ asked.workers) × (asked.workers ≤ 64)
+  pub budget : (2 ≤ asked.budget) × (asked.budget ≤ 500000)
+  pub spare : asked.spare ≤ 4

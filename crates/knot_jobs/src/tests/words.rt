@@ -1,0 +1,63 @@
+//! Command lines that are taken, and such that are not.
+use super::words_of;
+use crate::words::{Asked, Job, WordsFault, read_words};
+use std::test::Fail;
+
+fn asked(job: Job, workers: u32, budget: u32, spare: u8, seed: u64) -> Result<Asked, WordsFault> {
+    Ok(Asked {
+        job,
+        workers,
+        budget,
+        spare,
+        seed,
+    })
+}
+
+#[test]
+fn a_table_of_command_lines(rt: HostRuntime) -> Result<(), Fail> {
+    let none: Vec<String> = Vec::new(rt.alloc());
+    assert_eq!(rt; read_words(rt.alloc(), &none), Err(WordsFault::Usage));
+    let rows = [
+        ("knot check", asked(Job::Check, 1, 20_000, 1, 1)),
+        ("anything colour", asked(Job::Colour, 1, 20_000, 1, 1)),
+        (
+            "knot --workers 64 replay --spare=4",
+            asked(Job::Replay, 64, 20_000, 4, 1),
+        ),
+        (
+            "knot check --budget 2 --seed 0",
+            asked(Job::Check, 1, 2, 1, 0),
+        ),
+        (
+            "knot replay --budget 500000 --seed=18446744073709551615",
+            asked(Job::Replay, 1, 500_000, 1, u64::MAX),
+        ),
+        (
+            "knot check --workers +08 --spare=-0",
+            asked(Job::Check, 8, 20_000, 0, 1),
+        ),
+        ("knot close", asked(Job::Close, 1, 20_000, 1, 1)),
+        ("knot code", asked(Job::Code, 1, 20_000, 1, 1)),
+        ("knot", Err(WordsFault::Usage)),
+        ("knot decode", Err(WordsFault::Usage)),
+        ("knot Check", Err(WordsFault::Usage)),
+        ("knot check check", Err(WordsFault::Usage)),
+        ("knot --help", Err(WordsFault::Usage)),
+        ("knot check --workers 0", Err(WordsFault::Usage)),
+        ("knot check --workers 65", Err(WordsFault::Usage)),
+        ("knot check --budget 1", Err(WordsFault::Usage)),
+        ("knot check --budget 500001", Err(WordsFault::Usage)),
+        ("knot check --spare 5", Err(WordsFault::Usage)),
+        (
+            "knot check --seed 18446744073709551616",
+            Err(WordsFault::Usage),
+        ),
+        ("knot check --seed -1", Err(WordsFault::Usage)),
+        ("knot check --seed 1 --seed 1", Err(WordsFault::Usage)),
+    ];
+    for (line, want) in rows {
+        let words = words_of(rt.alloc(), line)?;
+        assert_eq!(rt; read_words(rt.alloc(), &words), want, "at {line}");
+    }
+    Ok(())
+}

@@ -1,0 +1,239 @@
+//! The words of a command line, read by `clap`.
+ghost use Rattle.std.specs.Prelude.{◌≡◌, ◌≢◌, ◌≤◌, false, Some, IfOk, IfSome, IsNone, OnOk, IsErrOf, codes};
+ghost use Rattle.clap.specs.Simple.{app_of, matches_of};
+ghost use Rattle.clap.specs.Matches.{found_of};
+ghost use Rattle.clap.specs.Walk.{rows_of, rule_of};
+ghost use Rattle.knot_jobs.specs.Words.{job_rule, workers_rule, budget_rule, spare_rule, seed_rule, knot_app};
+ghost use Rattle.knot_jobs.specs.Words.{texts_of, AreTaken, Asks, AsksNothing, IsWithinBounds, job_word};
+ghost use Rattle.knot_jobs.specs.Matched.{AreMatchesBy, HasNumber, HasText};
+
+use clap::error::ErrorKind;
+use clap::{Arg, ArgAction, ArgMatches, Command};
+use std::alloc::{AllocError, Global};
+
+/// What the program can be asked to do.
+#[derive(Clone, Copy, Debug, PartialEq, Eq)]
+pub enum Job {
+    /// Rules on evidence about two diagrams.
+    Check,
+    /// Makes moves on a diagram.
+    Replay,
+    /// Lists the colourings of a diagram.
+    Colour,
+    /// Makes the closure of a braid, and lists the fixed points of the braid's action.
+    Close,
+    /// Writes the crossing code of a diagram.
+    Code,
+}
+
+/// A job and its options.
+#[derive(Clone, Copy, Debug, PartialEq, Eq)]
+pub struct Asked {
+    pub job: Job,
+    /// How many searchers work at once, 1 to 64.
+    pub workers: u32,
+    /// How many diagrams the search may admit, 2 to 500,000.
+    pub budget: u32,
+    /// How much the search may grow beyond the larger diagram, 0 to 4.
+    pub spare: u8,
+    /// What a sample walk begins with.
+    pub seed: u64,
+}
+
+/// Why words are not taken.
+#[derive(Clone, Copy, Debug, PartialEq, Eq)]
+pub enum WordsFault {
+    /// `clap` refuses them for another cause than memory, or they name none of the jobs.
+    Usage,
+    /// There was no memory left.
+    OutOfMemory,
+}
+
+/// The one job.
+fn job_arg<'a>(alloc: Global) -> Arg<'a>
+    ensures rule { rule_of result ≡ job_rule }
+    ensures local { result.global ≡ false }
+{
+    Arg::new(alloc, "job").required(true).action(ArgAction::Set)
+}
+
+/// How many workers.
+fn workers_arg<'a>(alloc: Global) -> Arg<'a>
+    ensures rule { rule_of result ≡ workers_rule }
+    ensures local { result.global ≡ false }
+{
+    Arg::new(alloc, "workers")
+        .long("workers")
+        .action(ArgAction::Set)
+        .value_parser(clap::value_parser!(u32).range(1..=64))
+        .default_value("1")
+}
+
+/// How many entries.
+fn budget_arg<'a>(alloc: Global) -> Arg<'a>
+    ensures rule { rule_of result ≡ budget_rule }
+    ensures local { result.global ≡ false }
+{
+    Arg::new(alloc, "budget")
+        .long("budget")
+        .action(ArgAction::Set)
+        .value_parser(clap::value_parser!(u32).range(2..=500_000))
+        .default_value("20000")
+}
+
+/// How much larger.
+fn spare_arg<'a>(alloc: Global) -> Arg<'a>
+    ensures rule { rule_of result ≡ spare_rule }
+    ensures local { result.global ≡ false }
+{
+    Arg::new(alloc, "spare")
+        .long("spare")
+        .action(ArgAction::Set)
+        .value_parser(clap::value_parser!(u8).range(0..=4))
+        .default_value("1")
+}
+
+/// The seed of a walk.
+fn seed_arg<'a>(alloc: Global) -> Arg<'a>
+    ensures rule { rule_of result ≡ seed_rule }
+    ensures local { result.global ≡ false }
+{
+    Arg::new(alloc, "seed")
+        .long("seed")
+        .action(ArgAction::Set)
+        .value_parser(clap::value_parser!(u64))
+        .default_value("1")
+}
+
+/// The simple command: one job and four options with whole numbers.
+fn command<'a>(alloc: Global) -> Result<Command<'a>, AllocError>
+    ensures { IfOk result (λ c. app_of c ≡ knot_app) }
+{
+    Command::new(alloc, "knot")
+        .arg(job_arg(alloc))?
+        .arg(workers_arg(alloc))?
+        .arg(budget_arg(alloc))?
+        .arg(spare_arg(alloc))?
+        .arg(seed_arg(alloc))
+}
+
+/// The matches of the words. `Usage` comes only where `clap` refuses them for another cause than memory.
+fn parse<'a>(alloc: Global, words: &'a [String]) -> Result<ArgMatches<'a>, WordsFault>
+    ensures usage { IsErrOf result WordsFault.Usage → AreTaken (texts_of words.entry.now) → ⊥ }
+    ensures taken { OnOk result (AreTaken (texts_of words.entry.now)) }
+    ensures rows { IfOk result (λ m. rows_of (found_of m) ≡ matches_of knot_app (texts_of words.entry.now)) }
+    ensures matches { IfOk result (λ m. AreMatchesBy knot_app m) }
+{
+    let Ok(command) = command(alloc) else {
+        return Err(WordsFault::OutOfMemory);
+    };
+    match command.try_get_matches_from(words) {
+        Ok(matches) => Ok(matches),
+        Err(error) => Err(fault_by(error.kind())),
+    }
+}
+
+/// The fault of a kind of error.
+fn fault_by(kind: ErrorKind) -> WordsFault
+    ensures { result ≡ WordsFault.Usage → kind ≡ ErrorKind.OutOfMemory → ⊥ }
+{
+    if kind == ErrorKind::OutOfMemory {
+        WordsFault::OutOfMemory
+    } else {
+        WordsFault::Usage
+    }
+}
+
+/// The word for the job.
+fn job_text<'a>(matches: &ArgMatches<'a>) -> &'a str
+    requires { AreMatchesBy knot_app matches.now }
+    ensures { HasText matches.now (codes "job") result.now }
+{
+    match matches.get_str("job") {
+        Some(word) => word,
+        None => unreachable!(),
+    }
+}
+
+/// The job that is called so.
+fn job_named(word: &str) -> Option<Job>
+    ensures some { IfSome result (λ job. word.now ≡ job_word job) }
+    ensures none { IsNone result → (job : _) → word.now ≢ job_word job }
+{
+    match word {
+        "check" => Some(Job::Check),
+        "replay" => Some(Job::Replay),
+        "colour" => Some(Job::Colour),
+        "close" => Some(Job::Close),
+        "code" => Some(Job::Code),
+        _ => None,
+    }
+}
+
+/// The number of workers.
+fn workers_of(matches: &ArgMatches) -> u32
+    requires { AreMatchesBy knot_app matches.now }
+    ensures given { HasNumber matches.now (codes "workers") result }
+    ensures bounds { (1 ≤ result) × (result ≤ 64) }
+{
+    match matches.get_one::<u32>("workers") {
+        Some(number) => number,
+        None => unreachable!(),
+    }
+}
+
+/// The number of diagrams that the search may admit.
+fn budget_of(matches: &ArgMatches) -> u32
+    requires { AreMatchesBy knot_app matches.now }
+    ensures given { HasNumber matches.now (codes "budget") result }
+    ensures bounds { (2 ≤ result) × (result ≤ 500000) }
+{
+    match matches.get_one::<u32>("budget") {
+        Some(number) => number,
+        None => unreachable!(),
+    }
+}
+
+/// How far the search may grow.
+fn spare_of(matches: &ArgMatches) -> u8
+    requires { AreMatchesBy knot_app matches.now }
+    ensures given { HasNumber matches.now (codes "spare") result }
+    ensures bounds { result ≤ 4 }
+{
+    match matches.get_one::<u8>("spare") {
+        Some(number) => number,
+        None => unreachable!(),
+    }
+}
+
+/// The seed of a walk.
+fn seed_of(matches: &ArgMatches) -> u64
+    requires { AreMatchesBy knot_app matches.now }
+    ensures { HasNumber matches.now (codes "seed") result }
+{
+    match matches.get_one::<u64>("seed") {
+        Some(number) => number,
+        None => unreachable!(),
+    }
+}
+
+/// What the words ask for: a job and its options. `words[0]` is the program's name, whatever it is.
+/// `Usage` comes where `clap` refuses the words for another cause than memory, a request for help among them, or where
+/// they name none of the jobs, and nowhere else. `OutOfMemory` may come at any words.
+pub fn read_words(alloc: Global, words: &[String]) -> Result<Asked, WordsFault>
+    ensures asked { IfOk result (λ asked. Asks (texts_of words.now) asked) }
+    ensures bounds { IfOk result IsWithinBounds }
+    ensures usage { IsErrOf result WordsFault.Usage → AsksNothing (texts_of words.now) }
+{
+    let matches = parse(alloc, words)?;
+    let Some(job) = job_named(job_text(&matches)) else {
+        return Err(WordsFault::Usage);
+    };
+    Ok(Asked {
+        job,
+        workers: workers_of(&matches),
+        budget: budget_of(&matches),
+        spare: spare_of(&matches),
+        seed: seed_of(&matches),
+    })
+}
