@@ -10,7 +10,7 @@ failed=0
 for input in "$here"/*/*.txt; do
     job=$(basename -- "$(dirname -- "$input")")
     case $job in
-        check | replay | colour) ;;
+        check | replay | colour | close | code) ;;
         *) continue ;;
     esac
     stem=${input%.txt}
