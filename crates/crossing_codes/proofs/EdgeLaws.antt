@@ -1,5 +1,5 @@
 -- Edges, component by component.
-use Rattle.std.proofs.Common.{◌≡◌, ◌<◌, ◌+◌, ◌-◌, ◌*◌, ◌++◌, ◌∙◌, ◌∷◌, [], inl, inr, ℕ, zero, suc, Bool, true, false, List, length, map, get_or, refl, sym, ap, ap₂, subst, arith, ◌↔◌}
+use Rattle.std.proofs.Common.{◌≡◌, ◌<◌, ◌+◌, ◌-◌, ◌*◌, ◌++◌, ◌∙◌, ◌∷◌, [], inl, inr, ℕ, zero, suc, Bool, true, false, List, length, map, get_or, refl, sym, ap, ap₂, subst, arith, ◌↔◌, ◌⊎◌}
 use Rattle.std.specs.Prelude.{nat_lt, if◌then◌else◌, pos, negsuc, Contains}
 use Rattle.std.specs.List.{range_with_len, flat_map}
 use Rattle.std.specs.List.Sorted.{IsPermutation}
@@ -16,7 +16,7 @@ use Rattle.crossing_codes.specs.declared.passage.Passage.{Passage}
 use Rattle.crossing_codes.specs.Components.{component, starts}
 use Rattle.crossing_codes.specs.Passages.{Crossed, crossings, through, is_rightward, passages, passages_from}
 use Rattle.crossing_codes.specs.Edges.{leads_to, all_lead_to, edges_after, place, edge_from, edge_to}
-use Rattle.crossing_codes.specs.Code.{Direction, column_direction, row_direction, opposite, turned_left, is_positive_turn, is_positive}
+use Rattle.crossing_codes.specs.Code.{Direction, row_direction, opposite, turned_left, is_positive_turn, crossing, AreCounterclockwise}
 use Rattle.crossing_codes.specs.CodeColouring.{edge_colour}
 use Rattle.crossing_codes.specs.EdgeColours.{arriving, edge_colours}
 use Rattle.crossing_codes.specs.OnTheWay.{passing}
@@ -154,11 +154,39 @@ upward up = record { x = pos 0; y = if up then pos 1 else negsuc 0 }
 abbrev rightward : Bool → Direction
 rightward r = record { x = if r then pos 1 else negsuc 0; y = pos 0 }
 
-turned_by : (up right : Bool) → (if is_positive_turn (upward up) (rightward right) then upward up else opposite (upward up)) ≡ turned_left (opposite (rightward right))
-turned_by true true = refl
-turned_by true false = refl
-turned_by false true = refl
-turned_by false false = refl
+-- an edge of the strand over or under lies in a direction
+abbrev Towards : Bool → Bool → ℕ → ℕ → ℕ → ℕ → Direction → ℕ → Type 0
+Towards up right over_to over_from under_to under_from v e =
+    (((v ≡ upward up) × (e ≡ over_to)) ⊎ ((v ≡ opposite (upward up)) × (e ≡ over_from)))
+    ⊎ (((v ≡ rightward right) × (e ≡ under_to)) ⊎ ((v ≡ opposite (rightward right)) × (e ≡ under_from)))
 
-pub counterclockwise : (d : Diagram) (at : Crossed) → (if is_positive d at then column_direction d at.column else opposite (column_direction d at.column)) ≡ turned_left (opposite (row_direction d at.row))
-counterclockwise d at = turned_by (is_up d at.column) (is_rightward d at.row)
+second_lies : (up right : Bool) (a b c e : ℕ) → Towards up right a b c e (turned_left (opposite (rightward right))) (if is_positive_turn (upward up) (rightward right) then a else b)
+second_lies true true a b c e = inl (inr (refl, refl))
+second_lies true false a b c e = inl (inl (refl, refl))
+second_lies false true a b c e = inl (inl (refl, refl))
+second_lies false false a b c e = inl (inr (refl, refl))
+
+third_lies : (up right : Bool) (a b c e : ℕ) → Towards up right a b c e (turned_left (turned_left (opposite (rightward right)))) c
+third_lies up true a b c e = inr (inl (refl, refl))
+third_lies up false a b c e = inr (inl (refl, refl))
+
+fourth_lies : (up right : Bool) (a b c e : ℕ) → Towards up right a b c e (turned_left (turned_left (turned_left (opposite (rightward right))))) (if is_positive_turn (upward up) (rightward right) then b else a)
+fourth_lies true true a b c e = inl (inl (refl, refl))
+fourth_lies true false a b c e = inl (inr (refl, refl))
+fourth_lies false true a b c e = inl (inr (refl, refl))
+fourth_lies false false a b c e = inl (inl (refl, refl))
+
+pub counterclockwise : (d : Diagram) (at : Crossed) → AreCounterclockwise d at (opposite (row_direction d at.row)) (crossing d at)
+counterclockwise d at =
+    let up = is_up d at.column in
+    let right = is_rightward d at.row in
+    let a = edge_to d (through true at) in
+    let b = edge_from d (through true at) in
+    let c = edge_to d (through false at) in
+    let e = edge_from d (through false at) in
+    record {
+      first = inr (inr (refl, refl));
+      second = second_lies up right a b c e;
+      third = third_lies up right a b c e;
+      fourth = fourth_lies up right a b c e;
+    }

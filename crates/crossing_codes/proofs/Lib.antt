@@ -22,3 +22,4 @@ pub mod GaussSteps
 pub mod EdgeLaws
 pub mod Counts
 mod WorkedRows
+mod OneToOne

@@ -29,7 +29,7 @@ linked = record { x = 0 ∷ 1 ∷ 2 ∷ 3 ∷ []; o = 2 ∷ 3 ∷ 0 ∷ 1 ∷ []
 abbrev pub above : Diagram
 above = record { x = 1 ∷ 0 ∷ 3 ∷ 2 ∷ []; o = 2 ∷ 3 ∷ 0 ∷ 1 ∷ [] }
 
--- the strand runs through all columns of the trefoil, every third one
+-- the strand runs through all columns of the trefoil, every second one
 trefoil_round : component right_trefoil 0 ≡ 0 ∷ 2 ∷ 4 ∷ 1 ∷ 3 ∷ []
 trefoil_round = refl
 

@@ -1,5 +1,5 @@
 -- Planar diagram codes of grid diagrams, in the order of the KnotTheory package.
-use Rattle.std.specs.Prelude.{ℕ, Bool, true, false, map, length, ℤ, pos, negsuc, ◌*ℤ◌, ◌-ℤ◌, neg_ℤ, int_lt, if◌then◌else◌}
+use Rattle.std.specs.Prelude.{◌≡◌, ◌⊎◌, ℕ, Bool, true, false, map, length, ℤ, pos, negsuc, ◌*ℤ◌, ◌-ℤ◌, neg_ℤ, int_lt, if◌then◌else◌}
 use Rattle.grid_core.specs.Diagram.{Diagram}
 use Rattle.grid_core.specs.Parts.{is_up}
 use Rattle.crossing_codes.specs.declared.crossing.Code.{Code}
@@ -44,6 +44,19 @@ crossing d at =
       fourth = if is_positive d at then edge_from d over else edge_to d over;
       positive = is_positive d at;
     }
+
+-- the edge that lies in this direction from a crossing: the strand leaves on it along its own direction, and comes on it the other way
+abbrev pub LiesTowards : Diagram → Crossed → Direction → ℕ → Type 0
+LiesTowards d at v e =
+    (((v ≡ column_direction d at.column) × (e ≡ edge_to d (through true at))) ⊎ ((v ≡ opposite (column_direction d at.column)) × (e ≡ edge_from d (through true at))))
+    ⊎ (((v ≡ row_direction d at.row) × (e ≡ edge_to d (through false at))) ⊎ ((v ≡ opposite (row_direction d at.row)) × (e ≡ edge_from d (through false at))))
+
+-- the four edges lie in these directions, each a quarter turn counterclockwise from the one before
+pub record AreCounterclockwise (d : Diagram) (at : Crossed) (v : Direction) (x : Crossing) : Type 0 where
+  pub first : LiesTowards d at v x.first
+  pub second : LiesTowards d at (turned_left v) x.second
+  pub third : LiesTowards d at (turned_left (turned_left v)) x.third
+  pub fourth : LiesTowards d at (turned_left (turned_left (turned_left v))) x.fourth
 
 abbrev pub code : Diagram → Code
 code d = record { crossings = map (crossing d) (crossings d); edges = length (passages d); loops = length (loops d) }

@@ -7,7 +7,12 @@ ghost use Rattle.colour_rows.specs.Walk.{passed};
 ghost use Rattle.crossing_codes.specs.Passages.{passages, crossings};
 ghost use Rattle.crossing_codes.specs.Edges.{edges_after};
 ghost use Rattle.crossing_codes.specs.Layout.{HasNumbers};
+ghost use Rattle.quandle_core.specs.Quandle.{Table, IsQuandle};
+ghost use Rattle.quandle_core.specs.Bijection.{IsBijection};
+ghost use Rattle.colour_rows.specs.Colouring.{IsColouring};
 ghost use Rattle.crossing_codes.specs.Code.{crossing, is_positive, code};
+ghost use Rattle.crossing_codes.specs.CodeColouring.{is_code_colouring};
+ghost use Rattle.crossing_codes.specs.EdgeColours.{edge_colours};
 
 use crate::crossing::{Code, Crossing};
 use crate::layout::Layout;
@@ -17,9 +22,13 @@ use grid_core::{Grid, Items};
 use knot_ports::OutOfMemory;
 use std::alloc::{AllocError, Global};
 
-/// The code of a grid: its crossings by row from the lowest, and in a row by column from the left, and how many edges and loops it has.
+/// The code of a grid: its crossings by row from the lowest, and in a row by column from the left, and how many edges and
+/// loops it has; or want of memory. For every quandle the edge colours of each colouring of the grid are a colouring of the
+/// code, and each colouring of the code is the edge colours of exactly one colouring of the grid.
 pub fn code_of(alloc: Global, grid: &Grid) -> Result<Code, OutOfMemory>
-    ensures { IfOk result (λ c. c ≡ code grid.now) }
+    ensures code { IfOk result (λ c. c ≡ code grid.now) }
+    ensures colourings { IfOk result (λ c. (t : Table) → IsQuandle t
+        → IsBijection (IsColouring t grid.now) (λ edges. is_code_colouring t c edges ≡ true) (edge_colours t grid.now)) }
 {
     let layout = Layout::of(grid);
     let size = layout.size();

@@ -7,26 +7,18 @@ ghost use Rattle.grid_core.specs.Parts.{covers, ends};
 ghost use Rattle.quandle_core.specs.Quandle.{Table, IsQuandle};
 ghost use Rattle.colour_rows.specs.Colouring.{IsColouring};
 ghost use Rattle.colour_list.specs.Listing.{colourings};
+ghost use Rattle.quandle_core.specs.Bijection.{IsBijection};
 ghost use Rattle.crossing_codes.specs.Components.{component, starts};
 ghost use Rattle.crossing_codes.specs.Passages.{Crossed, crossings, through, passages, passages_from};
 ghost use Rattle.crossing_codes.specs.Edges.{leads_to, edges_after, edge_from, edge_to};
-ghost use Rattle.crossing_codes.specs.Code.{Direction, column_direction, row_direction, opposite, turned_left, is_positive, code};
+ghost use Rattle.crossing_codes.specs.Code.{row_direction, opposite, crossing, AreCounterclockwise, code};
 ghost use Rattle.crossing_codes.specs.CodeColouring.{edge_colour, is_code_colouring, code_colourings};
 ghost use Rattle.crossing_codes.specs.EdgeColours.{edge_colours, strand};
 
 /// The edge colours of each colouring are a colouring of the code, and each colouring of the code is the edge colours of exactly one colouring. So there are as many.
 pub fn code_colourings_are_the_colourings()
-    ensures coloured { (t : Table) (d : Diagram) (colours : List ℕ) → IsQuandle t → IsGrid d
-        → IsColouring t d colours
-        → is_code_colouring t (code d) (edge_colours t d colours) ≡ true }
-    ensures onto { (t : Table) (d : Diagram) (edges : List ℕ) → IsQuandle t → IsGrid d
-        → is_code_colouring t (code d) edges ≡ true
-        → (colours : List ℕ) × IsColouring t d colours × (edge_colours t d colours ≡ edges) }
-    ensures one { (t : Table) (d : Diagram) (colours others : List ℕ) → IsQuandle t → IsGrid d
-        → IsColouring t d colours
-        → IsColouring t d others
-        → edge_colours t d colours ≡ edge_colours t d others
-        → colours ≡ others }
+    ensures one_to_one { (t : Table) (d : Diagram) → IsQuandle t → IsGrid d
+        → IsBijection (IsColouring t d) (λ edges. is_code_colouring t (code d) edges ≡ true) (edge_colours t d) }
     ensures count { (t : Table) (d : Diagram) → IsQuandle t → IsGrid d → length (code_colourings t (code d)) ≡ length (colourings t d) }
 {}
 
@@ -75,9 +67,8 @@ pub fn the_edges_of_a_component_are_consecutive()
         × (map (edge_to d) (passages_from d s) ≡ leads_to b (length (passages_from d s))) }
 {}
 
-/// The edges of a crossing stand counterclockwise: the second one leaves the crossing a quarter turn from the first, on which the strand under comes.
-/// That is the edge on which the strand over leaves at a positive crossing, and the one on which it comes at a negative one.
+/// The edges of a crossing in its code stand counterclockwise, from the one on which the strand under comes: this one lies
+/// against the direction of the row, and each other one a quarter turn further.
 pub fn the_edges_of_a_crossing_stand_counterclockwise()
-    ensures { (d : Diagram) (at : Crossed)
-        → (if is_positive d at then column_direction d at.column else opposite (column_direction d at.column)) ≡ turned_left (opposite (row_direction d at.row)) }
+    ensures { (d : Diagram) (at : Crossed) → AreCounterclockwise d at (opposite (row_direction d at.row)) (crossing d at) }
 {}

@@ -1,7 +1,13 @@
-use Rattle.std.proofs.Common.{◌≡◌, ◌≢◌, ◌∙◌, List, length, sym, ap, subst, arith}
+use Rattle.std.proofs.Common.{◌≡◌, ◌≢◌, ◌∙◌, true, List, length, sym, ap, subst, arith}
 use Rattle.std.specs.List.{All, AllPairs}
 use Rattle.crossing_codes.specs.declared.passage.Passage.{Passage}
-use Rattle.grid_core.specs.Diagram.{size}
+use Rattle.grid_core.specs.Diagram.{IsGrid, size}
+use Rattle.quandle_core.specs.Bijection.{IsBijection}
+use Rattle.colour_rows.specs.Colouring.{IsColouring}
+use Rattle.crossing_codes.specs.declared.crossing.Code.{Code}
+use Rattle.crossing_codes.specs.CodeColouring.{is_code_colouring}
+use Rattle.crossing_codes.specs.EdgeColours.{edge_colours}
+use Rattle.crossing_codes.proofs.OneToOne.{one_to_one}
 use Rattle.crossing_codes.specs.Layout.{HasNumbers}
 use Rattle.crossing_codes.specs.Code.{code}
 use Rattle.crossing_codes.proofs.Slots.{IsInside, few_passages, passages_inside, passages_differ}
@@ -41,8 +47,8 @@ overflow_cast-result c =
     let same = ap length c.in_ok-route.ensures.passages in
     omega (arith, few, same, c.len-2.ensures)
 
-pub returns : goal.returns
-returns c =
+pub returns-clause-code : goal.returns-clause-code
+returns-clause-code c =
     let d = c.of-layout.result in
     let whole : c.loop-row.row ≡ size d = omega arith in
     code_is d c.from_vec.result c.len-2.result c.in_ok-route.route.loops
@@ -50,3 +56,15 @@ returns c =
     (let same = ap length c.in_ok-route.ensures.passages in omega (arith, same, c.len-2.ensures))
     c.in_ok-route.ensures.loops
     ∙ ap code c.of-layout.ensures
+
+pub returns-clause-colourings : goal.returns-clause-colourings
+returns-clause-colourings c = λ t q.
+    let d = c.of-layout.result in
+    let whole : c.loop-row.row ≡ size d = omega arith in
+    let is = code_is d c.from_vec.result c.len-2.result c.in_ok-route.route.loops
+    (c.from_vec.ensures ∙ (c.loop-row.invariant ∙ (ap (crossed_below d) whole ∙ all_crossed d)))
+    (let same = ap length c.in_ok-route.ensures.passages in omega (arith, same, c.len-2.ensures))
+    c.in_ok-route.ensures.loops in
+    let grid = subst IsGrid c.of-layout.ensures c.size-size.ensures.grid in
+    subst (λ (x : Code). IsBijection (IsColouring t c.args.grid.now) (λ edges. is_code_colouring t x edges ≡ true) (edge_colours t c.args.grid.now))
+    (sym (is ∙ ap code c.of-layout.ensures)) (one_to_one t c.args.grid.now q grid)
