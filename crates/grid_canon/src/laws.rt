@@ -24,7 +24,7 @@ pub fn a_translate_moves_each_mark()
     ensures grid { (d : Diagram) (a b : ℕ) → IsGrid d → a < size d → b < size d → IsGrid (translate d a b) }
 {}
 
-/// A translate is joined to its diagram by its shifts, which are at most two moves, at one size.
+/// A translate is joined to its diagram by its shifts, of columns and of rows, at one size.
 pub fn a_translate_is_joined_by_its_shifts()
     ensures joined { (d : Diagram) (a b : ℕ)
         → IsGrid d

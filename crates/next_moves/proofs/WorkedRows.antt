@@ -30,7 +30,7 @@ forty = refl
 nothing_from_the_unknot : filter (is_offered unknot 2) (tries 2) ≡ []
 nothing_from_the_unknot = refl
 
--- an unknot of three columns: its six blocks with three marks, of which five lie across the cut
+-- an unknot of three columns: its six blocks with three marks, of which three lie across the cut
 abbrev three : Diagram
 three = record { x = 0 ∷ 1 ∷ 2 ∷ []; o = 1 ∷ 2 ∷ 0 ∷ [] }
 

@@ -30,7 +30,7 @@ pub fn every_offer_is_a_neighbour()
         → (f : Diagram) × (IsNeighbour d cap f × (key_of f ≡ offer.key) × Leads d offer.link f) }
 {}
 
-/// A link that leads somewhere is a list of at most five moves that joins the two diagrams, and none on the way is larger than both ends.
+/// A link that leads somewhere is a list of moves, its shifts and its step, that joins the two diagrams, and none on the way is larger than the larger end.
 pub fn a_link_is_a_list_of_moves()
     ensures joined { (d f : Diagram) (link : Link) → IsGrid d → Leads d link f → Joins d (link_moves link) f }
     ensures within { (d f : Diagram) (link : Link) (cap : ℕ)
