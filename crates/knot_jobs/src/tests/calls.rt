@@ -286,10 +286,11 @@ fn padded(alloc: Global, head: &[u8], size: usize) -> Result<Vec<u8>, AllocError
     let mut text = Vec::with_capacity(alloc, size)?;
     text.extend_from_slice(head)?;
     let comment = [b'#'; 1024];
-    for _ in 0..(size - head.len()) / 1024 {
+    let missing = size.saturating_sub(head.len());
+    for _ in 0..missing / 1024 {
         text.extend_from_slice(&comment)?;
     }
-    text.extend_from_slice(&comment[..(size - head.len()) % 1024])?;
+    text.extend_from_slice(&comment[..missing % 1024])?;
     Ok(text)
 }
 
