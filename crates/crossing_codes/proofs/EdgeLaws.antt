@@ -1,6 +1,6 @@
 -- Edges, component by component.
 use Rattle.std.proofs.Common.{◌≡◌, ◌<◌, ◌+◌, ◌-◌, ◌*◌, ◌++◌, ◌∙◌, ◌∷◌, [], inl, inr, ℕ, zero, suc, Bool, true, false, List, length, map, get_or, refl, sym, ap, ap₂, subst, arith, ◌↔◌, ◌⊎◌}
-use Rattle.std.specs.Prelude.{nat_lt, if◌then◌else◌, pos, negsuc, Contains}
+use Rattle.std.specs.Prelude.{codes, take, nat_lt, if◌then◌else◌, pos, negsuc, Contains}
 use Rattle.std.specs.List.{range_with_len, flat_map}
 use Rattle.std.specs.List.Sorted.{IsPermutation}
 use Rattle.std.proofs.lemmas.Bool.{cases_lt, lt-ltb, le-ltb, cond-true, cond-false}
@@ -15,8 +15,9 @@ use Rattle.colour_rows.specs.Colouring.{IsColouring}
 use Rattle.crossing_codes.specs.declared.passage.Passage.{Passage}
 use Rattle.crossing_codes.specs.Components.{component, starts}
 use Rattle.crossing_codes.specs.Passages.{Crossed, crossings, through, is_rightward, passages, passages_from}
-use Rattle.crossing_codes.specs.Edges.{leads_to, all_lead_to, edges_after, place, edge_from, edge_to}
-use Rattle.crossing_codes.specs.Code.{Direction, row_direction, opposite, turned_left, is_positive_turn, crossing, AreCounterclockwise}
+use Rattle.crossing_codes.specs.Edges.{leads_to, all_lead_to, edges_after, edges_before, place, edge_from, edge_to}
+use Rattle.crossing_codes.specs.Printed.{passage_token}
+use Rattle.crossing_codes.specs.Code.{is_positive, Direction, row_direction, opposite, turned_left, is_positive_turn, crossing, AreCounterclockwise}
 use Rattle.crossing_codes.specs.CodeColouring.{edge_colour}
 use Rattle.crossing_codes.specs.EdgeColours.{arriving, edge_colours}
 use Rattle.crossing_codes.specs.OnTheWay.{passing}
@@ -104,7 +105,7 @@ edges_each d = let zero_one : 0 + 1 ≡ 1 = omega arith in subst (λ (i : ℕ). 
 
 -- the edges of one component
 pub edges_of_round : (d : Diagram) → IsGrid d → (s : ℕ) → Has (starts d) s
-    → (b : ℕ) × (map (edge_from d) (passages_from d s) ≡ range_with_len (b + 1) (length (passages_from d s))) × (map (edge_to d) (passages_from d s) ≡ leads_to b (length (passages_from d s)))
+    → (map (edge_from d) (passages_from d s) ≡ range_with_len (edges_before d s + 1) (length (passages_from d s))) × (map (edge_to d) (passages_from d s) ≡ leads_to (edges_before d s) (length (passages_from d s)))
 edges_of_round d grid s h =
     let z : Passage = record { over = true; column = 0; row = 0 } in
     let placing = placed d s h in
@@ -113,8 +114,8 @@ edges_of_round d grid s h =
     let ps = passages_from d s in
     let n = length ps in
     let inside = p.within in
-    let stands : (k : ℕ) → k < n → place d (get_or ps k z) ≡ b + k = λ k lt. ap (place d) (sym (p.passage k z lt)) ∙ place_at d grid (b + k) z (omega arith) in (
-      b,
+    let stands : (k : ℕ) → k < n → place d (get_or ps k z) ≡ b + k = λ k lt. ap (place d) (sym (p.passage k z lt)) ∙ place_at d grid (b + k) z (omega arith) in
+    subst (λ (b : ℕ). (map (edge_from d) ps ≡ range_with_len (b + 1) n) × (map (edge_to d) ps ≡ leads_to b n)) (sym p.before) (
       ext_get_or 0 (map (edge_from d) ps) (range_with_len (b + 1) n) (length-map ps (edge_from d) ∙ sym (length-range_with_len (b + 1) n))
           (λ k lt. let less : k < n = omega (arith, lt, length-map ps (edge_from d)) in
           get_or-map (edge_from d) ps k z 0 less ∙ (ap (λ (i : ℕ). i + 1) (stands k less) ∙ (omega arith ∙ sym (get_or-range_with_len (b + 1) n k 0 less)))),
@@ -190,3 +191,14 @@ counterclockwise d at =
       third = third_lies up right a b c e;
       fourth = fourth_lies up right a b c e;
     }
+
+-- the two passages of a crossing as they are printed, and the edges on which they come
+pub printed_over : (d : Diagram) (at : Crossed) → (take 1 (passage_token d (through true at)) ≡ codes "O") × ((edge_from d (through true at) ≡ (crossing d at).second) ⊎ (edge_from d (through true at) ≡ (crossing d at).fourth))
+printed_over d at = (refl, by (is_positive d at) refl)
+  where
+    by : (t : Bool) → is_positive d at ≡ t → (edge_from d (through true at) ≡ (crossing d at).second) ⊎ (edge_from d (through true at) ≡ (crossing d at).fourth)
+    by true is = inr (sym (cond-true (is_positive d at) (edge_from d (through true at)) (edge_to d (through true at)) is))
+    by false is = inl (sym (cond-false (is_positive d at) (edge_to d (through true at)) (edge_from d (through true at)) is))
+
+pub printed_under : (d : Diagram) (at : Crossed) → (take 1 (passage_token d (through false at)) ≡ codes "U") × (edge_from d (through false at) ≡ (crossing d at).first)
+printed_under d at = (refl, refl)

@@ -5,6 +5,7 @@ pub mod Crossings
 pub mod AllPassages
 pub mod RowWalks
 pub mod Legs
+pub mod Rising
 pub mod Placed
 pub mod Strands
 pub mod Turns

@@ -1,5 +1,5 @@
 -- Colourings of a diagram and of its code, one to one.
-use Rattle.std.proofs.Common.{◌≡◌, ℕ, List, true}
+use Rattle.std.proofs.Common.{◌≡◌, true}
 use Rattle.grid_core.specs.Diagram.{Diagram, IsGrid}
 use Rattle.quandle_core.specs.Quandle.{Table, IsQuandle}
 use Rattle.quandle_core.specs.Bijection.{IsBijection}

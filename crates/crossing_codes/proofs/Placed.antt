@@ -10,13 +10,15 @@ use Rattle.grid_core.specs.Diagram.{Diagram, IsGrid}
 use Rattle.crossing_codes.specs.declared.passage.Passage.{Passage}
 use Rattle.crossing_codes.specs.Components.{starts}
 use Rattle.crossing_codes.specs.Passages.{passages_from, passages}
-use Rattle.crossing_codes.specs.Edges.{leads_to, all_lead_to, edges_after}
+use Rattle.crossing_codes.specs.Edges.{leads_to, all_lead_to, edges_after, edges_before}
 use Rattle.crossing_codes.proofs.Members.{Has, has_at, of_flat_map, place_in, one_place, cut_at}
+use Rattle.crossing_codes.proofs.Rising.{starts_below}
 use Rattle.crossing_codes.proofs.AllPassages.{passages_apart}
 
 -- the passages of the component of start s are the n from place b on
 pub record IsPlaced (d : Diagram) (s b : ℕ) : Type 0 where
   pub start : Has (starts d) s
+  pub before : edges_before d s ≡ b
   pub within : b + length (passages_from d s) ≤ length (passages d)
   pub passage : (k : ℕ) (z : Passage) → k < length (passages_from d s) → get_or (passages d) (b + k) z ≡ get_or (passages_from d s) k z
   pub next : (k : ℕ) → k + 1 < length (passages_from d s) → get_or (edges_after d) (b + k) 0 ≡ b + k + 2
@@ -74,6 +76,7 @@ placed d s h =
       b,
       record {
         start = h;
+        before = ap (λ (ss : List ℕ). length (flat_map g ss)) (starts_below d s front behind cut.2);
         within = omega (arith, ap length split, length-append (flat_map g front) (g s ++ flat_map g behind), length-append (g s) (flat_map g behind));
         passage = λ k z lt. ap (λ (ps : List Passage). get_or ps (b + k) z) split ∙ middle (flat_map g front) (g s) (flat_map g behind) k z lt;
         next = λ k lt. at k (omega (arith, lt)) ∙ (cond-true (nat_lt (k + 1) n) (b + (k + 1) + 1) (b + 1) (lt-ltb (k + 1) n lt) ∙ omega arith);

@@ -1,7 +1,7 @@
 -- Edges, which lie between the passages of a component. They are numbered from 1 along the components in order:
 -- of a component with p passages, behind b edges, passage t comes from edge b + t; it leads to edge b + t + 1, and the last one back to edge b + 1.
 use Rattle.std.specs.Prelude.{ℕ, ◌+◌, ◌==◌, ◌&&◌, Bool, not, List, [], ◌∷◌, ◌++◌, map, filter, length, nat_lt, slice_index, if◌then◌else◌}
-use Rattle.std.specs.List.{range_with_len, position_or_len}
+use Rattle.std.specs.List.{range_with_len, flat_map, position_or_len}
 use Rattle.grid_core.specs.Diagram.{Diagram}
 use Rattle.crossing_codes.specs.declared.passage.Passage.{Passage}
 use Rattle.crossing_codes.specs.Components.{starts}
@@ -19,6 +19,10 @@ all_lead_to b (p ∷ ps) = leads_to b p ++ all_lead_to (b + p) ps
 -- the edge to which each passage leads, in the order of the passages
 abbrev pub edges_after : Diagram → List ℕ
 edges_after d = all_lead_to 0 (map (λ s. length (passages_from d s)) (starts d))
+
+-- the number of edges of the components that come before that of start s, which are those of lesser starts: as many as their passages
+abbrev pub edges_before : Diagram → ℕ → ℕ
+edges_before d s = length (flat_map (passages_from d) (filter (λ e. nat_lt e s) (starts d)))
 
 -- the two are the same passage
 abbrev pub is_passage : Passage → Passage → Bool

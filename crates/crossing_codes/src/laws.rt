@@ -1,5 +1,5 @@
 //! Laws of crossing codes, over the definitions alone.
-ghost use Rattle.std.specs.Prelude.{◌≡◌, ◌<◌, ◌≤◌, ◌+◌, ◌*◌, ◌++◌, ◌↔◌, ℕ, true, false, List, map, flat_map, length, slice_index, Contains, IsPermutation, if◌then◌else◌};
+ghost use Rattle.std.specs.Prelude.{◌≡◌, ◌<◌, ◌≤◌, ◌+◌, ◌*◌, ◌++◌, ◌↔◌, ◌⊎◌, ℕ, true, false, List, map, take, codes, flat_map, length, slice_index, Contains, IsPermutation, if◌then◌else◌};
 ghost use Rattle.std.specs.List.{range_with_len};
 ghost use Rattle.grid_core.specs.Diagram.{Diagram, IsGrid, size};
 ghost use Rattle.grid_core.specs.Span.{lies_within};
@@ -10,8 +10,9 @@ ghost use Rattle.colour_list.specs.Listing.{colourings};
 ghost use Rattle.quandle_core.specs.Bijection.{IsBijection};
 ghost use Rattle.crossing_codes.specs.Components.{component, starts};
 ghost use Rattle.crossing_codes.specs.Passages.{Crossed, crossings, through, passages, passages_from};
-ghost use Rattle.crossing_codes.specs.Edges.{leads_to, edges_after, edge_from, edge_to};
+ghost use Rattle.crossing_codes.specs.Edges.{leads_to, edges_after, edges_before, edge_from, edge_to};
 ghost use Rattle.crossing_codes.specs.Code.{row_direction, opposite, crossing, AreCounterclockwise, code};
+ghost use Rattle.crossing_codes.specs.Printed.{passage_token};
 ghost use Rattle.crossing_codes.specs.CodeColouring.{edge_colour, is_code_colouring, code_colourings};
 ghost use Rattle.crossing_codes.specs.EdgeColours.{edge_colours, strand};
 
@@ -61,14 +62,26 @@ pub fn each_edge_lies_between_two_passages()
 {}
 
 /// The edges of a component are consecutive, and lie between its passages in their order, the last of which leads back to the first edge.
+/// They come behind those of the components with lesser starts.
 pub fn the_edges_of_a_component_are_consecutive()
-    ensures { (d : Diagram) (s : ℕ) → IsGrid d → Contains (starts d) s
-        → (b : ℕ) × (map (edge_from d) (passages_from d s) ≡ range_with_len (b + 1) (length (passages_from d s)))
-        × (map (edge_to d) (passages_from d s) ≡ leads_to b (length (passages_from d s))) }
+    ensures comes { (d : Diagram) (s : ℕ) → IsGrid d → Contains (starts d) s
+        → map (edge_from d) (passages_from d s) ≡ range_with_len (edges_before d s + 1) (length (passages_from d s)) }
+    ensures leads { (d : Diagram) (s : ℕ) → IsGrid d → Contains (starts d) s
+        → map (edge_to d) (passages_from d s) ≡ leads_to (edges_before d s) (length (passages_from d s)) }
 {}
 
 /// The edges of a crossing in its code stand counterclockwise, from the one on which the strand under comes: this one lies
 /// against the direction of the row, and each other one a quarter turn further.
 pub fn the_edges_of_a_crossing_stand_counterclockwise()
     ensures { (d : Diagram) (at : Crossed) → AreCounterclockwise d at (opposite (row_direction d at.row)) (crossing d at) }
+{}
+
+/// Of the two passages of a crossing the one printed `O` comes on the second or fourth edge of the crossing in its code, which are
+/// the strand's over, and the one printed `U` on the first.
+pub fn the_text_tells_over_from_under()
+    ensures over { (d : Diagram) (at : Crossed)
+        → (take 1 (passage_token d (through true at)) ≡ codes "O")
+        × ((edge_from d (through true at) ≡ (crossing d at).second) ⊎ (edge_from d (through true at) ≡ (crossing d at).fourth)) }
+    ensures under { (d : Diagram) (at : Crossed)
+        → (take 1 (passage_token d (through false at)) ≡ codes "U") × (edge_from d (through false at) ≡ (crossing d at).first) }
 {}
