@@ -6,7 +6,6 @@ use Rattle.std.proofs.lemmas.Bool.{ltb-true, eqb-true, leb-true, or_cases, and_p
 use Rattle.std.proofs.lemmas.List.Folds.{list_all_at}
 use Rattle.std.proofs.lemmas.List.FromFn.{get_or-range_with_len, length-range_with_len}
 use Rattle.grid_core.specs.declared.grid.TheConstants.{MAX_SIZE}
-use Rattle.grid_canon.specs.declared.packed.TheConstants.{BASE}
 use Rattle.grid_core.specs.Diagram.{Diagram, size}
 use Rattle.grid_core.proofs.WorkedRows.{right_trefoil, left_trefoil}
 use Rattle.grid_canon.specs.declared.least.LeastForm.{LeastForm}
@@ -86,7 +85,7 @@ by_columns_alone = refl
 
 -- the key of the left trefoil
 left_key : key_of left_trefoil ≡ record {
-  first = 5 * BASE ^ MAX_SIZE + 0 * BASE ^ (MAX_SIZE - 1) + 1 * BASE ^ (MAX_SIZE - 2) + 2 * BASE ^ (MAX_SIZE - 3) + 3 * BASE ^ (MAX_SIZE - 4) + 4 * BASE ^ (MAX_SIZE - 5);
-  second = 2 * BASE ^ (MAX_SIZE - 1) + 3 * BASE ^ (MAX_SIZE - 2) + 4 * BASE ^ (MAX_SIZE - 3) + 0 * BASE ^ (MAX_SIZE - 4) + 1 * BASE ^ (MAX_SIZE - 5);
+  first = 5 * 32 ^ MAX_SIZE + 0 * 32 ^ (MAX_SIZE - 1) + 1 * 32 ^ (MAX_SIZE - 2) + 2 * 32 ^ (MAX_SIZE - 3) + 3 * 32 ^ (MAX_SIZE - 4) + 4 * 32 ^ (MAX_SIZE - 5);
+  second = 2 * 32 ^ (MAX_SIZE - 1) + 3 * 32 ^ (MAX_SIZE - 2) + 4 * 32 ^ (MAX_SIZE - 3) + 0 * 32 ^ (MAX_SIZE - 4) + 1 * 32 ^ (MAX_SIZE - 5);
 }
 left_key = refl

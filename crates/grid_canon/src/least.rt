@@ -112,6 +112,7 @@ const TWICE_MAX_SIZE: usize = 2 * MAX_SIZE;
 /// The first column that gives the least translate with an X in its lower left cell.
 #[tactic(auto, using(crate::proofs::LeastTranslates::first_least_keeps, crate::proofs::LeastTranslates::first_least_takes))]
 fn least_column(grid: &Grid, x: &Twice, o: &Twice, size: u8) -> u8
+    requires grid { IsGrid grid.now }
     requires size { size ≡ length grid.now.x }
     requires least { 1 ≤ size }
     requires x { x.now.items ≡ grid.now.x ++ grid.now.x }
@@ -119,9 +120,12 @@ fn least_column(grid: &Grid, x: &Twice, o: &Twice, size: u8) -> u8
     ensures { IsFirstLeast grid.now size result }
 {
     let mut best = 0;
+    let mut best_step = second_row(grid, x, 0, size);
     for column in 1..size {
-        if comes_before(grid, x, o, column, best) {
+        let step = second_row(grid, x, column, size);
+        if comes_before(grid, x, o, column, step, best, best_step) {
             best = column;
+            best_step = step;
         }
     }
     best
@@ -138,18 +142,26 @@ fn twice(grid: &Grid, kind: Kind) -> Twice
     rows
 }
 
-/// Whether the translate with the X of one column in its lower left cell is less than that of another.
-/// The second columns mostly differ, and then they decide.
-fn comes_before(grid: &Grid, x: &Twice, o: &Twice, near: u8, far: u8) -> bool
+/// Whether the translate with the X of one column in its lower left cell is less than that of another, by the rows of the Xs of
+/// their second columns, which mostly differ and then decide.
+fn comes_before(
+    grid: &Grid,
+    x: &Twice,
+    o: &Twice,
+    near: u8,
+    near_step: u8,
+    far: u8,
+    far_step: u8,
+) -> bool
     requires near { near < size grid.now }
     requires far { far < size grid.now }
+    requires near_step { near_step ≡ row_of Kind.Cross (cornered grid.now near) 1 }
+    requires far_step { far_step ≡ row_of Kind.Cross (cornered grid.now far) 1 }
     requires x { x.now.items ≡ grid.now.x ++ grid.now.x }
     requires o { o.now.items ≡ grid.now.o ++ grid.now.o }
     ensures { result ≡ is_lt (compare (cornered grid.now near) (cornered grid.now far)) }
 {
-    let size = grid.size();
-    let near_step = second_row(grid, x, near, size);
-    let far_step = second_row(grid, x, far, size);
+    let _size = grid.size();
     if near_step == far_step {
         compare_cornered(grid, x, o, near, far) == Ordering::Less
     } else {

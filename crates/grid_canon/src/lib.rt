@@ -10,5 +10,5 @@ mod tests;
 mod translation;
 
 pub use least::{LeastForm, LeastKey, canonical, canonical_key};
-pub use packed::{BASE, Packed, pack, unpack};
+pub use packed::{BASE, Packed, compare_keys, pack, unpack};
 pub use translation::translate;

@@ -4,11 +4,12 @@ ghost use Rattle.std.specs.List.{All, range_with_len};
 ghost use Rattle.grid_core.specs.declared.grid.TheConstants.{MAX_SIZE};
 ghost use Rattle.grid_core.specs.Diagram.{Diagram, IsGrid};
 ghost use Rattle.grid_moves.specs.Shift.{shifted};
-ghost use Rattle.grid_canon.specs.Key.{number, filled, key_of, digit_at};
+ghost use Rattle.grid_canon.specs.Key.{number, filled, key_of, compare_keys, digit_at};
 
 use crate::translation::lowered;
 use arrayvec::ArrayVec;
 use grid_core::{Grid, Kind, MAX_SIZE, Rows};
+use std::cmp::Ordering;
 
 /// A row of a grid is a digit to this base in a key: it is above every row and every size.
 pub const BASE: u128 = 32;
@@ -16,7 +17,8 @@ pub const BASE: u128 = 32;
 /// The base is this power of two.
 const DIGIT_BITS: u32 = 5;
 
-/// The key of a grid of size n. Keys are equal exactly for equal grids; they are ordered by size, then as the Xs, then as the Os.
+/// The key of a grid of size n. Keys are equal exactly for equal grids; they are ordered by size, then as the Xs, then as the Os:
+/// by `first` and then by `second`, so the fields stand in this order.
 #[derive(Clone, Copy, Debug, Default, PartialEq, Eq, PartialOrd, Ord, Hash)]
 pub struct Packed {
     /// The number with the digit n and then the rows of the Xs by column, filled with 0 up to the greatest size.
@@ -34,6 +36,13 @@ pub fn pack(grid: &Grid) -> Packed
         first: filled_number(size, grid.rows(Kind::Cross)),
         second: filled_number(0, grid.rows(Kind::Ring)),
     }
+}
+
+/// How two keys compare: by the first number, and then by the second. It is the order that the type derives.
+pub fn compare_keys(p: &Packed, q: &Packed) -> Ordering
+    ensures { result ≡ compare_keys p.now q.now }
+{
+    p.cmp(q)
 }
 
 /// The grid that has this key, or None exactly where no grid has it. Takes no memory.

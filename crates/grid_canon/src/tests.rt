@@ -1,5 +1,5 @@
 //! Canonical forms and keys on worked examples, and the plain search over all translates beside them.
-ghost use Rattle.std.specs.Prelude.{◌<◌, ◌≤◌};
+ghost use Rattle.std.specs.Prelude.{◌≤◌};
 
 use crate::{LeastForm, LeastKey, Packed, canonical, canonical_key, pack, translate, unpack};
 use grid_core::{Grid, MAX_SIZE};
@@ -151,21 +151,21 @@ fn numbers_that_are_no_key_are_refused(rt: HostRuntime) -> Result<(), Fail> {
 
 #[test]
 fn there_are_as_many_canonical_diagrams_as_were_counted(rt: HostRuntime) -> Result<(), Fail> {
-    assert_eq!(rt; canonical_diagrams(2, 4), 1);
-    assert_eq!(rt; canonical_diagrams(3, 27), 4);
-    assert_eq!(rt; canonical_diagrams(4, 256), 19);
+    assert_eq!(rt; canonical_diagrams(2, 2), 1);
+    assert_eq!(rt; canonical_diagrams(3, 6), 4);
+    assert_eq!(rt; canonical_diagrams(4, 24), 19);
+    assert_eq!(rt; canonical_diagrams(5, 120), 224);
     Ok(())
 }
 
-/// The number of canonical diagrams of a size, among all pairs of lists of as many rows.
-fn canonical_diagrams(n: u8, lists: u16) -> u32
-    requires least { 1 < n }
-    requires most { n ≤ 4 }
+/// The number of canonical diagrams of a size, among all pairs of orders of its rows.
+fn canonical_diagrams(n: u8, orders: u16) -> u32
+    requires { n ≤ 5 }
 {
     let mut count: u32 = 0;
-    for first in 0..lists {
-        for second in 0..lists {
-            if is_canonical(digits(first, n), digits(second, n), n) {
+    for first in 0..orders {
+        for second in 0..orders {
+            if is_canonical(arranged(first, n), arranged(second, n), n) {
                 count = count.saturating_add(1);
             }
         }
@@ -174,8 +174,8 @@ fn canonical_diagrams(n: u8, lists: u16) -> u32
 }
 
 /// Whether the first rows of two lists are a diagram that is its own canonical form.
-fn is_canonical(x: [u8; 4], o: [u8; 4], n: u8) -> bool
-    requires { n ≤ 4 }
+fn is_canonical(x: [u8; 5], o: [u8; 5], n: u8) -> bool
+    requires { n ≤ 5 }
 {
     let (x, _) = x.split_at(n as usize);
     let (o, _) = o.split_at(n as usize);
@@ -185,15 +185,16 @@ fn is_canonical(x: [u8; 4], o: [u8; 4], n: u8) -> bool
     }
 }
 
-/// The four last digits of a number to a base, the last one first.
-fn digits(number: u16, base: u8) -> [u8; 4]
-    requires { 1 < base }
+/// The numbers from 0 to 4, of which the first n stand in an order by number: each number below n! gives another order.
+fn arranged(number: u16, n: u8) -> [u8; 5]
+    requires { n ≤ 5 }
 {
-    let mut digits = [0; 4];
+    let mut rows = [0, 1, 2, 3, 4];
     let mut rest = number;
-    for digit in digits.iter_mut() {
-        *digit = (rest % u16::from(base)) as u8;
-        rest /= u16::from(base);
+    for place in 1..n {
+        let count = u16::from(place) + 1;
+        rows.swap(usize::from(place), usize::from(rest % count));
+        rest /= count;
     }
-    digits
+    rows
 }

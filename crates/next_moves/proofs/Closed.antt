@@ -48,7 +48,7 @@ module _ (members : List Diagram) (cap : ℕ) (grids : All IsGrid members) (clos
         before = d;
         translated = translated_back d root.0 grid root.1.among;
         move = move;
-        turns = turns;
+        no_shift = turns;
         after = e;
         step = step;
         small = small;

@@ -38,7 +38,7 @@ pub neighbour_offered : (d f : Diagram) (cap : ℕ) (offers : List Offer) → Is
 neighbour_offered d f cap offers grid list near =
     let s = shifts_of d near.before near.translated in
     let step : Step (translate d s.0 s.1) near.move near.after = subst (λ t. Step t near.move near.after) (sym s.4) near.step in
-    let m = matched near.move d s.0 s.1 near.after grid s.2 s.3 near.turns step in
+    let m = matched near.move d s.0 s.1 near.after grid s.2 s.3 near.no_shift step in
     let small : size m.result ≤ cap = omega (arith, translated_size near.after m.result near.step.after m.same, near.small) in
     let offered : is_offered d cap m.try ≡ true = legal_offered d (translate d m.try.before.0 m.try.before.1) m.result cap m.try m.columns refl m.step ∙ le-leb (size m.result) cap small in
     let found = offer_of_try d cap offers m.try list m.among offered in
@@ -76,7 +76,7 @@ offer_is_neighbour d cap offers offer grid list among =
           before = translate d offer.link.before.0 offer.link.before.1;
           translated = translates_contains d offer.link.before.0 offer.link.before.1 led.columns led.rows;
           move = offer.link.step;
-          turns = turns;
+          no_shift = turns;
           after = led.moved;
           step = led.step;
           small = small;

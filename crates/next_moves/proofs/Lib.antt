@@ -11,4 +11,6 @@ pub mod Complete
 pub mod Determined
 pub mod Linked
 pub mod Closed
+pub mod Offered
+pub mod HowMany
 mod WorkedRows

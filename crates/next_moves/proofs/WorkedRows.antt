@@ -1,7 +1,8 @@
 -- Worked examples: what is tried, and what of it is legal.
-use Rattle.std.proofs.Common.{◌≡◌, ◌∷◌, [], refl, length, filter, map}
+use Rattle.std.proofs.Common.{◌≡◌, ◌∷◌, [], ℕ, refl, length, filter}
 use Rattle.grid_core.specs.Diagram.{Diagram}
 use Rattle.grid_core.proofs.WorkedRows.{unknot, left_trefoil}
+use Rattle.grid_moves.specs.declared.step.Move.{Move}
 use Rattle.grid_moves.specs.declared.step.Move.TheVariants.{ExchangeColumns, ExchangeRows, Destabilise}
 use Rattle.next_moves.specs.Tries.{Try, tries, column_exchange, row_exchange, destabilisation}
 use Rattle.next_moves.specs.Offers.{is_offered}
@@ -34,5 +35,8 @@ nothing_from_the_unknot = refl
 abbrev three : Diagram
 three = record { x = 0 ∷ 1 ∷ 2 ∷ []; o = 1 ∷ 2 ∷ 0 ∷ [] }
 
-six_blocks : map (λ (t : Try). t.step) (filter (is_offered three 3) (tries 3)) ≡ Destabilise 0 0 ∷ Destabilise 0 1 ∷ Destabilise 1 1 ∷ Destabilise 1 1 ∷ Destabilise 1 0 ∷ Destabilise 1 1 ∷ []
+abbrev tried : ℕ × ℕ → Move → Try
+tried before step = record { before = before; step = step }
+
+six_blocks : filter (is_offered three 3) (tries 3) ≡ tried (0, 0) (Destabilise 0 0) ∷ tried (0, 0) (Destabilise 0 1) ∷ tried (0, 0) (Destabilise 1 1) ∷ tried (0, 1) (Destabilise 1 1) ∷ tried (1, 0) (Destabilise 1 0) ∷ tried (1, 1) (Destabilise 1 1) ∷ []
 six_blocks = refl

@@ -21,7 +21,7 @@ pub record IsNeighbour (d : Diagram) (cap : ℕ) (f : Diagram) : Type 0 where
   pub before : Diagram
   pub translated : Contains (translates d) before
   pub move : Move
-  pub turns : is_shift move ≡ false
+  pub no_shift : is_shift move ≡ false
   pub after : Diagram
   pub step : Step before move after
   pub small : size after ≤ cap

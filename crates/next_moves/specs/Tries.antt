@@ -44,10 +44,17 @@ corners = LowLeft ∷ LowRight ∷ HighLeft ∷ HighRight ∷ []
 abbrev pub stabilisations : ℕ → List Try
 stabilisations c = map (stabilisation c Cross) corners ++ map (stabilisation c Ring) corners
 
--- exchanges of columns, exchanges of rows, destabilisations by column and row, stabilisations by column, kind and corner
+-- exchanges of columns, and exchanges of rows
+abbrev pub exchanges : ℕ → List Try
+exchanges n = map (column_exchange n) (range_with_len 0 n) ++ map (row_exchange n) (range_with_len 0 n)
+
+-- by column and row
+abbrev pub all_destabilisations : ℕ → List Try
+all_destabilisations n = flat_map (destabilisations n) (range_with_len 0 n)
+
+-- by column, kind and corner
+abbrev pub all_stabilisations : ℕ → List Try
+all_stabilisations n = flat_map stabilisations (range_with_len 0 n)
+
 abbrev pub tries : ℕ → List Try
-tries n =
-    map (column_exchange n) (range_with_len 0 n)
-    ++ map (row_exchange n) (range_with_len 0 n)
-    ++ flat_map (destabilisations n) (range_with_len 0 n)
-    ++ flat_map stabilisations (range_with_len 0 n)
+tries n = exchanges n ++ all_destabilisations n ++ all_stabilisations n

@@ -1,14 +1,15 @@
 //! Laws of neighbours and offers, over the definitions alone.
-ghost use Rattle.std.specs.Prelude.{◌≡◌, ◌≢◌, ◌≤◌, ℕ, List};
+ghost use Rattle.std.specs.Prelude.{◌≡◌, ◌≢◌, ◌<◌, ◌≤◌, ◌*◌, ℕ, List, filter, length};
 ghost use Rattle.std.specs.List.{All, AllPairs, Contains};
 ghost use Rattle.grid_core.specs.Diagram.{Diagram, IsGrid, size};
 ghost use Rattle.grid_moves.specs.Joining.{Joins, JoinsWithin, WithinCap};
 ghost use Rattle.grid_canon.specs.Canonical.{IsCanonicalForm, IsCanonical};
 ghost use Rattle.grid_canon.specs.Key.{key_of};
 ghost use Rattle.next_moves.specs.Neighbours.{IsNeighbour};
-ghost use Rattle.next_moves.specs.Offers.{Leads, IsOfferList, Neighbourhood, IsWhole};
+ghost use Rattle.next_moves.specs.Tries.{exchanges, all_destabilisations, all_stabilisations};
+ghost use Rattle.next_moves.specs.Offers.{is_offered, Leads, IsOfferList, Neighbourhood, IsWhole};
 ghost use Rattle.next_moves.specs.Links.{link_moves};
-ghost use Rattle.next_moves.specs.Reach.{IsReached, AreMembers};
+ghost use Rattle.next_moves.specs.Reach.{IsReached, AreMembers, HasMembers, HasMoreMembers};
 
 use crate::offer::{Link, Offer};
 
@@ -28,6 +29,15 @@ pub fn every_offer_is_a_neighbour()
         → IsOfferList d cap offers
         → Contains offers offer
         → (f : Diagram) × (IsNeighbour d cap f × (key_of f ≡ offer.key) × Leads d offer.link f) }
+{}
+
+/// Of the tries on a grid of size n at most 2n exchanges, 2n destabilisations and 8n stabilisations are offered.
+pub fn how_many_tries_are_offered()
+    ensures exchanges { (d : Diagram) (cap : ℕ) → length (filter (is_offered d cap) (exchanges (size d))) ≤ 2 * size d }
+    ensures destabilisations { (d : Diagram) (cap : ℕ)
+        → IsGrid d
+        → length (filter (is_offered d cap) (all_destabilisations (size d))) ≤ 2 * size d }
+    ensures stabilisations { (d : Diagram) (cap : ℕ) → length (filter (is_offered d cap) (all_stabilisations (size d))) ≤ 8 * size d }
 {}
 
 /// A link that leads somewhere is a list of moves, its shifts and its step, that joins the two diagrams, and none on the way is larger than the larger end.
@@ -77,6 +87,15 @@ pub fn a_closed_list_of_what_is_reached_is_all_of_it()
         → ((f : Diagram) → IsCanonicalForm b f → Contains members f)
         → ((f g : Diagram) → Contains members f → IsNeighbour f cap g → Contains members g)
         → AreMembers (IsReached a b cap) members }
+{}
+
+/// There is at most one number of the diagrams that moves reach, and where there are more than some number, it is larger.
+pub fn there_is_one_number_of_members()
+    ensures one { (a b : Diagram) (cap k l : ℕ) → HasMembers (IsReached a b cap) k → HasMembers (IsReached a b cap) l → k ≡ l }
+    ensures more { (a b : Diagram) (cap k m : ℕ)
+        → HasMembers (IsReached a b cap) k
+        → HasMoreMembers (IsReached a b cap) m
+        → m < k }
 {}
 
 /// A neighbour within the cap is reached within the cap, and so is a canonical form.

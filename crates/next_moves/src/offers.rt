@@ -48,16 +48,16 @@ impl Offers {
     {
         let grid = &form.grid;
         let _size = grid.size();
-        let mut list = ArrayVec::new();
-        exchange_columns(&mut list, grid, cap);
-        exchange_rows(&mut list, grid, cap);
-        destabilise(&mut list, grid, cap);
-        stabilise(&mut list, grid, cap);
-        Offers {
+        let mut offers = Offers {
             origin: pack(grid),
             cap,
-            list,
-        }
+            list: ArrayVec::new(),
+        };
+        exchange_columns(&mut offers.list, grid, cap);
+        exchange_rows(&mut offers.list, grid, cap);
+        destabilise(&mut offers.list, grid, cap);
+        stabilise(&mut offers.list, grid, cap);
+        offers
     }
 
     /// The key of the diagram whose offers these are.

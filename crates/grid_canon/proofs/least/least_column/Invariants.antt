@@ -1,5 +1,11 @@
-use Rattle.grid_canon.specs.Cornered.{IsFirstLeast}
+use Rattle.std.proofs.Common.{◌≡◌}
+use Rattle.grid_core.specs.declared.mark.Kind.TheVariants.{Cross}
+use Rattle.grid_core.specs.Diagram.{row_of}
+use Rattle.grid_canon.specs.Cornered.{cornered, IsFirstLeast}
 use Rattle.grid_canon.proofs.least.least_column.Given as goal
 
 abbrev pub invariant-loop-column : goal.invariant-loop-column
-invariant-loop-column l = IsFirstLeast l.grid l.column l.best
+invariant-loop-column l = record {
+  first : IsFirstLeast l.grid l.column l.best;
+  step : l.best_step ≡ row_of Cross (cornered l.grid l.best) 1;
+}

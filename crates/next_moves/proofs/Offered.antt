@@ -1,0 +1,81 @@
+-- How many of the tries are offered: two of each number for exchanges and destabilisations, and eight for stabilisations.
+use Rattle.std.proofs.Common.{◌≡◌, ◌<◌, ◌≤◌, ◌+◌, ◌*◌, ◌++◌, ◌∷◌, ◌∙◌, [], ℕ, zero, suc, List, Bool, false, cond, filter, map, length, arith, sym, ap, inl, inr, add-one}
+use Rattle.std.specs.List.{range_with_len, flat_map}
+use Rattle.std.proofs.lemmas.Bool.{cases_eq}
+use Rattle.std.proofs.lemmas.Bool.Decides.{nat_tests}
+use Rattle.std.proofs.lemmas.List.{length-append}
+use Rattle.std.proofs.lemmas.List.Elements.{filter-append}
+use Rattle.std.proofs.lemmas.List.FromFn.{length-map-range_with_len}
+use Rattle.std.proofs.lemmas.List.Sums.{length-filter, count_by-le-length}
+use Rattle.grid_core.specs.Diagram.{Diagram, IsGrid, size}
+use Rattle.next_moves.specs.Tries.{column_exchange, row_exchange, destabilisation, destabilisations, stabilisations, exchanges, all_destabilisations, all_stabilisations}
+use Rattle.next_moves.specs.Offers.{is_offered}
+use Rattle.next_moves.specs.Extends.{next, row_of_both, counted, passed}
+use Rattle.next_moves.proofs.Extended.{map_range_more, flat_map_range_more}
+use Rattle.next_moves.proofs.Sides.{passed_more, passed_le}
+use Rattle.next_moves.proofs.BlockRows.{no_other_block}
+
+-- what passes is not more than what is tested
+kept_le : {A : Type 0} (p : A → Bool) (xs : List A) → length (filter p xs) ≤ length xs
+kept_le p xs = omega (arith, length-filter p xs, count_by-le-length p xs)
+
+kept_append : {A : Type 0} (p : A → Bool) (xs ys : List A) → length (filter p (xs ++ ys)) ≡ length (filter p xs) + length (filter p ys)
+kept_append p xs ys = ap length (filter-append p xs ys) ∙ length-append (filter p xs) (filter p ys)
+
+-- as many at most for each number
+kept_each : {A : Type 0} (p : A → Bool) (f : ℕ → List A) (b n : ℕ) → ((c : ℕ) → c < n → length (filter p (f c)) ≤ b) → length (filter p (flat_map f (range_with_len 0 n))) ≤ n * b
+kept_each p f b zero each = omega arith
+kept_each p f b (suc m) each =
+    omega (arith, kept_each p f b m (λ c lt. each c (omega (arith, lt))), each m (omega arith), kept_append p (flat_map f (range_with_len 0 m)) (f m), ap (λ ts. length (filter p ts)) (ap (λ (z : ℕ). flat_map f (range_with_len 0 z)) (sym (add-one m)) ∙ flat_map_range_more f m))
+
+-- the blocks of one column
+none_kept : {A : Type 0} (p : A → Bool) (t : A) → p t ≡ false → length (filter p (t ∷ [])) ≡ 0
+none_kept p t e = ap (λ b. length (cond b (t ∷ []) [])) e
+
+counted_itself : (r : ℕ) → counted r r ≡ 1
+counted_itself r = grind (arith, nat_tests)
+
+block_counted : (d : Diagram) (cap c r : ℕ) → IsGrid d → c < size d → r < size d → length (filter (is_offered d cap) (destabilisation (size d) c r ∷ [])) ≤ counted (row_of_both d c) r + counted (row_of_both d (next (size d) c)) r
+block_counted d cap c r grid hc hr =
+    let most = kept_le (is_offered d cap) (destabilisation (size d) c r ∷ []) in
+    elim (cases_eq r (row_of_both d c)) [
+      | inl near ↦ omega (arith, most, ap (λ (z : ℕ). counted z r) (sym near) ∙ counted_itself r)
+      | inr other ↦ elim (cases_eq r (row_of_both d (next (size d) c))) [
+        | inl far ↦ omega (arith, most, ap (λ (z : ℕ). counted z r) (sym far) ∙ counted_itself r)
+        | inr neither ↦ omega (arith, none_kept (is_offered d cap) (destabilisation (size d) c r) (no_other_block d cap c r grid hc hr other neither))
+      ]
+    ]
+
+blocks_passed : (d : Diagram) (cap c m : ℕ) → IsGrid d → c < size d → m ≤ size d → length (filter (is_offered d cap) (map (destabilisation (size d) c) (range_with_len 0 m))) ≤ passed (row_of_both d c) m + passed (row_of_both d (next (size d) c)) m
+blocks_passed d cap c zero grid hc le = omega arith
+blocks_passed d cap c (suc m) grid hc le =
+    let p = is_offered d cap in
+    let f = destabilisation (size d) c in
+    let near : ℕ = row_of_both d c in
+    let far : ℕ = row_of_both d (next (size d) c) in
+    let one : suc m ≡ m + 1 = omega arith in
+    omega (
+      arith,
+      blocks_passed d cap c m grid hc (omega (arith, le)),
+      block_counted d cap c m grid hc (omega (arith, le)),
+      kept_append p (map f (range_with_len 0 m)) (f m ∷ []),
+      ap (λ ts. length (filter p ts)) (ap (λ (z : ℕ). map f (range_with_len 0 z)) one ∙ map_range_more f m),
+      ap (passed near) one ∙ passed_more near m,
+      ap (passed far) one ∙ passed_more far m,
+    )
+
+pub blocks_offered : (d : Diagram) (cap : ℕ) → IsGrid d → length (filter (is_offered d cap) (all_destabilisations (size d))) ≤ 2 * size d
+blocks_offered d cap grid =
+    omega (
+      arith,
+      kept_each (is_offered d cap) (destabilisations (size d)) 2 (size d) (λ c hc.
+          omega (arith, blocks_passed d cap c (size d) grid hc (omega arith), passed_le (row_of_both d c) (size d), passed_le (row_of_both d (next (size d) c)) (size d))),
+    )
+
+pub exchanges_offered : (d : Diagram) (cap : ℕ) → length (filter (is_offered d cap) (exchanges (size d))) ≤ 2 * size d
+exchanges_offered d cap =
+    let n : ℕ = size d in
+    omega (arith, kept_le (is_offered d cap) (exchanges n), length-append (map (column_exchange n) (range_with_len 0 n)) (map (row_exchange n) (range_with_len 0 n)), length-map-range_with_len (column_exchange n) 0 n, length-map-range_with_len (row_exchange n) 0 n)
+
+pub stabilisations_offered : (d : Diagram) (cap : ℕ) → length (filter (is_offered d cap) (all_stabilisations (size d))) ≤ 8 * size d
+stabilisations_offered d cap = omega (arith, kept_each (is_offered d cap) stabilisations 8 (size d) (λ c hc. kept_le (is_offered d cap) (stabilisations c)))
