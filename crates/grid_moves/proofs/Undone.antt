@@ -9,12 +9,14 @@ use Rattle.grid_core.specs.Diagram.{Diagram, size, row_of}
 use Rattle.grid_core.specs.Span.{span}
 use Rattle.grid_core.specs.Parts.{column_span, column_of, ends}
 use Rattle.grid_core.proofs.Marks.{mark_at, row_below, column_is, column_mark}
+use Rattle.grid_moves.specs.declared.step.Move.{Move}
 use Rattle.grid_moves.specs.declared.step.Move.TheVariants.{ShiftColumns, ShiftRows, ExchangeColumns, ExchangeRows, Stabilise, Destabilise}
 use Rattle.grid_moves.specs.Renumbered.{Renumbered, unchanged}
 use Rattle.grid_moves.specs.Shift.{shifted}
 use Rattle.grid_moves.specs.Exchange.{exchanged, MayExchange}
 use Rattle.grid_moves.specs.Stabilisation.{Stabilises}
 use Rattle.grid_moves.specs.BlockMarks.{block_kind, block_corner}
+use Rattle.grid_moves.specs.Inverse.{inverse_of}
 use Rattle.grid_moves.specs.Step.{Step}
 use Rattle.grid_moves.proofs.Renumbering.{unchanged-permutes, renumbered_back}
 use Rattle.grid_moves.proofs.Exchanged.{exchanged-permutes, exchanged-twice}
@@ -148,3 +150,12 @@ destabilise_back c r d e step =
         (r, subst (λ k. Stabilises c k (block_corner d c r) r e d) (sym kind_is) (subst (λ t. Stabilises c m.kind t r e d) (sym corner_is) m.undone)),
       );
     }
+
+-- each move, and then its inverse
+pub step_undone : (d : Diagram) (move : Move) (e : Diagram) → Step d move e → Step e (inverse_of d move) d
+step_undone d (ShiftColumns k) e step = shift_columns_back k d e step
+step_undone d (ShiftRows k) e step = shift_rows_back k d e step
+step_undone d (ExchangeColumns c) e step = exchange_columns_back c d e step
+step_undone d (ExchangeRows r) e step = exchange_rows_back r d e step
+step_undone d (Stabilise c kind corner) e step = stabilise_back c kind corner d e step
+step_undone d (Destabilise c r) e step = destabilise_back c r d e step

@@ -1,4 +1,4 @@
--- What is read off the marks of a block of two columns and two rows: cited by private clauses and proofs alone.
+-- What is read off the marks of a block of two columns and two rows.
 use Rattle.std.specs.Prelude.{◌+◌, ◌-◌, ◌==◌, ◌&&◌, ◌||◌, ℕ, Bool, not, if◌then◌else◌}
 use Rattle.grid_core.specs.declared.mark.Kind.{Kind}
 use Rattle.grid_core.specs.declared.mark.Kind.TheVariants.{Cross, Ring}

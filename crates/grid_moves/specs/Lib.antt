@@ -4,6 +4,7 @@ pub mod Exchange
 pub mod Stabilisation
 pub mod Destabilisation
 pub mod BlockMarks
+pub mod Inverse
 pub mod Step
 pub mod MoveFault
 pub mod Joining

@@ -2,6 +2,7 @@
 ghost use Rattle.std.specs.Prelude.{◌≡◌, ◌<◌, IfOk, IfErr, Ok, None};
 ghost use Rattle.std.specs.Result.{result_err};
 ghost use Rattle.grid_core.specs.Diagram.{Diagram};
+ghost use Rattle.grid_moves.specs.Inverse.{inverse_of};
 ghost use Rattle.grid_moves.specs.Step.{Step};
 ghost use Rattle.grid_moves.specs.Joining.{Joins, StopsAt};
 ghost use Rattle.grid_moves.specs.MoveFault.{first_fault};
@@ -37,7 +38,8 @@ pub fn apply(grid: &Grid, step: Move) -> Result<Grid, MoveFault>
 /// The move that leads from the result of a legal move back to the grid.
 pub fn inverse(grid: &Grid, step: Move) -> Move
     requires { first_fault grid.now step ≡ None }
-    ensures { (e : Diagram) → Step grid.now step e → Step e result grid.now }
+    ensures back { (e : Diagram) → Step grid.now step e → Step e result grid.now }
+    ensures is { result ≡ inverse_of grid.now step }
 {
     let size = grid.size();
     match step {
