@@ -98,7 +98,7 @@ padded_ends t d grid some f c =
     }
 
 -- each colouring stands once in the level that is cut
-cut_once : (t : Table) (d : Diagram) → IsGrid d → 0 < t.order → (level : List (List ℕ)) → IsLevelAt t d (size d) level → (f : List ℕ) → IsColouring t d f → times f (map (take (size d)) level) ≡ 1
+pub cut_once : (t : Table) (d : Diagram) → IsGrid d → 0 < t.order → (level : List (List ℕ)) → IsLevelAt t d (size d) level → (f : List ℕ) → IsColouring t d f → times f (map (take (size d)) level) ≡ 1
 cut_once t d grid some level l f c =
     let most = grid.most in
     let long = c.colours_are.0 in

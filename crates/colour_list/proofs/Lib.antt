@@ -7,6 +7,8 @@ mod Solved
 mod Sweep
 mod Cut
 mod RowSteps
+mod Fewer
+mod Choices
 mod Lists
 mod Edits
 mod Buckets

@@ -1,7 +1,8 @@
 //! Laws of the complete list, over the definitions alone.
-ghost use Rattle.std.specs.Prelude.{◌≡◌, ◌↔◌, ℕ, List, Contains};
-ghost use Rattle.grid_core.specs.Diagram.{Diagram};
-ghost use Rattle.quandle_core.specs.Quandle.{Table};
+ghost use Rattle.std.specs.Prelude.{◌≡◌, ◌≤◌, ◌^◌, ◌↔◌, ℕ, List, Contains, length};
+ghost use Rattle.grid_core.specs.Diagram.{Diagram, IsGrid};
+ghost use Rattle.grid_core.specs.Parts.{bottoms};
+ghost use Rattle.quandle_core.specs.Quandle.{Table, IsQuandle};
 ghost use Rattle.colour_rows.specs.Colouring.{IsColouring};
 ghost use Rattle.colour_list.specs.Listing.{colourings, times};
 
@@ -9,4 +10,9 @@ ghost use Rattle.colour_list.specs.Listing.{colourings, times};
 pub fn each_colouring_is_listed_once()
     ensures once { (t : Table) (d : Diagram) (colours : List ℕ) → IsColouring t d colours → times colours (colourings t d) ≡ 1 }
     ensures only { (t : Table) (d : Diagram) (colours : List ℕ) → Contains (colourings t d) colours → IsColouring t d colours }
+{}
+
+/// A grid has at most as many colourings by a quandle as there are choices of a colour for each of its bottoms.
+pub fn no_more_colourings_than_choices()
+    ensures { (t : Table) (d : Diagram) → IsQuandle t → IsGrid d → length (colourings t d) ≤ t.order ^ bottoms d }
 {}

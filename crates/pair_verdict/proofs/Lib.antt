@@ -1,0 +1,4 @@
+mod FirstFound
+mod Verdicts
+mod AnswerKinds
+mod PrintedVerdicts

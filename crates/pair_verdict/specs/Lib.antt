@@ -1,0 +1,5 @@
+pub mod Separates
+pub mod Decided
+pub use Rattle.search_pool.specs.Finding
+pub use Rattle.next_moves.specs.Reach
+pub use Rattle.cert_check.specs.Evidence

@@ -1,0 +1,10 @@
+use Rattle.walk_samples.specs.Walk.{right_trefoil, words}
+use Rattle.walk_samples.proofs.Walked.{some_walk, same_walk}
+use Rattle.walk_samples.proofs.RightTrefoil.{right_trefoil_grid, right_trefoil_small}
+use Rattle.walk_samples.proofs.laws.each_seed_has_one_walk.Goals as goal
+
+pub returns-clause-one : goal.returns-clause-one
+returns-clause-one c = λ seed. some_walk (words seed) right_trefoil right_trefoil_grid right_trefoil_small
+
+pub returns-clause-single : goal.returns-clause-single
+returns-clause-single c = λ seed moves moves' last last' one two. same_walk (words seed) moves moves' right_trefoil last last' one two

@@ -1,0 +1,13 @@
+pub mod Candidates
+pub mod Listed
+pub mod Walk
+pub mod Text
+pub use Rattle.grid_core.specs.Diagram
+pub use Rattle.grid_core.specs.Parts
+pub use Rattle.grid_moves.specs.Step
+pub use Rattle.grid_moves.specs.Joining
+pub use Rattle.next_moves.specs.Tries
+pub use Rattle.colour_list.specs.Fits
+pub use Rattle.colour_list.specs.Listing
+pub use Rattle.text_lines.specs.Spelled
+pub use Rattle.cert_check.specs.Ruling
