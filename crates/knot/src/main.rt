@@ -27,6 +27,7 @@ fn main(rt: HostRuntime) -> ExitCode {
     };
     let mut source = StdSource::new(rt.stdin());
     let mut sink = StdSink::new(rt.stdout());
-    let status = run(alloc, words.as_slice(), &mut source, &mut sink);
+    let mut kept = None;
+    let status = run(alloc, words.as_slice(), &mut source, &mut sink, &mut kept);
     ExitCode::from(status.number())
 }

@@ -1,4 +1,4 @@
--- An input has one answer.
+-- An input of a job other than `decide` has one answer.
 use Rattle.std.proofs.Common.{◌≡◌, ◌<◌, ◌≤◌, ◌++◌, ◌∷◌, ℕ, List, [], length, map, Option, Some, None, Result, Ok, Err, IsOk, true, false, codes, arith, refl, sym, ap, ap₂, subst, ◌∙◌, inl, inr, ◌⊎◌}
 use Rattle.std.specs.Fmt.{decimal}
 use Rattle.std.proofs.lemmas.Bool.{cases_lt}
@@ -18,21 +18,25 @@ use Rattle.knot_text.specs.declared.shapes.CloseText.{CloseText}
 use Rattle.knot_text.specs.declared.verdict.Verdict.{Verdict}
 use Rattle.knot_text.specs.Names.{NamedQuandle}
 use Rattle.knot_text.specs.Printed.{grid_text}
-use Rattle.knot_text.specs.Shapes.{grid_of, check_in, replay_in, colour_in, close_in, lone_diagram_in, check_of, replay_of, colour_of, close_of, lone_diagram_of}
+use Rattle.knot_text.specs.Shapes.{grid_of, problem_of, check_in, replay_in, colour_in, close_in, lone_diagram_in, check_of, replay_of, colour_of, close_of, lone_diagram_of}
 use Rattle.knot_text.specs.FirstBadLine.{FailsFirst}
 use Rattle.knot_text.proofs.ShapesFail.{check_fails, replay_fails, colour_fails, close_fails, lone_diagram_fails}
 use Rattle.cert_check.specs.declared.ruling.Ruling.{Ruling}
 use Rattle.cert_check.specs.declared.ruling.Ruling.TheVariants.{Accepted, Rejected}
 use Rattle.cert_check.proofs.Rulings.{ruled_once, some_ruling}
 use Rattle.knot_jobs.specs.declared.words.Job.{Job}
-use Rattle.knot_jobs.specs.declared.words.Job.TheVariants.{Check, Replay, Colour, Close, Code}
+use Rattle.knot_jobs.specs.declared.words.Job.TheVariants.{Decide, Check, Replay, Colour, Close, Code, Sample}
+use Rattle.knot_jobs.specs.declared.words.Asked.{Asked}
+use Rattle.search_pool.specs.declared.finding.Finding.{Finding}
+use Rattle.walk_samples.specs.Text.{sample_text}
+use Rattle.knot_text.specs.declared.verdict.Verdict.TheVariants.{Equal, Different, UnknownBudget, UnknownExhausted}
 use Rattle.knot_jobs.specs.declared.status.Status.{Status}
 use Rattle.knot_jobs.specs.declared.status.Status.TheVariants as status
 use Rattle.knot_jobs.specs.Lines.{ruling_line, rejected_line, step_tokens, malformed_line, limit_line, limit_bytes}
 use Rattle.knot_jobs.specs.Listings.{colour_text}
 use Rattle.knot_jobs.specs.Closing.{close_text}
 use Rattle.knot_jobs.specs.Coding.{code_text}
-use Rattle.knot_jobs.specs.Answer.{limit_of, ruling_status, AnswersCheck, Replays, ReplaysColoured, Stops, Miscoloured, Coloured, AnswersMoves, AnswersReplay, AnswersColour, AnswersClose, AnswersCode, IsFaultAnswer, AnswersRead, AnswersText, IsTooLong, Answers, IsInShape}
+use Rattle.knot_jobs.specs.Answer.{limit_of, ruling_status, verdict_status, AnswersDecide, AnswersProblem, AnswersCheck, Replays, ReplaysColoured, Stops, Miscoloured, Coloured, AnswersMoves, AnswersReplay, AnswersColour, AnswersClose, AnswersCode, IsFaultAnswer, AnswersRead, AnswersText, IsTooLong, Answers, IsInShape}
 use Rattle.knot_jobs.proofs.Along.{carries_once, carried_along, joins_along}
 use Rattle.knot_jobs.proofs.Grids.{check_grids, replay_grid}
 
@@ -40,7 +44,7 @@ use Rattle.knot_jobs.proofs.Grids.{check_grids, replay_grid}
 
 -- what a defined answer ends with
 abbrev pub IsDefined : Status → Type 0
-IsDefined s = (s ≡ status.Done) ⊎ (s ≡ status.Rejected)
+IsDefined s = (s ≡ status.Done) ⊎ ((s ≡ status.Unknown) ⊎ (s ≡ status.Rejected))
 
 -- what any answer ends with
 abbrev pub IsAnswerStatus : Status → Type 0
@@ -51,13 +55,13 @@ check_status i s text a = by a.ruling a.status_is
   where
     by : (ruling : Ruling) → s ≡ ruling_status ruling → IsDefined s
     by Accepted is = inl is
-    by (Rejected cause) is = inr is
+    by (Rejected cause) is = inr (inr is)
 
 moves_status : (d : Diagram) (moves : List Move) (colours : Option (NamedQuandle × ArrayVec ℕ)) (s : Status) (text : List ℕ) → AnswersMoves d moves colours s text → IsDefined s
-moves_status d moves None s text a = elim a [ inl done ↦ inl done.status_is | inr stop ↦ inr stop.status_is ]
+moves_status d moves None s text a = elim a [ inl done ↦ inl done.status_is | inr stop ↦ inr (inr stop.status_is) ]
 moves_status d moves (Some (q, colours)) s text a = elim a [
-  | inl none ↦ inr none.status_is
-  | inr some ↦ elim some.answer [ inl done ↦ inl done.status_is | inr stop ↦ inr stop.status_is ]
+  | inl none ↦ inr (inr none.status_is)
+  | inr some ↦ elim some.answer [ inl done ↦ inl done.status_is | inr stop ↦ inr (inr stop.status_is) ]
 ]
 
 read_status : {A : Type 0} (answers : A → Status → List ℕ → Type 0) (read : Result A TextFault) (s : Status) (text : List ℕ) → ((i : A) → answers i s text → IsDefined s) → AnswersRead answers read s text → IsAnswerStatus s
@@ -66,16 +70,30 @@ read_status answers (Err (bad.Malformed n)) s text each a = inr (inl a.0)
 read_status answers (Err (bad.Limit n)) s text each a = inr (inr a.0)
 read_status answers (Err bad.OutOfMemory) s text each a = absurd a
 
--- the status of the answer to a text
-shape_status : (job : Job) (bytes : List ℕ) (s : Status) (text : List ℕ) → AnswersText job bytes s text → IsAnswerStatus s
-shape_status Check bytes s text a = read_status AnswersCheck (check_of bytes) s text (λ i. check_status i s text) a
-shape_status Replay bytes s text a = read_status AnswersReplay (replay_of bytes) s text (λ i. moves_status (grid_of i.diagram) i.moves i.colours s text) a
-shape_status Colour bytes s text a = read_status AnswersColour (colour_of bytes) s text (λ i x. inl x.0) a
-shape_status Close bytes s text a = read_status AnswersClose (close_of bytes) s text (λ i x. inl x.0) a
-shape_status Code bytes s text a = read_status AnswersCode (lone_diagram_of bytes) s text (λ i x. inl x.0) a
+verdict_defined : (v : Verdict) (s : Status) → s ≡ verdict_status v → IsDefined s
+verdict_defined (Equal moves) s is = inl is
+verdict_defined (Different listed one two) s is = inl is
+verdict_defined (UnknownBudget budget) s is = inr (inl is)
+verdict_defined (UnknownExhausted cap admitted) s is = inr (inl is)
 
-pub answer_status : (job : Job) (bytes : List ℕ) (s : Status) (text : List ℕ) → Answers job bytes s text → IsAnswerStatus s
-answer_status job bytes s text a = elim a [ inl long ↦ inr (inr long.status_is) | inr read ↦ shape_status job bytes s text read.1 ]
+problem_status : (asked : Asked) (read : Result ProblemText TextFault) (s : Status) (text : List ℕ) (kept : Option Finding) → AnswersProblem asked read s text kept → IsAnswerStatus s
+problem_status asked (Ok input) s text kept a = inl (verdict_defined a.verdict s a.status_is)
+problem_status asked (Err (bad.Malformed n)) s text kept a = inr (inl a.0.0)
+problem_status asked (Err (bad.Limit n)) s text kept a = inr (inr a.0.0)
+problem_status asked (Err bad.OutOfMemory) s text kept a = absurd a.0
+
+-- the status of the answer to a text
+shape_status : (job : Job) (asked : Asked) (bytes : List ℕ) (s : Status) (text : List ℕ) (kept : Option Finding) → AnswersText job asked bytes s text kept → IsAnswerStatus s
+shape_status Decide asked bytes s text kept a = problem_status asked (problem_of bytes) s text kept a
+shape_status Check asked bytes s text kept a = read_status AnswersCheck (check_of bytes) s text (λ i. check_status i s text) a.0
+shape_status Replay asked bytes s text kept a = read_status AnswersReplay (replay_of bytes) s text (λ i. moves_status (grid_of i.diagram) i.moves i.colours s text) a.0
+shape_status Colour asked bytes s text kept a = read_status AnswersColour (colour_of bytes) s text (λ i x. inl x.0) a.0
+shape_status Close asked bytes s text kept a = read_status AnswersClose (close_of bytes) s text (λ i x. inl x.0) a.0
+shape_status Code asked bytes s text kept a = read_status AnswersCode (lone_diagram_of bytes) s text (λ i x. inl x.0) a.0
+shape_status Sample asked bytes s text kept a = inl (inl a.0.0)
+
+pub answer_status : (asked : Asked) (bytes : List ℕ) (s : Status) (text : List ℕ) (kept : Option Finding) → Answers asked bytes s text kept → IsAnswerStatus s
+answer_status asked bytes s text kept a = elim a [ inl long ↦ inr (inr long.status_is) | inr read ↦ shape_status asked.job asked bytes s text kept read.1 ]
 
 -- ---- one answer
 
@@ -133,22 +151,24 @@ read_once answers (Err (bad.Malformed n)) s s' text text' each one two = (one.0 
 read_once answers (Err (bad.Limit n)) s s' text text' each one two = (one.0 ∙ sym two.0, one.1 ∙ sym two.1)
 read_once answers (Err bad.OutOfMemory) s s' text text' each one two = absurd one
 
-text_once : (job : Job) (bytes : List ℕ) (s s' : Status) (text text' : List ℕ) → AnswersText job bytes s text → AnswersText job bytes s' text' → (s ≡ s') × (text ≡ text')
-text_once Check bytes s s' text text' one two = read_once AnswersCheck (check_of bytes) s s' text text' (λ i. check_once i s s' text text') one two
-text_once Replay bytes s s' text text' one two = read_once AnswersReplay (replay_of bytes) s s' text text' (λ i. moves_once (grid_of i.diagram) i.moves i.colours s s' text text') one two
-text_once Colour bytes s s' text text' one two = read_once AnswersColour (colour_of bytes) s s' text text' (λ i a b. (a.0 ∙ sym b.0, a.1 ∙ sym b.1)) one two
-text_once Close bytes s s' text text' one two = read_once AnswersClose (close_of bytes) s s' text text' (λ i a b. (a.0 ∙ sym b.0, a.1 ∙ sym b.1)) one two
-text_once Code bytes s s' text text' one two = read_once AnswersCode (lone_diagram_of bytes) s s' text text' (λ i a b. (a.0 ∙ sym b.0, a.1 ∙ sym b.1)) one two
+text_once : (job : Job) (asked : Asked) (bytes : List ℕ) (s s' : Status) (text text' : List ℕ) (kept kept' : Option Finding) → (job ≡ Decide → ⊥) → AnswersText job asked bytes s text kept → AnswersText job asked bytes s' text' kept' → (s ≡ s') × (text ≡ text')
+text_once Decide asked bytes s s' text text' kept kept' other one two = absurd (other refl)
+text_once Check asked bytes s s' text text' kept kept' other one two = read_once AnswersCheck (check_of bytes) s s' text text' (λ i. check_once i s s' text text') one.0 two.0
+text_once Replay asked bytes s s' text text' kept kept' other one two = read_once AnswersReplay (replay_of bytes) s s' text text' (λ i. moves_once (grid_of i.diagram) i.moves i.colours s s' text text') one.0 two.0
+text_once Colour asked bytes s s' text text' kept kept' other one two = read_once AnswersColour (colour_of bytes) s s' text text' (λ i a b. (a.0 ∙ sym b.0, a.1 ∙ sym b.1)) one.0 two.0
+text_once Close asked bytes s s' text text' kept kept' other one two = read_once AnswersClose (close_of bytes) s s' text text' (λ i a b. (a.0 ∙ sym b.0, a.1 ∙ sym b.1)) one.0 two.0
+text_once Code asked bytes s s' text text' kept kept' other one two = read_once AnswersCode (lone_diagram_of bytes) s s' text text' (λ i a b. (a.0 ∙ sym b.0, a.1 ∙ sym b.1)) one.0 two.0
+text_once Sample asked bytes s s' text text' kept kept' other one two = (one.0.0 ∙ sym two.0.0, one.0.1 ∙ sym two.0.1)
 
-pub answered_once : (job : Job) (bytes : List ℕ) (s s' : Status) (text text' : List ℕ) → Answers job bytes s text → Answers job bytes s' text' → (s ≡ s') × (text ≡ text')
-answered_once job bytes s s' text text' one two = elim one [
+pub answered_once : (asked : Asked) (bytes : List ℕ) (s s' : Status) (text text' : List ℕ) (kept kept' : Option Finding) → (asked.job ≡ Decide → ⊥) → Answers asked bytes s text kept → Answers asked bytes s' text' kept' → (s ≡ s') × (text ≡ text')
+answered_once asked bytes s s' text text' kept kept' other one two = elim one [
   | inl a ↦ elim two [
     | inl b ↦ (a.status_is ∙ sym b.status_is, a.text_is ∙ sym b.text_is)
     | inr b ↦ absurd (let long = a.long in let short = b.0 in omega (arith, long, short))
   ]
   | inr a ↦ elim two [
     | inl b ↦ absurd (let long = b.long in let short = a.0 in omega (arith, long, short))
-    | inr b ↦ text_once job bytes s s' text text' a.1 b.1
+    | inr b ↦ text_once asked.job asked bytes s s' text text' kept kept' other a.1 b.1
   ]
 ]
 
@@ -192,17 +212,23 @@ never_memory read first text is = elim (first text bad.OutOfMemory is) [
   | inr end ↦ absurd (let wrong = end.names in cc)
 ]
 
-text_answered : (job : Job) (bytes : List ℕ) → Some2 (AnswersText job bytes)
-text_answered Check bytes = some_read AnswersCheck (check_of bytes) (never_memory check_in check_fails (text_of bytes)) (λ i is. some_check i (check_grids bytes i.0 i.1 is).0)
-text_answered Replay bytes = some_read AnswersReplay (replay_of bytes) (never_memory replay_in replay_fails (text_of bytes)) (λ i is. some_moves (grid_of i.diagram) i.moves i.colours (replay_grid bytes i is))
-text_answered Colour bytes = some_read AnswersColour (colour_of bytes) (never_memory colour_in colour_fails (text_of bytes)) (λ i is. (status.Done, (colour_text (grid_of i.diagram) i.quandles, (refl, refl))))
-text_answered Close bytes = some_read AnswersClose (close_of bytes) (never_memory close_in close_fails (text_of bytes)) (λ i is. (status.Done, (close_text i.braid i.quandles, (refl, refl))))
-text_answered Code bytes = some_read AnswersCode (lone_diagram_of bytes) (never_memory lone_diagram_in lone_diagram_fails (text_of bytes)) (λ i is. (status.Done, (code_text (grid_of i), (refl, refl))))
+-- with no search
+kept_none : {answers : Status → List ℕ → Type 0} → Some2 answers → (s : Status) × ((text : List ℕ) × (answers s text × (◌≡◌ {A = Option Finding} None None)))
+kept_none a = (a.0, (a.1.0, (a.1.1, refl)))
 
-pub answered : (job : Job) (bytes : List ℕ) → Some2 (Answers job bytes)
-answered job bytes = elim (cases_lt (limit_of job) (length bytes)) [
-  | inl long ↦ (status.Limit, (limit_bytes, inl (record { long = long; status_is = refl; text_is = refl })))
-  | inr short ↦ let a = text_answered job bytes in (a.0, (a.1.0, inr (short, a.1.1)))
+text_answered : (job : Job) (asked : Asked) (bytes : List ℕ) → (job ≡ Decide → ⊥) → Some2 (λ s text. AnswersText job asked bytes s text None)
+text_answered Decide asked bytes other = absurd (other refl)
+text_answered Check asked bytes other = kept_none (some_read AnswersCheck (check_of bytes) (never_memory check_in check_fails (text_of bytes)) (λ i is. some_check i (check_grids bytes i.0 i.1 is).0))
+text_answered Replay asked bytes other = kept_none (some_read AnswersReplay (replay_of bytes) (never_memory replay_in replay_fails (text_of bytes)) (λ i is. some_moves (grid_of i.diagram) i.moves i.colours (replay_grid bytes i is)))
+text_answered Colour asked bytes other = kept_none (some_read AnswersColour (colour_of bytes) (never_memory colour_in colour_fails (text_of bytes)) (λ i is. (status.Done, (colour_text (grid_of i.diagram) i.quandles, (refl, refl)))))
+text_answered Close asked bytes other = kept_none (some_read AnswersClose (close_of bytes) (never_memory close_in close_fails (text_of bytes)) (λ i is. (status.Done, (close_text i.braid i.quandles, (refl, refl)))))
+text_answered Code asked bytes other = kept_none (some_read AnswersCode (lone_diagram_of bytes) (never_memory lone_diagram_in lone_diagram_fails (text_of bytes)) (λ i is. (status.Done, (code_text (grid_of i), (refl, refl)))))
+text_answered Sample asked bytes other = (status.Done, (sample_text asked.seed, ((refl, refl), refl)))
+
+pub answered : (asked : Asked) (bytes : List ℕ) → (asked.job ≡ Decide → ⊥) → Some2 (λ s text. Answers asked bytes s text None)
+answered asked bytes other = elim (cases_lt (limit_of asked.job) (length bytes)) [
+  | inl long ↦ (status.Limit, (limit_bytes, inl (record { long = long; status_is = refl; text_is = refl; none_kept = refl })))
+  | inr short ↦ let a = text_answered asked.job asked bytes other in (a.0, (a.1.0, inr (short, a.1.1)))
 ]
 
 -- ---- an input of the job's shape
@@ -212,9 +238,15 @@ ok_defined : {A : Type 0} (answers : A → Status → List ℕ → Type 0) (read
 ok_defined answers (Ok i) s text each ok a = each i a
 ok_defined answers (Err e) s text each ok a = absurd (let wrong = ok in cc)
 
-pub shape_defined : (job : Job) (bytes : List ℕ) (s : Status) (text : List ℕ) → IsInShape job bytes → AnswersText job bytes s text → IsDefined s
-shape_defined Check bytes s text ok a = ok_defined AnswersCheck (check_of bytes) s text (λ i. check_status i s text) ok a
-shape_defined Replay bytes s text ok a = ok_defined AnswersReplay (replay_of bytes) s text (λ i. moves_status (grid_of i.diagram) i.moves i.colours s text) ok a
-shape_defined Colour bytes s text ok a = ok_defined AnswersColour (colour_of bytes) s text (λ i x. inl x.0) ok a
-shape_defined Close bytes s text ok a = ok_defined AnswersClose (close_of bytes) s text (λ i x. inl x.0) ok a
-shape_defined Code bytes s text ok a = ok_defined AnswersCode (lone_diagram_of bytes) s text (λ i x. inl x.0) ok a
+ok_problem : (asked : Asked) (read : Result ProblemText TextFault) (s : Status) (text : List ℕ) (kept : Option Finding) → IsOk read → AnswersProblem asked read s text kept → IsDefined s
+ok_problem asked (Ok input) s text kept ok a = verdict_defined a.verdict s a.status_is
+ok_problem asked (Err e) s text kept ok a = absurd (let wrong = ok in cc)
+
+pub shape_defined : (job : Job) (asked : Asked) (bytes : List ℕ) (s : Status) (text : List ℕ) (kept : Option Finding) → IsInShape job bytes → AnswersText job asked bytes s text kept → IsDefined s
+shape_defined Decide asked bytes s text kept ok a = ok_problem asked (problem_of bytes) s text kept ok a
+shape_defined Check asked bytes s text kept ok a = ok_defined AnswersCheck (check_of bytes) s text (λ i. check_status i s text) ok a.0
+shape_defined Replay asked bytes s text kept ok a = ok_defined AnswersReplay (replay_of bytes) s text (λ i. moves_status (grid_of i.diagram) i.moves i.colours s text) ok a.0
+shape_defined Colour asked bytes s text kept ok a = ok_defined AnswersColour (colour_of bytes) s text (λ i x. inl x.0) ok a.0
+shape_defined Close asked bytes s text kept ok a = ok_defined AnswersClose (close_of bytes) s text (λ i x. inl x.0) ok a.0
+shape_defined Code asked bytes s text kept ok a = ok_defined AnswersCode (lone_diagram_of bytes) s text (λ i x. inl x.0) ok a.0
+shape_defined Sample asked bytes s text kept ok a = inl a.0.0

@@ -6,19 +6,21 @@ use Rattle.clap.specs.Walk.{Text}
 use Rattle.knot_jobs.specs.Words.{job_word, Asks, AsksNothing}
 use Rattle.knot_jobs.specs.declared.words.Asked.{Asked}
 use Rattle.knot_jobs.specs.declared.words.Job.{Job}
-use Rattle.knot_jobs.specs.declared.words.Job.TheVariants.{Check, Replay, Colour, Close, Code}
+use Rattle.knot_jobs.specs.declared.words.Job.TheVariants.{Decide, Check, Replay, Colour, Close, Code, Sample}
 use Rattle.knot_jobs.proofs.KnotReads.{one_number}
 
 -- the job that is called so
 abbrev job_of : List ℕ → Job
-job_of word = if bytes_eq word (job_word Check) then Check else (if bytes_eq word (job_word Replay) then Replay else (if bytes_eq word (job_word Colour) then Colour else (if bytes_eq word (job_word Close) then Close else Code)))
+job_of word = if bytes_eq word (job_word Check) then Check else (if bytes_eq word (job_word Replay) then Replay else (if bytes_eq word (job_word Colour) then Colour else (if bytes_eq word (job_word Close) then Close else (if bytes_eq word (job_word Code) then Code else (if bytes_eq word (job_word Decide) then Decide else Sample)))))
 
 job_of_word : (job : Job) → job_of (job_word job) ≡ job
+job_of_word Decide = refl
 job_of_word Check = refl
 job_of_word Replay = refl
 job_of_word Colour = refl
 job_of_word Close = refl
 job_of_word Code = refl
+job_of_word Sample = refl
 
 one_job : (a b : Job) → job_word a ≡ job_word b → a ≡ b
 one_job a b same = sym (job_of_word a) ∙ ap job_of same ∙ job_of_word b

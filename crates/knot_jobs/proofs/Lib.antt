@@ -8,3 +8,5 @@ mod Grids
 mod AskedOnce
 mod Answered
 mod Endings
+mod Decisions
+mod AcceptedBehind

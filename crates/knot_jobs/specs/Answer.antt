@@ -1,5 +1,5 @@
--- The status and the text that answer an input.
-use Rattle.std.specs.Prelude.{◌≡◌, ◌<◌, ◌≤◌, ◌⊎◌, ℕ, List, [], ◌∷◌, ◌++◌, Option, Some, None, true, false, codes, length, map, Result, Ok, Err, IsOk}
+-- The status and the text that answer an input, and the search that is kept.
+use Rattle.std.specs.Prelude.{◌≡◌, ◌<◌, ◌≤◌, ◌⊎◌, ◌+◌, if◌then◌else◌, min, max, ℕ, List, [], ◌∷◌, ◌++◌, Option, Some, None, true, false, codes, length, map, Result, Ok, Err, IsOk}
 use Rattle.std.specs.Fmt.{decimal}
 use Rattle.arrayvec.specs.ArrayVec.{ArrayVec}
 use Rattle.grid_core.specs.Diagram.{Diagram}
@@ -21,10 +21,21 @@ use Rattle.knot_text.specs.Printed.{grid_text}
 use Rattle.knot_text.specs.Shapes.{grid_of, check_of, replay_of, colour_of, close_of, lone_diagram_of}
 use Rattle.cert_check.specs.declared.ruling.Ruling.{Ruling}
 use Rattle.cert_check.specs.declared.ruling.Ruling.TheVariants.{Accepted, Rejected}
-use Rattle.cert_check.specs.Evidence.{Claims}
+use Rattle.cert_check.specs.Evidence.{Claims, Holds}
 use Rattle.cert_check.specs.Ruling.{RulesOn}
+use Rattle.grid_core.specs.declared.grid.TheConstants.{MAX_SIZE}
+use Rattle.grid_core.specs.Diagram.{size}
+use Rattle.text_lines.specs.Lines.{are_whole_lines}
+use Rattle.knot_text.specs.Printed.{verdict_text}
+use Rattle.knot_text.specs.Shapes.{problem_of}
+use Rattle.knot_text.specs.declared.verdict.Verdict.TheVariants.{Equal, Different, UnknownBudget, UnknownExhausted}
+use Rattle.search_book.specs.declared.problem.Problem.{Problem}
+use Rattle.search_pool.specs.declared.finding.Finding.{Finding}
+use Rattle.pair_verdict.specs.Decided.{Decides, HasEvidence}
+use Rattle.walk_samples.specs.Text.{sample_text}
 use Rattle.knot_jobs.specs.declared.words.Job.{Job}
-use Rattle.knot_jobs.specs.declared.words.Job.TheVariants.{Check, Replay, Colour, Close, Code}
+use Rattle.knot_jobs.specs.declared.words.Asked.{Asked}
+use Rattle.knot_jobs.specs.declared.words.Job.TheVariants.{Decide, Check, Replay, Colour, Close, Code, Sample}
 use Rattle.knot_jobs.specs.declared.status.Status.{Status}
 use Rattle.knot_jobs.specs.declared.status.Status.TheVariants as status
 use Rattle.knot_jobs.specs.Lines.{step_tokens, rejected_line, ruling_line, malformed_line, limit_line, limit_bytes}
@@ -45,13 +56,38 @@ status_number status.WriteFault = 6
 status_number status.OutOfMemory = 7
 status_number status.Rejected = 8
 
--- the most bytes that an input may have
+-- the most bytes that an input may have; `sample` has none
 abbrev pub limit_of : Job → ℕ
+limit_of Decide = 1048576
 limit_of Check = 33554432
 limit_of Replay = 1048576
 limit_of Colour = 1048576
 limit_of Close = 1048576
 limit_of Code = 1048576
+limit_of Sample = 0
+
+-- ---- two diagrams and quandles
+
+-- the greatest size of a diagram on the way: the larger size and the spare, at most MAX_SIZE
+abbrev pub cap_of : Diagram → Diagram → ℕ → ℕ
+cap_of d e spare = min MAX_SIZE (max (size d) (size e) + spare)
+
+-- what is searched where no quandle tells the diagrams apart
+abbrev pub problem_for : Asked → Diagram → Diagram → Problem
+problem_for asked d e = record { first = d; second = e; cap = cap_of d e asked.spare; budget = asked.budget }
+
+abbrev pub verdict_status : Verdict → Status
+verdict_status (Equal moves) = status.Done
+verdict_status (Different listed one two) = status.Done
+verdict_status (UnknownBudget budget) = status.Unknown
+verdict_status (UnknownExhausted cap admitted) = status.Unknown
+
+-- they are answered by the verdict on the diagrams, and the search behind it is kept
+pub record AnswersDecide (asked : Asked) (input : ProblemText) (s : Status) (text : List ℕ) (kept : Option Finding) : Type 0 where
+  pub verdict : Verdict
+  pub decides : Decides (problem_for asked (grid_of input.first) (grid_of input.second)) input.quandles verdict kept
+  pub status_is : s ≡ verdict_status verdict
+  pub text_is : text ≡ verdict_text verdict
 
 -- ---- a verdict on two diagrams
 
@@ -139,32 +175,44 @@ abbrev pub AnswersRead : {A : Type 0} → (A → Status → List ℕ → Type 0)
 AnswersRead answers (Ok input) s text = answers input s text
 AnswersRead answers (Err fault) s text = IsFaultAnswer fault s text
 
-abbrev pub AnswersText : Job → List ℕ → Status → List ℕ → Type 0
-AnswersText Check bytes s text = AnswersRead AnswersCheck (check_of bytes) s text
-AnswersText Replay bytes s text = AnswersRead AnswersReplay (replay_of bytes) s text
-AnswersText Colour bytes s text = AnswersRead AnswersColour (colour_of bytes) s text
-AnswersText Close bytes s text = AnswersRead AnswersClose (close_of bytes) s text
-AnswersText Code bytes s text = AnswersRead AnswersCode (lone_diagram_of bytes) s text
+-- a problem that was read has its verdict, and a first bad line its own answer
+abbrev pub AnswersProblem : Asked → Result ProblemText TextFault → Status → List ℕ → Option Finding → Type 0
+AnswersProblem asked (Ok input) s text kept = AnswersDecide asked input s text kept
+AnswersProblem asked (Err fault) s text kept = IsFaultAnswer fault s text × (kept ≡ None)
+
+-- every job but `decide` keeps no search
+abbrev pub AnswersText : Job → Asked → List ℕ → Status → List ℕ → Option Finding → Type 0
+AnswersText Decide asked bytes s text kept = AnswersProblem asked (problem_of bytes) s text kept
+AnswersText Check asked bytes s text kept = AnswersRead AnswersCheck (check_of bytes) s text × (kept ≡ None)
+AnswersText Replay asked bytes s text kept = AnswersRead AnswersReplay (replay_of bytes) s text × (kept ≡ None)
+AnswersText Colour asked bytes s text kept = AnswersRead AnswersColour (colour_of bytes) s text × (kept ≡ None)
+AnswersText Close asked bytes s text kept = AnswersRead AnswersClose (close_of bytes) s text × (kept ≡ None)
+AnswersText Code asked bytes s text kept = AnswersRead AnswersCode (lone_diagram_of bytes) s text × (kept ≡ None)
+AnswersText Sample asked bytes s text kept = ((s ≡ status.Done) × (text ≡ sample_text asked.seed)) × (kept ≡ None)
 
 -- more bytes than the limit, and their one answer
-pub record IsTooLong (job : Job) (bytes : List ℕ) (s : Status) (text : List ℕ) : Type 0 where
+pub record IsTooLong (job : Job) (bytes : List ℕ) (s : Status) (text : List ℕ) (kept : Option Finding) : Type 0 where
   pub long : limit_of job < length bytes
   pub status_is : s ≡ status.Limit
   pub text_is : text ≡ limit_bytes
+  pub none_kept : kept ≡ None
 
--- what the job answers to the bytes of an input
-abbrev pub Answers : Job → List ℕ → Status → List ℕ → Type 0
-Answers job bytes s text = IsTooLong job bytes s text ⊎ ((length bytes ≤ limit_of job) × AnswersText job bytes s text)
+-- what the job that is asked for answers to the bytes of an input
+abbrev pub Answers : Asked → List ℕ → Status → List ℕ → Option Finding → Type 0
+Answers asked bytes s text kept =
+    IsTooLong asked.job bytes s text kept ⊎ ((length bytes ≤ limit_of asked.job) × AnswersText asked.job asked bytes s text kept)
 
 -- ---- the shape of an input
 
 -- the bytes are a text of the job's shape: no line of it is bad
 abbrev pub IsInShape : Job → List ℕ → Type 0
+IsInShape Decide bytes = IsOk (problem_of bytes)
 IsInShape Check bytes = IsOk (check_of bytes)
 IsInShape Replay bytes = IsOk (replay_of bytes)
 IsInShape Colour bytes = IsOk (colour_of bytes)
 IsInShape Close bytes = IsOk (close_of bytes)
 IsInShape Code bytes = IsOk (lone_diagram_of bytes)
+IsInShape Sample bytes = bytes ≡ []
 
 -- the bytes are a problem and a verdict, and what the verdict says of the diagrams is true
 pub record IsTrueVerdict (bytes : List ℕ) : Type 0 where
@@ -172,3 +220,40 @@ pub record IsTrueVerdict (bytes : List ℕ) : Type 0 where
   pub verdict : Verdict
   pub read : check_of bytes ≡ Ok (problem, verdict)
   pub claim : Claims (grid_of problem.first) (grid_of problem.second) verdict
+
+-- ---- a verdict behind its problem
+
+-- a text behind an input, with a line feed between where the last line of the input lacks one
+abbrev pub put_behind : List ℕ → List ℕ → List ℕ
+put_behind bytes text = if are_whole_lines bytes then bytes ++ text else bytes ++ (codes "\n" ++ text)
+
+-- the text behind the input is an input of `check`, which accepts it, if both together are not too long
+abbrev pub IsAcceptedBehind : List ℕ → List ℕ → Type 0
+IsAcceptedBehind bytes text = length (put_behind bytes text) ≤ limit_of Check
+    → AnswersRead AnswersCheck (check_of (put_behind bytes text)) status.Done (ruling_line Accepted)
+
+-- the text is a verdict on a problem, with evidence that holds, and what it says of the diagrams is true: diagrams said to be
+-- equal are equivalent, and no list of moves joins diagrams that are told apart
+pub record IsTrueOf (problem : ProblemText) (text : List ℕ) : Type 0 where
+  pub verdict : Verdict
+  pub is : text ≡ verdict_text verdict
+  pub evidence : HasEvidence verdict
+  pub holds : Holds (grid_of problem.first) (grid_of problem.second) verdict
+  pub claim : Claims (grid_of problem.first) (grid_of problem.second) verdict
+
+-- the bytes are a problem, and the text is a verdict on it that says what is true; behind the problem, `check` accepts it
+pub record IsTrueDecision (bytes text : List ℕ) : Type 0 where
+  pub problem : ProblemText
+  pub read : problem_of bytes ≡ Ok problem
+  pub is_true : IsTrueOf problem text
+  pub accepted : IsAcceptedBehind bytes text
+
+-- what the answer with Done to an input says is true
+abbrev pub TellsTruthOf : Job → List ℕ → List ℕ → Type 0
+TellsTruthOf Decide bytes text = IsTrueDecision bytes text
+TellsTruthOf Check bytes text = IsTrueVerdict bytes
+TellsTruthOf Replay bytes text = Unit {0}
+TellsTruthOf Colour bytes text = Unit {0}
+TellsTruthOf Close bytes text = Unit {0}
+TellsTruthOf Code bytes text = Unit {0}
+TellsTruthOf Sample bytes text = Unit {0}

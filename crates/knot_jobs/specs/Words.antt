@@ -10,7 +10,7 @@ use Rattle.clap.specs.declared.builder.action.ArgAction.TheVariants.{Set}
 use Rattle.clap.specs.declared.builder.value_parser.ValueParser.TheVariants as parser
 use Rattle.knot_jobs.specs.declared.words.Asked.{Asked}
 use Rattle.knot_jobs.specs.declared.words.Job.{Job}
-use Rattle.knot_jobs.specs.declared.words.Job.TheVariants.{Check, Replay, Colour, Close, Code}
+use Rattle.knot_jobs.specs.declared.words.Job.TheVariants.{Decide, Check, Replay, Colour, Close, Code, Sample}
 
 -- ---- the command
 
@@ -74,11 +74,13 @@ number_given name words = option_map number_of (one_of name (matches_of knot_app
 
 -- how a job is called
 abbrev pub job_word : Job → Text
+job_word Decide = codes "decide"
 job_word Check = codes "check"
 job_word Replay = codes "replay"
 job_word Colour = codes "colour"
 job_word Close = codes "close"
 job_word Code = codes "code"
+job_word Sample = codes "sample"
 
 -- the words are taken, and ask for this job with these numbers
 pub record Asks (words : List Text) (asked : Asked) : Type 0 where

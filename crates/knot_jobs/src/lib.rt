@@ -5,6 +5,7 @@
 mod answer;
 mod closing;
 mod coding;
+mod deciding;
 pub mod laws;
 mod lines;
 mod listings;
@@ -17,4 +18,5 @@ mod words;
 
 pub use status::Status;
 pub use top_call::run;
+pub use walk_samples::sample_walk;
 pub use words::{Asked, Job, WordsFault, read_words};

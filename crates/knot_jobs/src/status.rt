@@ -7,9 +7,9 @@ ghost use Rattle.knot_jobs.specs.Answer.{status_number};
 pub enum Status {
     /// The job's defined answer was written.
     Done,
-    /// It isn't known whether the diagrams are equal. No job that is built answers this yet.
+    /// `decide` found no evidence.
     Unknown,
-    /// The words are refused, or name no job that is built.
+    /// The words are refused, or name no job.
     Usage,
     /// The first bad line of the input is not what is due there, or something is due where the input ends.
     Malformed,

@@ -1,5 +1,6 @@
 //! Whole calls over sources and sinks in memory, and command lines that are taken or not.
 mod calls;
+mod decisions;
 mod words;
 
 use crate::status::Status;
@@ -37,7 +38,7 @@ fn ran(
     let writing = Vec::from_slice(alloc, outside.writing)?;
     let mut source = MemSource::new(Vec::from_slice(alloc, input)?, 4, reading);
     let mut sink = MemSink::new(alloc, 3, outside.room, writing)?;
-    let status = run(alloc, words.as_slice(), &mut source, &mut sink);
+    let status = run(alloc, words.as_slice(), &mut source, &mut sink, &mut None);
     let written = Vec::from_slice(alloc, sink.bytes())?;
     Ok((status, written))
 }

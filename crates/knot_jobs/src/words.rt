@@ -14,6 +14,8 @@ use std::alloc::{AllocError, Global};
 /// What the program can be asked to do.
 #[derive(Clone, Copy, Debug, PartialEq, Eq)]
 pub enum Job {
+    /// Looks for evidence that two diagrams are equal or different.
+    Decide,
     /// Rules on evidence about two diagrams.
     Check,
     /// Makes moves on a diagram.
@@ -24,13 +26,15 @@ pub enum Job {
     Close,
     /// Writes the crossing code of a diagram.
     Code,
+    /// Makes a list of moves from a seed, has it checked, and counts colourings at both ends. It reads nothing.
+    Sample,
 }
 
 /// A job and its options.
 #[derive(Clone, Copy, Debug, PartialEq, Eq)]
 pub struct Asked {
     pub job: Job,
-    /// How many searchers work at once, 1 to 64.
+    /// A number from 1 to 64. It is taken and checked; one searcher works, whatever it is.
     pub workers: u32,
     /// How many diagrams the search may admit, 2 to 500,000.
     pub budget: u32,
@@ -161,11 +165,13 @@ fn job_named(word: &str) -> Option<Job>
     ensures none { IsNone result → (job : _) → word.now ≢ job_word job }
 {
     match word {
+        "decide" => Some(Job::Decide),
         "check" => Some(Job::Check),
         "replay" => Some(Job::Replay),
         "colour" => Some(Job::Colour),
         "close" => Some(Job::Close),
         "code" => Some(Job::Code),
+        "sample" => Some(Job::Sample),
         _ => None,
     }
 }

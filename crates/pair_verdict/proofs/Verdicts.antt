@@ -41,12 +41,13 @@ holds_within p (UnknownBudget budget) is has = absurd has
 holds_within p (UnknownExhausted cap k) is has = absurd has
 
 -- a search where no quandle separates the diagrams
-pub searched : (p : Problem) (qs : List NamedQuandle) (f : Finding) (v : Verdict) → first_separating p.first p.second qs ≡ None → IsFinding p f → AreInTurn 0 f.book.history → ((e : End) → f.book.end ≡ Some e → Shows f.book e) → IsVerdictAt f.book f.book.end v → JoinsWhereEqual f.book.problem v → IsSearched p qs v (Some f)
-searched p qs f v none found turn shows at joins = record {
+pub searched : (p : Problem) (qs : List NamedQuandle) (f : Finding) (v : Verdict) → first_separating p.first p.second qs ≡ None → IsFinding p f → f.stray ≡ None → AreInTurn 0 f.book.history → ((e : End) → f.book.end ≡ Some e → Shows f.book e) → IsVerdictAt f.book f.book.end v → JoinsWhereEqual f.book.problem v → IsSearched p qs v (Some f)
+searched p qs f v none found no_stray turn shows at joins = record {
   none_does = none;
   finding = f;
   is_kept = refl;
   found = found;
+  no_stray = no_stray;
   in_turn = turn;
   verdict = at;
   true_within = subst (λ (q : Problem). IsTrueWithin q v) found.problem (true_within f.book f.book.end v found.sound.within_budget shows at joins);

@@ -31,15 +31,16 @@ IsVerdictAt s (Some (Spent refused)) v = v ≡ UnknownBudget s.problem.budget
 IsVerdictAt s (Some Exhausted) v = v ≡ UnknownExhausted s.problem.cap (length s.entries)
 IsVerdictAt s None v = ⊥
 
--- moves that are said to join the diagrams join them, and none on the way is larger than the cap
+-- moves that are said to join the diagrams join them, and no diagram on the way is larger than the cap
 abbrev pub JoinsWhereEqual : Problem → Verdict → Type 0
 JoinsWhereEqual p (Equal moves) = JoinsWithin p.cap p.first moves p.second
 JoinsWhereEqual p (Different listed one two) = Unit {0}
 JoinsWhereEqual p (UnknownBudget budget) = Unit {0}
 JoinsWhereEqual p (UnknownExhausted cap k) = Unit {0}
 
--- What the verdict of a search says is true: the moves join the diagrams and none on the way is larger than the cap; or moves
--- within the cap reach more canonical diagrams than the budget; or they reach exactly so many, within the budget, and join the diagrams by none.
+-- What the verdict of a search says is true: the moves join the diagrams, and no diagram on the way is larger than the cap; or
+-- moves within the cap reach more canonical diagrams than the budget; or they reach as many as it says, at most the budget, and
+-- do not join the two.
 abbrev pub IsTrueWithin : Problem → Verdict → Type 0
 IsTrueWithin p (Equal moves) = JoinsWithin p.cap p.first moves p.second
 IsTrueWithin p (Different listed one two) = ⊥
@@ -52,6 +53,7 @@ pub record IsSearched (p : Problem) (quandles : List NamedQuandle) (v : Verdict)
   pub finding : Finding
   pub is_kept : kept ≡ Some finding
   pub found : IsFinding p finding
+  pub no_stray : finding.stray ≡ None
   pub in_turn : AreInTurn 0 finding.book.history
   pub verdict : IsVerdictAt finding.book finding.book.end v
   pub true_within : IsTrueWithin p v

@@ -25,9 +25,9 @@ pub struct Decision {
 
 /// The verdict on the two diagrams of a problem. `Different` by the first listed quandle that separates them, with both
 /// complete lists of colourings; a quandle that does not fit both is passed over. Where none separates them, what a search
-/// of the problem comes to: `Equal` with moves that join them, none on the way larger than the cap; `UnknownBudget` where
-/// moves within the cap reach more diagrams than the budget; `UnknownExhausted` where they reach exactly so many and join
-/// the two by none. The search is handed out with the verdict.
+/// of the problem comes to: `Equal` with moves that join them, no diagram on the way larger than the cap; `UnknownBudget`
+/// only where moves within the cap reach more diagrams than the budget; `UnknownExhausted` only where they do not join the
+/// two, with the number that they reach, which is at most the budget. The search is handed out with the verdict.
 ///
 /// Both sizes are at most the cap, the cap is at most `MAX_SIZE`, and the budget is from 2 to `MAX_BUDGET`.
 pub fn decide(alloc: Global, problem: Problem, quandles: &[Listed]) -> Result<Decision, OutOfMemory>

@@ -298,14 +298,23 @@ fn padded(alloc: Global, head: &[u8], size: usize) -> Result<Vec<u8>, AllocError
 fn status_at(alloc: Global, line: &str, head: &[u8], size: usize) -> Result<Status, Fail> {
     let words = words_of(alloc, line)?;
     let mut source = QuietSource::new(padded(alloc, head, size)?);
-    Ok(run(alloc, words.as_slice(), &mut source, &mut QuietSink::new()))
+    Ok(run(
+        alloc,
+        words.as_slice(),
+        &mut source,
+        &mut QuietSink::new(),
+        &mut None,
+    ))
 }
 
 /// The longest inputs: at the limit they are read, one byte over it they aren't.
 #[test]
 fn inputs_are_read_up_to_the_limit(rt: HostRuntime) -> Result<(), Fail> {
     let unknots: &[u8] = b"x 0 1\no 1 0\nx 0 1\no 1 0\nequal 0\n";
-    let rows: [(&str, &[u8], usize, Status); 8] = [
+    let pair: &[u8] = b"x 0 1\no 1 0\nx 0 1\no 1 0\n";
+    let rows: [(&str, &[u8], usize, Status); 10] = [
+        ("knot decide", pair, 1_048_576, Status::Done),
+        ("knot decide", pair, 1_048_577, Status::Limit),
         ("knot check", unknots, 33_554_432, Status::Done),
         ("knot check", unknots, 33_554_433, Status::Limit),
         (

@@ -16,7 +16,7 @@ by_search : (c : goal.In_ok-verdict_of-in-Ok) → IsSearched c.args.problem c.ar
 by_search c =
     let none = none_told c.args.problem.first c.args.problem.second c.args.quandles.now
     (subst (λ (o : Option Verdict). IsSeparation c.args.problem.first c.args.problem.second (first_separating c.args.problem.first c.args.problem.second c.args.quandles.now) o) c.in_default.is c.in_ok-verdict.ensures.verdict) in
-    searched c.args.problem c.args.quandles.now c.in-Ok.finding c.in_ok-verdict_of-in-Ok.field-0 none c.in-Ok.ensures.finding c.in-Ok.ensures.in_turn c.in-Ok.ensures.shows c.in_ok-verdict_of-in-Ok.ensures.verdict c.in_ok-verdict_of-in-Ok.ensures.joins
+    searched c.args.problem c.args.quandles.now c.in-Ok.finding c.in_ok-verdict_of-in-Ok.field-0 none c.in-Ok.ensures.finding c.in-Ok.ensures.no_stray c.in-Ok.ensures.in_turn c.in-Ok.ensures.shows c.in_ok-verdict_of-in-Ok.ensures.verdict c.in_ok-verdict_of-in-Ok.ensures.joins
 
 pub returns-in_ok-verdict_of-in-Ok-clause-decides :
     goal.returns-in_ok-verdict_of-in-Ok-clause-decides

@@ -1,0 +1,97 @@
+-- What is decided is accepted behind its problem.
+use Rattle.std.proofs.Common.{rules, ◌≡◌, ◌≤◌, ◌<◌, ◌+◌, ◌∙◌, ◌++◌, ◌∷◌, [], ap, sym, refl, subst, ℕ, suc, List, Bool, true, false, Result, Ok, codes, if◌then◌else◌, map, length, arith}
+use Rattle.std.specs.List.{AllByRecursion, flat_map}
+use Rattle.std.proofs.lemmas.List.{length-append, length-map}
+use Rattle.text_lines.specs.Lines.{text_of, are_whole_lines}
+use Rattle.text_lines.specs.Spelled.{line_bytes, line_text, lines_text}
+use Rattle.knot_text.specs.declared.names.QuandleName.TheVariants as name
+use Rattle.knot_text.specs.declared.fault.TextFault.{TextFault}
+use Rattle.knot_text.specs.declared.shapes.ProblemText.{ProblemText}
+use Rattle.knot_text.specs.declared.verdict.Verdict.{Verdict}
+use Rattle.knot_text.specs.declared.verdict.Verdict.TheVariants.{Equal, Different, UnknownBudget, UnknownExhausted}
+use Rattle.knot_text.specs.declared.steps.TheConstants.{MAX_NUMBER}
+use Rattle.knot_text.specs.Names.{NamedQuandle, built_in, or_built_in}
+use Rattle.knot_text.specs.Printed.{move_tokens, moves_lines, verdict_lines, verdict_text, HasQuandleText, HasVerdictText}
+use Rattle.knot_text.specs.Shapes.{grid_of, columns, problem_of, check_of}
+use Rattle.knot_text.proofs.ShapesSay.{problem_in_says}
+use Rattle.knot_text.proofs.ReadBack.{verdict_behind}
+use Rattle.knot_text.proofs.FeedBetween.{verdict_behind_feed}
+use Rattle.cert_check.specs.Evidence.{Holds}
+use Rattle.cert_check.specs.declared.ruling.Ruling.TheVariants.{Accepted}
+use Rattle.pair_verdict.specs.Decided.{IsShort}
+use Rattle.knot_jobs.specs.declared.words.Job.TheVariants.{Check}
+use Rattle.knot_jobs.specs.declared.status.Status.TheVariants as status
+use Rattle.knot_jobs.specs.Lines.{ruling_line}
+use Rattle.knot_jobs.specs.Answer.{limit_of, AnswersCheck, AnswersRead, put_behind, IsAcceptedBehind}
+
+-- ---- the quandles of a problem have texts
+
+built_in_text : AllByRecursion HasQuandleText built_in
+built_in_text = (
+  record { names = ((omega arith, omega arith), refl); factor = search rules },
+  (
+    record { names = ((omega arith, omega arith), refl); factor = search rules },
+    (
+      record { names = refl; factor = search rules },
+      (
+        record { names = ((omega arith, omega arith), refl); factor = search rules },
+        (record { names = ((omega arith, omega arith), refl); factor = search rules }, search rules),
+      ),
+    ),
+  ),
+)
+
+listed_text : (listed : List NamedQuandle) → AllByRecursion HasQuandleText listed → AllByRecursion HasQuandleText (or_built_in listed)
+listed_text [] all = built_in_text
+listed_text (q ∷ qs) all = all
+
+pub quandles_text : (bytes : List ℕ) (p : ProblemText) → problem_of bytes ≡ Ok p → AllByRecursion HasQuandleText p.quandles
+quandles_text bytes p is =
+    let said = (problem_in_says (text_of bytes)).of p is in
+    let are = said.1.quandles in
+    subst (AllByRecursion HasQuandleText) (sym are.stand) (listed_text said.0 are.each)
+
+-- ---- a verdict has a line for each of its moves
+
+lines_length : (lines : List (List (List ℕ))) → length lines ≤ length (lines_text lines)
+lines_length [] = omega arith
+lines_length (line ∷ lines) =
+    let rest = lines_length lines in
+    let all = length-append (line_text line) (lines_text lines) in
+    let one = length-append (line_bytes line) (codes "\n") in
+    let feed : length (codes "\n") ≡ 1 = refl in
+    omega (arith, rest, all, one, feed)
+
+-- a text that fits into an input has few moves
+pub short : (bytes : List ℕ) (v : Verdict) → length (put_behind bytes (verdict_text v)) ≤ limit_of Check → IsShort v
+short bytes (Equal moves) fits = by (are_whole_lines bytes) fits
+  where
+    by : (t : Bool) → length (if t then bytes ++ verdict_text (Equal moves) else bytes ++ (codes "\n" ++ verdict_text (Equal moves))) ≤ limit_of Check → length moves ≤ MAX_NUMBER
+    by true fits =
+        let lines = lines_length (moves_lines (codes "equal") moves) in
+        let each = length-map moves move_tokens in
+        let all = length-append bytes (verdict_text (Equal moves)) in
+        omega (arith, lines, each, all, fits)
+    by false fits =
+        let lines = lines_length (moves_lines (codes "equal") moves) in
+        let each = length-map moves move_tokens in
+        let all = length-append bytes (codes "\n" ++ verdict_text (Equal moves)) in
+        let more = length-append (codes "\n") (verdict_text (Equal moves)) in
+        omega (arith, lines, each, all, more, fits)
+short bytes (Different listed one two) fits = search rules
+short bytes (UnknownBudget budget) fits = search rules
+short bytes (UnknownExhausted cap k) fits = search rules
+
+-- ---- the ruling
+
+accepted_read : (p : ProblemText) (v : Verdict) (read : Result (ProblemText × Verdict) TextFault) → read ≡ Ok (p, v) → Holds (grid_of p.first) (grid_of p.second) v → AnswersRead AnswersCheck read status.Done (ruling_line Accepted)
+accepted_read p v read is holds =
+    subst (λ (r : Result (ProblemText × Verdict) TextFault). AnswersRead AnswersCheck r status.Done (ruling_line Accepted)) (sym is) (record { ruling = Accepted; rules = holds; status_is = refl; text_is = refl })
+
+by_lines : (bytes : List ℕ) (p : ProblemText) (v : Verdict) (t : Bool) → are_whole_lines bytes ≡ t → problem_of bytes ≡ Ok p → HasVerdictText (columns p.first) (columns p.second) v → check_of (if t then bytes ++ verdict_text v else bytes ++ (codes "\n" ++ verdict_text v)) ≡ Ok (p, v)
+by_lines bytes p v true whole is text = verdict_behind bytes p v whole is text
+by_lines bytes p v false lacks is text = verdict_behind_feed bytes p v lacks is text
+
+pub accepted_behind : (bytes : List ℕ) (p : ProblemText) (v : Verdict) → problem_of bytes ≡ Ok p → (IsShort v → HasVerdictText (columns p.first) (columns p.second) v) → Holds (grid_of p.first) (grid_of p.second) v → IsAcceptedBehind bytes (verdict_text v)
+accepted_behind bytes p v is text holds = λ fits.
+    accepted_read p v (check_of (put_behind bytes (verdict_text v))) (by_lines bytes p v (are_whole_lines bytes) refl is (text (short bytes v fits))) holds

@@ -1,0 +1,156 @@
+//! Decisions: worked verdicts, the searches that are kept, and certificates that `check` accepts behind their problems.
+use super::words_of;
+use crate::status::Status;
+use crate::top_call::run;
+use knot_ports::{MemSink, MemSource};
+use search_book::End;
+use search_pool::Finding;
+use std::alloc::Global;
+use std::test::Fail;
+
+/// The right trefoil and its reverse, and the left trefoil and the right one.
+const REVERSED: &[u8] = b"x 4 3 2 1 0\no 2 1 0 4 3\nx 4 3 2 1 0\no 1 0 4 3 2\n";
+
+const TREFOILS: &[u8] = b"x 0 1 2 3 4\no 2 3 4 0 1\nx 4 3 2 1 0\no 2 1 0 4 3\n";
+
+/// What a call ended with: its status, what it wrote, and the search that it kept.
+struct Ended {
+    status: Status,
+    text: Vec<u8>,
+    kept: Option<Finding>,
+}
+
+/// A call on an input.
+fn ended(alloc: Global, line: &str, input: &[u8]) -> Result<Ended, Fail> {
+    let words = words_of(alloc, line)?;
+    let mut source = MemSource::new(Vec::from_slice(alloc, input)?, 4096, Vec::new(alloc));
+    let mut sink = MemSink::new(alloc, 4096, 65_536, Vec::new(alloc))?;
+    let mut kept = None;
+    let status = run(alloc, words.as_slice(), &mut source, &mut sink, &mut kept);
+    let text = Vec::from_slice(alloc, sink.bytes())?;
+    Ok(Ended { status, text, kept })
+}
+
+#[test]
+fn pairs_have_their_verdicts(rt: HostRuntime) -> Result<(), Fail> {
+    let rows: [(&str, &[u8], Status, &[u8]); 11] = [
+        (
+            "knot decide",
+            b"x 0 1\no 1 0\nx 1 0\no 0 1\n",
+            Status::Done,
+            b"equal 1\nshift rows 1\n",
+        ),
+        (
+            "knot decide",
+            b"x 0 1\no 1 0\nx 0 1\no 1 0\n",
+            Status::Done,
+            b"equal 0\n",
+        ),
+        (
+            "knot decide",
+            b"x 4 3 2 1 0\no 2 1 0 4 3\nx 0 1\no 1 0\n",
+            Status::Done,
+            b"different dihedral 3\nlist 9\n0 0 0 0 0\n0 1 2 0 2\n0 2 1 0 1\n1 0 2 1 2\n1 1 1 1 1\n1 2 0 1 0\n2 0 1 2 1\n2 1 0 2 0\n2 2 2 2 2\nlist 3\n0 0\n1 1\n2 2\n",
+        ),
+        (
+            "knot decide --spare 0",
+            TREFOILS,
+            Status::Unknown,
+            b"unknown exhausted 5 2\n",
+        ),
+        (
+            "knot decide --spare 1 --budget 2",
+            TREFOILS,
+            Status::Unknown,
+            b"unknown budget 2\n",
+        ),
+        (
+            "knot decide",
+            b"braid 3 1 -2 1 -2\nbraid 2 1 1 1\n",
+            Status::Done,
+            b"different dihedral 3\nlist 3\n0 0 0 0 0 0 0 0 0 0\n1 1 1 1 1 1 1 1 1 1\n2 2 2 2 2 2 2 2 2 2\nlist 9\n0 0 0 0 0 0 0\n0 1 2 0 1 1 0\n0 2 1 0 2 2 0\n1 0 2 1 0 0 1\n1 1 1 1 1 1 1\n1 2 0 1 2 2 1\n2 0 1 2 0 0 2\n2 1 0 2 1 1 2\n2 2 2 2 2 2 2\n",
+        ),
+        (
+            "knot decide",
+            b"x 0 1\no 1 0\nx 0 1\no 1 0\nquandle table 3\n0 2 0\n2 1 1\n1 0 2\n",
+            Status::Malformed,
+            b"malformed line 8\n",
+        ),
+        (
+            "knot decide --spare 0 --budget 2",
+            b"x 0 1 2 3 4 5 6 7 8 9\no 1 0 3 2 5 4 7 6 9 8\nx 0 1 2 3 4 5 6 7\no 1 0 3 2 5 4 7 6\nquandle trivial 16\n",
+            Status::Unknown,
+            b"unknown budget 2\n",
+        ),
+        ("knot decide", b"", Status::Malformed, b"malformed line 1\n"),
+        (
+            "knot sample",
+            b"",
+            Status::Done,
+            b"sample 1\nmoves 200\naccepted\ntrivial 2: 2 2\ndihedral 3: 9 9\ntetrahedral: 16 16\ndihedral 5: 5 5\ndihedral 7: 7 7\n",
+        ),
+        (
+            "knot sample --seed 18446744073709551615",
+            b"",
+            Status::Done,
+            b"sample 18446744073709551615\nmoves 200\naccepted\ntrivial 2: 2 2\ndihedral 3: 9 9\ntetrahedral: 16 16\ndihedral 5: 5 5\ndihedral 7: 7 7\n",
+        ),
+    ];
+    for (line, input, status, text) in rows {
+        let call = ended(rt.alloc(), line, input)?;
+        assert_eq!(rt; call.status, status, "{line}");
+        assert_eq!(rt; call.text.as_slice(), text, "{line}");
+    }
+    Ok(())
+}
+
+#[test]
+fn a_search_is_kept_where_there_was_one(rt: HostRuntime) -> Result<(), Fail> {
+    let spent = ended(rt.alloc(), "knot decide --spare 1 --budget 2", TREFOILS)?;
+    let Some(finding) = spent.kept else {
+        return Err(Fail::from("no search"));
+    };
+    assert_eq!(rt; finding.book.len(), 2);
+    assert!(rt; matches!(finding.book.end(), Some(End::Spent { .. })));
+    let exhausted = ended(rt.alloc(), "knot decide --spare 0", TREFOILS)?;
+    let Some(finding) = exhausted.kept else {
+        return Err(Fail::from("no search"));
+    };
+    assert!(rt; matches!(finding.book.end(), Some(End::Exhausted)));
+    assert_eq!(rt; finding.settled, 2);
+    let told_apart = ended(
+        rt.alloc(),
+        "knot decide",
+        b"x 4 3 2 1 0\no 2 1 0 4 3\nx 0 1\no 1 0\n",
+    )?;
+    assert!(rt; told_apart.kept.is_none());
+    Ok(())
+}
+
+/// Whether `check` accepts what a call of `decide` wrote, behind its input.
+fn is_accepted(alloc: Global, line: &str, input: &[u8]) -> Result<bool, Fail> {
+    let call = ended(alloc, line, input)?;
+    let mut both = Vec::from_slice(alloc, input)?;
+    both.extend_from_slice(call.text.as_slice())?;
+    let ruled = ended(alloc, "knot check", both.as_slice())?;
+    Ok(call.status == Status::Done && ruled.status == Status::Done)
+}
+
+#[test]
+fn what_is_decided_is_accepted_behind_its_problem(rt: HostRuntime) -> Result<(), Fail> {
+    let rows: [(&str, &[u8]); 5] = [
+        ("knot decide", REVERSED),
+        ("knot decide --workers 8", REVERSED),
+        ("knot decide", b"braid 2 1 1\nbraid 2\n"),
+        (
+            "knot decide",
+            b"braid 3 1 -2 1 -2\nbraid 2 1 1 1\nquandle dihedral 5\n",
+        ),
+        ("knot decide", b"x 0 1 2 3 4\no 2 4 3 1 0\nx 0 1\no 1 0\n"),
+    ];
+    for (line, input) in rows {
+        let accepted = is_accepted(rt.alloc(), line, input)?;
+        assert!(rt; accepted, "{line}");
+    }
+    Ok(())
+}
