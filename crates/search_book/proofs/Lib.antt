@@ -23,6 +23,7 @@ mod OneAfter
 mod Opened
 mod Standing
 mod AfterSettling
+mod KeptEntries
 mod WaysDown
 mod TurnedBack
 mod SidesMet

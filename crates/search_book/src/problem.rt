@@ -6,8 +6,9 @@ use grid_core::Grid;
 /// The greatest budget.
 pub const MAX_BUDGET: u32 = 500_000;
 
-/// Whether moves join two diagrams within a cap on the size, by at most so many diagrams.
-/// Both sizes are at most the cap, the cap is at most `MAX_SIZE`, and the budget is from 2 to `MAX_BUDGET`.
+/// Whether moves join two diagrams such that none on the way is larger than the cap, to be searched with no more
+/// entries than the budget. A book asks that both sizes are at most the cap, that the cap is at most `MAX_SIZE`, and
+/// that the budget is from 2 to `MAX_BUDGET`.
 #[derive(Drop)]
 pub struct Problem {
     pub first: Grid,

@@ -5,8 +5,9 @@ ghost use Rattle.search_pool.specs.Finding.{IsFinding};
 
 use search_book::{Book, End, Problem};
 
-/// What a search leaves: its book, which is over, the number of settlements in the history of the book, and, where the
-/// book of several workers came back with a problem that was not the given one, that problem.
+/// What a search leaves: its book, a number of settlements, and perhaps a stray, which is a problem with which the book
+/// of several workers came back where it was not the given one. In every finding that a call here answers the book is
+/// over and sound, `settled` is the number of settlements in its history, and a stray is not the given problem.
 #[derive(Drop)]
 pub struct Finding {
     pub book: Book,
@@ -15,7 +16,7 @@ pub struct Finding {
 }
 
 impl Finding {
-    /// The finding of a book that is over, without a stray.
+    /// The finding of a book that is over, of its own problem: this book, its settlements counted, and no stray.
     pub fn of(book: Book) -> Finding
         requires { book.end ≢ None }
         ensures book { result.book ≡ book }

@@ -72,6 +72,7 @@ fn the_trefoil_and_its_reverse_meet_at_the_next_size(rt: HostRuntime) -> Result<
 fn a_shift_apart_they_meet_before_any_claim(rt: HostRuntime) -> Result<(), Fail> {
     let finding = search(rt.alloc(), (&[0, 1], &[1, 0]), (&[1, 0], &[0, 1]), 2, 2)?;
     assert_eq!(rt; finding.book.end(), Some(End::Met(Meeting::Roots)));
+    assert_eq!(rt; finding.book.len(), 1);
     assert_eq!(rt; finding.settled, 0);
     assert!(rt; finding.book.history().is_empty());
     Ok(())
