@@ -1,14 +1,14 @@
 -- The kind of a verdict, by what moves reach and by the budget.
-use Rattle.std.proofs.Common.{rules, ◌≡◌, ◌≢◌, Bool, ◌≤◌, ◌<◌, ◌⊎◌, ◌∙◌, inl, inr, ap, sym, refl, subst, ℕ, List, Option, Some, None, arith, length}
+use Rattle.std.proofs.Common.{◌≡◌, Bool, ◌≤◌, ◌⊎◌, ◌∙◌, inl, inr, ap, sym, refl, subst, ℕ, List, Option, Some, None, arith}
 use Rattle.std.specs.List.{All, find}
 use Rattle.std.proofs.lemmas.List.Folds.{find_at}
 use Rattle.std.specs.List.{position_or_len}
 use Rattle.std.proofs.lemmas.Option.{slice_get_within, get_or_from_slice_get}
 use Rattle.grid_core.specs.Diagram.{Diagram}
 use Rattle.grid_moves.specs.declared.step.Move.{Move}
-use Rattle.grid_moves.specs.Joining.{WithinCap, Equivalent}
-use Rattle.quandle_core.specs.Quandle.{Table, IsQuandle}
-use Rattle.colour_list.specs.Listing.{colourings, lists_of}
+use Rattle.grid_moves.specs.Joining.{WithinCap}
+use Rattle.quandle_core.specs.Quandle.{IsQuandle}
+use Rattle.colour_list.specs.Listing.{lists_of}
 use Rattle.cert_check.specs.Evidence.{Claims, Holds, TellsApart}
 use Rattle.cert_check.proofs.Rulings.{told_apart}
 use Rattle.knot_text.specs.Names.{NamedQuandle}
@@ -19,7 +19,7 @@ use Rattle.next_moves.proofs.HowMany.{one_number, more_excluded}
 use Rattle.search_book.specs.declared.problem.Problem.{Problem}
 use Rattle.search_pool.specs.declared.finding.Finding.{Finding}
 use Rattle.pair_verdict.specs.Separates.{separates, first_separating, IsDifferentBy}
-use Rattle.pair_verdict.specs.Decided.{Decides, IsToldApart, IsSearched, IsTrueWithin, HasEvidence}
+use Rattle.pair_verdict.specs.Decided.{Decides, IsToldApart, IsTrueWithin, HasEvidence}
 use Rattle.pair_verdict.proofs.FirstFound.{find_passes, holds_by}
 use Rattle.pair_verdict.proofs.Verdicts.{claims_within, holds_within}
 

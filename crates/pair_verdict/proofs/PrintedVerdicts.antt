@@ -1,5 +1,5 @@
 -- What is decided has a text.
-use Rattle.std.proofs.Common.{rules, ◌≡◌, ◌≤◌, ◌∙◌, ap, sym, refl, subst, ℕ, List, [], ◌∷◌, Bool, true, false, cond, Option, Some, None, map, length, arith}
+use Rattle.std.proofs.Common.{rules, ◌≡◌, ◌≤◌, sym, refl, subst, ℕ, List, [], ◌∷◌, Bool, true, false, cond, Option, Some, None, length, arith}
 use Rattle.std.specs.List.{AllByRecursion, filter, find}
 use Rattle.arrayvec.specs.ArrayVec.{ArrayVec}
 use Rattle.grid_core.specs.Diagram.{Diagram, size}

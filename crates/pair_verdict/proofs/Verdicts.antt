@@ -1,7 +1,5 @@
 -- What a verdict of a search is worth.
-use Rattle.std.proofs.Common.{rules, ◌≡◌, refl, ◌≤◌, ◌⊎◌, inl, inr, ap, sym, subst, ℕ, List, Option, Some, None, length}
-use Rattle.grid_moves.specs.declared.step.Move.{Move}
-use Rattle.grid_moves.specs.Joining.{JoinsWithin}
+use Rattle.std.proofs.Common.{rules, ◌≡◌, refl, ◌≤◌, sym, subst, List, Option, Some, None, length}
 use Rattle.grid_moves.proofs.Within.{within_joins}
 use Rattle.cert_check.specs.Evidence.{Claims, Holds}
 use Rattle.knot_text.specs.Names.{NamedQuandle}

@@ -1,5 +1,5 @@
 -- The verdict on two diagrams, and the search that stands behind it.
-use Rattle.std.specs.Prelude.{◌≡◌, ◌≤◌, ◌⊎◌, ℕ, List, Option, Some, None, length}
+use Rattle.std.specs.Prelude.{◌≡◌, ◌≤◌, ◌⊎◌, List, Option, Some, None, length}
 use Rattle.grid_moves.specs.declared.step.Move.{Move}
 use Rattle.grid_moves.specs.Joining.{JoinsWithin, WithinCap}
 use Rattle.knot_text.specs.declared.steps.TheConstants.{MAX_NUMBER}

@@ -5,5 +5,7 @@
 mod decision;
 pub mod laws;
 mod separating;
+#[cfg(test)]
+mod tests;
 
 pub use decision::{Decision, decide};

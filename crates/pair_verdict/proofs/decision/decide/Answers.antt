@@ -1,4 +1,4 @@
-use Rattle.std.proofs.Common.{◌≡◌, subst, inr, Option, Some, IfSome}
+use Rattle.std.proofs.Common.{subst, inr, Option, Some, IfSome}
 use Rattle.knot_text.specs.declared.verdict.Verdict.{Verdict}
 use Rattle.pair_verdict.specs.Separates.{first_separating, IsSeparation, HasFewColourings}
 use Rattle.pair_verdict.specs.Decided.{IsSearched}

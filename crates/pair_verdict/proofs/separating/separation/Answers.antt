@@ -1,4 +1,4 @@
-use Rattle.std.proofs.Common.{◌≡◌, ◌∙◌, sym, ap, subst, true, false, nat_eq, length, List, ℕ, arith}
+use Rattle.std.proofs.Common.{◌∙◌, sym, ap, length, List, ℕ, arith}
 use Rattle.std.proofs.lemmas.List.{length-map}
 use Rattle.arrayvec.specs.ArrayVec.{ArrayVec}
 use Rattle.colour_laws.proofs.Counted.{equivalent_lengths}

@@ -1,4 +1,4 @@
-use Rattle.std.proofs.Common.{rules, ◌≡◌, sym, ◌∙◌}
+use Rattle.std.proofs.Common.{rules, sym, ◌∙◌}
 use Rattle.pair_verdict.proofs.FirstFound.{told, not_told}
 use Rattle.pair_verdict.proofs.separating.told_apart.Goals as goal
 
