@@ -1,17 +1,16 @@
 -- What is decided is accepted behind its problem.
-use Rattle.std.proofs.Common.{rules, ◌≡◌, ◌≤◌, ◌<◌, ◌+◌, ◌∙◌, ◌++◌, ◌∷◌, [], ap, sym, refl, subst, ℕ, suc, List, Bool, true, false, Result, Ok, codes, if◌then◌else◌, map, length, arith}
-use Rattle.std.specs.List.{AllByRecursion, flat_map}
+use Rattle.std.proofs.Common.{rules, ◌≡◌, ◌≤◌, ◌++◌, ◌∷◌, [], sym, refl, subst, ℕ, List, Bool, true, false, Result, Ok, codes, if◌then◌else◌, length, arith}
+use Rattle.std.specs.List.{AllByRecursion}
 use Rattle.std.proofs.lemmas.List.{length-append, length-map}
 use Rattle.text_lines.specs.Lines.{text_of, are_whole_lines}
 use Rattle.text_lines.specs.Spelled.{line_bytes, line_text, lines_text}
-use Rattle.knot_text.specs.declared.names.QuandleName.TheVariants as name
 use Rattle.knot_text.specs.declared.fault.TextFault.{TextFault}
 use Rattle.knot_text.specs.declared.shapes.ProblemText.{ProblemText}
 use Rattle.knot_text.specs.declared.verdict.Verdict.{Verdict}
 use Rattle.knot_text.specs.declared.verdict.Verdict.TheVariants.{Equal, Different, UnknownBudget, UnknownExhausted}
 use Rattle.knot_text.specs.declared.steps.TheConstants.{MAX_NUMBER}
 use Rattle.knot_text.specs.Names.{NamedQuandle, built_in, or_built_in}
-use Rattle.knot_text.specs.Printed.{move_tokens, moves_lines, verdict_lines, verdict_text, HasQuandleText, HasVerdictText}
+use Rattle.knot_text.specs.Printed.{move_tokens, moves_lines, verdict_text, HasQuandleText, HasVerdictText}
 use Rattle.knot_text.specs.Shapes.{grid_of, columns, problem_of, check_of}
 use Rattle.knot_text.proofs.ShapesSay.{problem_in_says}
 use Rattle.knot_text.proofs.ReadBack.{verdict_behind}

@@ -1,5 +1,5 @@
 -- An input of a job other than `decide` has one answer.
-use Rattle.std.proofs.Common.{◌≡◌, ◌<◌, ◌≤◌, ◌++◌, ◌∷◌, ℕ, List, [], length, map, Option, Some, None, Result, Ok, Err, IsOk, true, false, codes, arith, refl, sym, ap, ap₂, subst, ◌∙◌, inl, inr, ◌⊎◌}
+use Rattle.std.proofs.Common.{◌≡◌, ◌++◌, ◌∷◌, ℕ, List, [], length, map, Option, Some, None, Result, Ok, Err, IsOk, true, false, codes, arith, refl, sym, ap, ap₂, ◌∙◌, inl, inr, ◌⊎◌}
 use Rattle.std.specs.Fmt.{decimal}
 use Rattle.std.proofs.lemmas.Bool.{cases_lt}
 use Rattle.arrayvec.specs.ArrayVec.{ArrayVec}
@@ -12,9 +12,6 @@ use Rattle.text_lines.specs.Spelled.{line_text}
 use Rattle.knot_text.specs.declared.fault.TextFault.{TextFault}
 use Rattle.knot_text.specs.declared.fault.TextFault.TheVariants as bad
 use Rattle.knot_text.specs.declared.shapes.ProblemText.{ProblemText}
-use Rattle.knot_text.specs.declared.shapes.ReplayText.{ReplayText}
-use Rattle.knot_text.specs.declared.shapes.ColourText.{ColourText}
-use Rattle.knot_text.specs.declared.shapes.CloseText.{CloseText}
 use Rattle.knot_text.specs.declared.verdict.Verdict.{Verdict}
 use Rattle.knot_text.specs.Names.{NamedQuandle}
 use Rattle.knot_text.specs.Printed.{grid_text}
@@ -36,7 +33,7 @@ use Rattle.knot_jobs.specs.Lines.{ruling_line, rejected_line, step_tokens, malfo
 use Rattle.knot_jobs.specs.Listings.{colour_text}
 use Rattle.knot_jobs.specs.Closing.{close_text}
 use Rattle.knot_jobs.specs.Coding.{code_text}
-use Rattle.knot_jobs.specs.Answer.{limit_of, ruling_status, verdict_status, AnswersDecide, AnswersProblem, AnswersCheck, Replays, ReplaysColoured, Stops, Miscoloured, Coloured, AnswersMoves, AnswersReplay, AnswersColour, AnswersClose, AnswersCode, IsFaultAnswer, AnswersRead, AnswersText, IsTooLong, Answers, IsInShape}
+use Rattle.knot_jobs.specs.Answer.{limit_of, ruling_status, verdict_status, AnswersProblem, AnswersCheck, Replays, ReplaysColoured, Stops, AnswersMoves, AnswersReplay, AnswersColour, AnswersClose, AnswersCode, AnswersRead, AnswersText, Answers, IsInShape}
 use Rattle.knot_jobs.proofs.Along.{carries_once, carried_along, joins_along}
 use Rattle.knot_jobs.proofs.Grids.{check_grids, replay_grid}
 

@@ -1,5 +1,5 @@
 -- How a call ends, from what was answered and what was written.
-use Rattle.std.proofs.Common.{◌≡◌, ◌≤◌, ◌+◌, ◌++◌, ℕ, List, [], length, take, Option, Some, None, arith, refl, sym, ap, subst, ◌∙◌, inl, inr, ◌⊎◌}
+use Rattle.std.proofs.Common.{◌≡◌, ◌≤◌, ◌+◌, ◌++◌, ℕ, List, length, take, Option, Some, None, arith, refl, sym, ap, subst, ◌∙◌, inl, inr, ◌⊎◌}
 use Rattle.std.specs.Io.KnownBytes.{Appends}
 use Rattle.std.proofs.lemmas.Bool.{cases_lt}
 use Rattle.std.proofs.lemmas.List.{append-nil, take_at, take_all, length-take-le}
@@ -10,7 +10,7 @@ use Rattle.knot_jobs.specs.declared.status.Status.{Status}
 use Rattle.knot_jobs.specs.declared.status.Status.TheVariants as status
 use Rattle.knot_jobs.specs.Words.{Asks, AsksNothing}
 use Rattle.knot_jobs.specs.Answer.{limit_of, Answers, IsInShape}
-use Rattle.knot_jobs.specs.Outcome.{Call, usage_line, Receives, HasInput, what_is_read, IsReply, IsAnswered, IsMisused, IsDue, Writes, IsWritten, IsDelivered, Ends}
+use Rattle.knot_jobs.specs.Outcome.{Call, usage_line, Receives, HasInput, what_is_read, IsReply, IsAnswered, IsMisused, IsDue, IsWritten, IsDelivered, Ends}
 use Rattle.knot_jobs.specs.declared.words.Job.TheVariants.{Decide, Check, Replay, Colour, Close, Code, Sample}
 use Rattle.search_pool.specs.declared.finding.Finding.{Finding}
 use Rattle.knot_jobs.proofs.AskedOnce.{asked_once, never_both}

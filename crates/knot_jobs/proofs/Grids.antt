@@ -1,8 +1,7 @@
 -- The diagrams of an input are grids.
-use Rattle.std.proofs.Common.{◌≡◌, ℕ, List, Result, Ok, Some, None, subst}
+use Rattle.std.proofs.Common.{◌≡◌, ℕ, List, Ok, subst}
 use Rattle.grid_core.specs.Diagram.{IsGrid}
-use Rattle.text_lines.specs.Lines.{Text, text_of}
-use Rattle.knot_text.specs.declared.diagram.Diagram.{Diagram}
+use Rattle.text_lines.specs.Lines.{text_of}
 use Rattle.knot_text.specs.declared.shapes.ProblemText.{ProblemText}
 use Rattle.knot_text.specs.declared.shapes.ReplayText.{ReplayText}
 use Rattle.knot_text.specs.declared.verdict.Verdict.{Verdict}

@@ -1,8 +1,8 @@
 //! Decisions: worked verdicts, the searches that are kept, and certificates that `check` accepts behind their problems.
-use super::words_of;
+use super::{Outside, ran, words_of};
 use crate::status::Status;
 use crate::top_call::run;
-use knot_ports::{MemSink, MemSource};
+use knot_ports::{MemSink, MemSource, QuietSink, QuietSource};
 use search_book::End;
 use search_pool::Finding;
 use std::alloc::Global;
@@ -14,6 +14,7 @@ const REVERSED: &[u8] = b"x 4 3 2 1 0\no 2 1 0 4 3\nx 4 3 2 1 0\no 1 0 4 3 2\n";
 const TREFOILS: &[u8] = b"x 0 1 2 3 4\no 2 3 4 0 1\nx 4 3 2 1 0\no 2 1 0 4 3\n";
 
 /// What a call ended with: its status, what it wrote, and the search that it kept.
+#[derive(Drop)]
 struct Ended {
     status: Status,
     text: Vec<u8>,
@@ -21,7 +22,7 @@ struct Ended {
 }
 
 /// A call on an input.
-fn ended(alloc: Global, line: &str, input: &[u8]) -> Result<Ended, Fail> {
+fn called(alloc: Global, line: &str, input: &[u8]) -> Result<Ended, Fail> {
     let words = words_of(alloc, line)?;
     let mut source = MemSource::new(Vec::from_slice(alloc, input)?, 4096, Vec::new(alloc));
     let mut sink = MemSink::new(alloc, 4096, 65_536, Vec::new(alloc))?;
@@ -33,7 +34,7 @@ fn ended(alloc: Global, line: &str, input: &[u8]) -> Result<Ended, Fail> {
 
 #[test]
 fn pairs_have_their_verdicts(rt: HostRuntime) -> Result<(), Fail> {
-    let rows: [(&str, &[u8], Status, &[u8]); 11] = [
+    let rows: [(&str, &[u8], Status, &[u8]); 12] = [
         (
             "knot decide",
             b"x 0 1\no 1 0\nx 1 0\no 0 1\n",
@@ -82,6 +83,12 @@ fn pairs_have_their_verdicts(rt: HostRuntime) -> Result<(), Fail> {
             Status::Unknown,
             b"unknown budget 2\n",
         ),
+        (
+            "knot decide",
+            b"braid 2 1 1\nbraid 2\n",
+            Status::Done,
+            b"different dihedral 3\nlist 3\n0 0 0 0 0 0\n1 1 1 1 1 1\n2 2 2 2 2 2\nlist 9\n0 0 0 0\n0 1 1 0\n0 2 2 0\n1 0 0 1\n1 1 1 1\n1 2 2 1\n2 0 0 2\n2 1 1 2\n2 2 2 2\n",
+        ),
         ("knot decide", b"", Status::Malformed, b"malformed line 1\n"),
         (
             "knot sample",
@@ -97,28 +104,31 @@ fn pairs_have_their_verdicts(rt: HostRuntime) -> Result<(), Fail> {
         ),
     ];
     for (line, input, status, text) in rows {
-        let call = ended(rt.alloc(), line, input)?;
+        let call = called(rt.alloc(), line, input)?;
         assert_eq!(rt; call.status, status, "{line}");
         assert_eq!(rt; call.text.as_slice(), text, "{line}");
     }
     Ok(())
 }
 
+/// The search that a call kept.
+fn kept_by(alloc: Global, line: &str, input: &[u8]) -> Result<Finding, Fail> {
+    let Ended { kept, .. } = called(alloc, line, input)?;
+    match kept {
+        Some(finding) => Ok(finding),
+        None => Err(Fail::from("no search")),
+    }
+}
+
 #[test]
 fn a_search_is_kept_where_there_was_one(rt: HostRuntime) -> Result<(), Fail> {
-    let spent = ended(rt.alloc(), "knot decide --spare 1 --budget 2", TREFOILS)?;
-    let Some(finding) = spent.kept else {
-        return Err(Fail::from("no search"));
-    };
-    assert_eq!(rt; finding.book.len(), 2);
-    assert!(rt; matches!(finding.book.end(), Some(End::Spent { .. })));
-    let exhausted = ended(rt.alloc(), "knot decide --spare 0", TREFOILS)?;
-    let Some(finding) = exhausted.kept else {
-        return Err(Fail::from("no search"));
-    };
-    assert!(rt; matches!(finding.book.end(), Some(End::Exhausted)));
-    assert_eq!(rt; finding.settled, 2);
-    let told_apart = ended(
+    let spent = kept_by(rt.alloc(), "knot decide --spare 1 --budget 2", TREFOILS)?;
+    assert_eq!(rt; spent.book.len(), 2);
+    assert!(rt; matches!(spent.book.end(), Some(End::Spent { .. })));
+    let exhausted = kept_by(rt.alloc(), "knot decide --spare 0", TREFOILS)?;
+    assert!(rt; matches!(exhausted.book.end(), Some(End::Exhausted)));
+    assert_eq!(rt; exhausted.settled, 2);
+    let told_apart = called(
         rt.alloc(),
         "knot decide",
         b"x 4 3 2 1 0\no 2 1 0 4 3\nx 0 1\no 1 0\n",
@@ -127,12 +137,45 @@ fn a_search_is_kept_where_there_was_one(rt: HostRuntime) -> Result<(), Fail> {
     Ok(())
 }
 
+#[test]
+fn an_earlier_search_is_let_go(rt: HostRuntime) -> Result<(), Fail> {
+    let mut kept = Some(kept_by(rt.alloc(), "knot decide --spare 0", TREFOILS)?);
+    let words = words_of(rt.alloc(), "knot decode")?;
+    let status = run(
+        rt.alloc(),
+        words.as_slice(),
+        &mut QuietSource::new(Vec::new(rt.alloc())),
+        &mut QuietSink::new(),
+        &mut kept,
+    );
+    assert_eq!(rt; status, Status::Usage);
+    assert!(rt; kept.is_none());
+    Ok(())
+}
+
+#[test]
+fn a_sample_reads_nothing(rt: HostRuntime) -> Result<(), Fail> {
+    let outside = Outside {
+        reading: &[0],
+        writing: &[],
+        room: 200,
+    };
+    let (status, written) = ran(rt.alloc(), "knot sample --seed 7", b"x 0 1\n", &outside)?;
+    assert_eq!(rt; status, Status::Done);
+    assert!(rt;
+        written
+            .as_slice()
+            .starts_with(b"sample 7\nmoves 200\naccepted\n")
+    );
+    Ok(())
+}
+
 /// Whether `check` accepts what a call of `decide` wrote, behind its input.
 fn is_accepted(alloc: Global, line: &str, input: &[u8]) -> Result<bool, Fail> {
-    let call = ended(alloc, line, input)?;
+    let call = called(alloc, line, input)?;
     let mut both = Vec::from_slice(alloc, input)?;
     both.extend_from_slice(call.text.as_slice())?;
-    let ruled = ended(alloc, "knot check", both.as_slice())?;
+    let ruled = called(alloc, "knot check", both.as_slice())?;
     Ok(call.status == Status::Done && ruled.status == Status::Done)
 }
 

@@ -1,10 +1,10 @@
-use Rattle.std.proofs.Common.{rules, ◌≡◌, sym, ◌∙◌, subst, List, ℕ}
+use Rattle.std.proofs.Common.{rules, sym, ◌∙◌, subst, List}
 use Rattle.grid_core.specs.Diagram.{Diagram}
 use Rattle.cert_check.specs.Evidence.{Claims, Holds}
 use Rattle.knot_jobs.proofs.Decisions.{has_evidence, of_problem}
 use Rattle.knot_jobs.specs.Answer.{IsAcceptedBehind}
 use Rattle.knot_jobs.proofs.AcceptedBehind.{quandles_text, accepted_behind}
-use Rattle.knot_text.specs.Printed.{HasVerdictText, HasQuandleText, verdict_text}
+use Rattle.knot_text.specs.Printed.{HasVerdictText, HasQuandleText}
 use Rattle.knot_text.specs.Names.{NamedQuandle}
 use Rattle.std.specs.List.{AllByRecursion}
 use Rattle.grid_core.specs.Diagram.{size}

@@ -1,4 +1,4 @@
-use Rattle.std.proofs.Common.{◌≡◌, ◌+◌, arith, sym, take, get_or, subst, List, ℕ}
+use Rattle.std.proofs.Common.{◌+◌, arith, sym, take, get_or, subst, List, ℕ}
 use Rattle.std.proofs.lemmas.Option.{slice_get-get_or}
 use Rattle.grid_moves.specs.declared.step.Move.TheVariants.{ShiftColumns}
 use Rattle.knot_jobs.specs.Replayed.{Carries}
