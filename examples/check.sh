@@ -1,28 +1,44 @@
 #!/bin/sh
 # Runs every example through ./knot: examples/JOB/NAME.txt must give NAME.out, and the exit status in NAME.status, or 0.
+# Further words stand in NAME.args, in one line. What decide answers with status 0 must be accepted by check behind its input.
 set -u
 
 here=$(CDPATH='' cd -- "$(dirname -- "$0")" && pwd) || exit 1
+knot=$here/../knot
 found=${TMPDIR:-/tmp}/knot-example.$$
 trap 'rm -f "$found"' EXIT
 passed=0
 failed=0
+
+# Whether the answer that was found, behind the input, is accepted. The examples end with a line feed.
+is_accepted() {
+    [ "$(cat "$1" "$found" | "$knot" check)" = accepted ]
+}
+
 for input in "$here"/*/*.txt; do
     job=$(basename -- "$(dirname -- "$input")")
     case $job in
-        check | replay | colour | close | code) ;;
+        decide | check | replay | colour | close | code | sample) ;;
         *) continue ;;
     esac
     stem=${input%.txt}
+    name=$job/$(basename -- "$stem")
     wanted=0
     [ -f "$stem.status" ] && wanted=$(cat "$stem.status")
-    "$here/../knot" "$job" <"$input" >"$found"
+    further=
+    [ -f "$stem.args" ] && further=$(cat "$stem.args")
+    # The further words are parted at blanks.
+    # shellcheck disable=SC2086
+    "$knot" "$job" $further <"$input" >"$found"
     status=$?
-    if [ "$status" -eq "$wanted" ] && cmp -s "$found" "$stem.out"; then
-        passed=$((passed + 1))
-    else
+    if [ "$status" -ne "$wanted" ] || ! cmp -s "$found" "$stem.out"; then
         failed=$((failed + 1))
-        echo "differs: $job/$(basename -- "$stem"), status $status, wanted $wanted"
+        echo "differs: $name, status $status, wanted $wanted"
+    elif [ "$job" = decide ] && [ "$status" -eq 0 ] && ! is_accepted "$input"; then
+        failed=$((failed + 1))
+        echo "not accepted behind its input: $name"
+    else
+        passed=$((passed + 1))
     fi
 done
 echo "$passed as written, $failed different"
