@@ -1,4 +1,4 @@
-"""What the benches measure of the built program: seconds, peak memory, what it wrote, and instructions."""
+"""What the benches measure of the built program: seconds, peak memory, what it wrote, instructions, and memory taken."""
 import argparse
 import os
 import subprocess
@@ -39,16 +39,28 @@ def timed(words, path):
     return float(seconds), int(memory), written.decode()
 
 
-def instructions(request, path):
-    """The instructions of one run of the request on the file, counted by callgrind."""
+def instructions(request, path, *options):
+    """The instructions of one run of the request with these options on the file, counted by callgrind."""
     with tempfile.NamedTemporaryFile() as out, open(path, "rb") as source:
         done = subprocess.run(
-            ["valgrind", "--tool=callgrind", f"--callgrind-out-file={out.name}", PROGRAM, request],
+            ["valgrind", "--tool=callgrind", f"--callgrind-out-file={out.name}", PROGRAM, request, *options],
             stdin=source, capture_output=True, text=True)
     for line in done.stderr.splitlines():
         if "Collected" in line:
             return int(line.split()[-1].replace(",", ""))
     sys.exit("callgrind gave no count: " + done.stderr[-300:])
+
+
+def taken(request, path, *options):
+    """The most bytes that one run of the request with these options on the file holds at a time, counted by massif."""
+    with tempfile.NamedTemporaryFile("r") as out, open(path, "rb") as source:
+        done = subprocess.run(
+            ["valgrind", "--tool=massif", "--peak-inaccuracy=0.0", f"--massif-out-file={out.name}", PROGRAM, request, *options],
+            stdin=source, capture_output=True, text=True)
+        counts = [int(line.split("=")[1]) for line in out if line.startswith("mem_heap_B=")]
+    if not counts:
+        sys.exit("massif gave no count: " + done.stderr[-300:])
+    return max(counts)
 
 
 def wants_instructions(about):

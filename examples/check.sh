@@ -28,7 +28,6 @@ for input in "$here"/*/*.txt; do
     further=
     [ -f "$stem.args" ] && further=$(cat "$stem.args")
     # The further words are parted at blanks.
-    # shellcheck disable=SC2086
     "$knot" "$job" $further <"$input" >"$found"
     status=$?
     if [ "$status" -ne "$wanted" ] || ! cmp -s "$found" "$stem.out"; then
