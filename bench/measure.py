@@ -27,7 +27,7 @@ def built():
 
 
 def best(words, path, turns=5):
-    """Of some runs on the file: the least seconds, the peak memory in bytes (some 10 MB of it may be the runner's own), and what the first one wrote."""
+    """Of some runs on the file: the least seconds, the peak memory in bytes (some 11 MB of it may be the runner's own), and what the first one wrote."""
     seconds, memory, texts = zip(*(timed(words, path) for _ in range(turns)))
     return min(seconds), max(memory), texts[0]
 
