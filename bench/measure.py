@@ -5,7 +5,9 @@ import subprocess
 import sys
 import tempfile
 
-PROGRAM = os.path.join(os.path.dirname(os.path.abspath(__file__)), "..", "crates", "knot", "out", "knot")
+CRATES = os.path.join(os.path.dirname(os.path.abspath(__file__)), "..", "crates")
+PROGRAM = os.path.join(CRATES, "knot", "out", "knot")
+FORM_BENCH = os.path.join(CRATES, "form_bench", "out", "form_bench")
 
 # A run as a small process of its own sees it: a child's peak memory counts what its parent held when it was started.
 RUNNER = """
@@ -20,10 +22,10 @@ with open(sys.argv[1], "rb") as source:
 """
 
 
-def built():
+def built(program=PROGRAM, build="./knot check < examples/check/unknot-shifted.txt"):
     """Stops where there is no built program to measure."""
-    if not os.access(PROGRAM, os.X_OK):
-        sys.exit("build the program first: ./knot check < examples/check/unknot-shifted.txt")
+    if not os.access(program, os.X_OK):
+        sys.exit(f"build the program first: {build}")
 
 
 def best(words, path, turns=5):
@@ -41,9 +43,15 @@ def timed(words, path):
 
 def instructions(request, path, *options):
     """The instructions of one run of the request with these options on the file, counted by callgrind."""
-    with tempfile.NamedTemporaryFile() as out, open(path, "rb") as source:
+    with open(path, "rb") as source:
+        return counted([PROGRAM, request, *options], source)
+
+
+def counted(command, source=subprocess.DEVNULL):
+    """The instructions of one run of a command, counted by callgrind."""
+    with tempfile.NamedTemporaryFile() as out:
         done = subprocess.run(
-            ["valgrind", "--tool=callgrind", f"--callgrind-out-file={out.name}", PROGRAM, request, *options],
+            ["valgrind", "--tool=callgrind", f"--callgrind-out-file={out.name}", *command],
             stdin=source, capture_output=True, text=True)
     for line in done.stderr.splitlines():
         if "Collected" in line:
@@ -61,6 +69,11 @@ def taken(request, path, *options):
     if not counts:
         sys.exit("massif gave no count: " + done.stderr[-300:])
     return max(counts)
+
+
+def wants_no_words(about):
+    """Tells what a script does, where it is asked."""
+    argparse.ArgumentParser(description=about, formatter_class=argparse.RawDescriptionHelpFormatter).parse_args()
 
 
 def wants_instructions(about):

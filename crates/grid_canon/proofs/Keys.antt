@@ -136,3 +136,6 @@ key_of_turned d a b n first second ha is ef es =
   where
     pair : ℕ → ℕ → Packed
     pair first second = record { first = first; second = second }
+
+pub rings_number : (d : Diagram) (a b second : ℕ) → IsGrid d → second ≡ number (0 ∷ filled (turned (length d.o) a b d.o)) → second ≡ number (0 ∷ filled (turned (size d) a b d.o))
+rings_number d a b second grid e = e ∙ ap (λ (n : ℕ). number (0 ∷ filled (turned n a b d.o))) grid.same

@@ -1,25 +1,25 @@
 -- The least translate has an X in its lower left cell.
-use Rattle.std.proofs.Common.{◌≡◌, ◌≢◌, ◌<◌, ◌≤◌, ◌+◌, ◌∙◌, ◌⊎◌, ℕ, zero, suc, List, [], ◌∷◌, ◌++◌, length, get_or, nat_lt, map, arith, sym, refl, ap, ap₂, subst, inl, inr, zero-add}
+use Rattle.std.proofs.Common.{◌≡◌, ◌≢◌, ◌<◌, ◌≤◌, ◌+◌, ◌%◌, ◌∙◌, ◌⊎◌, ℕ, zero, suc, List, [], ◌∷◌, ◌++◌, length, get_or, map, arith, sym, refl, ap, ap₂, subst, inl, inr, zero-add}
 use Rattle.std.specs.List.{All, Contains, range_with_len, flat_map}
 use Rattle.std.specs.declared.cmp.Ordering.{Ordering}
 use Rattle.std.specs.declared.cmp.Ordering.TheVariants.{Less, Equal, Greater}
-use Rattle.std.specs.Ordering.{nat_cmp, ordering_then, is_lt}
+use Rattle.std.specs.Ordering.{nat_cmp, ordering_then}
 use Rattle.std.specs.Cmp.Lexicographic.{slice_cmp}
-use Rattle.std.proofs.lemmas.Bool.{cases_eq, cases_order, lt-ltb, le-ltb}
+use Rattle.std.proofs.lemmas.Bool.{cases_eq, cases_order}
 use Rattle.std.proofs.lemmas.List.{get_or-map, length-map, length-append, get_or_append_left, get_or-append-add}
 use Rattle.std.proofs.lemmas.List.Elements.{All-append, All-map, All-from_get_or, All-contains}
 use Rattle.std.proofs.lemmas.List.FromFn.{get_or-range_with_len, length-range_with_len}
 use Rattle.grid_core.specs.declared.mark.Kind.TheVariants.{Cross}
 use Rattle.grid_core.specs.Diagram.{Diagram, IsGrid, size, row_of}
 use Rattle.grid_core.proofs.Marks.{row_below}
+use Rattle.grid_core.proofs.OneEach.{each_below}
 use Rattle.grid_moves.specs.Shift.{shifted}
 use Rattle.grid_canon.specs.declared.least.LeastForm.{LeastForm}
 use Rattle.grid_canon.specs.Translate.{translate, translates}
 use Rattle.grid_canon.specs.Order.{compare, IsAtMost}
 use Rattle.grid_canon.specs.Canonical.{IsLeastForm}
 use Rattle.grid_canon.specs.Cornered.{cornered, IsFirstLeast}
-use Rattle.grid_canon.proofs.Turned.{shifted_cases, origin, origin-below, origin_cases, size-translate, row_of-translate}
-use Rattle.grid_canon.proofs.Twice.{twice_at, twice_next}
+use Rattle.grid_canon.proofs.Turned.{shifted_cases, origin, origin_cases, size-translate, row_of-translate}
 use Rattle.grid_canon.proofs.Ordered.{nat_cmp_less, nat_cmp_greater, slice_cmp_at, at_most_from_less, at_most_self, less_then_at_most, at_most_from_not_less, less_not_back}
 
 -- the list of all translates
@@ -114,35 +114,19 @@ second_less d a b grid ha hb lt = second_at d a b grid ha hb Less (nat_cmp_less 
 pub second_greater : (d : Diagram) (a b : ℕ) → IsGrid d → a < size d → b < size d → row_of Cross (cornered d b) 1 < row_of Cross (cornered d a) 1 → compare (cornered d a) (cornered d b) ≡ Greater
 second_greater d a b grid ha hb lt = second_at d a b grid ha hb Greater (nat_cmp_greater (row_of Cross (cornered d a) 1) (row_of Cross (cornered d b) 1) lt) (λ e. let other : Greater ≡ Equal = e in cc)
 
-pub told_by_second : (d : Diagram) (a b p q : ℕ) → IsGrid d → a < size d → b < size d → p ≡ row_of Cross (cornered d a) 1 → q ≡ row_of Cross (cornered d b) 1 → p ≢ q → nat_lt p q ≡ is_lt (compare (cornered d a) (cornered d b))
-told_by_second d a b p q grid ha hb ep eq ne = elim (cases_order p q) [
-  | inl same ↦ absurd (ne same)
-  | inr other ↦ elim other [
-    | inl lt ↦ lt-ltb p q lt ∙ sym (ap is_lt (second_less d a b grid ha hb (omega (arith, ep, eq, lt))))
-    | inr gt ↦ le-ltb p q (omega (arith, gt)) ∙ sym (ap is_lt (second_greater d a b grid ha hb (omega (arith, ep, eq, gt))))
-  ]
-]
+-- the rows of both kinds lie in the grid
+pub rows_inside : (d : Diagram) → IsGrid d → All (λ r. r < length d.x) d.x
+rows_inside d grid = each_below (size d) d.x grid.crosses
 
--- read from the rows written out twice
-pub first_read : (d : Diagram) (rows : List ℕ) (n c : ℕ) → IsGrid d → n ≡ size d → c < n → rows ≡ d.x ++ d.x → (get_or rows c 0 ≡ row_of Cross d c) × (get_or rows c 0 < n)
-first_read d rows n c grid is lt double =
-    let inside : c < size d = omega (arith, is, lt) in
-    let at : get_or rows c 0 ≡ row_of Cross d c = ap (λ (xs : List ℕ). get_or xs c 0) double ∙ twice_at d.x (size d) c refl inside in
-    (at, omega (arith, at, is, row_below d grid Cross c inside))
+pub rings_inside : (d : Diagram) → IsGrid d → All (λ r. r < length d.o) d.o
+rings_inside d grid = subst (λ (n : ℕ). All (λ r. r < n) d.o) (sym grid.same) (each_below (size d) d.o grid.rings)
 
-pub second_read : (d : Diagram) (rows : List ℕ) (n c : ℕ) → IsGrid d → n ≡ size d → c < n → rows ≡ d.x ++ d.x → (get_or rows (c + 1) 0 ≡ row_of Cross d (origin (size d) c 1)) × (get_or rows (c + 1) 0 < n)
-second_read d rows n c grid is lt double =
-    let inside : c < size d = omega (arith, is, lt) in
-    let at : get_or rows (c + 1) 0 ≡ row_of Cross d (origin (size d) c 1) = ap (λ (xs : List ℕ). get_or xs (c + 1) 0) double ∙ twice_next d.x (size d) c grid.least refl inside in
-    (at, omega (arith, at, is, row_below d grid Cross (origin (size d) c 1) (origin-below (size d) c 1 inside grid.least)))
+-- the next column, round the circle
+pub next_inside : (n c next : ℕ) → c + 1 < n → next ≡ c + 1 → next ≡ (1 + c) % n
+next_inside n c next inside is = elim (origin_cases n c 1 (omega (arith, inside)) (omega (arith, inside))) [ inl low ↦ omega (arith, is, low.1) | inr high ↦ absurd (omega (arith, high.0, inside)) ]
 
-pub second_row_read : (d : Diagram) (rows : List ℕ) (n c r : ℕ) → IsGrid d → n ≡ size d → c < n → rows ≡ d.x ++ d.x → r ≡ shifted n (get_or rows c 0) (get_or rows (c + 1) 0) → r ≡ row_of Cross (cornered d c) 1
-second_row_read d rows n c r grid is lt double e =
-    let inside : c < size d = omega (arith, is, lt) in
-    e
-    ∙ ap (λ (z : ℕ). shifted z (get_or rows c 0) (get_or rows (c + 1) 0)) is
-    ∙ ap₂ (λ (z w : ℕ). shifted (size d) z w) (first_read d rows n c grid is lt double).0 (second_read d rows n c grid is lt double).0
-    ∙ sym (row_of-translate d c (row_of Cross d c) grid inside Cross 1 grid.least)
+pub next_of_last : (n c : ℕ) → 2 ≤ n → c + 1 ≡ n → 0 ≡ (1 + c) % n
+next_of_last n c least last = elim (origin_cases n c 1 (omega (arith, last)) (omega (arith, least))) [ inl low ↦ absurd (omega (arith, low.0, last)) | inr high ↦ omega (arith, high.1, last) ]
 
 -- the first of the least among these is the least of all
 pub least_form_at : (d : Diagram) (a : ℕ) (form : LeastForm) → IsGrid d → IsFirstLeast d (size d) a → form.grid ≡ cornered d a → form.columns ≡ a → form.rows ≡ row_of Cross d a → IsLeastForm d form
@@ -205,6 +189,28 @@ first_least_takes d n a best less = record {
   ];
   first = λ b lt. less_then_at_most (cornered d n) (cornered d a) (cornered d b) less (best.least b lt);
 }
+
+-- from the rows that were read
+pub first_least_read : (d : Diagram) (x o : List ℕ) (a : ℕ) → x ≡ d.x → o ≡ d.o → IsFirstLeast (record { x = x; o = o }) (length x) a → IsFirstLeast d (size d) a
+first_least_read d x o a ex eo best = subst (λ (e : Diagram). IsFirstLeast e (size e) a) (ap₂ pair ex eo) best
+  where
+    pair : List ℕ → List ℕ → Diagram
+    pair x o = record { x = x; o = o }
+
+-- by the rows of the Xs of the second columns
+pub first_least_lower : (d : Diagram) (n a p q : ℕ) → IsGrid d → n < size d → IsFirstLeast d n a → p ≡ row_of Cross (cornered d n) 1 → q ≡ row_of Cross (cornered d a) 1 → p < q → IsFirstLeast d (n + 1) n
+first_least_lower d n a p q grid lt best ep eq less = first_least_takes d n a best (second_less d n a grid lt (omega (arith, best.inside, lt)) (omega (arith, ep, eq, less)))
+
+pub first_least_higher : (d : Diagram) (n a p q : ℕ) → IsGrid d → n < size d → IsFirstLeast d n a → p ≡ row_of Cross (cornered d n) 1 → q ≡ row_of Cross (cornered d a) 1 → q < p → IsFirstLeast d (n + 1) a
+first_least_higher d n a p q grid lt best ep eq more =
+    first_least_keeps d n a best (λ e. let no : Greater ≡ Less = sym (second_greater d n a grid lt (omega (arith, best.inside, lt)) (omega (arith, ep, eq, more))) ∙ e in cc)
+
+-- two columns of which the first two rows of the Xs agree
+pub first_two_agree : (d : Diagram) (a b : ℕ) → IsGrid d → a < size d → b < size d → row_of Cross (cornered d a) 1 ≡ row_of Cross (cornered d b) 1 → (c : ℕ) → c < 2 → row_of Cross (cornered d a) c ≡ row_of Cross (cornered d b) c
+first_two_agree d a b grid ha hb one zero lt = cornered_row d a grid ha ∙ sym (cornered_row d b grid hb)
+first_two_agree d a b grid ha hb one (suc c) lt =
+    let at : suc c ≡ 1 = omega (arith, lt) in
+    ap (λ (z : ℕ). row_of Cross (cornered d a) z) at ∙ one ∙ sym (ap (λ (z : ℕ). row_of Cross (cornered d b) z) at)
 
 is_less : (o : Ordering) → (o ≡ Less) ⊎ (o ≢ Less)
 is_less Less = inl refl

@@ -1,10 +1,14 @@
 pub mod Turned
 pub mod Ordered
-mod MappedOrder
-mod Twice
 pub mod LeastTranslates
 pub mod Numbers
+pub mod Digits
+mod DigitLists
+mod Guards
+mod CutNumbers
+mod TurnedNumbers
 pub mod Keys
+mod ShortGrids
 pub mod Joined
 pub mod CanonicalForms
 mod WorkedRows

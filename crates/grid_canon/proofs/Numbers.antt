@@ -3,7 +3,7 @@ use Rattle.std.proofs.Common.{◌≡◌, ◌<◌, ◌≤◌, ◌+◌, ◌-◌, �
 use Rattle.std.proofs.Math.Nat.{pow-succ', mul_comm, mod-eq_of_lt, pow-le-pow_right}
 use Rattle.std.proofs.lemmas.Nat.{pow-add, div-mul-add, mod-mul-add, mul-add-lt}
 use Rattle.std.proofs.lemmas.Bool.{cases_order}
-use Rattle.std.proofs.lemmas.List.{take-append-drop, length-take, length-drop, take_more, map-append, length-replicate, get_or_append_left, ext_get_or, get_or-map, length-map}
+use Rattle.std.proofs.lemmas.List.{take-append-drop, length-take, length-drop, take_more, take-map, map-append, length-replicate, get_or_append_left, ext_get_or, get_or-map, length-map}
 use Rattle.std.proofs.lemmas.List.Elements.{All-tail, All-append, All-replicate, All-take, All-drop, All-cons, All-map}
 use Rattle.std.proofs.lemmas.List.FromFn.{get_or-range_with_len, length-range_with_len}
 use Rattle.std.specs.List.{range_with_len}
@@ -118,6 +118,48 @@ filled_by_shift head rows value lt le all is =
     below_all : number (head ∷ filled rows) < BASE ^ suc (length (filled rows)) → length (filled rows) ≡ MAX_SIZE → number (head ∷ filled rows) < 2 ^ 128
     below_all lt long = let here : number (head ∷ filled rows) < BASE ^ suc MAX_SIZE = subst (λ (z : ℕ). number (head ∷ filled rows) < BASE ^ suc z) long lt in omega (arith, here)
 
+-- a first digit, rows and zeros
+pub number_of_filled : (head : ℕ) (rows : List ℕ) → length rows ≤ MAX_SIZE → number (head ∷ filled rows) ≡ head * BASE ^ MAX_SIZE + number rows * BASE ^ (MAX_SIZE - length rows)
+number_of_filled head rows le = ap₂ (λ (z w : ℕ). head * BASE ^ z + w) (length-filled rows le) (number-filled rows (MAX_SIZE - length rows))
+
+-- digits behind a number
+pub appended_below : (value k : ℕ) (digits : List ℕ) → value < BASE ^ k → AreDigits digits → value * BASE ^ length digits + number digits < BASE ^ (k + length digits)
+appended_below value k digits lt all =
+    let here = less_head value (BASE ^ length digits) (number digits) (BASE ^ k) lt (number-below digits all) in
+    omega (arith, here, pow-add BASE k (length digits))
+
+pub appended_more : (f : ℕ → ℕ) (value : ℕ) (rows : List ℕ) (i : ℕ) → i < length rows → value * BASE ^ (i + 1) + number (map f (take (i + 1) rows)) ≡ (value * BASE ^ i + number (map f (take i rows))) * BASE + f (get_or rows i 0)
+appended_more f value rows i lt =
+    ap₂ (λ (z w : ℕ). value * z + w)
+    (ap (λ (z : ℕ). BASE ^ z) (add-one i) ∙ pow-succ' BASE i)
+    (ap (λ zs. number (map f zs)) (take_more rows i 0 lt) ∙ ap number (map-append f (take i rows) (get_or rows i 0 ∷ [])) ∙ number-push (map f (take i rows)) (f (get_or rows i 0)))
+    ∙ regrouped value (BASE ^ i) (number (map f (take i rows))) (f (get_or rows i 0))
+  where
+    regrouped : (a b c d : ℕ) → a * (BASE * b) + (c * BASE + d) ≡ (a * b + c) * BASE + d
+    regrouped a b c d = omega arith
+
+pub appended_fits : (f : ℕ → ℕ) (most value : ℕ) (rows : List ℕ) (i : ℕ) → length rows ≤ most → value < BASE ^ (most - length rows) → AreDigits (map f rows) → i < length rows → (value * BASE ^ i + number (map f (take i rows))) * BASE + f (get_or rows i 0) < BASE ^ most
+appended_fits f most value rows i le lt all inside =
+    let count : length (map f (take (i + 1) rows)) ≡ i + 1 = omega (arith, length-map (take (i + 1) rows) f, length-take (i + 1) rows, inside) in
+    let front : map f (take (i + 1) rows) ≡ take (i + 1) (map f rows) = sym (take-map f (i + 1) rows) in
+    let below = appended_below value (most - length rows) (map f (take (i + 1) rows)) lt (subst AreDigits (sym front) (All-take (λ digit. digit < BASE) (i + 1) (map f rows) all)) in
+    let same : value * BASE ^ length (map f (take (i + 1) rows)) ≡ value * BASE ^ (i + 1) = ap (λ (z : ℕ). value * BASE ^ z) count in
+    let high = pow-le-pow_right {n = BASE} (omega arith) {i = most - length rows + length (map f (take (i + 1) rows))} {j = most} (omega (arith, count, inside, le)) in
+    omega (arith, below, same, high, appended_more f value rows i inside)
+
+-- one list behind another, behind a number
+pub appended_twice : (f : ℕ → ℕ) (value one two : ℕ) (xs ys : List ℕ) → one ≡ value * BASE ^ length xs + number (map f xs) → two ≡ one * BASE ^ length ys + number (map f ys) → two ≡ value * BASE ^ length (xs ++ ys) + number (map f (xs ++ ys))
+appended_twice f value one two xs ys e1 e2 =
+    e2
+    ∙ ap (λ (z : ℕ). z * BASE ^ length ys + number (map f ys)) e1
+    ∙ regrouped value (BASE ^ length xs) (BASE ^ length ys) (number (map f xs)) (number (map f ys))
+    ∙ sym (ap₂ (λ (z w : ℕ). value * z + w)
+    (ap (λ (z : ℕ). BASE ^ z) (length-append xs ys) ∙ pow-add BASE (length xs) (length ys))
+    (ap number (map-append f xs ys) ∙ number-append (map f xs) (map f ys) ∙ ap (λ (z : ℕ). number (map f xs) * BASE ^ z + number (map f ys)) (length-map ys f)))
+  where
+    regrouped : (a b c d e : ℕ) → (a * b + d) * c + e ≡ a * (b * c) + (d * c + e)
+    regrouped a b c d e = omega arith
+
 -- one more row in the making
 pub number_more : (head : ℕ) (rows : List ℕ) (i : ℕ) → i < length rows → number (head ∷ take (i + 1) rows) ≡ number (head ∷ take i rows) * BASE + get_or rows i 0
 number_more head rows i lt = ap (λ zs. number (head ∷ zs)) (take_more rows i 0 lt) ∙ number-push (head ∷ take i rows) (get_or rows i 0)
@@ -132,8 +174,8 @@ number_fits head rows i lt all le within =
     omega (arith, number_more head rows i within, number_in_making head rows (i + 1) lt all le (omega (arith, within)))
 
 -- rows that are lowered round the circle
-pub lowered_digits : (n b : ℕ) (rows : List ℕ) → n ≤ MAX_SIZE → b < n → All (λ r. r < n) rows → AreDigits (map (shifted n b) rows)
-lowered_digits n b rows le lt inside = All-map (λ digit. digit < BASE) (shifted n b) rows (λ k d within. omega (arith, shifted_below n b (get_or rows k d) lt (inside k d within), le))
+pub lowered_rows : (n b : ℕ) (rows : List ℕ) → n ≤ MAX_SIZE → b < n → All (λ r. r < n) rows → AreDigits (map (shifted n b) rows)
+lowered_rows n b rows le lt inside = All-map (λ digit. digit < BASE) (shifted n b) rows (λ k d within. omega (arith, shifted_below n b (get_or rows k d) lt (inside k d within), le))
 
 -- one more digit in the making
 pub digits_more : (f : ℕ → ℕ) (n : ℕ) → map f (range_with_len 0 (n + 1)) ≡ map f (range_with_len 0 n) ++ f n ∷ []

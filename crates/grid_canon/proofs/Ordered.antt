@@ -100,12 +100,6 @@ less_then_at_most d e f less le = elim (at_most_cases e f le) [
   | inr is ↦ ap (λ g. compare d g) (sym is) ∙ less
 ]
 
-pub at_most_then_at_most : (d e f : Diagram) → IsAtMost d e → IsAtMost e f → IsAtMost d f
-at_most_then_at_most d e f le next = elim (at_most_cases d e le) [
-  | inl less ↦ at_most_from_less d f (less_then_at_most d e f less next)
-  | inr is ↦ ap (λ g. is_le (compare g f)) is ∙ next
-]
-
 not_less : (o p : Ordering) → o ≡ ordering_reverse p → p ≢ Less → is_le o ≡ true
 not_less o Less e n = absurd (n refl)
 not_less o Equal e n = ap is_le e

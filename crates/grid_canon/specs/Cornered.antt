@@ -1,9 +1,10 @@
 -- The translates with an X in the lower left cell; only private clauses and proofs cite this file.
 use Rattle.std.specs.Prelude.{◌≡◌, ◌<◌, ℕ, slice_index}
 use Rattle.std.specs.declared.cmp.Ordering.TheVariants.{Less}
-use Rattle.grid_core.specs.Diagram.{Diagram}
+use Rattle.grid_core.specs.Diagram.{Diagram, size}
 use Rattle.grid_canon.specs.Translate.{translate}
 use Rattle.grid_canon.specs.Order.{compare, IsAtMost}
+use Rattle.grid_canon.specs.Key.{number}
 
 -- the translate that has the X of column a in its lower left cell
 abbrev pub cornered : Diagram → ℕ → Diagram
@@ -14,3 +15,9 @@ pub record IsFirstLeast (d : Diagram) (n a : ℕ) : Type 0 where
   pub inside : a < n
   pub least : (b : ℕ) → b < n → IsAtMost (cornered d a) (cornered d b)
   pub first : (b : ℕ) → b < a → compare (cornered d a) (cornered d b) ≡ Less
+
+-- a column, the row of its X, and the number of the Xs of the translate that has this X in its lower left cell
+pub record IsCornered (d : Diagram) (column row crosses : ℕ) : Type 0 where
+  pub inside : column < size d
+  pub row_is : row ≡ slice_index d.x column
+  pub crosses_are : crosses ≡ number (cornered d column).x

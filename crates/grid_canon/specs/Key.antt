@@ -5,11 +5,12 @@ use Rattle.std.specs.declared.cmp.Ordering.{Ordering}
 use Rattle.grid_core.specs.declared.grid.TheConstants.{MAX_SIZE}
 use Rattle.grid_core.specs.Diagram.{Diagram, size}
 use Rattle.grid_canon.specs.declared.packed.Packed.{Packed}
+use Rattle.grid_canon.specs.declared.packed.TheConstants.{BASE}
 
--- the number with these digits to the base 32, the highest first
+-- the number with these digits to the base, the highest first
 abbrev pub number : List ℕ → ℕ
 number [] = 0
-number (digit ∷ digits) = digit * 32 ^ length digits + number digits
+number (digit ∷ digits) = digit * BASE ^ length digits + number digits
 
 -- the rows by column, with 0 for each column from their number to the greatest size
 abbrev pub filled : List ℕ → List ℕ
@@ -25,4 +26,4 @@ compare_keys p q = ordering_then (nat_cmp p.first q.first) (nat_cmp p.second q.s
 
 -- the digit of column c in the number of a key; only private clauses and proofs cite it
 abbrev pub digit_at : ℕ → ℕ → ℕ
-digit_at value c = value / 32 ^ (MAX_SIZE - 1 - c) % 32
+digit_at value c = value / BASE ^ (MAX_SIZE - 1 - c) % BASE

@@ -3,6 +3,7 @@ pub mod Shifts
 pub mod Order
 pub mod Canonical
 pub mod Cornered
+pub mod Digits
 pub mod Key
 pub mod LeastKey
 pub use Rattle.grid_core.specs.Diagram

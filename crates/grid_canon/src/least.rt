@@ -1,22 +1,23 @@
 //! The least translate.
-ghost use Rattle.std.specs.Prelude.{◌≡◌, ◌<◌, ◌≤◌, ◌+◌, ◌∷◌, ◌++◌, map, length, take, drop};
+ghost use Rattle.std.specs.Prelude.{◌≡◌, ◌<◌, ◌≤◌, ◌+◌, ◌%◌, ℕ, length, slice_index};
 ghost use Rattle.std.specs.List.{All};
-ghost use Rattle.std.specs.Ordering.{nat_cmp, is_lt};
+ghost use Rattle.std.specs.Ordering.{nat_cmp};
 ghost use Rattle.std.specs.Cmp.Lexicographic.{slice_cmp};
-ghost use Rattle.grid_core.specs.Diagram.{IsGrid, size, rows_of, row_of};
+ghost use Rattle.grid_core.specs.declared.mark.Kind.TheVariants.{Cross};
+ghost use Rattle.grid_core.specs.declared.grid.TheConstants.{MAX_SIZE};
+ghost use Rattle.grid_core.specs.Diagram.{IsGrid, row_of};
 ghost use Rattle.grid_moves.specs.Shift.{shifted};
 ghost use Rattle.grid_canon.specs.Translate.{turned};
 ghost use Rattle.grid_canon.specs.Order.{compare};
 ghost use Rattle.grid_canon.specs.Canonical.{IsCanonical, IsLeastForm};
-ghost use Rattle.grid_canon.specs.Key.{number, filled};
 ghost use Rattle.grid_canon.specs.LeastKey.{IsLeastKey};
-ghost use Rattle.grid_canon.specs.declared.packed.TheConstants.{BASE};
 ghost use Rattle.grid_canon.specs.Cornered.{cornered, IsFirstLeast};
 
-use crate::packed::{Packed, filled_lowered};
-use crate::translation::{lowered, translate};
-use arrayvec::ArrayVec;
-use grid_core::{Grid, Kind, MAX_SIZE};
+use crate::packed::{Packed, turned_key};
+use crate::short::ShortGrid;
+use crate::translation::{lowered_wide, translate};
+use crate::words::SHORT;
+use grid_core::{Grid, Kind};
 use std::cmp::Ordering;
 
 /// The canonical form of a grid, and the shifts that reach it.
@@ -51,10 +52,8 @@ pub fn canonical(grid: &Grid) -> LeastForm
     ensures form { IsLeastForm grid.now result }
     ensures own { IsCanonical result.grid }
 {
-    let size = grid.size();
-    let x = twice(grid, Kind::Cross);
-    let o = twice(grid, Kind::Ring);
-    let columns = least_column(grid, &x, &o, size);
+    let _size = grid.size();
+    let columns = least_column(grid.rows(Kind::Cross), grid.rows(Kind::Ring)) as u8;
     let rows = grid.row_of(Kind::Cross, columns);
     LeastForm {
         grid: translate(grid, columns, rows),
@@ -79,177 +78,143 @@ pub fn canonical_key(grid: &Grid) -> LeastKey
     ensures { IsLeastKey grid.now result }
 {
     let size = grid.size();
-    let x = twice(grid, Kind::Cross);
-    let o = twice(grid, Kind::Ring);
-    let columns = least_column(grid, &x, &o, size);
-    let rows = grid.row_of(Kind::Cross, columns);
-    let first = turned_number(grid, Kind::Cross, &x, columns, rows, size);
-    let second = turned_number(grid, Kind::Ring, &o, columns, rows, 0);
+    let (x, o) = (grid.rows(Kind::Cross), grid.rows(Kind::Ring));
+    if size as usize <= SHORT {
+        ShortGrid::of_rows(x, o).canonical_key()
+    } else {
+        long_key(x, o)
+    }
+}
+
+/// The same by the rows of the Xs and of the Os, of any size.
+fn long_key(x: &[u8], o: &[u8]) -> LeastKey
+    requires { IsGrid (record { x = x.now; o = o.now }) }
+    ensures { IsLeastKey (record { x = x.now; o = o.now }) result }
+{
+    let columns = least_column(x, o);
+    let rows = x[columns];
     LeastKey {
-        key: Packed { first, second },
-        columns,
+        key: turned_key(x, o, columns, rows),
+        columns: columns as u8,
         rows,
     }
 }
 
-/// The number of the rows of a kind in a translate, behind a first digit.
-fn turned_number(grid: &Grid, kind: Kind, twice: &Twice, column: u8, by: u8, head: u8) -> u128
-    requires column { column < size grid.now }
-    requires by { by < size grid.now }
-    requires head { head < BASE }
-    requires twice { twice.now.items ≡ rows_of kind grid.now ++ rows_of kind grid.now }
-    ensures { result ≡ number (head ∷ filled (turned (size grid.now) column by (rows_of kind grid.now))) }
-{
-    let size = grid.size();
-    filled_lowered(head, part(twice, column, size), by, size)
-}
-
-/// The rows of a kind, written out twice: what stands round the circle from any column on is a part of it.
-type Twice = ArrayVec<u8, TWICE_MAX_SIZE>;
-
-const TWICE_MAX_SIZE: usize = 2 * MAX_SIZE;
-
 /// The first column that gives the least translate with an X in its lower left cell.
-#[tactic(auto, using(crate::proofs::LeastTranslates::first_least_keeps, crate::proofs::LeastTranslates::first_least_takes))]
-fn least_column(grid: &Grid, x: &Twice, o: &Twice, size: u8) -> u8
-    requires grid { IsGrid grid.now }
-    requires size { size ≡ length grid.now.x }
-    requires least { 1 ≤ size }
-    requires x { x.now.items ≡ grid.now.x ++ grid.now.x }
-    requires o { o.now.items ≡ grid.now.o ++ grid.now.o }
-    ensures { IsFirstLeast grid.now size result }
+///
+/// The Xs of the second columns mostly differ, and then decide.
+fn least_column(x: &[u8], o: &[u8]) -> usize
+    requires { IsGrid (record { x = x.now; o = o.now }) }
+    ensures { IsFirstLeast (record { x = x.now; o = o.now }) (length x.now) result }
 {
+    let last = x.len() - 1;
     let mut best = 0;
-    let mut best_step = second_row(grid, x, 0, size);
-    for column in 1..size {
-        let step = second_row(grid, x, column, size);
-        if comes_before(grid, x, o, column, step, best, best_step) {
-            best = column;
+    let mut best_step = second_row(x, 0, 1);
+    for column in 1..last {
+        let step = second_row(x, column, column + 1);
+        if step <= best_step {
+            best = first_of(x, o, column, step, best, best_step);
             best_step = step;
         }
     }
-    best
-}
-
-/// The rows of a kind, written out twice.
-fn twice(grid: &Grid, kind: Kind) -> Twice
-    ensures { result.items ≡ rows_of kind grid.now ++ rows_of kind grid.now }
-{
-    let _size = grid.size();
-    let mut rows = ArrayVec::new();
-    rows.try_extend_from_slice(grid.rows(kind)).unwrap();
-    rows.try_extend_from_slice(grid.rows(kind)).unwrap();
-    rows
-}
-
-/// Whether the translate with the X of one column in its lower left cell is less than that of another, by the rows of the Xs of
-/// their second columns, which mostly differ and then decide.
-fn comes_before(
-    grid: &Grid,
-    x: &Twice,
-    o: &Twice,
-    near: u8,
-    near_step: u8,
-    far: u8,
-    far_step: u8,
-) -> bool
-    requires near { near < size grid.now }
-    requires far { far < size grid.now }
-    requires near_step { near_step ≡ row_of Kind.Cross (cornered grid.now near) 1 }
-    requires far_step { far_step ≡ row_of Kind.Cross (cornered grid.now far) 1 }
-    requires x { x.now.items ≡ grid.now.x ++ grid.now.x }
-    requires o { o.now.items ≡ grid.now.o ++ grid.now.o }
-    ensures { result ≡ is_lt (compare (cornered grid.now near) (cornered grid.now far)) }
-{
-    let _size = grid.size();
-    if near_step == far_step {
-        compare_cornered(grid, x, o, near, far) == Ordering::Less
+    let step = second_row(x, last, 0);
+    if step <= best_step {
+        first_of(x, o, last, step, best, best_step)
     } else {
-        near_step < far_step
+        best
     }
 }
 
-/// The row of the X of the second column in the translate with the X of a column in its lower left cell.
-fn second_row(grid: &Grid, x: &Twice, column: u8, size: u8) -> u8
-    requires grid { IsGrid grid.now }
-    requires size { size ≡ length grid.now.x }
-    requires column { column < size }
-    requires x { x.now.items ≡ grid.now.x ++ grid.now.x }
-    ensures { result ≡ row_of Kind.Cross (cornered grid.now column) 1 }
+/// The row of the X of the second column in the translate with the X of a column in its lower left cell, by the next column.
+fn second_row(x: &[u8], column: usize, next: usize) -> u64
+    requires least { 2 ≤ length x.now }
+    requires most { length x.now ≤ MAX_SIZE }
+    requires inside { All (λ r. r < length x.now) x.now }
+    requires column { column < length x.now }
+    requires next { next ≡ (1 + column) % length x.now }
+    ensures { result ≡ slice_index (turned (length x.now) column (slice_index x.now column) x.now) 1 }
 {
-    let rows = x.as_slice();
-    let place = column as usize;
-    lowered(rows[place + 1], rows[place], size)
+    lowered_wide(u64::from(x[next]), u64::from(x[column]), x.len() as u64)
 }
 
-/// The order of the two translates that have the Xs of two columns in their lower left cells.
-fn compare_cornered(grid: &Grid, x: &Twice, o: &Twice, near: u8, far: u8) -> Ordering
-    requires near { near < size grid.now }
-    requires far { far < size grid.now }
-    requires x { x.now.items ≡ grid.now.x ++ grid.now.x }
-    requires o { o.now.items ≡ grid.now.o ++ grid.now.o }
-    ensures { result ≡ compare (cornered grid.now near) (cornered grid.now far) }
+/// Of a column behind those that were compared and the first that gives the least translate among them, the first that gives the
+/// least among all of these, where the X of the new column's second column isn't higher.
+fn first_of(x: &[u8], o: &[u8], near: usize, near_step: u64, far: usize, far_step: u64) -> usize
+    requires grid { IsGrid (record { x = x.now; o = o.now }) }
+    requires near { near < length x.now }
+    requires far { IsFirstLeast (record { x = x.now; o = o.now }) near far }
+    requires near_step { near_step ≡ row_of Cross (cornered (record { x = x.now; o = o.now }) near) 1 }
+    requires far_step { far_step ≡ row_of Cross (cornered (record { x = x.now; o = o.now }) far) 1 }
+    requires not_higher { near_step ≤ far_step }
+    ensures first { IsFirstLeast (record { x = x.now; o = o.now }) (near + 1) result }
+    ensures step { near_step ≡ row_of Cross (cornered (record { x = x.now; o = o.now }) result) 1 }
 {
-    let near_by = grid.row_of(Kind::Cross, near);
-    let far_by = grid.row_of(Kind::Cross, far);
-    match compare_turned(grid, Kind::Cross, x, near, near_by, far, far_by) {
-        Ordering::Equal => compare_turned(grid, Kind::Ring, o, near, near_by, far, far_by),
+    if near_step < far_step {
+        near
+    } else if compare_cornered(x, o, near, far) == Ordering::Less {
+        near
+    } else {
+        far
+    }
+}
+
+/// The order of the two translates that have the Xs of two columns in their lower left cells, where the Xs of their second columns
+/// are in one row.
+#[inline(never)]
+fn compare_cornered(x: &[u8], o: &[u8], near: usize, far: usize) -> Ordering
+    requires grid { IsGrid (record { x = x.now; o = o.now }) }
+    requires near { near < length x.now }
+    requires far { far < length x.now }
+    requires second { row_of Cross (cornered (record { x = x.now; o = o.now }) near) 1 ≡ row_of Cross (cornered (record { x = x.now; o = o.now }) far) 1 }
+    ensures { result ≡ compare (cornered (record { x = x.now; o = o.now }) near) (cornered (record { x = x.now; o = o.now }) far) }
+{
+    let near_by = u64::from(x[near]);
+    let far_by = u64::from(x[far]);
+    match compare_turned(x, 2, near, near_by, far, far_by) {
+        Ordering::Equal => compare_turned(o, 0, near, near_by, far, far_by),
         order => order,
     }
 }
 
-/// The order of the rows of a kind in two translates.
+/// The order of the rows of a kind in two translates, which agree in the first columns.
 fn compare_turned(
-    grid: &Grid,
-    kind: Kind,
-    rows: &Twice,
-    near: u8,
-    near_by: u8,
-    far: u8,
-    far_by: u8,
+    rows: &[u8],
+    from: usize,
+    near: usize,
+    near_by: u64,
+    far: usize,
+    far_by: u64,
 ) -> Ordering
-    requires near { near < size grid.now }
-    requires far { far < size grid.now }
-    requires near_by { near_by < size grid.now }
-    requires far_by { far_by < size grid.now }
-    requires rows { rows.now.items ≡ rows_of kind grid.now ++ rows_of kind grid.now }
-    ensures { result ≡ slice_cmp nat_cmp (turned (size grid.now) near near_by (rows_of kind grid.now)) (turned (size grid.now) far far_by (rows_of kind grid.now)) }
+    requires most { length rows.now ≤ MAX_SIZE }
+    requires inside { All (λ r. r < length rows.now) rows.now }
+    requires from { from ≤ length rows.now }
+    requires near { near < length rows.now }
+    requires far { far < length rows.now }
+    requires near_by { near_by < length rows.now }
+    requires far_by { far_by < length rows.now }
+    requires agree { (c : ℕ) → c < from → slice_index (turned (length rows.now) near near_by rows.now) c ≡ slice_index (turned (length rows.now) far far_by rows.now) c }
+    ensures { result ≡ slice_cmp nat_cmp (turned (length rows.now) near near_by rows.now) (turned (length rows.now) far far_by rows.now) }
 {
-    let size = grid.size();
-    compare_lowered(
-        part(rows, near, size),
-        near_by,
-        part(rows, far, size),
-        far_by,
-        size,
-    )
-}
-
-/// The rows from a column on, round the circle.
-fn part(rows: &Twice, column: u8, size: u8) -> &[u8]
-    requires column { column < size }
-    requires twice { length rows.now.items ≡ size + size }
-    ensures { result.now ≡ take size (drop column rows.now.items) }
-{
-    let (_, rest) = rows.as_slice().split_at(column as usize);
-    let (part, _) = rest.split_at(size as usize);
-    part
-}
-
-/// The order of two lists of rows, each after it was lowered round the circle.
-fn compare_lowered(near: &[u8], near_by: u8, far: &[u8], far_by: u8, size: u8) -> Ordering
-    requires same { length near.now ≡ length far.now }
-    requires near_by { near_by < size }
-    requires far_by { far_by < size }
-    requires near_inside { All (λ r. r < size) near.now }
-    requires far_inside { All (λ r. r < size) far.now }
-    ensures { result ≡ slice_cmp nat_cmp (map (shifted size near_by) near.now) (map (shifted size far_by) far.now) }
-{
-    for c in 0..near.len() {
-        match lowered(near[c], near_by, size).cmp(&lowered(far[c], far_by, size)) {
+    for c in from..rows.len() {
+        match turned_row(rows, near, near_by, c).cmp(&turned_row(rows, far, far_by, c)) {
             Ordering::Equal => {}
             order => return order,
         }
     }
     Ordering::Equal
+}
+
+/// The row of a column after both shifts.
+fn turned_row(rows: &[u8], columns: usize, by: u64, c: usize) -> u64
+    requires most { length rows.now ≤ MAX_SIZE }
+    requires inside { All (λ r. r < length rows.now) rows.now }
+    requires columns { columns < length rows.now }
+    requires by { by < length rows.now }
+    requires column { c < length rows.now }
+    ensures { result ≡ slice_index (turned (length rows.now) columns by rows.now) c }
+{
+    let size = rows.len();
+    let place = columns + c;
+    let place = if place < size { place } else { place - size };
+    lowered_wide(u64::from(rows[place]), by, size as u64)
 }

@@ -5,10 +5,14 @@
 pub mod laws;
 mod least;
 mod packed;
+mod short;
 #[cfg(test)]
 mod tests;
 mod translation;
+mod words;
 
 pub use least::{LeastForm, LeastKey, canonical, canonical_key};
 pub use packed::{BASE, Packed, compare_keys, pack, unpack};
+pub use short::ShortGrid;
 pub use translation::translate;
+pub use words::SHORT;

@@ -1,9 +1,10 @@
 //! Keys: a grid as two numbers.
-ghost use Rattle.std.specs.Prelude.{◌≡◌, ◌≢◌, ◌<◌, ◌≤◌, ◌∷◌, IfSome, IfNone, length, map};
+ghost use Rattle.std.specs.Prelude.{◌≡◌, ◌≢◌, ◌<◌, ◌≤◌, ◌+◌, ◌-◌, ◌*◌, ◌^◌, ◌∷◌, IfSome, IfNone, length, map};
 ghost use Rattle.std.specs.List.{All, range_with_len};
 ghost use Rattle.grid_core.specs.declared.grid.TheConstants.{MAX_SIZE};
 ghost use Rattle.grid_core.specs.Diagram.{Diagram, IsGrid};
 ghost use Rattle.grid_moves.specs.Shift.{shifted};
+ghost use Rattle.grid_canon.specs.Translate.{turned, translate};
 ghost use Rattle.grid_canon.specs.Key.{number, filled, key_of, compare_keys, digit_at};
 
 use crate::translation::lowered;
@@ -15,7 +16,7 @@ use std::cmp::Ordering;
 pub const BASE: u128 = 32;
 
 /// The base is this power of two.
-const DIGIT_BITS: u32 = 5;
+pub(crate) const DIGIT_BITS: u32 = 5;
 
 /// The key of a grid of size n. Keys are equal exactly for equal grids; they are ordered by size, then as the Xs, then as the Os:
 /// by `first` and then by `second`, so the fields stand in this order.
@@ -95,33 +96,50 @@ fn number(head: u8, rows: &[u8]) -> u128
     value
 }
 
-/// The number with a first digit and then the rows, each lower round the circle, filled with 0 up to the greatest size.
-pub(crate) fn filled_lowered(head: u8, rows: &[u8], by: u8, size: u8) -> u128
-    requires head { head < BASE }
-    requires count { length rows.now ≤ MAX_SIZE }
-    requires size { size ≤ MAX_SIZE }
-    requires by { by < size }
-    requires inside { All (λ r. r < size) rows.now }
-    ensures { result ≡ number (head ∷ filled (map (shifted size by) rows.now)) }
+/// The key of the translate after both shifts, from the rows of a grid.
+pub(crate) fn turned_key(x: &[u8], o: &[u8], columns: usize, by: u8) -> Packed
+    requires grid { IsGrid (record { x = x.now; o = o.now }) }
+    requires columns { columns < length x.now }
+    requires by { by < length x.now }
+    ensures { result ≡ key_of (translate (record { x = x.now; o = o.now }) columns by) }
 {
-    let count = rows.len();
-    lowered_number(head, rows, by, size) << (DIGIT_BITS * (MAX_SIZE - count) as u32)
+    let size = x.len();
+    Packed {
+        first: turned_number(size as u8, x, columns, by),
+        second: turned_number(0, o, columns, by),
+    }
 }
 
-/// The number with a first digit and then the rows, each lower round the circle.
-fn lowered_number(head: u8, rows: &[u8], by: u8, size: u8) -> u128
+/// The number with a first digit and then the rows of a kind after both shifts, filled with 0 up to the greatest size.
+fn turned_number(head: u8, rows: &[u8], columns: usize, by: u8) -> u128
     requires head { head < BASE }
     requires count { length rows.now ≤ MAX_SIZE }
+    requires columns { columns < length rows.now }
+    requires by { by < length rows.now }
+    requires inside { All (λ r. r < length rows.now) rows.now }
+    ensures { result ≡ number (head ∷ filled (turned (length rows.now) columns by rows.now)) }
+{
+    let size = rows.len();
+    let (left, right) = rows.split_at(columns);
+    let value = lowered_digits(u128::from(head), right, by, size as u8);
+    let value = lowered_digits(value, left, by, size as u8);
+    value << (DIGIT_BITS * (MAX_SIZE - size) as u32)
+}
+
+/// A number with some rows behind, each lower round the circle.
+fn lowered_digits(value: u128, rows: &[u8], by: u8, size: u8) -> u128
+    requires count { length rows.now ≤ MAX_SIZE }
+    requires value { value < BASE ^ (MAX_SIZE + 1 - length rows.now) }
     requires size { size ≤ MAX_SIZE }
     requires by { by < size }
     requires inside { All (λ r. r < size) rows.now }
-    ensures { result ≡ number (head ∷ map (shifted size by) rows.now) }
+    ensures { result ≡ value * BASE ^ length rows.now + number (map (shifted size by) rows.now) }
 {
-    let mut value = u128::from(head);
+    let mut long = value;
     for row in rows {
-        value = value * BASE + u128::from(lowered(*row, by, size));
+        long = long * BASE + u128::from(lowered(*row, by, size));
     }
-    value
+    long
 }
 
 /// The digits of the first columns.

@@ -1,8 +1,13 @@
 //! Canonical forms and keys on worked examples, and the plain search over all translates beside them.
 ghost use Rattle.std.specs.Prelude.{◌≤◌};
 
-use crate::{LeastForm, LeastKey, Packed, canonical, canonical_key, pack, translate, unpack};
+use crate::{
+    LeastForm, LeastKey, Packed, ShortGrid, canonical, canonical_key, compare_keys, pack,
+    translate, unpack,
+};
 use grid_core::{Grid, MAX_SIZE};
+use grid_moves::Widening;
+use std::cmp::Ordering;
 use std::test::Fail;
 
 /// The form with its shifts, as (x, o, columns, rows), is the canonical one of two lists.
@@ -95,7 +100,7 @@ fn is_read_back(form: &LeastForm, key: Packed) -> bool {
 
 #[test]
 fn the_plain_search_over_all_translates_agrees(rt: HostRuntime) -> Result<(), Fail> {
-    let cases: [(&[u8], &[u8]); 7] = [
+    let cases: [(&[u8], &[u8]); 11] = [
         (&[0, 1], &[1, 0]),
         (&[1, 0, 2], &[0, 2, 1]),
         (&[4, 3, 2, 1, 0], &[2, 1, 0, 4, 3]),
@@ -106,6 +111,36 @@ fn the_plain_search_over_all_translates_agrees(rt: HostRuntime) -> Result<(), Fa
             &[0, 1, 2, 3, 4, 5, 6, 7, 8, 9],
             &[1, 0, 3, 2, 5, 4, 7, 6, 9, 8],
         ),
+        // twelve columns, the most whose rows are digits of 64 bits, and thirteen
+        (
+            &[7, 2, 11, 4, 9, 0, 5, 10, 3, 8, 1, 6],
+            &[2, 7, 4, 11, 0, 9, 10, 5, 8, 3, 6, 1],
+        ),
+        (
+            &[0, 3, 6, 9, 12, 2, 5, 8, 11, 1, 4, 7, 10],
+            &[1, 4, 7, 10, 0, 3, 6, 9, 12, 2, 5, 8, 11],
+        ),
+        // twelve unlinked unknots: each translate by two columns and two rows is the same
+        (
+            &[
+                0, 1, 2, 3, 4, 5, 6, 7, 8, 9, 10, 11, 12, 13, 14, 15, 16, 17, 18, 19, 20, 21, 22,
+                23,
+            ],
+            &[
+                1, 0, 3, 2, 5, 4, 7, 6, 9, 8, 11, 10, 13, 12, 15, 14, 17, 16, 19, 18, 21, 20, 23,
+                22,
+            ],
+        ),
+        (
+            &[
+                5, 12, 23, 0, 17, 8, 3, 20, 11, 14, 1, 22, 9, 6, 19, 2, 15, 10, 21, 4, 13, 18, 7,
+                16,
+            ],
+            &[
+                12, 5, 0, 23, 8, 17, 20, 3, 14, 11, 22, 1, 6, 9, 2, 19, 10, 15, 4, 21, 18, 13, 16,
+                7,
+            ],
+        ),
     ];
     for (x, o) in cases {
         let Ok(grid) = Grid::new(x, o) else {
@@ -113,6 +148,27 @@ fn the_plain_search_over_all_translates_agrees(rt: HostRuntime) -> Result<(), Fa
         };
         assert!(rt; is_plain(&grid), "{x:?} {o:?}");
     }
+    Ok(())
+}
+
+#[test]
+fn a_wider_short_grid_has_the_key_of_its_rows(rt: HostRuntime) -> Result<(), Fail> {
+    let unknot = ShortGrid::of_rows(&[0, 1], &[1, 0]);
+    // the stabilisation of the X of column 0 with its O in the lower left corner
+    let wider = unknot.widened(Widening {
+        row: 0,
+        crosses: 1,
+        rings: 0,
+    });
+    let Ok(grid) = Grid::new(&[1, 0, 2], &[0, 2, 1]) else {
+        return Err(Fail::from("no grid"));
+    };
+    assert_eq!(rt; wider.canonical_key(), canonical_key(&grid));
+    let least = canonical_key(&grid).key;
+    let own = pack(&grid);
+    assert!(rt; compare_keys(&least, &own) == Ordering::Less);
+    assert!(rt; compare_keys(&own, &least) == Ordering::Greater);
+    assert!(rt; compare_keys(&own, &own) == Ordering::Equal);
     Ok(())
 }
 
@@ -150,17 +206,50 @@ fn numbers_that_are_no_key_are_refused(rt: HostRuntime) -> Result<(), Fail> {
 }
 
 #[test]
+fn the_plain_search_agrees_on_every_grid_of_up_to_five_columns(
+    rt: HostRuntime,
+) -> Result<(), Fail> {
+    assert_eq!(rt; grids_compared(2, 2)?, 2);
+    assert_eq!(rt; grids_compared(3, 6)?, 12);
+    assert_eq!(rt; grids_compared(4, 24)?, 216);
+    assert_eq!(rt; grids_compared(5, 120)?, 5280);
+    Ok(())
+}
+
+/// Compares the form of each grid of a size with that of the plain search, among all pairs of orders of its rows, and counts them.
+fn grids_compared(n: u8, orders: u16) -> Result<u32, Fail>
+    requires { n ≤ 6 }
+{
+    let mut count: u32 = 0;
+    for first in 0..orders {
+        for second in 0..orders {
+            let (x, o) = (arranged(first, n), arranged(second, n));
+            let (x, _) = x.split_at(n as usize);
+            let (o, _) = o.split_at(n as usize);
+            if let Ok(grid) = Grid::new(x, o) {
+                if !is_plain(&grid) {
+                    return Err(Fail::from(("another form", first, second, n)));
+                }
+                count = count.saturating_add(1);
+            }
+        }
+    }
+    Ok(count)
+}
+
+#[test]
 fn there_are_as_many_canonical_diagrams_as_were_counted(rt: HostRuntime) -> Result<(), Fail> {
     assert_eq!(rt; canonical_diagrams(2, 2), 1);
     assert_eq!(rt; canonical_diagrams(3, 6), 4);
     assert_eq!(rt; canonical_diagrams(4, 24), 19);
     assert_eq!(rt; canonical_diagrams(5, 120), 224);
+    assert_eq!(rt; canonical_diagrams(6, 720), 5368);
     Ok(())
 }
 
 /// The number of canonical diagrams of a size, among all pairs of orders of its rows.
 fn canonical_diagrams(n: u8, orders: u16) -> u32
-    requires { n ≤ 5 }
+    requires { n ≤ 6 }
 {
     let mut count: u32 = 0;
     for first in 0..orders {
@@ -174,8 +263,8 @@ fn canonical_diagrams(n: u8, orders: u16) -> u32
 }
 
 /// Whether the first rows of two lists are a diagram that is its own canonical form.
-fn is_canonical(x: [u8; 5], o: [u8; 5], n: u8) -> bool
-    requires { n ≤ 5 }
+fn is_canonical(x: [u8; 6], o: [u8; 6], n: u8) -> bool
+    requires { n ≤ 6 }
 {
     let (x, _) = x.split_at(n as usize);
     let (o, _) = o.split_at(n as usize);
@@ -185,11 +274,11 @@ fn is_canonical(x: [u8; 5], o: [u8; 5], n: u8) -> bool
     }
 }
 
-/// The numbers from 0 to 4, of which the first n stand in an order by number: each number below n! gives another order.
-fn arranged(number: u16, n: u8) -> [u8; 5]
-    requires { n ≤ 5 }
+/// The numbers from 0 to 5, of which the first n stand in an order by number: each number below n! gives another order.
+fn arranged(number: u16, n: u8) -> [u8; 6]
+    requires { n ≤ 6 }
 {
-    let mut rows = [0, 1, 2, 3, 4];
+    let mut rows = [0, 1, 2, 3, 4, 5];
     let mut rest = number;
     for place in 1..n {
         let count = u16::from(place) + 1;

@@ -11,7 +11,7 @@ use Rattle.grid_moves.specs.declared.step.Move.TheVariants.{Stabilise}
 use Rattle.grid_moves.specs.BlockMarks.{column_in_new_row}
 use Rattle.grid_moves.specs.Step.{Step}
 use Rattle.grid_moves.proofs.Widened.{Widened, place_near, right_small, above_small, stabilises_from_widened}
-use Rattle.grid_moves.proofs.WidenedGrids.{Beside, widened, widened-widened, widened-lengths, widened_grid}
+use Rattle.grid_moves.proofs.WidenedGrids.{Beside, widened_at, widened-widened, widened-lengths, widened_grid}
 
 columns_in_new_row_apart : (c : ℕ) (kind : Kind) (corner : Corner) → column_in_new_row c kind corner Cross ≢ column_in_new_row c kind corner Ring
 columns_in_new_row_apart c Cross corner e = absurd (omega (arith, right_small corner, e))
@@ -25,7 +25,7 @@ column_in_new_row-le c kind corner k n lt = elim (place_near c kind corner k) [ 
 
 -- the diagram as lists
 abbrev pub stabilised : ℕ → Kind → Corner → Diagram → Diagram
-stabilised c kind corner d = widened (column_in_new_row c kind corner) (row_of kind d c + above_of corner) d
+stabilised c kind corner d = widened_at (column_in_new_row c kind corner) (row_of kind d c + above_of corner) d
 
 pub stabilised-widened : (c : ℕ) (kind : Kind) (corner : Corner) (d : Diagram) → IsGrid d → c < size d → Widened (column_in_new_row c kind corner) (row_of kind d c + above_of corner) d (stabilised c kind corner d)
 stabilised-widened c kind corner d grid lt = widened-widened (column_in_new_row c kind corner) (row_of kind d c + above_of corner) d grid (λ k. column_in_new_row-le c kind corner k (size d) lt)

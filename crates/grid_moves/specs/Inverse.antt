@@ -1,5 +1,5 @@
 -- The move that undoes a legal one.
-use Rattle.std.specs.Prelude.{◌-◌, ℕ}
+use Rattle.std.specs.Prelude.{◌-◌}
 use Rattle.grid_core.specs.Diagram.{Diagram, size, row_of}
 use Rattle.grid_moves.specs.declared.step.Move.{Move}
 use Rattle.grid_moves.specs.declared.step.Move.TheVariants.{ShiftColumns, ShiftRows, ExchangeColumns, ExchangeRows, Stabilise, Destabilise}

@@ -2,6 +2,7 @@ pub mod Renumbered
 pub mod Shift
 pub mod Exchange
 pub mod Stabilisation
+pub mod Widening
 pub mod Destabilisation
 pub mod BlockMarks
 pub mod Inverse

@@ -13,4 +13,5 @@ mod step;
 mod tests;
 
 pub use applying::{apply, apply_all, inverse};
+pub use stabilise::{Widening, widening_of};
 pub use step::{Move, MoveFault};

@@ -7,6 +7,7 @@ ghost use Rattle.grid_core.specs.Diagram.{size, rows_of};
 ghost use Rattle.grid_core.specs.Places.{lifted};
 ghost use Rattle.grid_moves.specs.BlockMarks.{column_in_new_row};
 ghost use Rattle.grid_moves.specs.Step.{Step};
+ghost use Rattle.grid_moves.specs.Widening.{widened};
 ghost use Rattle.grid_moves.specs.MoveFault.{first_fault};
 
 use crate::step::{Move, MoveFault};
@@ -30,13 +31,48 @@ pub(crate) fn stabilise(
     if size as usize >= MAX_SIZE {
         return Err(MoveFault::Full);
     }
-    let row = grid.row_of(kind, column) + corner.row();
-    let cross = column_in_new_row(column, kind, corner, Kind::Cross);
-    let ring = column_in_new_row(column, kind, corner, Kind::Ring);
-    Ok(Grid::of_rows(
-        widened(grid, Kind::Cross, cross, row),
-        widened(grid, Kind::Ring, ring, row),
-    ))
+    Ok(after_stabilisation(grid, column, kind, corner))
+}
+
+/// The grid after a stabilisation that is known to be legal.
+fn after_stabilisation(grid: &Grid, column: u8, kind: Kind, corner: Corner) -> Grid
+    requires column { column < size grid.now }
+    requires room { size grid.now < MAX_SIZE }
+    ensures { Step grid.now (Move.Stabilise column kind corner) result }
+{
+    let widening = widening_of(grid, column, kind, corner);
+    Grid::of_rows(
+        widened(grid, Kind::Cross, widening.crosses, widening.row),
+        widened(grid, Kind::Ring, widening.rings, widening.row),
+    )
+}
+
+/// What a stabilisation puts into a grid of size n: one row, and for the marks of each kind one column, whose mark stands in that row.
+#[derive(Clone, Copy, Debug, PartialEq, Eq)]
+pub struct Widening {
+    /// The new row, from 0 to n.
+    pub row: u8,
+    /// The new column of the Xs, from 0 to n.
+    pub crosses: u8,
+    /// The new column of the Os, from 0 to n.
+    pub rings: u8,
+}
+
+/// What a stabilisation that is known to be legal puts in: `apply` is the test.
+pub fn widening_of(grid: &Grid, column: u8, kind: Kind, corner: Corner) -> Widening
+    requires column { column < size grid.now }
+    requires room { size grid.now < MAX_SIZE }
+    ensures step { Step grid.now (Move.Stabilise column kind corner) (widened result grid.now) }
+    ensures row { result.row ≤ size grid.now }
+    ensures crosses { result.crosses ≤ size grid.now }
+    ensures rings { result.rings ≤ size grid.now }
+{
+    let _size = grid.size();
+    Widening {
+        row: grid.row_of(kind, column) + corner.row(),
+        crosses: column_in_new_row(column, kind, corner, Kind::Cross),
+        rings: column_in_new_row(column, kind, corner, Kind::Ring),
+    }
 }
 
 /// The column of the mark of a kind in the new row.

@@ -22,7 +22,7 @@ use Rattle.grid_canon.specs.Key.{key_of}
 use Rattle.grid_canon.proofs.Turned.{size-translate}
 use Rattle.next_moves.specs.declared.offer.Offer.{Offer}
 use Rattle.next_moves.specs.Tries.{Try, column_exchange, row_exchange, destabilisations, stabilisation, stabilisations, corners}
-use Rattle.next_moves.specs.Offers.{size_after, is_offered, Leads, IsOfferOf, IsOffersOf, IsOfferList, try_of}
+use Rattle.next_moves.specs.Offers.{size_after, is_offered, Leads, IsOfferOf, AreOffersOf, IsOfferList, try_of}
 use Rattle.next_moves.specs.Extends.{Extends}
 
 pub extends_none : (d : Diagram) (cap : ℕ) (old new : List Offer) → new ≡ old → Extends d cap [] old new
@@ -139,9 +139,6 @@ extends_last d cap f n k t a b c e one is two = subst (λ (m : ℕ). Extends d c
 pub extends_flat_last : (d : Diagram) (cap : ℕ) (f : ℕ → List Try) (n k : ℕ) (a b c : List Offer) → k + 1 ≡ n → Extends d cap (flat_map f (range_with_len 0 k)) a b → Extends d cap (f k) b c → Extends d cap (flat_map f (range_with_len 0 n)) a c
 extends_flat_last d cap f n k a b c e one two = subst (λ (m : ℕ). Extends d cap (flat_map f (range_with_len 0 m)) a c) e (extends_flat_more d cap f k a b c one two)
 
-pub extends_at : (d : Diagram) (cap : ℕ) (f : ℕ → Try) (n k : ℕ) (a b : List Offer) → n ≡ k → Extends d cap (map f (range_with_len 0 n)) a b → Extends d cap (map f (range_with_len 0 k)) a b
-extends_at d cap f n k a b e one = subst (λ (m : ℕ). Extends d cap (map f (range_with_len 0 m)) a b) e one
-
 -- one more of a list
 pub extends_taken : {A : Type 0} (d : Diagram) (cap : ℕ) (f : A → Try) (xs : List A) (i : ℕ) (x : A) (a b c : List Offer) → i < length xs → get_or xs i x ≡ x → Extends d cap (map f (take i xs)) a b → Extends d cap (f x ∷ []) b c → Extends d cap (map f (take (i + 1) xs)) a c
 extends_taken d cap f xs i x a b c lt is one two =
@@ -150,8 +147,8 @@ extends_taken d cap f xs i x a b c lt is one two =
     (extends_then d cap (map f (take i xs)) (f x ∷ []) a b c one two)
 
 -- a list made from nothing
-pub offers_from_nothing : (d : Diagram) (cap : ℕ) (list : List Try) (old new : List Offer) → old ≡ [] → Extends d cap list old new → IsOffersOf d cap list new
-offers_from_nothing d cap list old new empty all = subst (λ xs. IsOffersOf d cap list xs) (sym (all.is ∙ ap (λ xs. xs ++ all.more) empty)) all.offers
+pub offers_from_nothing : (d : Diagram) (cap : ℕ) (list : List Try) (old new : List Offer) → old ≡ [] → Extends d cap list old new → AreOffersOf d cap list new
+offers_from_nothing d cap list old new empty all = subst (λ xs. AreOffersOf d cap list xs) (sym (all.is ∙ ap (λ xs. xs ++ all.more) empty)) all.offers
 
 -- the four parts are the whole list
 pub whole_list : (d : Diagram) (cap : ℕ) (l m o p q : List Offer) → l ≡ [] → Extends d cap (map (column_exchange (size d)) (range_with_len 0 (size d))) l m → Extends d cap (map (row_exchange (size d)) (range_with_len 0 (size d))) m o → Extends d cap (flat_map (destabilisations (size d)) (range_with_len 0 (size d))) o p → Extends d cap (flat_map stabilisations (range_with_len 0 (size d))) p q → IsOfferList d cap q

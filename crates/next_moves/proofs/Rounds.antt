@@ -6,9 +6,7 @@ use Rattle.grid_moves.specs.Shift.{shifted}
 use Rattle.grid_moves.specs.Exchange.{exchanged}
 use Rattle.grid_moves.specs.Stabilisation.{grown}
 use Rattle.grid_moves.proofs.Shifted.{shifted_below}
-use Rattle.grid_canon.proofs.Turned.{origin, origin_cases, origin-below, shifted_cases}
-use Rattle.next_moves.specs.Extends.{next}
-use Rattle.next_moves.proofs.Sides.{turn_cases}
+use Rattle.grid_canon.proofs.Turned.{origin, origin_cases, shifted_cases}
 
 -- the shift by (c - p) brings c to p
 pub brought : (n p c : ℕ) → p < n → c < n → shifted n (shifted n p c) c ≡ p
@@ -34,13 +32,6 @@ brought_from n a c p t ha hc hp ht e =
     grind (arith, e)
 
 -- the next one, where it came from
-pub origin_next : (n a c : ℕ) → a < n → c + 1 < n → origin n a (c + 1) ≡ next n (origin n a c)
-origin_next n a c ha hc =
-    let one = origin_cases n a c ha (omega (arith, hc)) in
-    let two = origin_cases n a (c + 1) ha hc in
-    let three = turn_cases n (origin n a c) (origin-below n a c ha (omega (arith, hc))) in
-    grind arith
-
 -- two neighbours that trade their numbers, seen from another place
 pub exchanged_along : (n i j : ℕ) (f : ℕ → ℕ) → ((b c : ℕ) → b < n → c < n → f b ≡ f c → b ≡ c) → i + 1 < n → f i ≡ j → f (i + 1) ≡ j + 1 → (z : ℕ) → z < n → f (exchanged i z) ≡ exchanged j (f z)
 exchanged_along n i j f same inside first second z lt = elim (cases_eq z i) [

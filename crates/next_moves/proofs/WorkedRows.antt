@@ -21,7 +21,7 @@ last_block = refl
 as_many : length (tries 5) ≡ 75
 as_many = refl
 
--- the left trefoil has no neighbour of its own size, and one for each stabilisation at the next
+-- the left trefoil is offered nothing of its own size, and with one more column each stabilisation
 no_neighbour : filter (is_offered left_trefoil 5) (tries 5) ≡ []
 no_neighbour = refl
 

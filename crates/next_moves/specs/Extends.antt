@@ -4,13 +4,13 @@ use Rattle.grid_core.specs.declared.mark.Kind.TheVariants.{Cross, Ring}
 use Rattle.grid_core.specs.Diagram.{Diagram, size, row_of}
 use Rattle.next_moves.specs.declared.offer.Offer.{Offer}
 use Rattle.next_moves.specs.Tries.{Try}
-use Rattle.next_moves.specs.Offers.{IsOffersOf}
+use Rattle.next_moves.specs.Offers.{AreOffersOf}
 
 -- the new list is the old one, followed by the offers of these tries
 pub record Extends (d : Diagram) (cap : ℕ) (list : List Try) (old new : List Offer) : Type 0 where
   pub more : List Offer
   pub is : new ≡ old ++ more
-  pub offers : IsOffersOf d cap list more
+  pub offers : AreOffersOf d cap list more
 
 -- the next number, round the circle of n
 abbrev pub next : ℕ → ℕ → ℕ
@@ -24,10 +24,10 @@ first_of_pair n x o = if next n x == o then x else if next n o == x then o else 
 abbrev pub row_of_both : Diagram → ℕ → ℕ
 row_of_both d c = first_of_pair (size d) (row_of Cross d c) (row_of Ring d c)
 
--- one for the row itself
+-- 1 where r is this row, else 0
 abbrev pub counted : ℕ → ℕ → ℕ
 counted row r = if r == row then 1 else 0
 
--- one for a row below
+-- 1 where this row is below r, else 0
 abbrev pub passed : ℕ → ℕ → ℕ
 passed row r = if nat_lt row r then 1 else 0

@@ -48,21 +48,21 @@ abbrev pub try_of : Offer → Try
 try_of offer = record { before = offer.link.before; step = offer.link.step }
 
 -- of a list of tries, those that are legal within the cap, in order, each with what it leads to
-pub record IsOffersOf (d : Diagram) (cap : ℕ) (list : List Try) (offers : List Offer) : Type 0 where
+pub record AreOffersOf (d : Diagram) (cap : ℕ) (list : List Try) (offers : List Offer) : Type 0 where
   pub order : map try_of offers ≡ filter (is_offered d cap) list
   pub leads : All (IsOfferOf d) offers
 
 -- the whole list of offers of d within the cap
 abbrev pub IsOfferList : Diagram → ℕ → List Offer → Type 0
-IsOfferList d cap offers = IsOffersOf d cap (tries (size d)) offers
+IsOfferList d cap offers = AreOffersOf d cap (tries (size d)) offers
 
--- what contracts see of a value of the type: the key of a canonical diagram, the cap, and its whole list of offers
+-- what contracts see of a value of the type `Offers`: the key of a canonical diagram, the cap, and its whole list of offers
 pub record Neighbourhood : Type 0 where
   pub origin : Packed
   pub cap : ℕ
   pub offers : List Offer
 
--- the list is whole: that of the canonical grid which the key names, within a cap that it keeps
+-- the list is whole: that of the canonical grid which the key names, within a cap from its size to `MAX_SIZE`
 pub record IsWhole (n : Neighbourhood) : Type 0 where
   pub diagram : Diagram
   pub grid : IsGrid diagram

@@ -21,12 +21,15 @@ turn n c = if c + 1 == n then 1 else 0
 abbrev pub place : ℕ → ℕ → ℕ
 place n c = if c + 1 == n then n - 2 else c
 
+-- column c and the next one trade places
 abbrev pub column_exchange : ℕ → ℕ → Try
 column_exchange n c = record { before = (turn n c, 0); step = ExchangeColumns (place n c) }
 
+-- row r and the next one trade places
 abbrev pub row_exchange : ℕ → ℕ → Try
 row_exchange n r = record { before = (0, turn n r); step = ExchangeRows (place n r) }
 
+-- the block of column c and the next one, and of row r and the next one, becomes one mark
 abbrev pub destabilisation : ℕ → ℕ → ℕ → Try
 destabilisation n c r = record { before = (turn n c, turn n r); step = Destabilise (place n c) (place n r) }
 
@@ -34,6 +37,7 @@ destabilisation n c r = record { before = (turn n c, turn n r); step = Destabili
 abbrev pub destabilisations : ℕ → ℕ → List Try
 destabilisations n c = map (destabilisation n c) (range_with_len 0 n)
 
+-- the mark of a kind in column c becomes a block of three, with the other kind in this corner
 abbrev pub stabilisation : ℕ → Kind → Corner → Try
 stabilisation c kind corner = record { before = (0, 0); step = Stabilise c kind corner }
 
@@ -56,5 +60,6 @@ all_destabilisations n = flat_map (destabilisations n) (range_with_len 0 n)
 abbrev pub all_stabilisations : ℕ → List Try
 all_stabilisations n = flat_map stabilisations (range_with_len 0 n)
 
+-- all of them, in the order of the offers
 abbrev pub tries : ℕ → List Try
 tries n = exchanges n ++ all_destabilisations n ++ all_stabilisations n

@@ -13,7 +13,7 @@ ghost use Rattle.next_moves.specs.Reach.{IsReached, AreMembers, HasMembers, HasM
 
 use crate::offer::{Link, Offer};
 
-/// Every neighbour is the key of some offer, over all translates and all moves but shifts.
+/// The key of every neighbour, over all translates and all moves but shifts, is that of some offer.
 pub fn every_neighbour_is_offered()
     ensures { (d f : Diagram) (cap : ℕ) (offers : List Offer)
         → IsGrid d

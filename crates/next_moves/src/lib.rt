@@ -1,5 +1,5 @@
 //! Neighbours of canonical diagrams: the complete ordered list of offers within a cap, each with a link that leads there.
-//! Every neighbour, over all translates and all moves but shifts, is the key of some offer, and every offer is a neighbour.
+//! Every neighbour, over all translates and all moves but shifts, has its key in some offer, and the key of every offer is that of a neighbour.
 #![tactic(auto)]
 
 pub mod laws;

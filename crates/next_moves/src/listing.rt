@@ -1,5 +1,5 @@
 //! The tries one by one, in their order.
-ghost use Rattle.std.specs.Prelude.{◌≡◌, ◌<◌, ◌≤◌, ◌+◌, ◌*◌, ◌∷◌, [], length, map};
+ghost use Rattle.std.specs.Prelude.{◌≡◌, ◌<◌, ◌≤◌, ◌+◌, ◌*◌, ◌∷◌, [], IfSome, length, map};
 ghost use Rattle.std.specs.List.{range_with_len, flat_map};
 ghost use Rattle.grid_core.specs.declared.grid.TheConstants.{MAX_SIZE};
 ghost use Rattle.grid_core.specs.Diagram.{size};
@@ -12,9 +12,9 @@ ghost use Rattle.next_moves.specs.Extends.{Extends, next, row_of_both, counted};
 use crate::offer::{Link, Offer};
 use crate::offers::MAX_OFFERS;
 use arrayvec::ArrayVec;
-use grid_canon::{canonical_key, translate};
+use grid_canon::{SHORT, ShortGrid, canonical_key, translate};
 use grid_core::{Corner, Grid, Kind};
-use grid_moves::{Move, apply};
+use grid_moves::{Move, apply, widening_of};
 
 /// Offers in the making.
 pub(crate) type OfferList = ArrayVec<Offer, MAX_OFFERS>;
@@ -80,9 +80,8 @@ pub(crate) fn exchange_columns(list: &mut OfferList, grid: &Grid, cap: u8)
     ensures fits { length list.new.items ≤ length list.old.items + size grid.now }
 {
     let last = grid.size() - 1;
-    let plain = translate(grid, 0, 0);
     for c in 0..last {
-        try_move(list, grid, cap, (0, 0), &plain, Move::ExchangeColumns(c));
+        try_move(list, grid, cap, (0, 0), grid, Move::ExchangeColumns(c));
     }
     let turned = translate(grid, 1, 0);
     try_move(
@@ -102,9 +101,8 @@ pub(crate) fn exchange_rows(list: &mut OfferList, grid: &Grid, cap: u8)
     ensures fits { length list.new.items ≤ length list.old.items + size grid.now }
 {
     let last = grid.size() - 1;
-    let plain = translate(grid, 0, 0);
     for r in 0..last {
-        try_move(list, grid, cap, (0, 0), &plain, Move::ExchangeRows(r));
+        try_move(list, grid, cap, (0, 0), grid, Move::ExchangeRows(r));
     }
     let turned = translate(grid, 0, 1);
     try_move(
@@ -124,10 +122,9 @@ pub(crate) fn destabilise(list: &mut OfferList, grid: &Grid, cap: u8)
     ensures fits { length list.new.items ≤ length list.old.items + 2 * size grid.now }
 {
     let last = grid.size() - 1;
-    let plain = translate(grid, 0, 0);
     let high = translate(grid, 0, 1);
     for c in 0..last {
-        destabilise_column(list, grid, cap, c, 0, &plain, &high);
+        destabilise_column(list, grid, cap, c, 0, grid, &high);
     }
     let turned = translate(grid, 1, 0);
     let both = translate(grid, 1, 1);
@@ -231,27 +228,108 @@ pub(crate) fn stabilise(list: &mut OfferList, grid: &Grid, cap: u8)
     if size >= cap {
         return;
     }
-    let plain = translate(grid, 0, 0);
+    let short = short_of(grid);
     for c in 0..size {
-        stabilise_mark(list, grid, cap, &plain, c, Kind::Cross);
-        stabilise_mark(list, grid, cap, &plain, c, Kind::Ring);
+        stabilise_mark(list, grid, cap, &short, c, Kind::Cross);
+        stabilise_mark(list, grid, cap, &short, c, Kind::Ring);
+    }
+}
+
+/// The grid as a short one, where a short one has room for one more column.
+fn short_of(grid: &Grid) -> Option<ShortGrid>
+    ensures { IfSome result (λ s. (s ≡ grid.now) × (size grid.now < SHORT)) }
+{
+    if (grid.size() as usize) < SHORT {
+        let (x, o) = (grid.rows(Kind::Cross), grid.rows(Kind::Ring));
+        Some(ShortGrid::of_rows(x, o))
+    } else {
+        None
     }
 }
 
 /// Appends the four stabilisations at the mark of a kind in a column.
-fn stabilise_mark(list: &mut OfferList, grid: &Grid, cap: u8, plain: &Grid, column: u8, kind: Kind)
+fn stabilise_mark(
+    list: &mut OfferList,
+    grid: &Grid,
+    cap: u8,
+    short: &Option<ShortGrid>,
+    column: u8,
+    kind: Kind,
+)
     requires column { column < size grid.now }
-    requires plain { plain.now ≡ translate grid.now 0 0 }
+    requires cap { size grid.now < cap }
+    requires short { IfSome short.now (λ s. (s ≡ grid.now) × (size grid.now < SHORT)) }
     requires room { length list.old.items + 4 ≤ MAX_OFFERS }
     ensures offered { Extends grid.now cap (map (stabilisation column kind) corners) list.old.items list.new.items }
     ensures fits { length list.new.items ≤ length list.old.items + 4 }
 {
     for corner in CORNERS {
-        let step = Move::Stabilise {
-            column,
-            kind,
-            corner,
-        };
-        try_move(list, grid, cap, (0, 0), plain, step);
+        stabilise_at(list, grid, cap, short, column, kind, corner);
     }
+}
+
+/// Appends one stabilisation.
+fn stabilise_at(
+    list: &mut OfferList,
+    grid: &Grid,
+    cap: u8,
+    short: &Option<ShortGrid>,
+    column: u8,
+    kind: Kind,
+    corner: Corner,
+)
+    requires column { column < size grid.now }
+    requires cap { size grid.now < cap }
+    requires short { IfSome short.now (λ s. (s ≡ grid.now) × (size grid.now < SHORT)) }
+    requires room { length list.old.items < MAX_OFFERS }
+    ensures offered { Extends grid.now cap (stabilisation column kind corner ∷ []) list.old.items list.new.items }
+    ensures fits { length list.new.items ≤ length list.old.items + 1 }
+{
+    let _size = grid.size();
+    match short {
+        Some(short) => push_stabilised(list, grid, cap, short, column, kind, corner),
+        None => {
+            let step = Move::Stabilise {
+                column,
+                kind,
+                corner,
+            };
+            try_move(list, grid, cap, (0, 0), grid, step);
+        }
+    }
+}
+
+/// Appends the offer of one stabilisation, which is made on the short grid.
+fn push_stabilised(
+    list: &mut OfferList,
+    grid: &Grid,
+    cap: u8,
+    short: &ShortGrid,
+    column: u8,
+    kind: Kind,
+    corner: Corner,
+)
+    requires column { column < size grid.now }
+    requires cap { size grid.now < cap }
+    requires short { short.now ≡ grid.now }
+    requires few { size grid.now < SHORT }
+    requires room { length list.old.items < MAX_OFFERS }
+    ensures offered { Extends grid.now cap (stabilisation column kind corner ∷ []) list.old.items list.new.items }
+    ensures fits { length list.new.items ≤ length list.old.items + 1 }
+{
+    let _size = grid.size();
+    let widening = widening_of(grid, column, kind, corner);
+    let least = short.widened(widening).canonical_key();
+    list.push(Offer {
+        key: least.key,
+        link: Link {
+            before: (0, 0),
+            step: Move::Stabilise {
+                column,
+                kind,
+                corner,
+            },
+            after: (least.columns, least.rows),
+        },
+    });
 }

@@ -7,8 +7,11 @@ use grid_moves::Move;
 /// Each pair is a shift of columns and a shift of rows, of which 0 means none.
 #[derive(Clone, Copy, Debug, PartialEq, Eq)]
 pub struct Link {
+    /// The shifts of columns and of rows before the move, each from 0 to n - 1 for a diagram of n columns.
     pub before: (u8, u8),
+    /// The move, which is no shift.
     pub step: Move,
+    /// The shifts of columns and of rows behind the move: the least pair that reaches the canonical form.
     pub after: (u8, u8),
 }
 
@@ -31,6 +34,8 @@ impl Default for Link {
 /// A neighbour by its key, and the link that leads to it.
 #[derive(Clone, Copy, Debug, Default, PartialEq, Eq)]
 pub struct Offer {
+    /// The key of the neighbour, which is a canonical diagram.
     pub key: Packed,
+    /// The way that leads there.
     pub link: Link,
 }

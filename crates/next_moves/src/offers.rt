@@ -1,15 +1,16 @@
 //! The offers of a canonical diagram.
-ghost use Rattle.std.specs.Prelude.{◌≡◌, ◌≤◌};
+ghost use Rattle.std.specs.Prelude.{◌≡◌, ◌≤◌, ◌*◌, [], length};
 ghost use Rattle.grid_core.specs.declared.grid.TheConstants.{MAX_SIZE};
-ghost use Rattle.grid_core.specs.Diagram.{size};
+ghost use Rattle.grid_core.specs.Diagram.{IsGrid, size};
 ghost use Rattle.grid_canon.specs.Canonical.{IsCanonical};
 ghost use Rattle.grid_canon.specs.Key.{key_of};
+ghost use Rattle.next_moves.specs.Offers.{IsOfferList};
 
-use crate::listing::{destabilise, exchange_columns, exchange_rows, stabilise};
+use crate::listing::{OfferList, destabilise, exchange_columns, exchange_rows, stabilise};
 use crate::offer::Offer;
 use arrayvec::ArrayVec;
 use grid_canon::{LeastForm, Packed, pack};
-use grid_core::MAX_SIZE;
+use grid_core::{Grid, MAX_SIZE};
 use std::marker::Model;
 
 /// The greatest number of offers: at most twelve for each column.
@@ -20,7 +21,7 @@ pub const MAX_OFFERS: usize = 12 * MAX_SIZE;
 pub struct Offers {
     origin: Packed,
     cap: u8,
-    list: ArrayVec<Offer, MAX_OFFERS>,
+    list: OfferList,
 }
 
 impl Model for Offers {
@@ -34,7 +35,7 @@ impl Model for Offers {
 }
 
 impl Offers {
-    ghost use Rattle.next_moves.specs.Offers.{IsWhole, IsOfferList};
+    ghost use Rattle.next_moves.specs.Offers.{IsWhole};
 
     /// The offers of a diagram that is its own canonical form, within a cap from its size to `MAX_SIZE`.
     /// The form's shifts are not looked at. Takes no memory.
@@ -47,17 +48,30 @@ impl Offers {
         ensures offers { IsOfferList form.now.grid cap result.offers }
     {
         let grid = &form.grid;
-        let _size = grid.size();
         let mut offers = Offers {
             origin: pack(grid),
             cap,
             list: ArrayVec::new(),
         };
-        exchange_columns(&mut offers.list, grid, cap);
-        exchange_rows(&mut offers.list, grid, cap);
-        destabilise(&mut offers.list, grid, cap);
-        stabilise(&mut offers.list, grid, cap);
+        fill(&mut offers.list, grid, cap);
         offers
+    }
+
+    /// Makes these the offers of another diagram, as `of` does, in the place of the old ones: a caller that asks for many lists, one
+    /// at a time, so has none of them copied.
+    pub fn renew(&mut self, form: &LeastForm, cap: u8)
+        requires canonical { IsCanonical form.now.grid }
+        requires least { size form.now.grid ≤ cap }
+        requires most { cap ≤ MAX_SIZE }
+        ensures origin { self.new.origin ≡ key_of form.now.grid }
+        ensures cap { self.new.cap ≡ cap }
+        ensures offers { IsOfferList form.now.grid cap self.new.offers }
+    {
+        let grid = &form.grid;
+        self.origin = pack(grid);
+        self.cap = cap;
+        self.list.clear();
+        fill(&mut self.list, grid, cap);
     }
 
     /// The key of the diagram whose offers these are.
@@ -81,4 +95,19 @@ impl Offers {
     {
         self.list.as_slice()
     }
+}
+
+/// Appends all offers of a grid to an empty list.
+fn fill(list: &mut OfferList, grid: &Grid, cap: u8)
+    requires empty { list.old.items ≡ [] }
+    requires most { cap ≤ MAX_SIZE }
+    ensures grid { IsGrid grid.now }
+    ensures offers { IsOfferList grid.now cap list.new.items }
+    ensures count { length list.new.items ≤ 12 * size grid.now }
+{
+    let _size = grid.size();
+    exchange_columns(list, grid, cap);
+    exchange_rows(list, grid, cap);
+    destabilise(list, grid, cap);
+    stabilise(list, grid, cap);
 }

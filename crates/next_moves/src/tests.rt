@@ -1,4 +1,6 @@
 //! Offers on worked examples, as a plain program lists them.
+mod neighbours;
+
 ghost use Rattle.std.specs.Prelude.{◌<◌, ◌≤◌};
 ghost use Rattle.grid_core.specs.declared.grid.TheConstants.{MAX_SIZE};
 
@@ -154,6 +156,63 @@ fn each_link_leads_to_its_key(rt: HostRuntime) -> Result<(), Fail> {
     let offers = Offers::of(&form, form.grid.size() + 1);
     for offer in offers.offers() {
         assert!(rt; leads(&form.grid, offer.link, offer.key), "{offer:?}");
+    }
+    Ok(())
+}
+
+#[test]
+fn renewed_offers_are_those_of_a_new_list(rt: HostRuntime) -> Result<(), Fail> {
+    let (Ok(small), Ok(large)) = (
+        Grid::new(&[0, 1, 2], &[1, 2, 0]),
+        Grid::new(&[4, 3, 2, 0, 1, 5, 6], &[6, 5, 4, 3, 2, 1, 0]),
+    ) else {
+        return Err(Fail::from("no grid"));
+    };
+    let (small, large) = (canonical(&small), canonical(&large));
+    let first = Offers::of(&large, large.grid.size() + 1);
+    let mut offers = Offers::of(&small, small.grid.size());
+    offers.renew(&large, large.grid.size() + 1);
+    assert_eq!(rt; offers.origin(), first.origin());
+    assert_eq!(rt; offers.cap(), 8);
+    assert!(rt; offers.offers() == first.offers());
+    offers.renew(&small, small.grid.size());
+    assert_eq!(rt; offers.offers().len(), 6);
+    Ok(())
+}
+
+#[test]
+fn diagrams_of_many_columns_have_offers_too(rt: HostRuntime) -> Result<(), Fail> {
+    // the last whose stabilisations are made on numbers of 64 bits, and the first that has too many columns
+    let eleven = (
+        [0, 3, 6, 9, 1, 4, 7, 10, 2, 5, 8],
+        [1, 4, 7, 10, 2, 5, 8, 0, 3, 6, 9],
+    );
+    let twelve = (
+        [7, 2, 11, 4, 9, 0, 5, 10, 3, 8, 1, 6],
+        [2, 7, 4, 11, 0, 9, 10, 5, 8, 3, 6, 1],
+    );
+    let (Ok(short), Ok(long)) = (
+        Grid::new(&eleven.0, &eleven.1),
+        Grid::new(&twelve.0, &twelve.1),
+    ) else {
+        return Err(Fail::from("no grid"));
+    };
+    for grid in [short, long] {
+        let form = canonical(&grid);
+        let size = form.grid.size();
+        if size as usize >= MAX_SIZE {
+            return Err(Fail::from("no room"));
+        }
+        let offers = Offers::of(&form, size + 1);
+        let stabilised = offers
+            .offers()
+            .iter()
+            .filter(|offer| matches!(offer.link.step, Move::Stabilise { .. }))
+            .count();
+        assert_eq!(rt; stabilised, 8 * usize::from(size));
+        for offer in offers.offers() {
+            assert!(rt; leads(&form.grid, offer.link, offer.key), "{offer:?}");
+        }
     }
     Ok(())
 }

@@ -1,20 +1,21 @@
-use Rattle.std.proofs.Common.{◌∙◌, ap₂}
+use Rattle.std.proofs.Common.{◌∙◌, arith, ap₂, sym, length}
 use Rattle.std.specs.Ordering.{nat_cmp}
-use Rattle.std.specs.Cmp.Lexicographic.{slice_cmp}
-use Rattle.grid_canon.proofs.Twice.{part_inside, part_turned}
+use Rattle.grid_canon.specs.Translate.{turned}
+use Rattle.grid_canon.proofs.Turned.{length-turned}
+use Rattle.grid_canon.proofs.Ordered.{slice_cmp_at, slice_cmp_same}
 use Rattle.grid_canon.proofs.least.compare_turned.Goals as goal
 
-pub compare_lowered-requires-clause-near_inside : goal.compare_lowered-requires-clause-near_inside
-compare_lowered-requires-clause-near_inside c =
-    part_inside c.args.grid.now c.args.kind c.size-size.ensures.grid c.args.near c.size-size.result c.part.result.now c.args.rows.now.items c.size-size.ensures.size c.requires.rows c.part.ensures
-
-pub compare_lowered-requires-clause-far_inside : goal.compare_lowered-requires-clause-far_inside
-compare_lowered-requires-clause-far_inside c =
-    part_inside c.args.grid.now c.args.kind c.size-size.ensures.grid c.args.far c.size-size.result c.part-2.result.now c.args.rows.now.items c.size-size.ensures.size c.requires.rows c.part-2.ensures
+pub returns-in_default : goal.returns-in_default
+returns-in_default c =
+    let n = length c.args.rows.now in
+    let near = turned n c.args.near c.args.near_by c.args.rows.now in
+    let far = turned n c.args.far c.args.far_by c.args.rows.now in
+    let here = c.cmp.ensures ∙ ap₂ nat_cmp c.turned_row.ensures c.turned_row-in-loop-c.ensures in
+    here ∙ sym (slice_cmp_at near far c.loop-c.c (omega (arith, length-turned n c.args.near c.args.near_by c.args.rows.now (omega arith))) (omega (arith, length-turned n c.args.far c.args.far_by c.args.rows.now (omega arith))) c.loop-c.invariant (λ e. c.in_default.not-Equal (here ∙ e)))
 
 pub returns : goal.returns
 returns c =
-    c.compare_lowered.ensures
-    ∙ ap₂ (slice_cmp nat_cmp)
-    (part_turned c.args.grid.now c.args.kind c.size-size.ensures.grid c.args.near c.args.near_by c.size-size.result c.part.result.now c.args.rows.now.items c.requires.near c.size-size.ensures.size c.requires.rows c.part.ensures)
-    (part_turned c.args.grid.now c.args.kind c.size-size.ensures.grid c.args.far c.args.far_by c.size-size.result c.part-2.result.now c.args.rows.now.items c.requires.far c.size-size.ensures.size c.requires.rows c.part-2.ensures)
+    let n = length c.args.rows.now in
+    let near = turned n c.args.near c.args.near_by c.args.rows.now in
+    let far = turned n c.args.far c.args.far_by c.args.rows.now in
+    sym (slice_cmp_same near far (omega (arith, length-turned n c.args.near c.args.near_by c.args.rows.now (omega arith), length-turned n c.args.far c.args.far_by c.args.rows.now (omega arith))) (λ k lt. c.loop-c.invariant k (omega (arith, lt, length-turned n c.args.near c.args.near_by c.args.rows.now (omega arith)))))

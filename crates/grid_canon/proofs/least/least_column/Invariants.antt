@@ -6,6 +6,6 @@ use Rattle.grid_canon.proofs.least.least_column.Given as goal
 
 abbrev pub invariant-loop-column : goal.invariant-loop-column
 invariant-loop-column l = record {
-  first : IsFirstLeast l.grid l.column l.best;
-  step : l.best_step ≡ row_of Cross (cornered l.grid l.best) 1;
+  first : IsFirstLeast (record { x = l.x; o = l.o }) l.column l.best;
+  step : l.best_step ≡ row_of Cross (cornered (record { x = l.x; o = l.o }) l.best) 1;
 }

@@ -1,15 +1,12 @@
-use Rattle.std.proofs.Common.{◌∙◌}
-use Rattle.grid_canon.proofs.LeastTranslates.{first_read, second_read, second_row_read}
+use Rattle.std.proofs.Common.{◌∙◌, ℕ, arith, sym, refl, ap, ap₂, get_or, length}
+use Rattle.grid_moves.specs.Shift.{shifted}
+use Rattle.grid_canon.proofs.Turned.{turned_at}
 use Rattle.grid_canon.proofs.least.second_row.Goals as goal
-
-pub lowered-requires-clause-by : goal.lowered-requires-clause-by
-lowered-requires-clause-by c =
-    (first_read c.args.grid.now c.as_slice-rows.result.now c.args.size c.args.column c.requires.grid c.requires.size c.requires.column (c.as_slice-rows.ensures.value ∙ c.requires.x)).1
-
-pub lowered-requires-clause-inside : goal.lowered-requires-clause-inside
-lowered-requires-clause-inside c =
-    (second_read c.args.grid.now c.as_slice-rows.result.now c.args.size c.args.column c.requires.grid c.requires.size c.requires.column (c.as_slice-rows.ensures.value ∙ c.requires.x)).1
 
 pub returns : goal.returns
 returns c =
-    second_row_read c.args.grid.now c.as_slice-rows.result.now c.args.size c.args.column c.lowered.result c.requires.grid c.requires.size c.requires.column (c.as_slice-rows.ensures.value ∙ c.requires.x) c.lowered.ensures
+    let n = length c.args.x.now in
+    c.lowered_wide.ensures
+    ∙ ap₂ (λ (z w : ℕ). shifted n z w) c.from-2.ensures c.from.ensures
+    ∙ ap (λ (z : ℕ). shifted n (get_or c.args.x.now c.args.column 0) (get_or c.args.x.now z 0)) c.requires.next
+    ∙ sym (turned_at c.args.x.now n c.args.column (get_or c.args.x.now c.args.column 0) 1 refl (omega arith) (omega arith))

@@ -8,6 +8,6 @@ use Rattle.next_moves.proofs.listing.stabilise_mark.Goals as goal
 pub loop-corner-preserved : goal.loop-corner-preserved
 loop-corner-preserved c =
     record {
-      offered = extends_taken c.args.grid.now c.args.cap (stabilisation c.args.column c.args.kind) corners c.loop-corner.corner-index _ c.args.list.now.items c.loop-corner.list.items c.try_move.new.list.items (omega arith) (get_or_default corners c.loop-corner.corner-index _ LowLeft (omega arith)) c.loop-corner.invariant.offered c.try_move.ensures.offered;
-      fits = omega (arith, c.loop-corner.invariant.fits, c.try_move.ensures.fits);
+      offered = extends_taken c.args.grid.now c.args.cap (stabilisation c.args.column c.args.kind) corners c.loop-corner.corner-index _ c.args.list.now.items c.loop-corner.list.items c.stabilise_at.new.list.items (omega arith) (get_or_default corners c.loop-corner.corner-index _ LowLeft (omega arith)) c.loop-corner.invariant.offered c.stabilise_at.ensures.offered;
+      fits = omega (arith, c.loop-corner.invariant.fits, c.stabilise_at.ensures.fits);
     }

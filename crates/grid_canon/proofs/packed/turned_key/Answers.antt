@@ -1,0 +1,16 @@
+use Rattle.std.proofs.Common.{length, refl, sym}
+use Rattle.grid_core.specs.Diagram.{Diagram}
+use Rattle.grid_canon.proofs.Keys.{key_of_turned, rings_number}
+use Rattle.grid_canon.proofs.LeastTranslates.{rows_inside, rings_inside}
+use Rattle.grid_canon.proofs.packed.turned_key.Goals as goal
+
+pub turned_number-requires-clause-inside : goal.turned_number-requires-clause-inside
+turned_number-requires-clause-inside c = rows_inside (record { x = c.args.x.now; o = c.args.o.now }) c.requires.grid
+
+pub turned_number-requires-2-clause-inside : goal.turned_number-requires-2-clause-inside
+turned_number-requires-2-clause-inside c = rings_inside (record { x = c.args.x.now; o = c.args.o.now }) c.requires.grid
+
+pub returns : goal.returns
+returns c =
+    let d : Diagram = record { x = c.args.x.now; o = c.args.o.now } in
+    sym (key_of_turned d c.args.columns c.args.by (length c.args.x.now) c.turned_number.result c.turned_number-2.result c.requires.columns refl c.turned_number.ensures (rings_number d c.args.columns c.args.by c.turned_number-2.result c.requires.grid c.turned_number-2.ensures))

@@ -1,0 +1,156 @@
+//! Short grids: the rows of at most twelve columns as the digits of two numbers.
+ghost use Rattle.std.specs.Prelude.{◌≡◌, ◌<◌, ◌≤◌, ◌↔◌, length, slice_index, IsTrue};
+ghost use Rattle.std.specs.declared.cmp.Ordering.TheVariants.{Less};
+ghost use Rattle.grid_core.specs.Diagram.{IsGrid, size};
+ghost use Rattle.grid_moves.specs.Widening.{widened};
+ghost use Rattle.grid_canon.specs.Key.{number};
+ghost use Rattle.grid_canon.specs.Order.{compare};
+ghost use Rattle.grid_canon.specs.Cornered.{cornered, IsFirstLeast, IsCornered};
+ghost use Rattle.grid_canon.specs.LeastKey.{IsLeastKey};
+
+use crate::least::LeastKey;
+use crate::packed::{BASE, Packed};
+use crate::words::{
+    SHORT, cut, filled, first_digit, lifted, lowered, number_of, turned, with_digit,
+};
+use grid_moves::Widening;
+use std::marker::Model;
+
+/// A grid of at most `SHORT` columns, as two numbers whose digits are its rows: one step of arithmetic moves the marks of all columns.
+/// Contracts see it as the diagram.
+#[derive(Drop)]
+pub struct ShortGrid {
+    size: u32,
+    /// The rows of the Xs by column, the first column's as the highest digit.
+    crosses: u64,
+    /// The rows of the Os, likewise.
+    rings: u64,
+}
+
+impl Model for ShortGrid {
+    ghost use Rattle.grid_core.specs.Diagram.{Diagram};
+    ghost use Rattle.grid_canon.specs.Digits.{diagram_of, IsShort};
+
+    ghost Value = { Diagram };
+
+    ghost view = { λ g. diagram_of g.size g.crosses g.rings };
+
+    ghost invariant = { λ g. IsShort g.size g.crosses g.rings };
+}
+
+impl ShortGrid {
+    /// The grid of the rows of the Xs and of the Os by column, which are known to be one. Takes no memory.
+    pub fn of_rows(x: &[u8], o: &[u8]) -> ShortGrid
+        requires grid { IsGrid (record { x = x.now; o = o.now }) }
+        requires short { length x.now ≤ SHORT }
+        ensures { result ≡ record { x = x.now; o = o.now } }
+    {
+        ShortGrid {
+            size: x.len() as u32,
+            crosses: number_of(x),
+            rings: number_of(o),
+        }
+    }
+
+    /// The grid with one more row, and for the marks of each kind one more column, which are known to make a grid. Takes no memory.
+    pub fn widened(&self, widening: Widening) -> ShortGrid
+        requires grid { IsGrid (widened widening self.now) }
+        requires short { size self.now < SHORT }
+        requires row { widening.row ≤ size self.now }
+        requires crosses { widening.crosses ≤ size self.now }
+        requires rings { widening.rings ≤ size self.now }
+        ensures { result ≡ widened widening self.now }
+    {
+        let size = self.size;
+        let row = u64::from(widening.row);
+        let crosses = lifted(self.crosses, row, size);
+        let rings = lifted(self.rings, row, size);
+        ShortGrid {
+            size: size + 1,
+            crosses: with_digit(crosses, row, u32::from(widening.crosses), size),
+            rings: with_digit(rings, row, u32::from(widening.rings), size),
+        }
+    }
+
+    /// The key of the canonical form with its least shifts, as `canonical_key` answers it for a grid. Takes no memory.
+    pub fn canonical_key(&self) -> LeastKey
+        ensures { IsLeastKey self.now result }
+    {
+        let size = self.size;
+        let least = self.least_translate();
+        let rings = lowered(cut(self.rings, least.column, size), least.row, size);
+        LeastKey {
+            key: Packed {
+                first: filled(size, least.crosses, size),
+                second: filled(0, rings, size),
+            },
+            columns: least.column as u8,
+            rows: least.row as u8,
+        }
+    }
+
+    /// The least translate with an X in its lower left cell, by the first column that gives it.
+    fn least_translate(&self) -> Cornered
+        ensures first { IsFirstLeast self.now (size self.now) result.column }
+        ensures found { IsCornered self.now result.column result.row result.crosses }
+    {
+        let size = self.size;
+        let mut crosses = self.crosses;
+        let mut row = first_digit(crosses, size);
+        let mut best = Cornered {
+            column: 0,
+            row,
+            crosses: lowered(crosses, row, size),
+        };
+        for column in 1..size {
+            crosses = turned(crosses, row, size);
+            row = first_digit(crosses, size);
+            let next = Cornered {
+                column,
+                row,
+                crosses: lowered(crosses, row, size),
+            };
+            if self.comes_before(&next, &best) {
+                best = next;
+            }
+        }
+        best
+    }
+
+    /// Whether one translate comes before another.
+    fn comes_before(&self, near: &Cornered, far: &Cornered) -> bool
+        requires near { IsCornered self.now near.now.column near.now.row near.now.crosses }
+        requires far { IsCornered self.now far.now.column far.now.row far.now.crosses }
+        ensures { IsTrue result ↔ (compare (cornered self.now near.now.column) (cornered self.now far.now.column) ≡ Less) }
+    {
+        let _size = self.size;
+        if near.crosses > far.crosses {
+            false
+        } else if near.crosses < far.crosses {
+            true
+        } else {
+            self.cornered_rings(near.column, near.row) < self.cornered_rings(far.column, far.row)
+        }
+    }
+
+    /// The number of the Os of the translate that has the X of a column, in this row, in its lower left cell.
+    #[inline(never)]
+    fn cornered_rings(&self, column: u32, row: u64) -> u64
+        requires column { column < size self.now }
+        requires row { row ≡ slice_index self.now.x column }
+        ensures { result ≡ number (cornered self.now column).o }
+    {
+        lowered(cut(self.rings, column, self.size), row, self.size)
+    }
+}
+
+/// A translate with an X in its lower left cell.
+#[derive(Clone, Copy, Drop)]
+struct Cornered {
+    /// The column of this X in the grid.
+    column: u32,
+    /// Its row.
+    row: u64,
+    /// The number of the translate's Xs.
+    crosses: u64,
+}
