@@ -5,8 +5,8 @@ use crate::{
     LeastForm, LeastKey, Packed, ShortGrid, canonical, canonical_key, compare_keys, pack,
     translate, unpack,
 };
-use grid_core::{Grid, MAX_SIZE};
-use grid_moves::Widening;
+use grid_core::{Corner, Grid, Kind, MAX_SIZE};
+use grid_moves::{Widening, widening_of};
 use std::cmp::Ordering;
 use std::test::Fail;
 
@@ -153,16 +153,21 @@ fn the_plain_search_over_all_translates_agrees(rt: HostRuntime) -> Result<(), Fa
 
 #[test]
 fn a_wider_short_grid_has_the_key_of_its_rows(rt: HostRuntime) -> Result<(), Fail> {
-    let unknot = ShortGrid::of_rows(&[0, 1], &[1, 0]);
-    // the stabilisation of the X of column 0 with its O in the lower left corner
-    let wider = unknot.widened(Widening {
+    let (Ok(unknot), Ok(grid)) = (
+        Grid::new(&[0, 1], &[1, 0]),
+        Grid::new(&[1, 0, 2], &[0, 2, 1]),
+    ) else {
+        return Err(Fail::from("no grid"));
+    };
+    let widening = widening_of(&unknot, 0, Kind::Cross, Corner::LowLeft);
+    let expected = Widening {
         row: 0,
         crosses: 1,
         rings: 0,
-    });
-    let Ok(grid) = Grid::new(&[1, 0, 2], &[0, 2, 1]) else {
-        return Err(Fail::from("no grid"));
     };
+    assert_eq!(rt; widening, expected);
+    let short = ShortGrid::of_rows(unknot.rows(Kind::Cross), unknot.rows(Kind::Ring));
+    let wider = short.widened(widening);
     assert_eq!(rt; wider.canonical_key(), canonical_key(&grid));
     let least = canonical_key(&grid).key;
     let own = pack(&grid);
