@@ -13,11 +13,11 @@ use Rattle.grid_core.proofs.OneEach.{each_below}
 use Rattle.grid_moves.specs.Shift.{shifted}
 use Rattle.grid_moves.proofs.Shifted.{shifted_below}
 use Rattle.grid_canon.specs.declared.packed.TheConstants.{BASE}
-use Rattle.grid_canon.specs.declared.words.TheConstants.{SHORT}
+use Rattle.grid_canon.specs.declared.short_numbers.TheConstants.{MAX_SHORT_SIZE}
 use Rattle.grid_canon.specs.Translate.{turned}
 use Rattle.grid_canon.specs.Order.{compare}
 use Rattle.grid_canon.specs.Key.{number}
-use Rattle.grid_canon.specs.Digits.{digits, diagram_of, IsShort}
+use Rattle.grid_canon.specs.Digits.{digits, of_digits, IsShort}
 use Rattle.grid_canon.specs.Cornered.{cornered, IsCornered}
 use Rattle.grid_canon.proofs.Ordered.{nat_cmp_less, nat_cmp_greater, nat_cmp_same}
 use Rattle.grid_canon.proofs.Turned.{length-turned}
@@ -25,7 +25,7 @@ use Rattle.grid_canon.proofs.Numbers.{AreDigits, number-below, number-order}
 use Rattle.grid_canon.proofs.Digits.{length-digits, number-digits, digits-number}
 
 -- rows of a short grid are digits
-pub rows_digits : (n : ℕ) (rows : List ℕ) → n ≤ SHORT → All (λ r. r < n) rows → AreDigits rows
+pub rows_digits : (n : ℕ) (rows : List ℕ) → n ≤ MAX_SHORT_SIZE → All (λ r. r < n) rows → AreDigits rows
 rows_digits n rows most inside = λ k d lt. omega (arith, inside k d lt, most)
 
 -- a list from a place on, and then what stands before it
@@ -57,7 +57,7 @@ first_of_list x xs ys n is long all =
     let count : n - 1 ≡ length ys = omega (arith, sym long, ap length is) in
     ap₂ (λ zs (z : ℕ). number zs / BASE ^ z) is count ∙ div-mul-add x (BASE ^ length ys) (number ys) (number-below ys rest)
 
-pub cut_known : (n c value : ℕ) (rows : List ℕ) → length rows ≡ n → n ≤ SHORT → c < n → All (λ r. r < n) rows → value ≡ number (drop c rows ++ take c rows) → IsCut n c value rows
+pub cut_known : (n c value : ℕ) (rows : List ℕ) → length rows ≡ n → n ≤ MAX_SHORT_SIZE → c < n → All (λ r. r < n) rows → value ≡ number (drop c rows ++ take c rows) → IsCut n c value rows
 cut_known n c value rows long most lt inside is =
     let whole : length (drop c rows ++ take c rows) ≡ n = length-cut c rows (omega (arith, long, lt)) ∙ long in
     let within = cut_inside n c rows inside in
@@ -82,7 +82,7 @@ next_cut n c value next rows long lt known is =
 pub turned_number : (n c b value lowered : ℕ) (rows : List ℕ) → IsCut n c value rows → lowered ≡ number (map (shifted n b) (digits n value)) → lowered ≡ number (turned n c b rows)
 turned_number n c b value lowered rows known is = is ∙ ap (λ zs. number (map (shifted n b) zs)) known.list
 
-pub turned_digits : (n c b : ℕ) (rows : List ℕ) → length rows ≡ n → n ≤ SHORT → c < n → b < n → All (λ r. r < n) rows → AreDigits (turned n c b rows)
+pub turned_digits : (n c b : ℕ) (rows : List ℕ) → length rows ≡ n → n ≤ MAX_SHORT_SIZE → c < n → b < n → All (λ r. r < n) rows → AreDigits (turned n c b rows)
 turned_digits n c b rows long most hc hb inside =
     rows_digits n (turned n c b rows) most (All-map (λ r. r < n) (shifted n b) (drop c rows ++ take c rows) (λ k d lt. shifted_below n b (get_or (drop c rows ++ take c rows) k d) hb (cut_inside n c rows inside k d lt)))
 
@@ -93,16 +93,16 @@ order_by_numbers xs ys p q same ax ay ep eq = sym (number-order xs ys same ax ay
 -- a short grid, and the numbers of its rows
 pub record IsFew (n : ℕ) (d : Diagram) : Type 0 where
   pub columns : size d ≡ n
-  pub most : n ≤ SHORT
+  pub most : n ≤ MAX_SHORT_SIZE
   pub grid : IsGrid d
 
-pub few : (n crosses rings : ℕ) (d : Diagram) → diagram_of n crosses rings ≡ d → IsShort n crosses rings → IsFew n d
+pub few : (n crosses rings : ℕ) (d : Diagram) → of_digits n crosses rings ≡ d → IsShort n crosses rings → IsFew n d
 few n crosses rings d is short = record { columns = ap size (sym is) ∙ length-digits n crosses; most = short.most; grid = subst IsGrid is short.grid }
 
-pub crosses_are : (n crosses rings : ℕ) (d : Diagram) → diagram_of n crosses rings ≡ d → digits n crosses ≡ d.x
+pub crosses_are : (n crosses rings : ℕ) (d : Diagram) → of_digits n crosses rings ≡ d → digits n crosses ≡ d.x
 crosses_are n crosses rings d is = ap (λ e. e.x) is
 
-pub rings_are : (n crosses rings : ℕ) (d : Diagram) → diagram_of n crosses rings ≡ d → digits n rings ≡ d.o
+pub rings_are : (n crosses rings : ℕ) (d : Diagram) → of_digits n crosses rings ≡ d → digits n rings ≡ d.o
 rings_are n crosses rings d is = ap (λ e. e.o) is
 
 pub few_crosses : (n : ℕ) (d : Diagram) → IsFew n d → All (λ r. r < n) d.x
@@ -118,7 +118,7 @@ crosses_cut n c value d f lt is = cut_known n c value d.x f.columns f.most lt (f
 pub rings_cut : (n c value : ℕ) (d : Diagram) → IsFew n d → c < n → value ≡ number (drop c d.o ++ take c d.o) → IsCut n c value d.o
 rings_cut n c value d f lt is = cut_known n c value d.o (f.grid.same ∙ f.columns) f.most lt (few_rings n d f) is
 
-pub crosses_uncut : (n crosses rings : ℕ) (d : Diagram) → diagram_of n crosses rings ≡ d → IsShort n crosses rings → crosses ≡ number (drop 0 d.x ++ take 0 d.x)
+pub crosses_uncut : (n crosses rings : ℕ) (d : Diagram) → of_digits n crosses rings ≡ d → IsShort n crosses rings → crosses ≡ number (drop 0 d.x ++ take 0 d.x)
 crosses_uncut n crosses rings d is short = sym (number-digits n crosses short.crosses_fit) ∙ ap number (crosses_are n crosses rings d is ∙ cut_none d.x)
 
 pub next_crosses : (n c value next : ℕ) (d : Diagram) → IsFew n d → 1 ≤ c → c < n → value ≡ number (drop (c - 1) d.x ++ take (c - 1) d.x) → next ≡ number (drop 1 (digits n value) ++ take 1 (digits n value)) → next ≡ number (drop c d.x ++ take c d.x)
@@ -149,7 +149,7 @@ pub cornered_digits : (n c : ℕ) (d : Diagram) → IsFew n d → c < n → (Are
 cornered_digits n c d f lt =
     let within : get_or d.x c 0 < size d = each_below (size d) d.x f.grid.crosses c 0 (omega (arith, lt, f.columns)) in
     let inside : c < size d = omega (arith, lt, f.columns) in
-    let most : size d ≤ SHORT = omega (arith, f.columns, f.most) in (
+    let most : size d ≤ MAX_SHORT_SIZE = omega (arith, f.columns, f.most) in (
       (turned_digits (size d) c (get_or d.x c 0) d.x refl most inside within (each_below (size d) d.x f.grid.crosses), length-turned (size d) c (get_or d.x c 0) d.x (omega (arith, inside)) ∙ f.columns),
       (turned_digits (size d) c (get_or d.x c 0) d.o f.grid.same most inside within (each_below (size d) d.o f.grid.rings), length-turned (size d) c (get_or d.x c 0) d.o (omega (arith, inside, f.grid.same)) ∙ f.grid.same ∙ f.columns),
     )

@@ -7,19 +7,19 @@ use Rattle.std.proofs.lemmas.List.{take-append-drop, length-take-le, length-drop
 use Rattle.std.proofs.lemmas.List.Elements.{All-take, All-drop}
 use Rattle.grid_core.specs.declared.grid.TheConstants.{MAX_SIZE}
 use Rattle.grid_canon.specs.declared.packed.TheConstants.{BASE, DIGIT_BITS}
-use Rattle.grid_canon.specs.declared.words.TheConstants.{SHORT}
+use Rattle.grid_canon.specs.declared.short_numbers.TheConstants.{MAX_SHORT_SIZE}
 use Rattle.grid_canon.specs.Key.{number}
 use Rattle.grid_canon.specs.Digits.{digits}
 use Rattle.grid_canon.proofs.Numbers.{AreDigits, number-append, number-below, number-push, base_bits}
 use Rattle.grid_canon.proofs.Digits.{length-digits, digits-below, number-digits}
 
 -- one more digit of a short list: the number, and that it fits
-pub short_more : (rows : List ℕ) (i : ℕ) → AreDigits rows → length rows ≤ SHORT → i < length rows
+pub short_more : (rows : List ℕ) (i : ℕ) → AreDigits rows → length rows ≤ MAX_SHORT_SIZE → i < length rows
     → (number (take (i + 1) rows) ≡ number (take i rows) * BASE + get_or rows i 0) × (number (take i rows) * BASE + get_or rows i 0 < 2 ^ 64)
 short_more rows i all le lt =
     let more : number (take (i + 1) rows) ≡ number (take i rows) * BASE + get_or rows i 0 = ap number (take_more rows i 0 lt) ∙ number-push (take i rows) (get_or rows i 0) in
     let low = number-below (take (i + 1) rows) (All-take (λ digit. digit < BASE) (i + 1) rows all) in
-    let high = pow-le-pow_right {n = BASE} (omega arith) {i = length (take (i + 1) rows)} {j = SHORT} (omega (arith, length-take (i + 1) rows, le)) in
+    let high = pow-le-pow_right {n = BASE} (omega arith) {i = length (take (i + 1) rows)} {j = MAX_SHORT_SIZE} (omega (arith, length-take (i + 1) rows, le)) in
     (more, omega (arith, more, low, high))
 
 -- the digits of a number before a place, and those from it on
@@ -85,7 +85,7 @@ turned_word value p q high low above below fits is =
     ap₂ (λ (z w : ℕ). z * 2 ^ p % 2 ^ 64 + w) (low_of value p q high low above below (omega (arith, fits)) is) (high_of value q high low below is)
     ∙ ap (λ (z : ℕ). z + high) (shl_whole low q p 64 below (omega (arith, fits)))
 
-pub cut_word : (value place n : ℕ) → place < n → n ≤ SHORT → value < BASE ^ n
+pub cut_word : (value place n : ℕ) → place < n → n ≤ MAX_SHORT_SIZE → value < BASE ^ n
     → (rest value (DIGIT_BITS * (n - place)) * 2 ^ (DIGIT_BITS * place) % 2 ^ 64 + value / 2 ^ (DIGIT_BITS * (n - place)) ≡ number (back n place value ++ front n place value))
     × (number (back n place value ++ front n place value) < 2 ^ 64)
 cut_word value place n lt le low =
@@ -119,7 +119,7 @@ number-insert xs place digit =
     regrouped : (a b c d : ℕ) → a * (BASE * b) + (c * b + d) ≡ (a * BASE + c) * b + d
     regrouped a b c d = omega arith
 
-pub inserted_word : (value digit place n : ℕ) → place ≤ n → n < SHORT → value < BASE ^ n → digit < BASE
+pub inserted_word : (value digit place n : ℕ) → place ≤ n → n < MAX_SHORT_SIZE → value < BASE ^ n → digit < BASE
     → ((value / 2 ^ (DIGIT_BITS * (n - place)) * BASE % 2 ^ 64 + digit) * 2 ^ (DIGIT_BITS * (n - place)) % 2 ^ 64 + rest value (DIGIT_BITS * (n - place)) ≡ number (insert (digits n value) place digit))
     × (number (insert (digits n value) place digit) < 2 ^ 64)
 inserted_word value digit place n le lt low inside =
@@ -136,7 +136,7 @@ inserted_word value digit place n le lt low inside =
     )
 
 -- a first digit far in front of a short number
-pub filled_word : (head value n : ℕ) → head < BASE → n ≤ SHORT → value < BASE ^ n
+pub filled_word : (head value n : ℕ) → head < BASE → n ≤ MAX_SHORT_SIZE → value < BASE ^ n
     → (head * 2 ^ 120 % 2 ^ 128 + value * 2 ^ (DIGIT_BITS * (MAX_SIZE - n)) % 2 ^ 128 ≡ head * BASE ^ MAX_SIZE + value * BASE ^ (MAX_SIZE - n))
     × (head * BASE ^ MAX_SIZE + value * BASE ^ (MAX_SIZE - n) < 2 ^ 128)
 filled_word head value n inside le lt =
@@ -151,10 +151,10 @@ filled_word head value n inside le lt =
     )
 
 -- a short number as high in 64 bits as in the first of its digits, and from there on at 128
-pub full_word : (value n : ℕ) → n ≤ SHORT → value < BASE ^ n → value * 2 ^ (DIGIT_BITS * (SHORT - n)) % 2 ^ 64 * 2 ^ 60 ≡ value * 2 ^ (DIGIT_BITS * (MAX_SIZE - n))
+pub full_word : (value n : ℕ) → n ≤ MAX_SHORT_SIZE → value < BASE ^ n → value * 2 ^ (DIGIT_BITS * (MAX_SHORT_SIZE - n)) % 2 ^ 64 * 2 ^ 60 ≡ value * 2 ^ (DIGIT_BITS * (MAX_SIZE - n))
 full_word value n le lt =
     let p = DIGIT_BITS * n in
-    let q = DIGIT_BITS * (SHORT - n) in
+    let q = DIGIT_BITS * (MAX_SHORT_SIZE - n) in
     let short : value < 2 ^ p = subst (λ (z : ℕ). value < z) (base_bits n) lt in
     ap (λ (z : ℕ). z * 2 ^ 60) (shl_whole value p q 64 short (omega (arith, le)))
     ∙ regrouped value (2 ^ q) (2 ^ 60)
@@ -164,7 +164,7 @@ full_word value n le lt =
     regrouped a b c = omega arith
 
 -- the first digit behind the others
-pub turned_known : (value first n : ℕ) → 2 ≤ n → n ≤ SHORT → value < BASE ^ n → first ≡ value / BASE ^ (n - 1)
+pub turned_known : (value first n : ℕ) → 2 ≤ n → n ≤ MAX_SHORT_SIZE → value < BASE ^ n → first ≡ value / BASE ^ (n - 1)
     → ((value - first * 2 ^ (DIGIT_BITS * (n - 1)) % 2 ^ 64) * 2 ^ DIGIT_BITS % 2 ^ 64 + first ≡ number (drop 1 (digits n value) ++ take 1 (digits n value)))
     × (number (drop 1 (digits n value) ++ take 1 (digits n value)) < 2 ^ 64)
     × (first * 2 ^ (DIGIT_BITS * (n - 1)) % 2 ^ 64 ≤ value)

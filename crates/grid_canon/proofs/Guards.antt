@@ -12,7 +12,7 @@ use Rattle.grid_core.specs.Places.{lifted}
 use Rattle.grid_moves.specs.Shift.{shifted}
 use Rattle.grid_moves.proofs.Shifted.{shifted_low, shifted_high, shifted_below}
 use Rattle.grid_canon.specs.declared.packed.TheConstants.{BASE}
-use Rattle.grid_canon.specs.declared.words.TheConstants.{SHORT}
+use Rattle.grid_canon.specs.declared.short_numbers.TheConstants.{MAX_SHORT_SIZE}
 use Rattle.grid_canon.specs.Key.{number}
 use Rattle.grid_canon.specs.Digits.{digits}
 use Rattle.grid_canon.proofs.Numbers.{AreDigits, number-below, base_bits}
@@ -164,9 +164,9 @@ pub record Room (value by units : ℕ) : Type 0 where
   pub guards : 16 * units < 2 ^ 60
   pub taken : by * units ≤ 16 * units
 
-room : (value by units : ℕ) (xs : List ℕ) → length xs ≤ SHORT → by ≤ 16 → All (λ r. r < 16) xs → value ≡ number xs → units ≡ ones_of (length xs) → Room value by units
+room : (value by units : ℕ) (xs : List ℕ) → length xs ≤ MAX_SHORT_SIZE → by ≤ 16 → All (λ r. r < 16) xs → value ≡ number xs → units ≡ ones_of (length xs) → Room value by units
 room value by units xs long le low is count =
-    let most : BASE ^ length xs ≤ 2 ^ 60 = pow-le-pow_right {n = BASE} (omega arith) {i = length xs} {j = SHORT} long in
+    let most : BASE ^ length xs ≤ 2 ^ 60 = pow-le-pow_right {n = BASE} (omega arith) {i = length xs} {j = MAX_SHORT_SIZE} long in
     let small : AreDigits xs = λ k d inside. omega (arith, low k d inside) in
     record {
       digits = omega (arith, number-below xs small);
@@ -190,7 +190,7 @@ pub record Lowers (size value by units times : ℕ) : Type 0 where
   pub whole : guarded value by units + times * ((16 * units - kept value by units) / 16) ≡ number (map (shifted size by) (digits size value)) + 16 * units
   pub below : number (map (shifted size by) (digits size value)) < 2 ^ 60
 
-pub lowered_digits : (size value by units times : ℕ) → size ≤ SHORT → value < BASE ^ size → by < size → All (λ r. r < size) (digits size value) → units ≡ ones_of size → times ≡ size → Lowers size value by units times
+pub lowered_digits : (size value by units times : ℕ) → size ≤ MAX_SHORT_SIZE → value < BASE ^ size → by < size → All (λ r. r < size) (digits size value) → units ≡ ones_of size → times ≡ size → Lowers size value by units times
 lowered_digits size value by units times most lt small inside count turns =
     let xs : List ℕ = digits size value in
     let long : length xs ≡ size = length-digits size value in
@@ -206,7 +206,7 @@ lowered_digits size value by units times most lt small inside count turns =
           ∙ ap (λ (z : ℕ). z + size * number_by (under by) xs) (guarded_is value by units xs le is ones)
           ∙ lowered_sum size by xs (omega arith) small inside
           ∙ ap (λ (z : ℕ). number_by (shifted size by) xs + 16 * z) (sym ones);
-      below = omega (arith, number_by-below (shifted size by) xs (λ k d within. omega (arith, shifted_below size by (get_or xs k d) small (inside k d within))), pow-le-pow_right {n = BASE} (omega arith) {i = length xs} {j = SHORT} (omega arith));
+      below = omega (arith, number_by-below (shifted size by) xs (λ k d within. omega (arith, shifted_below size by (get_or xs k d) small (inside k d within))), pow-le-pow_right {n = BASE} (omega arith) {i = length xs} {j = MAX_SHORT_SIZE} (omega arith));
     }
 
 -- the rows lifted from a row on
@@ -215,7 +215,7 @@ pub record Lifts (size value row units : ℕ) : Type 0 where
   pub whole : value + kept value row units / 16 ≡ number (map (lifted row) (digits size value))
   pub left : kept value row units / 16 ≤ units
 
-pub lifted_digits : (size value row units : ℕ) → size < SHORT → value < BASE ^ size → row ≤ size → All (λ r. r < size) (digits size value) → units ≡ ones_of size → Lifts size value row units
+pub lifted_digits : (size value row units : ℕ) → size < MAX_SHORT_SIZE → value < BASE ^ size → row ≤ size → All (λ r. r < size) (digits size value) → units ≡ ones_of size → Lifts size value row units
 lifted_digits size value row units most lt small inside count =
     let xs : List ℕ = digits size value in
     let long : length xs ≡ size = length-digits size value in

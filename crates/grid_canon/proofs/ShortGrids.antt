@@ -12,9 +12,9 @@ use Rattle.grid_core.proofs.OneEach.{each_below}
 use Rattle.grid_moves.specs.declared.stabilise.Widening.{Widening}
 use Rattle.grid_moves.specs.Widening.{widened}
 use Rattle.grid_canon.specs.declared.packed.TheConstants.{BASE}
-use Rattle.grid_canon.specs.declared.words.TheConstants.{SHORT}
+use Rattle.grid_canon.specs.declared.short_numbers.TheConstants.{MAX_SHORT_SIZE}
 use Rattle.grid_canon.specs.Key.{number, key_of}
-use Rattle.grid_canon.specs.Digits.{digits, diagram_of, IsShort}
+use Rattle.grid_canon.specs.Digits.{digits, of_digits, IsShort}
 use Rattle.grid_canon.specs.Cornered.{cornered}
 use Rattle.grid_canon.proofs.Turned.{length-turned}
 use Rattle.grid_canon.proofs.Numbers.{AreDigits, number-below, number_of_filled}
@@ -32,11 +32,11 @@ read_digits n value rows long all is = ap₂ digits (sym long) is ∙ digits-num
 digits_fit : (n value : ℕ) (rows : List ℕ) → length rows ≡ n → AreDigits rows → value ≡ number rows → value < BASE ^ n
 digits_fit n value rows long all is = subst (λ (z : ℕ). z < BASE ^ n) (sym is) (subst (λ (z : ℕ). number rows < BASE ^ z) long (number-below rows all))
 
-pub short_from : (d : Diagram) (n crosses rings : ℕ) → IsGrid d → size d ≡ n → n ≤ SHORT → crosses ≡ number d.x → rings ≡ number d.o → (diagram_of n crosses rings ≡ d) × IsShort n crosses rings
+pub short_from : (d : Diagram) (n crosses rings : ℕ) → IsGrid d → size d ≡ n → n ≤ MAX_SHORT_SIZE → crosses ≡ number d.x → rings ≡ number d.o → (of_digits n crosses rings ≡ d) × IsShort n crosses rings
 short_from d n crosses rings grid columns most ex eo =
     let ax : AreDigits d.x = rows_digits (size d) d.x (omega (arith, columns, most)) (each_below (size d) d.x grid.crosses) in
     let ao : AreDigits d.o = rows_digits (size d) d.o (omega (arith, columns, most)) (each_below (size d) d.o grid.rings) in
-    let is : diagram_of n crosses rings ≡ d = ap₂ (λ x o. pair x o) (read_digits n crosses d.x columns ax ex) (read_digits n rings d.o (grid.same ∙ columns) ao eo) in (
+    let is : of_digits n crosses rings ≡ d = ap₂ (λ x o. pair x o) (read_digits n crosses d.x columns ax ex) (read_digits n rings d.o (grid.same ∙ columns) ao eo) in (
       is,
       record {
         most = most;
@@ -51,7 +51,7 @@ pub record IsLifted (n row value : ℕ) (rows : List ℕ) : Type 0 where
   pub fits : value < BASE ^ n
   pub list : digits n value ≡ map (lifted row) rows
 
-pub lifted_known : (n row value : ℕ) (rows : List ℕ) → length rows ≡ n → n < SHORT → row ≤ n → All (λ r. r < n) rows → value ≡ number (map (lifted row) rows) → IsLifted n row value rows
+pub lifted_known : (n row value : ℕ) (rows : List ℕ) → length rows ≡ n → n < MAX_SHORT_SIZE → row ≤ n → All (λ r. r < n) rows → value ≡ number (map (lifted row) rows) → IsLifted n row value rows
 lifted_known n row value rows long most le inside is =
     let count : length (map (lifted row) rows) ≡ n = length-map rows (lifted row) ∙ long in
     let all : AreDigits (map (lifted row) rows) = All-map (λ digit. digit < BASE) (lifted row) rows (λ k d lt. omega (arith, lifted-below row (get_or rows k d) n (inside k d lt) le, most)) in

@@ -15,8 +15,8 @@ ghost use Rattle.grid_canon.specs.Cornered.{cornered, IsFirstLeast};
 
 use crate::packed::{Packed, turned_key};
 use crate::short::ShortGrid;
+use crate::short_numbers::MAX_SHORT_SIZE;
 use crate::translation::{lowered_wide, translate};
-use crate::words::SHORT;
 use grid_core::{Grid, Kind};
 use std::cmp::Ordering;
 
@@ -77,16 +77,14 @@ pub struct LeastKey {
 pub fn canonical_key(grid: &Grid) -> LeastKey
     ensures { IsLeastKey grid.now result }
 {
-    let size = grid.size();
-    let (x, o) = (grid.rows(Kind::Cross), grid.rows(Kind::Ring));
-    if size as usize <= SHORT {
-        ShortGrid::of_rows(x, o).canonical_key()
+    if grid.size() as usize <= MAX_SHORT_SIZE {
+        ShortGrid::of(grid).canonical_key()
     } else {
-        long_key(x, o)
+        long_key(grid.rows(Kind::Cross), grid.rows(Kind::Ring))
     }
 }
 
-/// The same by the rows of the Xs and of the Os, of any size.
+/// The key of the canonical form of a grid of any size, by the rows of its Xs and of its Os.
 fn long_key(x: &[u8], o: &[u8]) -> LeastKey
     requires { IsGrid (record { x = x.now; o = o.now }) }
     ensures { IsLeastKey (record { x = x.now; o = o.now }) result }
@@ -137,8 +135,8 @@ fn second_row(x: &[u8], column: usize, next: usize) -> u64
     lowered_wide(u64::from(x[next]), u64::from(x[column]), x.len() as u64)
 }
 
-/// Of a column behind those that were compared and the first that gives the least translate among them, the first that gives the
-/// least among all of these, where the X of the new column's second column isn't higher.
+/// The first column that gives the least translate when one more, `near`, is compared with `far`, the first that gave it so far, where
+/// the X of its second column isn't higher.
 fn first_of(x: &[u8], o: &[u8], near: usize, near_step: u64, far: usize, far_step: u64) -> usize
     requires grid { IsGrid (record { x = x.now; o = o.now }) }
     requires near { near < length x.now }
@@ -159,7 +157,7 @@ fn first_of(x: &[u8], o: &[u8], near: usize, near_step: u64, far: usize, far_ste
 }
 
 /// The order of the two translates that have the Xs of two columns in their lower left cells, where the Xs of their second columns
-/// are in one row.
+/// are in one row. It is seldom called: kept out of the loop over the columns.
 #[inline(never)]
 fn compare_cornered(x: &[u8], o: &[u8], near: usize, far: usize) -> Ordering
     requires grid { IsGrid (record { x = x.now; o = o.now }) }

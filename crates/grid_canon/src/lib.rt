@@ -6,13 +6,13 @@ pub mod laws;
 mod least;
 mod packed;
 mod short;
+mod short_numbers;
 #[cfg(test)]
 mod tests;
 mod translation;
-mod words;
 
 pub use least::{LeastForm, LeastKey, canonical, canonical_key};
 pub use packed::{BASE, Packed, compare_keys, pack, unpack};
 pub use short::ShortGrid;
+pub use short_numbers::MAX_SHORT_SIZE;
 pub use translation::translate;
-pub use words::SHORT;

@@ -55,8 +55,8 @@ pub fn unpack(key: Packed) -> Option<Grid>
     if size > MAX_SIZE as u128 {
         return None;
     }
-    let x = digits(key.first, size as u8);
-    let o = digits(key.second, size as u8);
+    let x = rows_of_key(key.first, size as u8);
+    let o = rows_of_key(key.second, size as u8);
     match Grid::new(x.as_slice(), o.as_slice()) {
         Ok(grid) => if_key(grid, key),
         Err(_) => None,
@@ -142,8 +142,8 @@ fn lowered_digits(value: u128, rows: &[u8], by: u8, size: u8) -> u128
     long
 }
 
-/// The digits of the first columns.
-fn digits(value: u128, count: u8) -> Rows
+/// The rows of the first columns in a number of a key.
+fn rows_of_key(value: u128, count: u8) -> Rows
     requires { count ≤ MAX_SIZE }
     ensures { result.items ≡ map (digit_at value) (range_with_len 0 count) }
 {

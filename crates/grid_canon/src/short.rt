@@ -1,5 +1,5 @@
 //! Short grids: the rows of at most twelve columns as the digits of two numbers.
-ghost use Rattle.std.specs.Prelude.{◌≡◌, ◌<◌, ◌≤◌, ◌↔◌, length, slice_index, IsTrue};
+ghost use Rattle.std.specs.Prelude.{◌≡◌, ◌<◌, ◌≤◌, ◌↔◌, slice_index, nat_lt, IsTrue};
 ghost use Rattle.std.specs.declared.cmp.Ordering.TheVariants.{Less};
 ghost use Rattle.grid_core.specs.Diagram.{IsGrid, size};
 ghost use Rattle.grid_moves.specs.Widening.{widened};
@@ -10,13 +10,14 @@ ghost use Rattle.grid_canon.specs.LeastKey.{IsLeastKey};
 
 use crate::least::LeastKey;
 use crate::packed::{BASE, Packed};
-use crate::words::{
-    SHORT, cut, filled, first_digit, lifted, lowered, number_of, turned, with_digit,
+use crate::short_numbers::{
+    MAX_SHORT_SIZE, cut, cut_next, filled, first_digit, lifted, lowered, number_of, with_digit,
 };
+use grid_core::{Grid, Kind};
 use grid_moves::Widening;
 use std::marker::Model;
 
-/// A grid of at most `SHORT` columns, as two numbers whose digits are its rows: one step of arithmetic moves the marks of all columns.
+/// A grid of at most `MAX_SHORT_SIZE` columns, as two numbers whose digits are its rows: one step of arithmetic moves the marks of all columns.
 /// Contracts see it as the diagram.
 #[derive(Drop)]
 pub struct ShortGrid {
@@ -29,33 +30,32 @@ pub struct ShortGrid {
 
 impl Model for ShortGrid {
     ghost use Rattle.grid_core.specs.Diagram.{Diagram};
-    ghost use Rattle.grid_canon.specs.Digits.{diagram_of, IsShort};
+    ghost use Rattle.grid_canon.specs.Digits.{of_digits, IsShort};
 
     ghost Value = { Diagram };
 
-    ghost view = { λ g. diagram_of g.size g.crosses g.rings };
+    ghost view = { λ g. of_digits g.size g.crosses g.rings };
 
     ghost invariant = { λ g. IsShort g.size g.crosses g.rings };
 }
 
 impl ShortGrid {
-    /// The grid of the rows of the Xs and of the Os by column, which are known to be one. Takes no memory.
-    pub fn of_rows(x: &[u8], o: &[u8]) -> ShortGrid
-        requires grid { IsGrid (record { x = x.now; o = o.now }) }
-        requires short { length x.now ≤ SHORT }
-        ensures { result ≡ record { x = x.now; o = o.now } }
+    /// The short grid of a grid that has at most `MAX_SHORT_SIZE` columns. Takes no memory.
+    pub fn of(grid: &Grid) -> ShortGrid
+        requires { size grid.now ≤ MAX_SHORT_SIZE }
+        ensures { result ≡ grid.now }
     {
         ShortGrid {
-            size: x.len() as u32,
-            crosses: number_of(x),
-            rings: number_of(o),
+            size: u32::from(grid.size()),
+            crosses: number_of(grid.rows(Kind::Cross)),
+            rings: number_of(grid.rows(Kind::Ring)),
         }
     }
 
     /// The grid with one more row, and for the marks of each kind one more column, which are known to make a grid. Takes no memory.
     pub fn widened(&self, widening: Widening) -> ShortGrid
         requires grid { IsGrid (widened widening self.now) }
-        requires short { size self.now < SHORT }
+        requires short { size self.now < MAX_SHORT_SIZE }
         requires row { widening.row ≤ size self.now }
         requires crosses { widening.crosses ≤ size self.now }
         requires rings { widening.rings ≤ size self.now }
@@ -78,7 +78,7 @@ impl ShortGrid {
     {
         let size = self.size;
         let least = self.least_translate();
-        let rings = lowered(cut(self.rings, least.column, size), least.row, size);
+        let rings = self.cornered_rings(least.column, least.row);
         LeastKey {
             key: Packed {
                 first: filled(size, least.crosses, size),
@@ -103,7 +103,7 @@ impl ShortGrid {
             crosses: lowered(crosses, row, size),
         };
         for column in 1..size {
-            crosses = turned(crosses, row, size);
+            crosses = cut_next(crosses, row, size);
             row = first_digit(crosses, size);
             let next = Cornered {
                 column,
@@ -129,12 +129,22 @@ impl ShortGrid {
         } else if near.crosses < far.crosses {
             true
         } else {
-            self.cornered_rings(near.column, near.row) < self.cornered_rings(far.column, far.row)
+            self.rings_come_before(near, far)
         }
     }
 
-    /// The number of the Os of the translate that has the X of a column, in this row, in its lower left cell.
+    /// Whether the number of the Os of one translate is below that of another. It is seldom called: kept out of the loop over the
+    /// columns, whose numbers so stay in registers.
     #[inline(never)]
+    fn rings_come_before(&self, near: &Cornered, far: &Cornered) -> bool
+        requires near { IsCornered self.now near.now.column near.now.row near.now.crosses }
+        requires far { IsCornered self.now far.now.column far.now.row far.now.crosses }
+        ensures { result ≡ nat_lt (number (cornered self.now near.now.column).o) (number (cornered self.now far.now.column).o) }
+    {
+        self.cornered_rings(near.column, near.row) < self.cornered_rings(far.column, far.row)
+    }
+
+    /// The number of the Os of the translate that has the X of a column, in this row, in its lower left cell.
     fn cornered_rings(&self, column: u32, row: u64) -> u64
         requires column { column < size self.now }
         requires row { row ≡ slice_index self.now.x column }

@@ -166,9 +166,16 @@ fn a_wider_short_grid_has_the_key_of_its_rows(rt: HostRuntime) -> Result<(), Fai
         rings: 0,
     };
     assert_eq!(rt; widening, expected);
-    let short = ShortGrid::of_rows(unknot.rows(Kind::Cross), unknot.rows(Kind::Ring));
-    let wider = short.widened(widening);
+    let wider = ShortGrid::of(&unknot).widened(widening);
     assert_eq!(rt; wider.canonical_key(), canonical_key(&grid));
+    Ok(())
+}
+
+#[test]
+fn keys_are_compared_by_their_numbers(rt: HostRuntime) -> Result<(), Fail> {
+    let Ok(grid) = Grid::new(&[1, 0, 2], &[0, 2, 1]) else {
+        return Err(Fail::from("no grid"));
+    };
     let least = canonical_key(&grid).key;
     let own = pack(&grid);
     assert!(rt; compare_keys(&least, &own) == Ordering::Less);

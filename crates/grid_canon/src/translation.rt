@@ -64,7 +64,7 @@ pub(crate) fn lowered(row: u8, by: u8, size: u8) -> u8
     }
 }
 
-/// The same for wide numbers, in a form of which the compiler makes short code with no branch: below 0 a number goes round to the
+/// `lowered` for wide numbers, in a form of which the compiler makes short code with no branch: below 0 a number goes round to the
 /// greatest ones, so of the difference and the difference one size higher the right one is the less.
 pub(crate) fn lowered_wide(row: u64, by: u64, size: u64) -> u64
     requires size { size ≤ MAX_SIZE }

@@ -12,7 +12,7 @@ ghost use Rattle.next_moves.specs.Extends.{Extends, next, row_of_both, counted};
 use crate::offer::{Link, Offer};
 use crate::offers::MAX_OFFERS;
 use arrayvec::ArrayVec;
-use grid_canon::{SHORT, ShortGrid, canonical_key, translate};
+use grid_canon::{MAX_SHORT_SIZE, ShortGrid, canonical_key, translate};
 use grid_core::{Corner, Grid, Kind};
 use grid_moves::{Move, apply, widening_of};
 
@@ -131,19 +131,20 @@ pub(crate) fn destabilise(list: &mut OfferList, grid: &Grid, cap: u8)
     destabilise_column(list, grid, cap, last, 1, &turned, &both);
 }
 
-/// Appends the destabilisations at a column and the next one, of which the shift `by` brings both side by side.
+/// Appends the destabilisations at a column and the next one, of which the shift `by` brings both side by side: `low` is the grid after
+/// this shift, and `high` after a shift of rows by 1 too.
 fn destabilise_column(
     list: &mut OfferList,
     grid: &Grid,
     cap: u8,
     c: u8,
     by: u8,
-    plain: &Grid,
+    low: &Grid,
     high: &Grid,
 )
     requires column { c < size grid.now }
     requires by { by ≡ turn (size grid.now) c }
-    requires plain { plain.now ≡ translate grid.now by 0 }
+    requires low { low.now ≡ translate grid.now by 0 }
     requires high { high.now ≡ translate grid.now by 1 }
     requires room { length list.old.items + 2 ≤ MAX_OFFERS }
     ensures offered { Extends grid.now cap (destabilisations (size grid.now) c) list.old.items list.new.items }
@@ -154,7 +155,7 @@ fn destabilise_column(
     let near = row_of_both(grid, c);
     let far = row_of_both(grid, next(c, size));
     for r in 0..last {
-        try_block(list, grid, cap, c, r, near, far, (by, 0), plain);
+        try_block(list, grid, cap, c, r, near, far, (by, 0), low);
     }
     try_block(list, grid, cap, c, last, near, far, (by, 1), high);
 }
@@ -237,11 +238,10 @@ pub(crate) fn stabilise(list: &mut OfferList, grid: &Grid, cap: u8)
 
 /// The grid as a short one, where a short one has room for one more column.
 fn short_of(grid: &Grid) -> Option<ShortGrid>
-    ensures { IfSome result (λ s. (s ≡ grid.now) × (size grid.now < SHORT)) }
+    ensures { IfSome result (λ s. (s ≡ grid.now) × (size grid.now < MAX_SHORT_SIZE)) }
 {
-    if (grid.size() as usize) < SHORT {
-        let (x, o) = (grid.rows(Kind::Cross), grid.rows(Kind::Ring));
-        Some(ShortGrid::of_rows(x, o))
+    if (grid.size() as usize) < MAX_SHORT_SIZE {
+        Some(ShortGrid::of(grid))
     } else {
         None
     }
@@ -258,7 +258,7 @@ fn stabilise_mark(
 )
     requires column { column < size grid.now }
     requires cap { size grid.now < cap }
-    requires short { IfSome short.now (λ s. (s ≡ grid.now) × (size grid.now < SHORT)) }
+    requires short { IfSome short.now (λ s. (s ≡ grid.now) × (size grid.now < MAX_SHORT_SIZE)) }
     requires room { length list.old.items + 4 ≤ MAX_OFFERS }
     ensures offered { Extends grid.now cap (map (stabilisation column kind) corners) list.old.items list.new.items }
     ensures fits { length list.new.items ≤ length list.old.items + 4 }
@@ -280,7 +280,7 @@ fn stabilise_at(
 )
     requires column { column < size grid.now }
     requires cap { size grid.now < cap }
-    requires short { IfSome short.now (λ s. (s ≡ grid.now) × (size grid.now < SHORT)) }
+    requires short { IfSome short.now (λ s. (s ≡ grid.now) × (size grid.now < MAX_SHORT_SIZE)) }
     requires room { length list.old.items < MAX_OFFERS }
     ensures offered { Extends grid.now cap (stabilisation column kind corner ∷ []) list.old.items list.new.items }
     ensures fits { length list.new.items ≤ length list.old.items + 1 }
@@ -312,7 +312,7 @@ fn push_stabilised(
     requires column { column < size grid.now }
     requires cap { size grid.now < cap }
     requires short { short.now ≡ grid.now }
-    requires few { size grid.now < SHORT }
+    requires few { size grid.now < MAX_SHORT_SIZE }
     requires room { length list.old.items < MAX_OFFERS }
     ensures offered { Extends grid.now cap (stabilisation column kind corner ∷ []) list.old.items list.new.items }
     ensures fits { length list.new.items ≤ length list.old.items + 1 }

@@ -1,4 +1,4 @@
-//! Offers on worked examples, as a plain program lists them.
+//! Offers on worked examples, as another program lists them.
 mod neighbours;
 
 ghost use Rattle.std.specs.Prelude.{◌<◌, ◌≤◌};
@@ -176,12 +176,15 @@ fn renewed_offers_are_those_of_a_new_list(rt: HostRuntime) -> Result<(), Fail> {
     assert_eq!(rt; offers.cap(), 8);
     assert!(rt; offers.offers() == first.offers());
     offers.renew(&small, small.grid.size());
+    assert!(rt; offers.offers() == Offers::of(&small, small.grid.size()).offers());
     assert_eq!(rt; offers.offers().len(), 6);
     Ok(())
 }
 
 #[test]
-fn diagrams_of_many_columns_have_offers_too(rt: HostRuntime) -> Result<(), Fail> {
+fn diagrams_of_many_columns_are_offered_what_the_plain_program_finds(
+    rt: HostRuntime,
+) -> Result<(), Fail> {
     // the last whose stabilisations are made on numbers of 64 bits, and the first that has too many columns
     let eleven = (
         [0, 3, 6, 9, 1, 4, 7, 10, 2, 5, 8],
@@ -203,16 +206,7 @@ fn diagrams_of_many_columns_have_offers_too(rt: HostRuntime) -> Result<(), Fail>
         if size as usize >= MAX_SIZE {
             return Err(Fail::from("no room"));
         }
-        let offers = Offers::of(&form, size + 1);
-        let stabilised = offers
-            .offers()
-            .iter()
-            .filter(|offer| matches!(offer.link.step, Move::Stabilise { .. }))
-            .count();
-        assert_eq!(rt; stabilised, 8 * usize::from(size));
-        for offer in offers.offers() {
-            assert!(rt; leads(&form.grid, offer.link, offer.key), "{offer:?}");
-        }
+        neighbours::compare(rt.alloc(), &form, size + 1)?;
     }
     Ok(())
 }

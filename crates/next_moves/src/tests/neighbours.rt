@@ -91,7 +91,7 @@ fn offered(alloc: Global, offers: &Offers) -> Result<Vec<Packed>, Fail> {
 }
 
 /// Compares the offers of a canonical diagram within a cap with its neighbours, and follows each link.
-fn compare(alloc: Global, form: &LeastForm, cap: u8) -> Result<(), Fail>
+pub fn compare(alloc: Global, form: &LeastForm, cap: u8) -> Result<(), Fail>
     requires canonical { IsCanonical form.now.grid }
     requires least { size form.now.grid ≤ cap }
     requires most { cap ≤ MAX_SIZE }
@@ -108,11 +108,11 @@ fn compare(alloc: Global, form: &LeastForm, cap: u8) -> Result<(), Fail>
     Ok(())
 }
 
-/// Compares the offers of each canonical diagram of a size, found among all pairs of lists of as many rows, within this size and the
-/// next, and answers how many diagrams there are.
-fn compared(alloc: Global, n: u8, lists: u16) -> Result<u32, Fail>
+/// Compares the offers of each canonical diagram of a size, found among all pairs of lists of as many rows, within this size and, if
+/// wanted, within the next, and answers how many diagrams there are.
+fn compared(alloc: Global, n: u8, lists: u16, next: bool) -> Result<u32, Fail>
     requires least { 1 < n }
-    requires most { n ≤ 4 }
+    requires most { n ≤ 5 }
 {
     let mut count: u32 = 0;
     for first in 0..lists {
@@ -123,9 +123,11 @@ fn compared(alloc: Global, n: u8, lists: u16) -> Result<u32, Fail>
             if let Ok(grid) = Grid::new(x, o) {
                 let form = canonical(&grid);
                 let size = form.grid.size();
-                if form.grid.same_as(&grid) && size <= 4 {
+                if form.grid.same_as(&grid) && size <= 5 {
                     compare(alloc, &form, size)?;
-                    compare(alloc, &form, size + 1)?;
+                    if next {
+                        compare(alloc, &form, size + 1)?;
+                    }
                     count = count.saturating_add(1);
                 }
             }
@@ -134,11 +136,11 @@ fn compared(alloc: Global, n: u8, lists: u16) -> Result<u32, Fail>
     Ok(count)
 }
 
-/// The four last digits of a number to a base, the last one first.
-fn digits(number: u16, base: u8) -> [u8; 4]
+/// The five last digits of a number to a base, the last one first.
+fn digits(number: u16, base: u8) -> [u8; 5]
     requires { 1 < base }
 {
-    let mut digits = [0; 4];
+    let mut digits = [0; 5];
     let mut rest = number;
     for digit in digits.iter_mut() {
         *digit = (rest % u16::from(base)) as u8;
@@ -152,8 +154,9 @@ fn small_diagrams_are_offered_what_every_move_on_every_translate_gives(
     rt: HostRuntime,
 ) -> Result<(), Fail> {
     let alloc = rt.alloc();
-    assert_eq!(rt; compared(alloc, 2, 4)?, 1);
-    assert_eq!(rt; compared(alloc, 3, 27)?, 4);
-    assert_eq!(rt; compared(alloc, 4, 256)?, 19);
+    assert_eq!(rt; compared(alloc, 2, 4, true)?, 1);
+    assert_eq!(rt; compared(alloc, 3, 27, true)?, 4);
+    assert_eq!(rt; compared(alloc, 4, 256, true)?, 19);
+    assert_eq!(rt; compared(alloc, 5, 3125, false)?, 224);
     Ok(())
 }

@@ -18,5 +18,5 @@ returns-clause-offered c =
     extends_flat_last c.args.grid.now c.args.cap (destabilisations (size c.args.grid.now)) (size c.args.grid.now) c.loop-c.c c.args.list.now.items c.loop-c.list.items c.destabilise_column-2.new.list.items (omega arith) c.loop-c.invariant.offered
     (subst (λ (k : ℕ). Extends c.args.grid.now c.args.cap (destabilisations (size c.args.grid.now) k) c.loop-c.list.items c.destabilise_column-2.new.list.items) (omega arith) c.destabilise_column-2.ensures.offered)
 
-pub destabilise_column-requires-clause-plain : goal.destabilise_column-requires-clause-plain
-destabilise_column-requires-clause-plain c = sym (translate_none c.args.grid.now c.size-last.ensures.grid)
+pub destabilise_column-requires-clause-low : goal.destabilise_column-requires-clause-low
+destabilise_column-requires-clause-low c = sym (translate_none c.args.grid.now c.size-last.ensures.grid)

@@ -1,52 +1,9 @@
-use Rattle.std.proofs.Common.{◌<◌, ◌∙◌, ◌++◌, take, drop, arith, refl, ap}
-use Rattle.grid_canon.specs.Key.{number}
+use Rattle.std.proofs.Common.{◌<◌, arith, refl}
 use Rattle.grid_canon.specs.Cornered.{cornered}
 use Rattle.grid_canon.proofs.LeastTranslates.{least_form_at}
-use Rattle.grid_canon.proofs.CutNumbers.{few, row_within, rings_are, rings_cut, cornered_rings, cornered_digits, cornered_fits}
+use Rattle.grid_canon.proofs.CutNumbers.{few, row_within, cornered_digits, cornered_fits}
 use Rattle.grid_canon.proofs.ShortGrids.{cornered_key}
 use Rattle.grid_canon.proofs.short.ShortGrid.canonical_key.Goals as goal
-
-pub cut-requires-clause-place : goal.cut-requires-clause-place
-cut-requires-clause-place c =
-    let s = c.self.inside in
-    let d = c.args.self.now in
-    let f = few s.size s.crosses s.rings d c.self.view_is c.self.invariant in
-    let t = c.least_translate-least.result in
-    let found = c.least_translate-least.ensures.found in
-    let lt : t.column < s.size = omega (arith, found.inside, f.columns) in
-    lt
-
-pub lowered-rings-requires-clause-value : goal.lowered-rings-requires-clause-value
-lowered-rings-requires-clause-value c =
-    let s = c.self.inside in
-    let d = c.args.self.now in
-    let f = few s.size s.crosses s.rings d c.self.view_is c.self.invariant in
-    let t = c.least_translate-least.result in
-    let found = c.least_translate-least.ensures.found in
-    let lt : t.column < s.size = omega (arith, found.inside, f.columns) in
-    let other = rings_cut s.size t.column c.cut.result d f lt (c.cut.ensures ∙ ap (λ zs. number (drop t.column zs ++ take t.column zs)) (rings_are s.size s.crosses s.rings d c.self.view_is)) in
-    other.fits
-
-pub lowered-rings-requires-clause-by : goal.lowered-rings-requires-clause-by
-lowered-rings-requires-clause-by c =
-    let s = c.self.inside in
-    let d = c.args.self.now in
-    let f = few s.size s.crosses s.rings d c.self.view_is c.self.invariant in
-    let t = c.least_translate-least.result in
-    let found = c.least_translate-least.ensures.found in
-    let lt : t.column < s.size = omega (arith, found.inside, f.columns) in
-    row_within s.size t.column t.row d f found.inside found.row_is
-
-pub lowered-rings-requires-clause-inside : goal.lowered-rings-requires-clause-inside
-lowered-rings-requires-clause-inside c =
-    let s = c.self.inside in
-    let d = c.args.self.now in
-    let f = few s.size s.crosses s.rings d c.self.view_is c.self.invariant in
-    let t = c.least_translate-least.result in
-    let found = c.least_translate-least.ensures.found in
-    let lt : t.column < s.size = omega (arith, found.inside, f.columns) in
-    let other = rings_cut s.size t.column c.cut.result d f lt (c.cut.ensures ∙ ap (λ zs. number (drop t.column zs ++ take t.column zs)) (rings_are s.size s.crosses s.rings d c.self.view_is)) in
-    other.inside
 
 pub filled-requires-clause-value : goal.filled-requires-clause-value
 filled-requires-clause-value c =
@@ -66,9 +23,7 @@ filled-requires-2-clause-value c =
     let t = c.least_translate-least.result in
     let found = c.least_translate-least.ensures.found in
     let lt : t.column < s.size = omega (arith, found.inside, f.columns) in
-    let other = rings_cut s.size t.column c.cut.result d f lt (c.cut.ensures ∙ ap (λ zs. number (drop t.column zs ++ take t.column zs)) (rings_are s.size s.crosses s.rings d c.self.view_is)) in
-    let rings = cornered_rings s.size t.column t.row c.cut.result c.lowered-rings.result d f other found.row_is c.lowered-rings.ensures in
-    cornered_fits s.size t.column c.lowered-rings.result (cornered d t.column).o d f lt (cornered_digits s.size t.column d f lt).1 rings
+    cornered_fits s.size t.column c.cornered_rings-rings.result (cornered d t.column).o d f lt (cornered_digits s.size t.column d f lt).1 c.cornered_rings-rings.ensures
 
 pub overflow_cast-result-2 : goal.overflow_cast-result-2
 overflow_cast-result-2 c =
@@ -88,10 +43,8 @@ returns c =
     let t = c.least_translate-least.result in
     let found = c.least_translate-least.ensures.found in
     let lt : t.column < s.size = omega (arith, found.inside, f.columns) in
-    let other = rings_cut s.size t.column c.cut.result d f lt (c.cut.ensures ∙ ap (λ zs. number (drop t.column zs ++ take t.column zs)) (rings_are s.size s.crosses s.rings d c.self.view_is)) in
-    let rings = cornered_rings s.size t.column t.row c.cut.result c.lowered-rings.result d f other found.row_is c.lowered-rings.ensures in
     record {
       form = cornered d t.column;
-      key = cornered_key s.size t.column t.crosses c.lowered-rings.result c.filled.result c.filled-2.result d f lt found.crosses_are rings c.filled.ensures c.filled-2.ensures;
+      key = cornered_key s.size t.column t.crosses c.cornered_rings-rings.result c.filled.result c.filled-2.result d f lt found.crosses_are c.cornered_rings-rings.ensures c.filled.ensures c.filled-2.ensures;
       least = least_form_at d t.column (record { grid = cornered d t.column; columns = t.column; rows = t.row }) f.grid c.least_translate-least.ensures.first refl refl found.row_is;
     }

@@ -1,4 +1,6 @@
-use Rattle.std.proofs.Common.{arith}
+use Rattle.std.proofs.Common.{arith, refl}
+use Rattle.grid_canon.specs.Key.{number}
+use Rattle.grid_canon.specs.Cornered.{cornered}
 use Rattle.grid_canon.proofs.CutNumbers.{few, before_by_less, before_by_more, before_by_rings}
 use Rattle.grid_canon.proofs.short.ShortGrid.comes_before.Goals as goal
 
@@ -21,4 +23,4 @@ returns-else-near-far-2 c =
     let s = c.self.inside in
     let d = c.args.self.now in
     let f = few s.size s.crosses s.rings d c.self.view_is c.self.invariant in
-    before_by_rings s.size c.args.near.now.column c.args.far.now.column c.args.near.now.row c.args.far.now.row c.args.near.now.crosses c.args.far.now.crosses c.cornered_rings.result c.cornered_rings-else-near-far-2.result d f c.requires.near c.requires.far (omega arith) c.cornered_rings.ensures c.cornered_rings-else-near-far-2.ensures
+    rw c.rings_come_before.ensures (before_by_rings s.size c.args.near.now.column c.args.far.now.column c.args.near.now.row c.args.far.now.row c.args.near.now.crosses c.args.far.now.crosses (number (cornered d c.args.near.now.column).o) (number (cornered d c.args.far.now.column).o) d f c.requires.near c.requires.far (omega arith) refl refl)

@@ -51,8 +51,8 @@ loop-column-init c =
       };
     }
 
-pub turned-crosses-requires-clause-value : goal.turned-crosses-requires-clause-value
-turned-crosses-requires-clause-value c =
+pub cut_next-crosses-requires-clause-value : goal.cut_next-crosses-requires-clause-value
+cut_next-crosses-requires-clause-value c =
     let s = c.self.inside in
     let d = c.args.self.now in
     let f = few s.size s.crosses s.rings d c.self.view_is c.self.invariant in
@@ -64,9 +64,9 @@ lowered-requires-in-loop-column-clause-value c =
     let d = c.args.self.now in
     let f = few s.size s.crosses s.rings d c.self.view_is c.self.invariant in
     let k = c.loop-column.column in
-    let next = next_crosses s.size k c.loop-column.crosses c.turned-crosses.result d f (omega arith) (omega arith) c.loop-column.invariant.crosses c.turned-crosses.ensures in
-    let cut = crosses_cut s.size k c.turned-crosses.result d f (omega arith) next in
-    let row = first_row s.size k c.turned-crosses.result c.first_digit-row-in-loop-column.result d f (omega arith) cut c.first_digit-row-in-loop-column.ensures in
+    let next = next_crosses s.size k c.loop-column.crosses c.cut_next-crosses.result d f (omega arith) (omega arith) c.loop-column.invariant.crosses c.cut_next-crosses.ensures in
+    let cut = crosses_cut s.size k c.cut_next-crosses.result d f (omega arith) next in
+    let row = first_row s.size k c.cut_next-crosses.result c.first_digit-row-in-loop-column.result d f (omega arith) cut c.first_digit-row-in-loop-column.ensures in
     cut.fits
 
 pub lowered-requires-in-loop-column-clause-by : goal.lowered-requires-in-loop-column-clause-by
@@ -75,9 +75,9 @@ lowered-requires-in-loop-column-clause-by c =
     let d = c.args.self.now in
     let f = few s.size s.crosses s.rings d c.self.view_is c.self.invariant in
     let k = c.loop-column.column in
-    let next = next_crosses s.size k c.loop-column.crosses c.turned-crosses.result d f (omega arith) (omega arith) c.loop-column.invariant.crosses c.turned-crosses.ensures in
-    let cut = crosses_cut s.size k c.turned-crosses.result d f (omega arith) next in
-    let row = first_row s.size k c.turned-crosses.result c.first_digit-row-in-loop-column.result d f (omega arith) cut c.first_digit-row-in-loop-column.ensures in
+    let next = next_crosses s.size k c.loop-column.crosses c.cut_next-crosses.result d f (omega arith) (omega arith) c.loop-column.invariant.crosses c.cut_next-crosses.ensures in
+    let cut = crosses_cut s.size k c.cut_next-crosses.result d f (omega arith) next in
+    let row = first_row s.size k c.cut_next-crosses.result c.first_digit-row-in-loop-column.result d f (omega arith) cut c.first_digit-row-in-loop-column.ensures in
     row.1
 
 pub lowered-requires-in-loop-column-clause-inside : goal.lowered-requires-in-loop-column-clause-inside
@@ -86,9 +86,9 @@ lowered-requires-in-loop-column-clause-inside c =
     let d = c.args.self.now in
     let f = few s.size s.crosses s.rings d c.self.view_is c.self.invariant in
     let k = c.loop-column.column in
-    let next = next_crosses s.size k c.loop-column.crosses c.turned-crosses.result d f (omega arith) (omega arith) c.loop-column.invariant.crosses c.turned-crosses.ensures in
-    let cut = crosses_cut s.size k c.turned-crosses.result d f (omega arith) next in
-    let row = first_row s.size k c.turned-crosses.result c.first_digit-row-in-loop-column.result d f (omega arith) cut c.first_digit-row-in-loop-column.ensures in
+    let next = next_crosses s.size k c.loop-column.crosses c.cut_next-crosses.result d f (omega arith) (omega arith) c.loop-column.invariant.crosses c.cut_next-crosses.ensures in
+    let cut = crosses_cut s.size k c.cut_next-crosses.result d f (omega arith) next in
+    let row = first_row s.size k c.cut_next-crosses.result c.first_digit-row-in-loop-column.result d f (omega arith) cut c.first_digit-row-in-loop-column.ensures in
     cut.inside
 
 pub comes_before-requires-clause-near : goal.comes_before-requires-clause-near
@@ -97,13 +97,13 @@ comes_before-requires-clause-near c =
     let d = c.args.self.now in
     let f = few s.size s.crosses s.rings d c.self.view_is c.self.invariant in
     let k = c.loop-column.column in
-    let next = next_crosses s.size k c.loop-column.crosses c.turned-crosses.result d f (omega arith) (omega arith) c.loop-column.invariant.crosses c.turned-crosses.ensures in
-    let cut = crosses_cut s.size k c.turned-crosses.result d f (omega arith) next in
-    let row = first_row s.size k c.turned-crosses.result c.first_digit-row-in-loop-column.result d f (omega arith) cut c.first_digit-row-in-loop-column.ensures in
+    let next = next_crosses s.size k c.loop-column.crosses c.cut_next-crosses.result d f (omega arith) (omega arith) c.loop-column.invariant.crosses c.cut_next-crosses.ensures in
+    let cut = crosses_cut s.size k c.cut_next-crosses.result d f (omega arith) next in
+    let row = first_row s.size k c.cut_next-crosses.result c.first_digit-row-in-loop-column.result d f (omega arith) cut c.first_digit-row-in-loop-column.ensures in
     record {
       inside = omega (arith, f.columns);
       row_is = row.0;
-      crosses_are = cornered_crosses s.size k c.first_digit-row-in-loop-column.result c.turned-crosses.result c.lowered-in-loop-column.result d f cut row.0 c.lowered-in-loop-column.ensures;
+      crosses_are = cornered_crosses s.size k c.first_digit-row-in-loop-column.result c.cut_next-crosses.result c.lowered-in-loop-column.result d f cut row.0 c.lowered-in-loop-column.ensures;
     }
 
 pub loop-column-preserved : goal.loop-column-preserved
@@ -112,16 +112,16 @@ loop-column-preserved c =
     let d = c.args.self.now in
     let f = few s.size s.crosses s.rings d c.self.view_is c.self.invariant in
     let k = c.loop-column.column in
-    let next = next_crosses s.size k c.loop-column.crosses c.turned-crosses.result d f (omega arith) (omega arith) c.loop-column.invariant.crosses c.turned-crosses.ensures in
-    let cut = crosses_cut s.size k c.turned-crosses.result d f (omega arith) next in
-    let row = first_row s.size k c.turned-crosses.result c.first_digit-row-in-loop-column.result d f (omega arith) cut c.first_digit-row-in-loop-column.ensures in
+    let next = next_crosses s.size k c.loop-column.crosses c.cut_next-crosses.result d f (omega arith) (omega arith) c.loop-column.invariant.crosses c.cut_next-crosses.ensures in
+    let cut = crosses_cut s.size k c.cut_next-crosses.result d f (omega arith) next in
+    let row = first_row s.size k c.cut_next-crosses.result c.first_digit-row-in-loop-column.result d f (omega arith) cut c.first_digit-row-in-loop-column.ensures in
     let known : IsCornered d k c.first_digit-row-in-loop-column.result c.lowered-in-loop-column.result =
     record {
       inside = omega (arith, f.columns);
       row_is = row.0;
-      crosses_are = cornered_crosses s.size k c.first_digit-row-in-loop-column.result c.turned-crosses.result c.lowered-in-loop-column.result d f cut row.0 c.lowered-in-loop-column.ensures;
+      crosses_are = cornered_crosses s.size k c.first_digit-row-in-loop-column.result c.cut_next-crosses.result c.lowered-in-loop-column.result d f cut row.0 c.lowered-in-loop-column.ensures;
     } in
-    let crosses : c.turned-crosses.result ≡ number (drop (k + 1 - 1) d.x ++ take (k + 1 - 1) d.x) = next ∙ ap (λ (z : ℕ). number (drop z d.x ++ take z d.x)) (let e : k ≡ k + 1 - 1 = omega arith in e) in
+    let crosses : c.cut_next-crosses.result ≡ number (drop (k + 1 - 1) d.x ++ take (k + 1 - 1) d.x) = next ∙ ap (λ (z : ℕ). number (drop z d.x ++ take z d.x)) (let e : k ≡ k + 1 - 1 = omega arith in e) in
     elim c.if-comes_before.branch [
       | then-comes_before w ↦ record {
         crosses = crosses;

@@ -1,6 +1,6 @@
 use Rattle.std.proofs.Common.{arith}
 use Rattle.grid_canon.proofs.DigitLists.{cut_word}
-use Rattle.grid_canon.proofs.words.cut.Goals as goal
+use Rattle.grid_canon.proofs.short_numbers.cut.Goals as goal
 
 pub overflow_add-result : goal.overflow_add-result
 overflow_add-result c =

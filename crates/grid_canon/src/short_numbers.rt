@@ -1,4 +1,4 @@
-//! Numbers of 64 bits as lists of at most twelve digits to the base 32, the highest first, each the row of a column.
+//! Numbers of 64 bits as lists of at most twelve digits to the base 32, the highest first: each digit is the row of a column.
 ghost use Rattle.std.specs.Prelude.{◌≡◌, ◌<◌, ◌≤◌, ◌+◌, ◌-◌, ◌*◌, ◌/◌, ◌^◌, ◌++◌, ◌∷◌, length, map, take, drop, replicate};
 ghost use Rattle.std.specs.List.{All, insert};
 ghost use Rattle.grid_core.specs.Places.{lifted};
@@ -10,19 +10,19 @@ ghost use Rattle.grid_canon.specs.Digits.{digits};
 use crate::packed::{BASE, DIGIT_BITS};
 use grid_core::MAX_SIZE;
 
-/// The greatest number of digits: so many fit into 64 bits.
-pub const SHORT: usize = 12;
+/// The greatest size of a short grid: its rows of a kind fit into 64 bits.
+pub const MAX_SHORT_SIZE: usize = 12;
 
-/// The number with the digit 1 in each of `SHORT` places.
-const ONES: u64 = ((1 << (DIGIT_BITS * SHORT as u32)) - 1) / (BASE as u64 - 1);
+/// The number with as many digits 1 as fit.
+const ONES: u64 = ((1 << (DIGIT_BITS * MAX_SHORT_SIZE as u32)) - 1) / (BASE as u64 - 1);
 
-/// The highest bit of a digit, which no row below `SHORT` has: a digit with it can be lowered by any row, and borrows nothing from the
+/// The highest bit of a digit, which no row below `MAX_SHORT_SIZE` has: a digit with it can be lowered by any row, and borrows nothing from the
 /// digit before it.
 const GUARD: u64 = BASE as u64 / 2;
 
 /// The number with these rows as its digits.
 pub(crate) fn number_of(rows: &[u8]) -> u64
-    requires count { length rows.now ≤ SHORT }
+    requires count { length rows.now ≤ MAX_SHORT_SIZE }
     requires inside { All (λ r. r < BASE) rows.now }
     ensures { result ≡ number rows.now }
 {
@@ -35,16 +35,16 @@ pub(crate) fn number_of(rows: &[u8]) -> u64
 
 /// The number with as many digits 1.
 fn ones(count: u32) -> u64
-    requires { count ≤ SHORT }
+    requires { count ≤ MAX_SHORT_SIZE }
     ensures { result ≡ number (replicate count 1) }
 {
-    ONES >> (DIGIT_BITS * (SHORT as u32 - count))
+    ONES >> (DIGIT_BITS * (MAX_SHORT_SIZE as u32 - count))
 }
 
 /// The first digit.
 pub(crate) fn first_digit(value: u64, size: u32) -> u64
     requires least { 0 < size }
-    requires most { size ≤ SHORT }
+    requires most { size ≤ MAX_SHORT_SIZE }
     ensures { result ≡ value / BASE ^ (size - 1) }
 {
     value >> (DIGIT_BITS * (size - 1))
@@ -53,7 +53,7 @@ pub(crate) fn first_digit(value: u64, size: u32) -> u64
 /// The digits from a place on, and then those before it.
 pub(crate) fn cut(value: u64, place: u32, size: u32) -> u64
     requires place { place < size }
-    requires most { size ≤ SHORT }
+    requires most { size ≤ MAX_SHORT_SIZE }
     requires value { value < BASE ^ size }
     ensures { result ≡ number (drop place (digits size value) ++ take place (digits size value)) }
 {
@@ -62,10 +62,10 @@ pub(crate) fn cut(value: u64, place: u32, size: u32) -> u64
     ((value - (front << behind)) << (DIGIT_BITS * place)) + front
 }
 
-/// The digits from the second one on, and then the first, which is known: this is `cut` at the second place.
-pub(crate) fn turned(value: u64, first: u64, size: u32) -> u64
+/// The digits from the second one on, and then the first, which is known: `cut` at the second place.
+pub(crate) fn cut_next(value: u64, first: u64, size: u32) -> u64
     requires least { 2 ≤ size }
-    requires most { size ≤ SHORT }
+    requires most { size ≤ MAX_SHORT_SIZE }
     requires value { value < BASE ^ size }
     requires first { first ≡ value / BASE ^ (size - 1) }
     ensures { result ≡ number (drop 1 (digits size value) ++ take 1 (digits size value)) }
@@ -75,7 +75,7 @@ pub(crate) fn turned(value: u64, first: u64, size: u32) -> u64
 
 /// Each digit lower by as many, round the circle of `size`: lowered with its guard, a digit lacks it where it was below.
 pub(crate) fn lowered(value: u64, by: u64, size: u32) -> u64
-    requires most { size ≤ SHORT }
+    requires most { size ≤ MAX_SHORT_SIZE }
     requires value { value < BASE ^ size }
     requires by { by < size }
     requires inside { All (λ r. r < size) (digits size value) }
@@ -90,7 +90,7 @@ pub(crate) fn lowered(value: u64, by: u64, size: u32) -> u64
 
 /// Each digit one higher that is at or above a row: lowered by the row with its guard, it has it still.
 pub(crate) fn lifted(value: u64, row: u64, size: u32) -> u64
-    requires most { size < SHORT }
+    requires most { size < MAX_SHORT_SIZE }
     requires value { value < BASE ^ size }
     requires row { row ≤ size }
     requires inside { All (λ r. r < size) (digits size value) }
@@ -104,7 +104,7 @@ pub(crate) fn lifted(value: u64, row: u64, size: u32) -> u64
 /// The digits with one more put in at a place.
 pub(crate) fn with_digit(value: u64, digit: u64, place: u32, size: u32) -> u64
     requires place { place ≤ size }
-    requires most { size < SHORT }
+    requires most { size < MAX_SHORT_SIZE }
     requires value { value < BASE ^ size }
     requires digit { digit < BASE }
     ensures { result ≡ number (insert (digits size value) place digit) }
@@ -117,11 +117,11 @@ pub(crate) fn with_digit(value: u64, digit: u64, place: u32, size: u32) -> u64
 /// The number with a first digit and then these, filled with 0 up to the greatest size.
 pub(crate) fn filled(head: u32, value: u64, size: u32) -> u128
     requires head { head < BASE }
-    requires most { size ≤ SHORT }
+    requires most { size ≤ MAX_SHORT_SIZE }
     requires value { value < BASE ^ size }
     ensures { result ≡ head * BASE ^ MAX_SIZE + value * BASE ^ (MAX_SIZE - size) }
 {
-    let full = value << (DIGIT_BITS * (SHORT as u32 - size));
+    let full = value << (DIGIT_BITS * (MAX_SHORT_SIZE as u32 - size));
     (u128::from(head) << (DIGIT_BITS * MAX_SIZE as u32))
-        + (u128::from(full) << (DIGIT_BITS * (MAX_SIZE - SHORT) as u32))
+        + (u128::from(full) << (DIGIT_BITS * (MAX_SIZE - MAX_SHORT_SIZE) as u32))
 }

@@ -4,7 +4,7 @@ use Rattle.std.proofs.lemmas.List.{length-map}
 use Rattle.std.proofs.lemmas.List.FromFn.{length-range_with_len}
 use Rattle.grid_canon.specs.Key.{digit_at}
 use Rattle.grid_canon.proofs.Numbers.{digits_more}
-use Rattle.grid_canon.proofs.packed.digits.Goals as goal
+use Rattle.grid_canon.proofs.packed.rows_of_key.Goals as goal
 
 pub push-requires : goal.push-requires
 push-requires c =

@@ -1,6 +1,6 @@
 use Rattle.std.proofs.Common.{arith, refl}
 use Rattle.grid_canon.proofs.Guards.{lowered_digits}
-use Rattle.grid_canon.proofs.words.lowered.Goals as goal
+use Rattle.grid_canon.proofs.short_numbers.lowered.Goals as goal
 
 pub overflow_mul-guards : goal.overflow_mul-guards
 overflow_mul-guards c =

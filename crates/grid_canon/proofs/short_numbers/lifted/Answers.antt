@@ -1,6 +1,6 @@
 use Rattle.std.proofs.Common.{arith}
 use Rattle.grid_canon.proofs.Guards.{lifted_digits}
-use Rattle.grid_canon.proofs.words.lifted.Goals as goal
+use Rattle.grid_canon.proofs.short_numbers.lifted.Goals as goal
 
 pub overflow_mul-guards : goal.overflow_mul-guards
 overflow_mul-guards c =

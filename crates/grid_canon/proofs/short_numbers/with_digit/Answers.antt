@@ -1,6 +1,6 @@
 use Rattle.std.proofs.Common.{arith}
 use Rattle.grid_canon.proofs.DigitLists.{inserted_word}
-use Rattle.grid_canon.proofs.words.with_digit.Goals as goal
+use Rattle.grid_canon.proofs.short_numbers.with_digit.Goals as goal
 
 pub overflow_add-result-2 : goal.overflow_add-result-2
 overflow_add-result-2 c =

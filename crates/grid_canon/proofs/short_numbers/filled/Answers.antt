@@ -1,6 +1,6 @@
 use Rattle.std.proofs.Common.{◌+◌, ◌*◌, ◌%◌, ◌^◌, ◌∙◌, ℕ, arith, ap, ap₂}
 use Rattle.grid_canon.proofs.DigitLists.{filled_word, full_word}
-use Rattle.grid_canon.proofs.words.filled.Goals as goal
+use Rattle.grid_canon.proofs.short_numbers.filled.Goals as goal
 
 pub returns : goal.returns
 returns c =

@@ -1,7 +1,7 @@
 use Rattle.std.proofs.Common.{◌∙◌, ◌+◌, ◌*◌, ℕ, arith, ap₂, sym}
 use Rattle.grid_canon.specs.declared.packed.TheConstants.{BASE}
 use Rattle.grid_canon.proofs.DigitLists.{short_more}
-use Rattle.grid_canon.proofs.words.number_of.Goals as goal
+use Rattle.grid_canon.proofs.short_numbers.number_of.Goals as goal
 
 pub overflow_mul-value : goal.overflow_mul-value
 overflow_mul-value c = record { fits = omega (arith, c.loop-row.invariant, (short_more c.args.rows.now c.loop-row.row-index c.requires.inside c.requires.count c.loop-row-test.true).1) }
