@@ -1,7 +1,7 @@
 #!/usr/bin/env python3
 """Counts the instructions of a canonical form, of its key and of the offers of a diagram, by callgrind.
 
-    python3 bench/forms.py                 at sizes 5, 10 and 24; offers within a cap of one more than the size
+    python3 bench/forms.py                 at sizes 5, 10 and 24; offers within a cap of one more than the size, where there is one
 
 A figure is the difference between a run of some turns and a run of twice as many, less what a turn takes by itself: so
 starting, reading the words and printing are not in it. Build the program first: (cd crates/form_bench && rt run)

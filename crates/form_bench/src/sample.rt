@@ -1,5 +1,5 @@
 //! A grid of each size, always the same one, whose rows stand in no order that the eye sees.
-ghost use Rattle.std.specs.Prelude.{◌≡◌, ◌≤◌, length};
+ghost use Rattle.std.specs.Prelude.{◌≡◌, ◌≤◌, IfSome, length};
 ghost use Rattle.grid_core.specs.declared.grid.TheConstants.{MAX_SIZE};
 
 use arrayvec::ArrayVec;
@@ -9,6 +9,7 @@ use grid_core::{Grid, Rows};
 pub fn sample(size: u8) -> Option<Grid>
     requires least { 2 ≤ size }
     requires most { size ≤ MAX_SIZE }
+    ensures { IfSome result (λ g. length g.x ≡ size) }
 {
     let mut x: Rows = ArrayVec::new();
     for row in 0..size {

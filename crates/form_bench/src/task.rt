@@ -1,5 +1,5 @@
 //! The task that the words name.
-ghost use Rattle.std.specs.Prelude.{◌≤◌};
+ghost use Rattle.std.specs.Prelude.{◌≡◌, ◌≤◌, IfSome, length};
 ghost use Rattle.grid_core.specs.declared.grid.TheConstants.{MAX_SIZE};
 
 use grid_core::MAX_SIZE;
@@ -31,7 +31,9 @@ pub struct Task {
 }
 
 /// The task that the words behind the program's name are, or None where they are none.
-pub fn task_of(words: &[String]) -> Option<Task> {
+pub fn task_of(words: &[String]) -> Option<Task>
+    ensures { IfSome result (λ t. length words.now ≡ 4) }
+{
     let [_, what, size, count] = words else {
         return None;
     };

@@ -43,6 +43,7 @@ fn make_new(task: Task, grid: Grid) -> Made {
                 let form = canonical(&here);
                 add_offers(&mut made, &Offers::of(&form, cap_of(&form)), turn);
             }
+            // `make` gives it no renewed ones.
             Work::Renewed | Work::Nothing => {}
         }
         made.add(picked(&here, turn));
