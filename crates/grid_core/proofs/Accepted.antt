@@ -33,7 +33,7 @@ lowest_none test n none =
     ap (λ (z : ℕ). cond (nat_lt z (length (range_with_len 0 n))) (Some z) None) place
     ∙ ap (λ b. cond b (Some n) None) (le-ltb n (length (range_with_len 0 n)) (omega (arith, size)))
 
-cond_none : (b : Bool) (c : ℕ) → cond b (Some c) None ≡ None → b ≡ false
+pub cond_none : (b : Bool) (c : ℕ) → cond b (Some c) None ≡ None → b ≡ false
 cond_none false c e = refl
 cond_none true c e = absurd (let no : ◌≡◌ {A = Option ℕ} (Some c) None = e in cc)
 
@@ -43,7 +43,7 @@ none_lowest test n e k lt =
     let past : length (range_with_len 0 n) ≤ position_or_len test (range_with_len 0 n) = ltb-false (position_or_len test (range_with_len 0 n)) (length (range_with_len 0 n)) (cond_none (nat_lt (position_or_len test (range_with_len 0 n)) (length (range_with_len 0 n))) (position_or_len test (range_with_len 0 n)) e) in
     sym (ap test (get_or-range_with_len 0 n k 0 lt ∙ zero-add k)) ∙ fails_before_first test (range_with_len 0 n) k 0 (omega (arith, size, past, lt))
 
-either_false : (a b : Bool) → (a || b) ≡ false → (a ≡ false) × (b ≡ false)
+pub either_false : (a b : Bool) → (a || b) ≡ false → (a ≡ false) × (b ≡ false)
 either_false true b e = absurd (let no : ◌≡◌ {A = Bool} true false = e in cc)
 either_false false b e = (refl, e)
 
@@ -100,7 +100,7 @@ not_not : (a : Bool) → not a ≡ false → a ≡ true
 not_not true e = refl
 not_not false e = absurd (let no : ◌≡◌ {A = Bool} true false = e in cc)
 
-both_true : (a b : Bool) → (a && b) ≡ true → (a ≡ true) × (b ≡ true)
+pub both_true : (a b : Bool) → (a && b) ≡ true → (a ≡ true) × (b ≡ true)
 both_true true b e = (refl, e)
 both_true false b e = absurd (let no : ◌≡◌ {A = Bool} false true = e in cc)
 
@@ -131,3 +131,6 @@ faultless d grid =
   where
     cond_false : (b : Bool) (x y : Option GridFault) → b ≡ false → cond b x y ≡ y
     cond_false b x y is = ap (λ t. cond t x y) is
+
+pub true_both : (a b : Bool) → a ≡ true → b ≡ true → (a && b) ≡ true
+true_both a b at_a at_b = ap (λ (t : Bool). t && b) at_a ∙ at_b

@@ -4,15 +4,15 @@ use Rattle.grid_core.specs.declared.mark.Corner.{Corner}
 use Rattle.grid_core.specs.declared.mark.Corner.TheVariants.{LowLeft, LowRight, HighLeft, HighRight}
 
 -- 0 for the left column of the block, 1 for the right one
-abbrev pub right_of : Corner → ℕ
-right_of LowLeft = 0
-right_of LowRight = 1
-right_of HighLeft = 0
-right_of HighRight = 1
+abbrev pub corner_column : Corner → ℕ
+corner_column LowLeft = 0
+corner_column LowRight = 1
+corner_column HighLeft = 0
+corner_column HighRight = 1
 
 -- 0 for the lower row of the block, 1 for the higher one
-abbrev pub above_of : Corner → ℕ
-above_of LowLeft = 0
-above_of LowRight = 0
-above_of HighLeft = 1
-above_of HighRight = 1
+abbrev pub corner_row : Corner → ℕ
+corner_row LowLeft = 0
+corner_row LowRight = 0
+corner_row HighLeft = 1
+corner_row HighRight = 1

@@ -27,6 +27,10 @@ covers d c r = lies_within (column_span d c) r
 abbrev pub is_up : Diagram → ℕ → Bool
 is_up d c = nat_lt (row_of Cross d c) (row_of Ring d c)
 
+-- row r runs to the right: its O lies left of its X
+abbrev pub is_rightward : Diagram → ℕ → Bool
+is_rightward d r = nat_lt (column_of Ring d r) (column_of Cross d r)
+
 -- row r is a bottom: the lower end of both its columns, that of its X and that of its O
 abbrev pub is_bottom : Diagram → ℕ → Bool
 is_bottom d r = ((column_span d (column_of Cross d r)).low == r) && ((column_span d (column_of Ring d r)).low == r)

@@ -1,8 +1,9 @@
 //! Laws of grids, over the definitions alone.
-ghost use Rattle.std.specs.Prelude.{◌≡◌, ◌<◌, ◌↔◌, None, ℕ, List, IsTrue};
-ghost use Rattle.grid_core.specs.Diagram.{Diagram, IsGrid, IsGridByMarks, HasMark, size, row_of};
+ghost use Rattle.std.specs.Prelude.{◌≡◌, ◌<◌, ◌↔◌, None, ℕ, List, IsTrue, pos, negsuc, not, if◌then◌else◌};
+ghost use Rattle.grid_core.specs.Diagram.{Diagram, IsGrid, IsGridByMarks, HasMark, size, row_of, other};
 ghost use Rattle.grid_core.specs.Span.{IsBetween};
-ghost use Rattle.grid_core.specs.Parts.{column_of, covers};
+ghost use Rattle.grid_core.specs.Parts.{column_of, covers, is_up, is_rightward, is_bottom};
+ghost use Rattle.grid_core.specs.Crossing.{crosses, column_direction, row_direction, turned_left, sign, is_positive};
 ghost use Rattle.grid_core.specs.Fault.{first_fault};
 
 use crate::mark::Kind;
@@ -44,4 +45,26 @@ pub fn a_grid_is_the_set_of_its_marks()
 pub fn a_column_covers_between_its_marks()
     ensures { (d : Diagram) (c r : ℕ)
         → IsTrue (covers d c r) ↔ IsBetween (row_of Kind.Cross d c) (row_of Kind.Ring d c) r }
+{}
+
+/// A row is a bottom exactly where the other marks of both its columns lie above it.
+pub fn a_bottom_lies_below_its_columns_other_marks()
+    ensures { (d : Diagram) (r : ℕ) → IsGrid d → r < size d
+        → IsTrue (is_bottom d r) ↔ ((kind : Kind) → r < row_of kind d (column_of (other kind) d r)) }
+{}
+
+/// A column crosses a row exactly where the row lies strictly between the column's two marks, and the column strictly between
+/// the row's.
+pub fn a_column_crosses_between_the_marks_of_both()
+    ensures { (d : Diagram) (c r : ℕ)
+        → IsTrue (crosses d c r)
+        ↔ (IsBetween (row_of Kind.Cross d c) (row_of Kind.Ring d c) r × IsBetween (column_of Kind.Cross d r) (column_of Kind.Ring d r) c) }
+{}
+
+/// A crossing is positive exactly where the strand under runs to the left of the strand over, a quarter turn counterclockwise:
+/// where the column runs up and the row to the left, or the column down and the row to the right. Its sign is 1, and else -1.
+pub fn a_crossing_is_positive_by_its_directions()
+    ensures turn { (d : Diagram) (c r : ℕ) → IsTrue (is_positive d c r) ↔ (row_direction d r ≡ turned_left (column_direction d c)) }
+    ensures ways { (d : Diagram) (c r : ℕ) → is_positive d c r ≡ (if is_up d c then not (is_rightward d r) else is_rightward d r) }
+    ensures sign { (d : Diagram) (c r : ℕ) → sign d c r ≡ (if is_positive d c r then pos 1 else negsuc 0) }
 {}

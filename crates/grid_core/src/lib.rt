@@ -2,6 +2,7 @@
 //! Two lists are accepted exactly where they are a grid, and each reader answers what its definition says.
 #![tactic(auto)]
 
+mod crossing;
 mod fault;
 mod grid;
 mod items;

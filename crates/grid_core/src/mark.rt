@@ -1,7 +1,7 @@
 //! The two kinds of marks, and the corners of a block of four cells.
 ghost use Rattle.std.specs.Prelude.{◌≡◌};
 ghost use Rattle.grid_core.specs.Diagram.{other};
-ghost use Rattle.grid_core.specs.Corners.{right_of, above_of};
+ghost use Rattle.grid_core.specs.Corners.{corner_column, corner_row};
 
 /// The kind of a mark: X (`Cross`) or O (`Ring`).
 #[derive(Clone, Copy, Debug, PartialEq, Eq)]
@@ -35,7 +35,7 @@ pub enum Corner {
 impl Corner {
     /// The corner's column in the block: 0 on the left, 1 on the right.
     pub fn column(self) -> u8
-        ensures { result ≡ right_of self }
+        ensures { result ≡ corner_column self }
     {
         match self {
             Corner::LowLeft => 0,
@@ -47,7 +47,7 @@ impl Corner {
 
     /// The corner's row in the block: 0 below, 1 above.
     pub fn row(self) -> u8
-        ensures { result ≡ above_of self }
+        ensures { result ≡ corner_row self }
     {
         match self {
             Corner::LowLeft => 0,

@@ -2,7 +2,7 @@
 ghost use Rattle.std.specs.Prelude.{◌==◌, ◌≡◌, ◌<◌};
 ghost use Rattle.std.specs.List.{position};
 ghost use Rattle.grid_core.specs.Diagram.{size};
-ghost use Rattle.grid_core.specs.Parts.{covers, is_up, bottoms, is_bottom, column_span, column_of, ends};
+ghost use Rattle.grid_core.specs.Parts.{covers, is_up, is_rightward, bottoms, is_bottom, column_span, column_of, ends};
 
 use crate::grid::Grid;
 use crate::mark::Kind;
@@ -33,8 +33,10 @@ impl Grid {
     /// The interval of columns between the two marks of a row: its low end is the left one.
     pub fn row_span(&self, r: u8) -> Span
         requires { r < size self.now }
-        ensures { result ≡ ends self.now r }
+        ensures span { result ≡ ends self.now r }
+        ensures within { (result.low < result.high) × (result.high < size self.now) }
     {
+        let _size = self.size();
         Span::between(
             self.column_of(Kind::Cross, r),
             self.column_of(Kind::Ring, r),
@@ -46,6 +48,7 @@ impl Grid {
         requires { r < size self.now }
         ensures left { result.0 ≡ (ends self.now r).low }
         ensures right { result.1 ≡ (ends self.now r).high }
+        ensures within { (result.0 < result.1) × (result.1 < size self.now) }
     {
         let span = self.row_span(r);
         (span.low, span.high)
@@ -66,6 +69,14 @@ impl Grid {
         ensures { result ≡ is_up self.now c }
     {
         self.x_row(c) < self.o_row(c)
+    }
+
+    /// Whether a row runs to the right: its O lies left of its X.
+    pub fn is_rightward(&self, r: u8) -> bool
+        requires { r < size self.now }
+        ensures { result ≡ is_rightward self.now r }
+    {
+        self.column_of(Kind::Ring, r) < self.column_of(Kind::Cross, r)
     }
 
     /// The number of bottoms: rows that are the lower end of both their columns.

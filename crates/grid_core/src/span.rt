@@ -1,6 +1,6 @@
 //! The interval between the two marks of a column or of a row.
 ghost use Rattle.std.specs.Prelude.{◌≡◌, ◌||◌};
-ghost use Rattle.grid_core.specs.Span.{span, share_an_end, are_disjoint, are_nested};
+ghost use Rattle.grid_core.specs.Span.{span, share_an_end, share_both_ends, are_disjoint, are_nested};
 
 /// An interval of rows or of columns, by its lower end and its higher end.
 #[derive(Clone, Copy, Debug, PartialEq, Eq)]
@@ -29,6 +29,13 @@ impl Span {
             || self.low == other.high
             || self.high == other.low
             || self.high == other.high
+    }
+
+    /// Whether the two intervals have the same two ends.
+    pub fn touches_twice(self, other: Span) -> bool
+        ensures { result ≡ share_both_ends self other }
+    {
+        self.low == other.low && self.high == other.high
     }
 
     /// Whether the two intervals are disjoint, or one lies strictly within the other.

@@ -1,5 +1,7 @@
 //! Grids and their readers on worked examples.
 use crate::{Grid, GridFault, Items, MAX_SIZE, Span};
+use std::alloc::Global;
+use std::process::Abort;
 use std::test::Fail;
 
 /// The fault of two lists, or None where they are a grid.
@@ -90,6 +92,79 @@ fn two_grids_are_read_as_drawn(rt: HostRuntime) -> Result<(), Fail> {
         let (low, high) = spans[c as usize];
         assert_eq!(rt; closure.column_span(c), Span { low, high });
         assert_eq!(rt; closure.ends(c), ends[c as usize]);
+    }
+    Ok(())
+}
+
+/// Compares where a grid crosses itself, by row and then by column, and with which signs.
+fn compare_crossings(
+    rt: &impl Abort,
+    alloc: Global,
+    x: &[u8],
+    o: &[u8],
+    crossings: &[(u8, u8, i32)],
+) -> Result<(), Fail> {
+    let Ok(grid) = Grid::new(x, o) else {
+        return Err(Fail::from("no grid"));
+    };
+    let mut found: Vec<(u8, u8, i32)> = Vec::new(alloc);
+    for r in 0..grid.size() {
+        for c in 0..grid.size() {
+            if grid.crosses(c, r) {
+                found.push((c, r, grid.sign(c, r)))?;
+            }
+        }
+    }
+    assert_eq!(rt; found.as_slice(), crossings);
+    Ok(())
+}
+
+#[test]
+fn crossings_have_the_signs_of_their_links(rt: HostRuntime) -> Result<(), Fail> {
+    // the right and the left trefoil, and the Hopf link with both orientations of its second component
+    compare_crossings(
+        &rt,
+        rt.alloc(),
+        &[4, 3, 2, 1, 0],
+        &[2, 1, 0, 4, 3],
+        &[(2, 1, 1), (1, 2, 1), (3, 3, 1)],
+    )?;
+    compare_crossings(
+        &rt,
+        rt.alloc(),
+        &[0, 1, 2, 3, 4],
+        &[2, 3, 4, 0, 1],
+        &[(3, 1, -1), (1, 2, -1), (2, 3, -1)],
+    )?;
+    compare_crossings(
+        &rt,
+        rt.alloc(),
+        &[0, 3, 2, 1],
+        &[2, 1, 0, 3],
+        &[(2, 1, 1), (1, 2, 1)],
+    )?;
+    compare_crossings(
+        &rt,
+        rt.alloc(),
+        &[0, 1, 2, 3],
+        &[2, 3, 0, 1],
+        &[(2, 1, -1), (1, 2, -1)],
+    )
+}
+
+#[test]
+fn intervals_touch_at_one_end_or_at_both(rt: HostRuntime) -> Result<(), Fail> {
+    let first = Span::between(4, 1);
+    let cases = [
+        ((1, 4), true, true),
+        ((4, 6), true, false),
+        ((1, 3), true, false),
+        ((2, 3), false, false),
+    ];
+    for ((low, high), once, twice) in cases {
+        let second = Span::between(low, high);
+        assert_eq!(rt; first.touches(second), once);
+        assert_eq!(rt; first.touches_twice(second), twice);
     }
     Ok(())
 }

@@ -2,5 +2,7 @@ pub mod Entries
 pub mod Firsts
 pub mod Accepted
 pub mod Columns
+pub mod Lengths
+pub mod Distributed
 pub mod Linear
 mod WorkedRows

@@ -1,10 +1,15 @@
 -- Worked examples, by computing.
 use Rattle.std.proofs.Common.{◌≡◌, ◌∷◌, [], refl, None, Some, true, false}
+use Rattle.quandle_core.specs.declared.quandle.TheConstants.{MAX_ORDER}
 use Rattle.quandle_core.specs.Quandle.{over, back}
 use Rattle.quandle_core.specs.Tables.{dihedral, alexander, tetrahedral, is_unit}
 use Rattle.quandle_core.specs.Fault.{first_fault}
 use Rattle.quandle_core.specs.Colours.{are_colours, all_lists}
 use Rattle.quandle_core.specs.declared.fault.QuandleFault.TheVariants.{Order, Length, Range, Idempotent, Collision, Distributive}
+
+-- the one place that says the largest order by its number, beside the constant
+largest_order : MAX_ORDER ≡ 16
+largest_order = refl
 
 -- 0 ▷ 1 = 2 in the dihedral quandle of order 3
 reflected : over (dihedral 3) 0 1 ≡ 2
@@ -42,6 +47,10 @@ not_idempotent = refl
 -- 0 ▷ 1 = 1 ▷ 1
 collision : first_fault (record { order = 2; entries = 0 ∷ 1 ∷ 1 ∷ 1 ∷ [] }) ≡ Some (Collision 0 1 1)
 collision = refl
+
+-- 0 ▷ 2 = 1 ▷ 2 and 0 ▷ 0 = 2 ▷ 0: the lesser second colour is told first, then the lesser third
+lesser_second_colour : first_fault (record { order = 3; entries = 0 ∷ 2 ∷ 0 ∷ 1 ∷ 1 ∷ 0 ∷ 0 ∷ 0 ∷ 2 ∷ [] }) ≡ Some (Collision 0 1 2)
+lesser_second_colour = refl
 
 -- the first two laws hold, and the third fails
 not_distributive : first_fault (record { order = 3; entries = 0 ∷ 2 ∷ 0 ∷ 2 ∷ 1 ∷ 1 ∷ 1 ∷ 0 ∷ 2 ∷ [] }) ≡ Some (Distributive 0 1 0)
