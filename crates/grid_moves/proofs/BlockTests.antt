@@ -7,7 +7,7 @@ use Rattle.grid_core.specs.declared.mark.Kind.TheVariants.{Cross, Ring}
 use Rattle.grid_core.specs.declared.mark.Corner.{Corner}
 use Rattle.grid_core.specs.declared.mark.Corner.TheVariants.{LowLeft, LowRight, HighLeft, HighRight}
 use Rattle.grid_core.specs.Diagram.{Diagram, IsGrid, size, row_of, other}
-use Rattle.grid_core.specs.Corners.{right_of, above_of}
+use Rattle.grid_core.specs.Corners.{corner_column, corner_row}
 use Rattle.grid_core.proofs.Marks.{row_once}
 use Rattle.grid_moves.specs.BlockMarks.{is_block_row, block_kind, corner_is_right, corner_on, block_corner}
 use Rattle.grid_moves.specs.Destabilisation.{marks_in_block}
@@ -21,19 +21,19 @@ lies_out : (r j s : ℕ) → j ≤ 1 → s ≢ r + j → s ≢ r + 1 - j → is_
 lies_out r j s le a b = grind (arith, nat_tests)
 
 module _ (c r : ℕ) (kind : Kind) (corner : Corner) (d : Diagram) (grid : IsGrid d) (inside : c + 1 < size d) (block : IsBlock c r kind corner d) where
-  corner_in : is_block_row r (row_of (other kind) d (c + right_of corner)) ≡ true
-  corner_in = lies r (above_of corner) (row_of (other kind) d (c + right_of corner)) (above_small corner) (inl block.at_corner)
+  corner_in : is_block_row r (row_of (other kind) d (c + corner_column corner)) ≡ true
+  corner_in = lies r (corner_row corner) (row_of (other kind) d (c + corner_column corner)) (above_small corner) (inl block.at_corner)
 
-  row_in : is_block_row r (row_of kind d (c + 1 - right_of corner)) ≡ true
-  row_in = lies r (above_of corner) (row_of kind d (c + 1 - right_of corner)) (above_small corner) (inl block.in_its_row)
+  row_in : is_block_row r (row_of kind d (c + 1 - corner_column corner)) ≡ true
+  row_in = lies r (corner_row corner) (row_of kind d (c + 1 - corner_column corner)) (above_small corner) (inl block.in_its_row)
 
-  column_in : is_block_row r (row_of kind d (c + right_of corner)) ≡ true
-  column_in = lies r (above_of corner) (row_of kind d (c + right_of corner)) (above_small corner) (inr block.in_its_column)
+  column_in : is_block_row r (row_of kind d (c + corner_column corner)) ≡ true
+  column_in = lies r (corner_row corner) (row_of kind d (c + corner_column corner)) (above_small corner) (inr block.in_its_column)
 
-  rest_out : is_block_row r (row_of (other kind) d (c + 1 - right_of corner)) ≡ false
+  rest_out : is_block_row r (row_of (other kind) d (c + 1 - corner_column corner)) ≡ false
   rest_out =
-      lies_out r (above_of corner) (row_of (other kind) d (c + 1 - right_of corner)) (above_small corner)
-      (λ e. absurd (omega (arith, right_small corner, row_once d grid (other kind) (c + 1 - right_of corner) (c + right_of corner) (omega (arith, inside)) (omega (arith, right_small corner, inside)) (e ∙ sym block.at_corner))))
+      lies_out r (corner_row corner) (row_of (other kind) d (c + 1 - corner_column corner)) (above_small corner)
+      (λ e. absurd (omega (arith, right_small corner, row_once d grid (other kind) (c + 1 - corner_column corner) (c + corner_column corner) (omega (arith, inside)) (omega (arith, right_small corner, inside)) (e ∙ sym block.at_corner))))
       block.empty
 
 -- the tests of the four marks: X and O of the left column, X and O of the right one
@@ -46,32 +46,32 @@ record Tests (d : Diagram) (c r : ℕ) (xa oa xb ob : Bool) : Type 0 where
 at : (d : Diagram) (r : ℕ) (k : Kind) (m n : ℕ) (b : Bool) → m ≡ n → is_block_row r (row_of k d m) ≡ b → is_block_row r (row_of k d n) ≡ b
 at d r k m n b e is = ap (λ (z : ℕ). is_block_row r (row_of k d z)) (sym e) ∙ is
 
-tests_left : (c r : ℕ) (kind : Kind) (corner : Corner) (d : Diagram) → IsGrid d → c + 1 < size d → IsBlock c r kind corner d → right_of corner ≡ 0 → Tests d c r true true (elim kind [ Cross ↦ true | Ring ↦ false ]) (elim kind [ Cross ↦ false | Ring ↦ true ])
+tests_left : (c r : ℕ) (kind : Kind) (corner : Corner) (d : Diagram) → IsGrid d → c + 1 < size d → IsBlock c r kind corner d → corner_column corner ≡ 0 → Tests d c r true true (elim kind [ Cross ↦ true | Ring ↦ false ]) (elim kind [ Cross ↦ false | Ring ↦ true ])
 tests_left c r Cross corner d grid inside block left = record {
-  cross_left = at d r Cross (c + right_of corner) c true (omega (arith, left)) (column_in c r Cross corner d grid inside block);
-  ring_left = at d r Ring (c + right_of corner) c true (omega (arith, left)) (corner_in c r Cross corner d grid inside block);
-  cross_right = at d r Cross (c + 1 - right_of corner) (c + 1) true (omega (arith, left)) (row_in c r Cross corner d grid inside block);
-  ring_right = at d r Ring (c + 1 - right_of corner) (c + 1) false (omega (arith, left)) (rest_out c r Cross corner d grid inside block);
+  cross_left = at d r Cross (c + corner_column corner) c true (omega (arith, left)) (column_in c r Cross corner d grid inside block);
+  ring_left = at d r Ring (c + corner_column corner) c true (omega (arith, left)) (corner_in c r Cross corner d grid inside block);
+  cross_right = at d r Cross (c + 1 - corner_column corner) (c + 1) true (omega (arith, left)) (row_in c r Cross corner d grid inside block);
+  ring_right = at d r Ring (c + 1 - corner_column corner) (c + 1) false (omega (arith, left)) (rest_out c r Cross corner d grid inside block);
 }
 tests_left c r Ring corner d grid inside block left = record {
-  cross_left = at d r Cross (c + right_of corner) c true (omega (arith, left)) (corner_in c r Ring corner d grid inside block);
-  ring_left = at d r Ring (c + right_of corner) c true (omega (arith, left)) (column_in c r Ring corner d grid inside block);
-  cross_right = at d r Cross (c + 1 - right_of corner) (c + 1) false (omega (arith, left)) (rest_out c r Ring corner d grid inside block);
-  ring_right = at d r Ring (c + 1 - right_of corner) (c + 1) true (omega (arith, left)) (row_in c r Ring corner d grid inside block);
+  cross_left = at d r Cross (c + corner_column corner) c true (omega (arith, left)) (corner_in c r Ring corner d grid inside block);
+  ring_left = at d r Ring (c + corner_column corner) c true (omega (arith, left)) (column_in c r Ring corner d grid inside block);
+  cross_right = at d r Cross (c + 1 - corner_column corner) (c + 1) false (omega (arith, left)) (rest_out c r Ring corner d grid inside block);
+  ring_right = at d r Ring (c + 1 - corner_column corner) (c + 1) true (omega (arith, left)) (row_in c r Ring corner d grid inside block);
 }
 
-tests_right : (c r : ℕ) (kind : Kind) (corner : Corner) (d : Diagram) → IsGrid d → c + 1 < size d → IsBlock c r kind corner d → right_of corner ≡ 1 → Tests d c r (elim kind [ Cross ↦ true | Ring ↦ false ]) (elim kind [ Cross ↦ false | Ring ↦ true ]) true true
+tests_right : (c r : ℕ) (kind : Kind) (corner : Corner) (d : Diagram) → IsGrid d → c + 1 < size d → IsBlock c r kind corner d → corner_column corner ≡ 1 → Tests d c r (elim kind [ Cross ↦ true | Ring ↦ false ]) (elim kind [ Cross ↦ false | Ring ↦ true ]) true true
 tests_right c r Cross corner d grid inside block right = record {
-  cross_left = at d r Cross (c + 1 - right_of corner) c true (omega (arith, right)) (row_in c r Cross corner d grid inside block);
-  ring_left = at d r Ring (c + 1 - right_of corner) c false (omega (arith, right)) (rest_out c r Cross corner d grid inside block);
-  cross_right = at d r Cross (c + right_of corner) (c + 1) true (omega (arith, right)) (column_in c r Cross corner d grid inside block);
-  ring_right = at d r Ring (c + right_of corner) (c + 1) true (omega (arith, right)) (corner_in c r Cross corner d grid inside block);
+  cross_left = at d r Cross (c + 1 - corner_column corner) c true (omega (arith, right)) (row_in c r Cross corner d grid inside block);
+  ring_left = at d r Ring (c + 1 - corner_column corner) c false (omega (arith, right)) (rest_out c r Cross corner d grid inside block);
+  cross_right = at d r Cross (c + corner_column corner) (c + 1) true (omega (arith, right)) (column_in c r Cross corner d grid inside block);
+  ring_right = at d r Ring (c + corner_column corner) (c + 1) true (omega (arith, right)) (corner_in c r Cross corner d grid inside block);
 }
 tests_right c r Ring corner d grid inside block right = record {
-  cross_left = at d r Cross (c + 1 - right_of corner) c false (omega (arith, right)) (rest_out c r Ring corner d grid inside block);
-  ring_left = at d r Ring (c + 1 - right_of corner) c true (omega (arith, right)) (row_in c r Ring corner d grid inside block);
-  cross_right = at d r Cross (c + right_of corner) (c + 1) true (omega (arith, right)) (corner_in c r Ring corner d grid inside block);
-  ring_right = at d r Ring (c + right_of corner) (c + 1) true (omega (arith, right)) (column_in c r Ring corner d grid inside block);
+  cross_left = at d r Cross (c + 1 - corner_column corner) c false (omega (arith, right)) (rest_out c r Ring corner d grid inside block);
+  ring_left = at d r Ring (c + 1 - corner_column corner) c true (omega (arith, right)) (row_in c r Ring corner d grid inside block);
+  cross_right = at d r Cross (c + corner_column corner) (c + 1) true (omega (arith, right)) (corner_in c r Ring corner d grid inside block);
+  ring_right = at d r Ring (c + corner_column corner) (c + 1) true (omega (arith, right)) (column_in c r Ring corner d grid inside block);
 }
 
 -- three marks
@@ -87,7 +87,7 @@ three_of d c r xa oa xb ob t e =
     ∙ e
 
 pub block_three : (c r : ℕ) (kind : Kind) (corner : Corner) (d : Diagram) → IsGrid d → c + 1 < size d → IsBlock c r kind corner d → marks_in_block d c r ≡ 3
-block_three c r kind corner d grid inside block = elim (cases_eq (right_of corner) 0) [
+block_three c r kind corner d grid inside block = elim (cases_eq (corner_column corner) 0) [
   | inl left ↦ from_left kind (tests_left c r kind corner d grid inside block left)
   | inr ne ↦ from_right kind (tests_right c r kind corner d grid inside block (omega (arith, ne, right_small corner)))
 ]
@@ -111,7 +111,7 @@ record Shape (d : Diagram) (c r : ℕ) (kind : Kind) (right : Bool) : Type 0 whe
   kind_is : block_kind d c r ≡ kind
   side_is : corner_is_right d c r ≡ right
 
-shape_left : (c r : ℕ) (kind : Kind) (corner : Corner) (d : Diagram) → IsGrid d → c + 1 < size d → IsBlock c r kind corner d → right_of corner ≡ 0 → Shape d c r kind false
+shape_left : (c r : ℕ) (kind : Kind) (corner : Corner) (d : Diagram) → IsGrid d → c + 1 < size d → IsBlock c r kind corner d → corner_column corner ≡ 0 → Shape d c r kind false
 shape_left c r Cross corner d grid inside block left =
     let t = tests_left c r Cross corner d grid inside block left in
     record { kind_is = kind_of d c r true true true false t; side_is = right_is d c r true true true false t }
@@ -119,7 +119,7 @@ shape_left c r Ring corner d grid inside block left =
     let t = tests_left c r Ring corner d grid inside block left in
     record { kind_is = kind_of d c r true true false true t; side_is = right_is d c r true true false true t }
 
-shape_right : (c r : ℕ) (kind : Kind) (corner : Corner) (d : Diagram) → IsGrid d → c + 1 < size d → IsBlock c r kind corner d → right_of corner ≡ 1 → Shape d c r kind true
+shape_right : (c r : ℕ) (kind : Kind) (corner : Corner) (d : Diagram) → IsGrid d → c + 1 < size d → IsBlock c r kind corner d → corner_column corner ≡ 1 → Shape d c r kind true
 shape_right c r Cross corner d grid inside block right =
     let t = tests_right c r Cross corner d grid inside block right in
     record { kind_is = kind_of d c r true false true true t; side_is = right_is d c r true false true true t }
@@ -139,7 +139,7 @@ low : (c r m n : ℕ) (kind : Kind) (d : Diagram) (j : ℕ) → m ≡ n → row_
 low c r m n kind d j e is l = ne_eqb (row_of kind d n) r (λ here. absurd (omega (arith, sym (ap (λ (z : ℕ). row_of kind d z) (sym e) ∙ is) ∙ here, l)))
 
 pub block_kind_is : (c r : ℕ) (kind : Kind) (corner : Corner) (d : Diagram) → IsGrid d → c + 1 < size d → IsBlock c r kind corner d → block_kind d c r ≡ kind
-block_kind_is c r kind corner d grid inside block = elim (cases_eq (right_of corner) 0) [
+block_kind_is c r kind corner d grid inside block = elim (cases_eq (corner_column corner) 0) [
   | inl left ↦ (shape_left c r kind corner d grid inside block left).kind_is
   | inr ne ↦ (shape_right c r kind corner d grid inside block (omega (arith, ne, right_small corner))).kind_is
 ]

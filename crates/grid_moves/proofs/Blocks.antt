@@ -7,21 +7,21 @@ use Rattle.grid_core.specs.declared.mark.Kind.TheVariants.{Cross, Ring}
 use Rattle.grid_core.specs.declared.mark.Corner.{Corner}
 use Rattle.grid_core.specs.declared.mark.Corner.TheVariants.{LowLeft, LowRight, HighLeft, HighRight}
 use Rattle.grid_core.specs.Diagram.{Diagram, IsGrid, size, row_of, other}
-use Rattle.grid_core.specs.Corners.{right_of, above_of}
+use Rattle.grid_core.specs.Corners.{corner_column, corner_row}
 use Rattle.grid_core.proofs.Marks.{no_cell_twice, row_once}
 use Rattle.grid_moves.specs.BlockMarks.{column_in_new_row, double_row, column_in_double_row}
 use Rattle.grid_moves.specs.Destabilisation.{marks_in_block}
 use Rattle.grid_moves.specs.Stabilisation.{Stabilises, grown}
 use Rattle.grid_core.proofs.Marks.{mark_at}
-use Rattle.grid_moves.proofs.Widened.{two_kinds}
+use Rattle.grid_moves.proofs.Widened.{two_kinds, at_column}
 use Rattle.grid_moves.proofs.Widened.{right_small, above_small}
 
 -- three marks in a block: the other kind stands at the corner, the kind in the two cells beside it, and the fourth cell is empty
 pub record IsBlock (c r : ℕ) (kind : Kind) (corner : Corner) (d : Diagram) : Type 0 where
-  pub at_corner : row_of (other kind) d (c + right_of corner) ≡ r + above_of corner
-  pub in_its_row : row_of kind d (c + 1 - right_of corner) ≡ r + above_of corner
-  pub in_its_column : row_of kind d (c + right_of corner) ≡ r + 1 - above_of corner
-  pub empty : row_of (other kind) d (c + 1 - right_of corner) ≢ r + 1 - above_of corner
+  pub at_corner : row_of (other kind) d (c + corner_column corner) ≡ r + corner_row corner
+  pub in_its_row : row_of kind d (c + 1 - corner_column corner) ≡ r + corner_row corner
+  pub in_its_column : row_of kind d (c + corner_column corner) ≡ r + 1 - corner_row corner
+  pub empty : row_of (other kind) d (c + 1 - corner_column corner) ≢ r + 1 - corner_row corner
 
 -- three of four tests hold
 abbrev AllBut : Bool → Bool → Bool → Bool → Type 0
@@ -51,19 +51,16 @@ lies s r e = grind (arith, nat_tests)
 lies_not : (s r : ℕ) → ((s == r) || (s == r + 1)) ≡ false → (s ≢ r) × (s ≢ r + 1)
 lies_not s r e = (λ is. grind (arith, nat_tests), λ is. grind (arith, nat_tests))
 
-at_column : (k : Kind) (d : Diagram) (m n r : ℕ) → m ≡ n → row_of k d m ≡ r → row_of k d n ≡ r
-at_column k d m n r q is = ap (λ (z : ℕ). row_of k d z) (sym q) ∙ is
-
 -- the corner stands in column a, the cell beside it in column b
-block_at : (c r a b : ℕ) (kind : Kind) (corner : Corner) (d : Diagram) → c + right_of corner ≡ a → c + 1 - right_of corner ≡ b → row_of (other kind) d a ≡ r + above_of corner → row_of kind d b ≡ r + above_of corner → row_of kind d a ≡ r + 1 - above_of corner → row_of (other kind) d b ≢ r + 1 - above_of corner → IsBlock c r kind corner d
+block_at : (c r a b : ℕ) (kind : Kind) (corner : Corner) (d : Diagram) → c + corner_column corner ≡ a → c + 1 - corner_column corner ≡ b → row_of (other kind) d a ≡ r + corner_row corner → row_of kind d b ≡ r + corner_row corner → row_of kind d a ≡ r + 1 - corner_row corner → row_of (other kind) d b ≢ r + 1 - corner_row corner → IsBlock c r kind corner d
 block_at c r a b kind corner d ea eb at_corner in_row in_column empty = record {
-  at_corner = at_column (other kind) d a (c + right_of corner) (r + above_of corner) (sym ea) at_corner;
-  in_its_row = at_column kind d b (c + 1 - right_of corner) (r + above_of corner) (sym eb) in_row;
-  in_its_column = at_column kind d a (c + right_of corner) (r + 1 - above_of corner) (sym ea) in_column;
-  empty = λ e. empty (at_column (other kind) d (c + 1 - right_of corner) b (r + 1 - above_of corner) eb e);
+  at_corner = at_column (other kind) d a (c + corner_column corner) (r + corner_row corner) (sym ea) at_corner;
+  in_its_row = at_column kind d b (c + 1 - corner_column corner) (r + corner_row corner) (sym eb) in_row;
+  in_its_column = at_column kind d a (c + corner_column corner) (r + 1 - corner_row corner) (sym ea) in_column;
+  empty = λ e. empty (at_column (other kind) d (c + 1 - corner_column corner) b (r + 1 - corner_row corner) eb e);
 }
 
-block_beside : (c r a b : ℕ) (kind : Kind) (low high : Corner) (d : Diagram) → c + right_of low ≡ a → c + 1 - right_of low ≡ b → c + right_of high ≡ a → c + 1 - right_of high ≡ b → above_of low ≡ 0 → above_of high ≡ 1 → (row_of (other kind) d a ≡ r) ⊎ (row_of (other kind) d a ≡ r + 1) → (row_of kind d b ≡ r) ⊎ (row_of kind d b ≡ r + 1) → (row_of kind d a ≡ r) ⊎ (row_of kind d a ≡ r + 1) → (row_of (other kind) d b ≢ r) × (row_of (other kind) d b ≢ r + 1) → row_of (other kind) d a ≢ row_of kind d a → row_of kind d b ≢ row_of kind d a → (corner : Corner) × IsBlock c r kind corner d
+block_beside : (c r a b : ℕ) (kind : Kind) (low high : Corner) (d : Diagram) → c + corner_column low ≡ a → c + 1 - corner_column low ≡ b → c + corner_column high ≡ a → c + 1 - corner_column high ≡ b → corner_row low ≡ 0 → corner_row high ≡ 1 → (row_of (other kind) d a ≡ r) ⊎ (row_of (other kind) d a ≡ r + 1) → (row_of kind d b ≡ r) ⊎ (row_of kind d b ≡ r + 1) → (row_of kind d a ≡ r) ⊎ (row_of kind d a ≡ r + 1) → (row_of (other kind) d b ≢ r) × (row_of (other kind) d b ≢ r + 1) → row_of (other kind) d a ≢ row_of kind d a → row_of kind d b ≢ row_of kind d a → (corner : Corner) × IsBlock c r kind corner d
 block_beside c r a b kind low high d la lb ha hb l h corner beside own out apart once = elim own [
   | inl is ↦ (
     high,
@@ -130,33 +127,33 @@ taken_other d c q ne er =
       of_ring = ap (λ b. cond b (c + 1) c) is;
     }
 
-taken_at : (c r : ℕ) (kind : Kind) (corner : Corner) (d : Diagram) → IsBlock c r kind corner d → Taken d c (r + above_of corner) (column_in_new_row c kind corner Cross) (column_in_new_row c kind corner Ring)
-taken_at c r Cross corner d block = elim (cases_eq (right_of corner) 0) [
+taken_at : (c r : ℕ) (kind : Kind) (corner : Corner) (d : Diagram) → IsBlock c r kind corner d → Taken d c (r + corner_row corner) (column_in_new_row c kind corner Cross) (column_in_new_row c kind corner Ring)
+taken_at c r Cross corner d block = elim (cases_eq (corner_column corner) 0) [
   | inl left ↦ moved (c + 1) (omega (arith, left)) c (omega (arith, left))
-      (taken_other d c (r + above_of corner) (λ e. block.empty (at_column Ring d (c + 1) (c + 1 - right_of corner) (r + 1 - above_of corner) (omega (arith, left)) (sym e ∙ at_column Cross d (c + right_of corner) c (r + 1 - above_of corner) (omega (arith, left)) block.in_its_column)))
-      (at_column Ring d (c + right_of corner) c (r + above_of corner) (omega (arith, left)) block.at_corner))
+      (taken_other d c (r + corner_row corner) (λ e. block.empty (at_column Ring d (c + 1) (c + 1 - corner_column corner) (r + 1 - corner_row corner) (omega (arith, left)) (sym e ∙ at_column Cross d (c + corner_column corner) c (r + 1 - corner_row corner) (omega (arith, left)) block.in_its_column)))
+      (at_column Ring d (c + corner_column corner) c (r + corner_row corner) (omega (arith, left)) block.at_corner))
   | inr ne ↦
-      let right : right_of corner ≡ 1 = omega (arith, ne, right_small corner) in
+      let right : corner_column corner ≡ 1 = omega (arith, ne, right_small corner) in
       moved c (omega (arith, right)) (c + 1) (omega (arith, right))
-      (taken_same d c (r + above_of corner) (at_column Cross d (c + 1 - right_of corner) c (r + above_of corner) (omega (arith, right)) block.in_its_row) (at_column Ring d (c + right_of corner) (c + 1) (r + above_of corner) (omega (arith, right)) block.at_corner))
+      (taken_same d c (r + corner_row corner) (at_column Cross d (c + 1 - corner_column corner) c (r + corner_row corner) (omega (arith, right)) block.in_its_row) (at_column Ring d (c + corner_column corner) (c + 1) (r + corner_row corner) (omega (arith, right)) block.at_corner))
 ]
   where
-    moved : (x : ℕ) → x ≡ c + 1 - right_of corner → (o : ℕ) → o ≡ c + right_of corner → Taken d c (r + above_of corner) x o → Taken d c (r + above_of corner) (c + 1 - right_of corner) (c + right_of corner)
+    moved : (x : ℕ) → x ≡ c + 1 - corner_column corner → (o : ℕ) → o ≡ c + corner_column corner → Taken d c (r + corner_row corner) x o → Taken d c (r + corner_row corner) (c + 1 - corner_column corner) (c + corner_column corner)
     moved x ex o eo t = record { row = t.row; of_cross = t.of_cross ∙ ex; of_ring = t.of_ring ∙ eo }
-taken_at c r Ring corner d block = elim (cases_eq (right_of corner) 0) [
+taken_at c r Ring corner d block = elim (cases_eq (corner_column corner) 0) [
   | inl left ↦ moved c (omega (arith, left)) (c + 1) (omega (arith, left))
-      (taken_same d c (r + above_of corner) (at_column Cross d (c + right_of corner) c (r + above_of corner) (omega (arith, left)) block.at_corner) (at_column Ring d (c + 1 - right_of corner) (c + 1) (r + above_of corner) (omega (arith, left)) block.in_its_row))
+      (taken_same d c (r + corner_row corner) (at_column Cross d (c + corner_column corner) c (r + corner_row corner) (omega (arith, left)) block.at_corner) (at_column Ring d (c + 1 - corner_column corner) (c + 1) (r + corner_row corner) (omega (arith, left)) block.in_its_row))
   | inr ne ↦
-      let right : right_of corner ≡ 1 = omega (arith, ne, right_small corner) in
+      let right : corner_column corner ≡ 1 = omega (arith, ne, right_small corner) in
       moved (c + 1) (omega (arith, right)) c (omega (arith, right))
-      (taken_other d c (r + above_of corner) (λ e. block.empty (at_column Cross d c (c + 1 - right_of corner) (r + 1 - above_of corner) (omega (arith, right)) (e ∙ at_column Ring d (c + right_of corner) (c + 1) (r + 1 - above_of corner) (omega (arith, right)) block.in_its_column)))
-      (at_column Ring d (c + 1 - right_of corner) c (r + above_of corner) (omega (arith, right)) block.in_its_row))
+      (taken_other d c (r + corner_row corner) (λ e. block.empty (at_column Cross d c (c + 1 - corner_column corner) (r + 1 - corner_row corner) (omega (arith, right)) (e ∙ at_column Ring d (c + corner_column corner) (c + 1) (r + 1 - corner_row corner) (omega (arith, right)) block.in_its_column)))
+      (at_column Ring d (c + 1 - corner_column corner) c (r + corner_row corner) (omega (arith, right)) block.in_its_row))
 ]
   where
-    moved : (x : ℕ) → x ≡ c + right_of corner → (o : ℕ) → o ≡ c + 1 - right_of corner → Taken d c (r + above_of corner) x o → Taken d c (r + above_of corner) (c + right_of corner) (c + 1 - right_of corner)
+    moved : (x : ℕ) → x ≡ c + corner_column corner → (o : ℕ) → o ≡ c + 1 - corner_column corner → Taken d c (r + corner_row corner) x o → Taken d c (r + corner_row corner) (c + corner_column corner) (c + 1 - corner_column corner)
     moved x ex o eo t = record { row = t.row; of_cross = t.of_cross ∙ ex; of_ring = t.of_ring ∙ eo }
 
-pub double_row_is : (c r : ℕ) (kind : Kind) (corner : Corner) (d : Diagram) → IsBlock c r kind corner d → double_row d c ≡ r + above_of corner
+pub double_row_is : (c r : ℕ) (kind : Kind) (corner : Corner) (d : Diagram) → IsBlock c r kind corner d → double_row d c ≡ r + corner_row corner
 double_row_is c r kind corner d block = (taken_at c r kind corner d block).row
 
 pub column_in_double_row_is : (c r : ℕ) (kind : Kind) (corner : Corner) (d : Diagram) → IsBlock c r kind corner d → (k : Kind) → column_in_double_row d c k ≡ column_in_new_row c kind corner k
@@ -175,5 +172,5 @@ block_made c r kind corner e d grid stab = record {
   empty = λ is.
       let s : ℕ = row_of (other kind) e c in
       let far : s ≢ r = λ here. two_kinds e grid kind c stab.marked.inside (stab.marked.row ∙ sym here) in
-      grown_apart r (above_of corner) s (above_small corner) far (sym (stab.of_column s (mark_at e (other kind) c stab.marked.inside)).row ∙ is);
+      grown_apart r (corner_row corner) s (above_small corner) far (sym (stab.of_column s (mark_at e (other kind) c stab.marked.inside)).row ∙ is);
 }

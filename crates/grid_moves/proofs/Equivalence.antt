@@ -2,11 +2,11 @@
 use Rattle.std.proofs.Common.{◌-◌, ◌++◌, ◌∷◌, [], List, refl, sym}
 use Rattle.grid_core.specs.Diagram.{Diagram, size, row_of}
 use Rattle.grid_moves.specs.declared.step.Move.{Move}
-use Rattle.grid_moves.specs.declared.step.Move.TheVariants.{ShiftColumns, ShiftRows, ExchangeColumns, ExchangeRows, Stabilise, Destabilise}
+use Rattle.grid_moves.specs.declared.step.Move.TheVariants.{ShiftColumns, ShiftRows, ExchangeColumns, ExchangeRows, SlideColumns, SlideRows, Stabilise, Destabilise}
 use Rattle.grid_moves.specs.BlockMarks.{block_kind, block_corner}
 use Rattle.grid_moves.specs.Step.{Step}
 use Rattle.grid_moves.specs.Joining.{Joins, Equivalent}
-use Rattle.grid_moves.proofs.Undone.{shift_columns_back, shift_rows_back, exchange_columns_back, exchange_rows_back, stabilise_back, destabilise_back}
+use Rattle.grid_moves.proofs.Undone.{shift_columns_back, shift_rows_back, exchange_columns_back, exchange_rows_back, slide_columns_back, slide_rows_back, stabilise_back, destabilise_back}
 use Rattle.grid_moves.proofs.Joined.{joins_append}
 
 -- each step has a step back
@@ -15,6 +15,8 @@ step_back (ShiftColumns k) d e step = (ShiftColumns (size d - k), shift_columns_
 step_back (ShiftRows k) d e step = (ShiftRows (size d - k), shift_rows_back k d e step)
 step_back (ExchangeColumns c) d e step = (ExchangeColumns c, exchange_columns_back c d e step)
 step_back (ExchangeRows r) d e step = (ExchangeRows r, exchange_rows_back r d e step)
+step_back (SlideColumns c) d e step = (SlideColumns c, slide_columns_back c d e step)
+step_back (SlideRows r) d e step = (SlideRows r, slide_rows_back r d e step)
 step_back (Stabilise c kind corner) d e step = (Destabilise c (row_of kind d c), stabilise_back c kind corner d e step)
 step_back (Destabilise c r) d e step = (Stabilise c (block_kind d c r) (block_corner d c r), destabilise_back c r d e step)
 

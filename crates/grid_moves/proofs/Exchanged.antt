@@ -93,8 +93,8 @@ may_exchange_by true b e = absurd (let no : ◌≡◌ {A = Option MoveFault} (So
 may_exchange_by false true e = (refl, refl)
 may_exchange_by false false e = absurd (let no : ◌≡◌ {A = Option MoveFault} (Some Interleaved) None = e in cc)
 
-pub may_exchange : (s t : Span) → exchange_fault s t ≡ None → MayExchange s t
-may_exchange s t e =
+pub exchange_allowed : (s t : Span) → exchange_fault s t ≡ None → MayExchange s t
+exchange_allowed s t e =
     let both = may_exchange_by (share_an_end s t) (are_disjoint s t || are_nested s t) e in
     record { different = both.0; placed = both.1 }
 
@@ -104,7 +104,7 @@ columns_exchanged-step c d grid inside free = record {
   after = columns_exchanged-grid c d grid inside;
   marks = record {
     inside = inside;
-    free = may_exchange (column_span d c) (column_span d (c + 1)) free;
+    may_exchange = exchange_allowed (column_span d c) (column_span d (c + 1)) free;
     renumbered = columns_exchanged-renumbered c d grid inside;
   };
 }
@@ -115,7 +115,7 @@ rows_exchanged-step r d grid inside free = record {
   after = rows_exchanged-grid r d grid inside;
   marks = record {
     inside = inside;
-    free = may_exchange (ends d r) (ends d (r + 1)) free;
+    may_exchange = exchange_allowed (ends d r) (ends d (r + 1)) free;
     renumbered = rows_exchanged-renumbered r d grid;
   };
 }

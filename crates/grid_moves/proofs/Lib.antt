@@ -1,5 +1,7 @@
 pub mod Renumbering
 pub mod Exchanged
+pub mod Slid
+pub mod ThreeLines
 pub mod Widened
 pub mod WidenedGrids
 pub mod Stabilised

@@ -20,7 +20,7 @@ unchanged-permutes n = record {
 }
 
 -- the row of a mark of e, from the column of d that it came from
-renumbered_row : (new_column new_row : ℕ → ℕ) (d e : Diagram) → Renumbered new_column new_row d e → (kind : Kind) (b : ℕ) → b < size d → row_of kind e (new_column b) ≡ new_row (row_of kind d b)
+pub renumbered_row : (new_column new_row : ℕ → ℕ) (d e : Diagram) → Renumbered new_column new_row d e → (kind : Kind) (b : ℕ) → b < size d → row_of kind e (new_column b) ≡ new_row (row_of kind d b)
 renumbered_row new_column new_row d e renumbered kind b lt = (renumbered.marks kind b (row_of kind d b) (mark_at d kind b lt)).row
 
 -- the marks before, and where each goes, leave one diagram after

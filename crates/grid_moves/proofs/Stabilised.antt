@@ -5,7 +5,7 @@ use Rattle.grid_core.specs.declared.mark.Kind.{Kind}
 use Rattle.grid_core.specs.declared.mark.Kind.TheVariants.{Cross, Ring}
 use Rattle.grid_core.specs.declared.mark.Corner.{Corner}
 use Rattle.grid_core.specs.Diagram.{Diagram, IsGrid, size, row_of}
-use Rattle.grid_core.specs.Corners.{above_of}
+use Rattle.grid_core.specs.Corners.{corner_row}
 use Rattle.grid_core.proofs.Marks.{mark_at, row_below}
 use Rattle.grid_moves.specs.declared.step.Move.TheVariants.{Stabilise}
 use Rattle.grid_moves.specs.BlockMarks.{column_in_new_row}
@@ -25,16 +25,16 @@ column_in_new_row-le c kind corner k n lt = elim (place_near c kind corner k) [ 
 
 -- the diagram as lists
 abbrev pub stabilised : ℕ → Kind → Corner → Diagram → Diagram
-stabilised c kind corner d = widened_at (column_in_new_row c kind corner) (row_of kind d c + above_of corner) d
+stabilised c kind corner d = widened_at (column_in_new_row c kind corner) (row_of kind d c + corner_row corner) d
 
-pub stabilised-widened : (c : ℕ) (kind : Kind) (corner : Corner) (d : Diagram) → IsGrid d → c < size d → Widened (column_in_new_row c kind corner) (row_of kind d c + above_of corner) d (stabilised c kind corner d)
-stabilised-widened c kind corner d grid lt = widened-widened (column_in_new_row c kind corner) (row_of kind d c + above_of corner) d grid (λ k. column_in_new_row-le c kind corner k (size d) lt)
+pub stabilised-widened : (c : ℕ) (kind : Kind) (corner : Corner) (d : Diagram) → IsGrid d → c < size d → Widened (column_in_new_row c kind corner) (row_of kind d c + corner_row corner) d (stabilised c kind corner d)
+stabilised-widened c kind corner d grid lt = widened-widened (column_in_new_row c kind corner) (row_of kind d c + corner_row corner) d grid (λ k. column_in_new_row-le c kind corner k (size d) lt)
 
 pub stabilised-grid : (c : ℕ) (kind : Kind) (corner : Corner) (d : Diagram) → IsGrid d → c < size d → size d < MAX_SIZE → IsGrid (stabilised c kind corner d)
 stabilised-grid c kind corner d grid lt room =
-    widened_grid c (column_in_new_row c kind corner) (row_of kind d c + above_of corner) d (stabilised c kind corner d) (columns_in_new_row-beside c kind corner) lt
+    widened_grid c (column_in_new_row c kind corner) (row_of kind d c + corner_row corner) d (stabilised c kind corner d) (columns_in_new_row-beside c kind corner) lt
     (omega (arith, row_below d grid kind c lt, above_small corner)) room grid
-    (widened-lengths (column_in_new_row c kind corner) (row_of kind d c + above_of corner) d grid (λ k. column_in_new_row-le c kind corner k (size d) lt))
+    (widened-lengths (column_in_new_row c kind corner) (row_of kind d c + corner_row corner) d grid (λ k. column_in_new_row-le c kind corner k (size d) lt))
     (stabilised-widened c kind corner d grid lt)
 
 pub stabilised-step : (c : ℕ) (kind : Kind) (corner : Corner) (d : Diagram) → IsGrid d → c < size d → size d < MAX_SIZE → Step d (Stabilise c kind corner) (stabilised c kind corner d)

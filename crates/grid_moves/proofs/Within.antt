@@ -9,7 +9,7 @@ pub joins_grid : (moves : List Move) (d e : Diagram) → IsGrid d → Joins d mo
 joins_grid [] d e grid same = subst (λ z. IsGrid z) same grid
 joins_grid (move ∷ moves) d e grid joined = joins_grid moves joined.0 e joined.1.0.after joined.1.1
 
-within_start : (cap : ℕ) (moves : List Move) (d e : Diagram) → JoinsWithin cap d moves e → size d ≤ cap
+pub within_start : (cap : ℕ) (moves : List Move) (d e : Diagram) → JoinsWithin cap d moves e → size d ≤ cap
 within_start cap [] d e joined = joined.0
 within_start cap (move ∷ moves) d e joined = joined.0
 
@@ -40,3 +40,8 @@ within_cap_equivalent d e cap same = (same.0, within_joins cap same.0 d e same.1
 
 pub within_cap_same : (d : Diagram) (cap : ℕ) → size d ≤ cap → WithinCap d d cap
 within_cap_same d cap le = ([], (le, refl))
+
+-- where a list of moves ends is within its cap
+pub within_end : (cap : ℕ) (moves : List Move) (d e : Diagram) → JoinsWithin cap d moves e → size e ≤ cap
+within_end cap [] d e joined = subst (λ g. size g ≤ cap) joined.1 joined.0
+within_end cap (move ∷ moves) d e joined = within_end cap moves joined.1.0 e joined.1.1.1

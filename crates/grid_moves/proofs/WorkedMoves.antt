@@ -6,7 +6,7 @@ use Rattle.grid_core.specs.Diagram.{Diagram, IsGrid}
 use Rattle.grid_core.proofs.Accepted.{accepted}
 use Rattle.grid_core.proofs.WorkedRows.{unknot, right_trefoil}
 use Rattle.grid_moves.specs.declared.step.Move.{Move}
-use Rattle.grid_moves.specs.declared.step.Move.TheVariants.{ShiftRows, ExchangeColumns, ExchangeRows, Stabilise, Destabilise}
+use Rattle.grid_moves.specs.declared.step.Move.TheVariants.{ShiftRows, ExchangeColumns, ExchangeRows, SlideColumns, SlideRows, Stabilise, Destabilise}
 use Rattle.grid_moves.specs.MoveFault.{first_fault}
 use Rattle.grid_moves.specs.Joining.{Joins}
 use Rattle.grid_moves.proofs.OneResult.{moved, moved_step}
@@ -36,6 +36,19 @@ destabilised_unknot = refl
 -- two nested columns trade places
 nested_columns : moved (ExchangeColumns 0) (record { x = 0 ∷ 1 ∷ 2 ∷ 3 ∷ []; o = 3 ∷ 2 ∷ 0 ∷ 1 ∷ [] }) ≡ record { x = 1 ∷ 0 ∷ 2 ∷ 3 ∷ []; o = 2 ∷ 3 ∷ 0 ∷ 1 ∷ [] }
 nested_columns = refl
+
+-- two columns that share one row, and two rows that share one column
+abbrev three_columns : Diagram
+three_columns = record { x = 1 ∷ 0 ∷ 2 ∷ []; o = 0 ∷ 2 ∷ 1 ∷ [] }
+
+three_columns_grid : IsGrid three_columns
+three_columns_grid = accepted three_columns.x three_columns.o (omega arith) (omega arith) refl refl refl refl
+
+slid_columns : Joins three_columns (SlideColumns 0 ∷ []) (record { x = 0 ∷ 1 ∷ 2 ∷ []; o = 2 ∷ 0 ∷ 1 ∷ [] })
+slid_columns = joins_computed (SlideColumns 0 ∷ []) three_columns three_columns_grid (more refl none)
+
+slid_rows : Joins three_columns (SlideRows 0 ∷ []) (record { x = 0 ∷ 1 ∷ 2 ∷ []; o = 1 ∷ 2 ∷ 0 ∷ [] })
+slid_rows = joins_computed (SlideRows 0 ∷ []) three_columns three_columns_grid (more refl none)
 
 -- the right trefoil and its reverse
 abbrev reversing : List Move

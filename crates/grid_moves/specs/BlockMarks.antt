@@ -5,14 +5,14 @@ use Rattle.grid_core.specs.declared.mark.Kind.TheVariants.{Cross, Ring}
 use Rattle.grid_core.specs.declared.mark.Corner.{Corner}
 use Rattle.grid_core.specs.declared.mark.Corner.TheVariants.{LowLeft, LowRight, HighLeft, HighRight}
 use Rattle.grid_core.specs.Diagram.{Diagram, row_of}
-use Rattle.grid_core.specs.Corners.{right_of}
+use Rattle.grid_core.specs.Corners.{corner_column}
 
 -- when the mark of the first kind in column c is stabilised, the column of the last kind's mark in the new row
 abbrev pub column_in_new_row : ℕ → Kind → Corner → Kind → ℕ
-column_in_new_row c Cross corner Cross = c + 1 - right_of corner
-column_in_new_row c Cross corner Ring = c + right_of corner
-column_in_new_row c Ring corner Cross = c + right_of corner
-column_in_new_row c Ring corner Ring = c + 1 - right_of corner
+column_in_new_row c Cross corner Cross = c + 1 - corner_column corner
+column_in_new_row c Cross corner Ring = c + corner_column corner
+column_in_new_row c Ring corner Cross = c + corner_column corner
+column_in_new_row c Ring corner Ring = c + 1 - corner_column corner
 
 -- row s is one of the block's rows, r and r + 1
 abbrev pub is_block_row : ℕ → ℕ → Bool

@@ -18,11 +18,11 @@ pub record MayExchange (s t : Span) : Type 0 where
 -- columns c and c + 1 trade their numbers
 pub record ExchangesColumns (c : ℕ) (d e : Diagram) : Type 0 where
   pub inside : c + 1 < size d
-  pub free : MayExchange (column_span d c) (column_span d (c + 1))
+  pub may_exchange : MayExchange (column_span d c) (column_span d (c + 1))
   pub renumbered : Renumbered (exchanged c) unchanged d e
 
 -- rows r and r + 1 trade their numbers
 pub record ExchangesRows (r : ℕ) (d e : Diagram) : Type 0 where
   pub inside : r + 1 < size d
-  pub free : MayExchange (ends d r) (ends d (r + 1))
+  pub may_exchange : MayExchange (ends d r) (ends d (r + 1))
   pub renumbered : Renumbered unchanged (exchanged r) d e

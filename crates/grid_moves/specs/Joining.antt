@@ -1,5 +1,6 @@
--- Lists of moves (Cromwell 1995, Dynnikov 2006). They prove that without a bound on the size the diagrams that moves join
--- are those of one link; sizes here are bounded, so diagrams that are joined here are of one link, and no more is said.
+-- Lists of moves. Cromwell (1995) and Dynnikov (2006) prove that without a bound on the size the diagrams that their moves,
+-- all but slides, join are those of one link; a slide is made of their moves. Sizes here are bounded, so diagrams that are
+-- joined here are of one link, and no more is said.
 use Rattle.std.specs.Prelude.{◌≡◌, ◌≤◌, ℕ, List, [], ◌∷◌, take, slice_get, Some}
 use Rattle.grid_core.specs.Diagram.{Diagram, size}
 use Rattle.grid_moves.specs.declared.step.Move.{Move}

@@ -1,6 +1,8 @@
 pub mod Renumbered
 pub mod Shift
 pub mod Exchange
+pub mod Slide
+pub mod Different
 pub mod Stabilisation
 pub mod Widening
 pub mod Destabilisation

@@ -10,6 +10,7 @@ ghost use Rattle.grid_moves.specs.MoveFault.{first_fault};
 use crate::destabilise::{block_corner, block_kind, destabilise};
 use crate::exchange::{exchange_columns, exchange_rows};
 use crate::shift::{shift_columns, shift_rows};
+use crate::slide::{slide_columns, slide_rows};
 use crate::stabilise::stabilise;
 use crate::step::{Move, MoveFault};
 use grid_core::Grid;
@@ -26,6 +27,8 @@ pub fn apply(grid: &Grid, step: Move) -> Result<Grid, MoveFault>
         Move::ShiftRows(k) => shift_rows(grid, k),
         Move::ExchangeColumns(c) => exchange_columns(grid, c),
         Move::ExchangeRows(r) => exchange_rows(grid, r),
+        Move::SlideColumns(c) => slide_columns(grid, c),
+        Move::SlideRows(r) => slide_rows(grid, r),
         Move::Stabilise {
             column,
             kind,
@@ -47,6 +50,8 @@ pub fn inverse(grid: &Grid, step: Move) -> Move
         Move::ShiftRows(k) => Move::ShiftRows(size - k),
         Move::ExchangeColumns(c) => Move::ExchangeColumns(c),
         Move::ExchangeRows(r) => Move::ExchangeRows(r),
+        Move::SlideColumns(c) => Move::SlideColumns(c),
+        Move::SlideRows(r) => Move::SlideRows(r),
         Move::Stabilise {
             column,
             kind,

@@ -55,7 +55,7 @@ fn exchange_fault(near: Span, far: Span) -> Result<(), MoveFault>
 }
 
 /// The rows of a kind, with columns c and c + 1 in each other's place.
-fn swapped_columns(grid: &Grid, kind: Kind, c: u8) -> Rows
+pub(crate) fn swapped_columns(grid: &Grid, kind: Kind, c: u8) -> Rows
     requires { c + 1 < size grid.now }
     ensures { result.items ≡ swap (rows_of kind grid.now) c (c + 1) }
 {
@@ -67,7 +67,7 @@ fn swapped_columns(grid: &Grid, kind: Kind, c: u8) -> Rows
 }
 
 /// The rows of a kind, with rows r and r + 1 in each other's place.
-fn exchanged_rows(grid: &Grid, kind: Kind, r: u8) -> Rows
+pub(crate) fn exchanged_rows(grid: &Grid, kind: Kind, r: u8) -> Rows
     requires { r + 1 < size grid.now }
     ensures { result.items ≡ map (exchanged r) (rows_of kind grid.now) }
 {

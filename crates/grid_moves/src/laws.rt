@@ -1,12 +1,17 @@
 //! Laws of the moves, over the definitions alone.
-ghost use Rattle.std.specs.Prelude.{◌≡◌, ◌≤◌, ◌-◌, ◌++◌, ◌↔◌, ◌⊎◌, [], None, ℕ, List};
+ghost use Rattle.std.specs.Prelude.{◌≡◌, ◌<◌, ◌≤◌, ◌+◌, ◌-◌, ◌++◌, ◌∷◌, ◌↔◌, ◌⊎◌, [], None, ℕ, List};
 ghost use Rattle.grid_core.specs.Diagram.{Diagram, IsGrid, size, row_of};
+ghost use Rattle.grid_core.specs.Parts.{column_span, column_of, ends};
+ghost use Rattle.grid_moves.specs.Different.{how_many_different};
+ghost use Rattle.grid_moves.specs.Exchange.{MayExchange};
+ghost use Rattle.grid_moves.specs.Inverse.{inverse_of};
 ghost use Rattle.grid_moves.specs.Joining.{Joins, StopsAt, Equivalent, WithinCap};
-ghost use Rattle.grid_moves.specs.Step.{Step};
 ghost use Rattle.grid_moves.specs.MoveFault.{first_fault};
+ghost use Rattle.grid_moves.specs.Slide.{MaySlide};
+ghost use Rattle.grid_moves.specs.Step.{Step};
 
 use crate::step::{Move, MoveFault};
-use grid_core::{Corner, Kind};
+use grid_core::{Corner, Kind, Span};
 
 /// A move leads somewhere exactly where it has no fault, and then to one diagram, which is a grid.
 pub fn a_legal_move_has_exactly_one_result()
@@ -26,6 +31,32 @@ pub fn a_shift_is_undone_by_the_rest()
 pub fn an_exchange_undoes_itself()
     ensures columns { (c : ℕ) (d e : Diagram) → Step d (Move.ExchangeColumns c) e → Step e (Move.ExchangeColumns c) d }
     ensures rows { (r : ℕ) (d e : Diagram) → Step d (Move.ExchangeRows r) e → Step e (Move.ExchangeRows r) d }
+{}
+
+/// A slide is its own inverse.
+pub fn a_slide_undoes_itself()
+    ensures columns { (c : ℕ) (d e : Diagram) → Step d (Move.SlideColumns c) e → Step e (Move.SlideColumns c) d }
+    ensures rows { (r : ℕ) (d e : Diagram) → Step d (Move.SlideRows r) e → Step e (Move.SlideRows r) d }
+{}
+
+/// Two neighbouring columns may slide exactly where their four marks lie in three different rows, and two neighbouring rows
+/// exactly where theirs lie in three different columns.
+pub fn what_slides_has_its_marks_in_three_lines()
+    ensures columns { (d : Diagram) (c : ℕ)
+        → IsGrid d
+        → c + 1 < size d
+        → MaySlide (column_span d c) (column_span d (c + 1))
+        ↔ (how_many_different (row_of Kind.Cross d c ∷ row_of Kind.Ring d c ∷ row_of Kind.Cross d (c + 1) ∷ row_of Kind.Ring d (c + 1) ∷ []) ≡ 3) }
+    ensures rows { (d : Diagram) (r : ℕ)
+        → IsGrid d
+        → r + 1 < size d
+        → MaySlide (ends d r) (ends d (r + 1))
+        ↔ (how_many_different (column_of Kind.Cross d r ∷ column_of Kind.Ring d r ∷ column_of Kind.Cross d (r + 1) ∷ column_of Kind.Ring d (r + 1) ∷ []) ≡ 3) }
+{}
+
+/// Of the exchange and the slide of two neighbours at most one is legal.
+pub fn what_may_be_exchanged_does_not_slide()
+    ensures { (s t : Span) → MayExchange s t → MaySlide s t → ⊥ }
 {}
 
 /// A stabilisation is undone by the destabilisation at its column and at the row of its mark.
@@ -56,6 +87,11 @@ pub fn a_block_comes_from_one_stabilisation()
         → Step f (Move.Stabilise c kind' corner') d
         → row_of kind' f c ≡ r
         → (e ≡ f) × (kind ≡ kind') × (corner ≡ corner') }
+{}
+
+/// The inverse of a move leads back: from what the move makes of a diagram to the diagram.
+pub fn an_inverse_leads_back()
+    ensures { (move : Move) (d e : Diagram) → Step d move e → Step e (inverse_of d move) d }
 {}
 
 /// An empty list of moves joins a diagram to itself and to no other.

@@ -1,4 +1,4 @@
-//! The moves of grid diagrams: shifts, exchanges, stabilisations and destabilisations, as relations between the marks before and after.
+//! The moves of grid diagrams: shifts, exchanges, slides, stabilisations and destabilisations, as relations between the marks before and after.
 //! A move is applied exactly where it is legal and else refused with its first fault, and its inverse leads back.
 #![tactic(auto)]
 
@@ -7,6 +7,7 @@ mod destabilise;
 mod exchange;
 pub mod laws;
 mod shift;
+mod slide;
 mod stabilise;
 mod step;
 #[cfg(test)]

@@ -2,7 +2,7 @@
 
 use grid_core::{Corner, Kind};
 
-/// A move of a grid diagram of size n (Cromwell 1995, Dynnikov 2006).
+/// A move of a grid diagram of size n (Cromwell 1995, Dynnikov 2006; the slide is made of theirs, see the crate's README).
 /// Columns are counted from the left and rows from below, both from 0.
 #[derive(Clone, Copy, Debug, PartialEq, Eq)]
 pub enum Move {
@@ -13,8 +13,13 @@ pub enum Move {
     /// Columns c and c + 1 trade places. Their four marks lie in four different rows, and their intervals are
     /// disjoint or strictly nested.
     ExchangeColumns(u8),
-    /// Rows r and r + 1 trade places, with columns and rows in each other's place.
+    /// Rows r and r + 1 trade places. Their four marks lie in four different columns, and their intervals are
+    /// disjoint or strictly nested.
     ExchangeRows(u8),
+    /// Columns c and c + 1 trade places. Their four marks lie in exactly three different rows.
+    SlideColumns(u8),
+    /// Rows r and r + 1 trade places. Their four marks lie in exactly three different columns.
+    SlideRows(u8),
     /// The mark of this kind in this column becomes a block of two columns and two rows with three marks.
     /// The corner gets the other kind, the two cells beside it the kind, and the fourth cell stays empty.
     Stabilise {
@@ -33,15 +38,17 @@ pub enum Move {
 /// Why a move is not legal on a grid of size n: the first of these that holds.
 #[derive(Clone, Copy, Debug, PartialEq, Eq)]
 pub enum MoveFault {
-    /// A shift by 0 or by n or more, an exchange whose second column or row lies outside, a stabilisation in a column
-    /// that is not there, or a block that reaches outside.
+    /// A shift by 0 or by n or more, an exchange or a slide whose second column or row lies outside, a stabilisation in
+    /// a column that is not there, or a block that reaches outside.
     Range,
-    /// The two neighbours of an exchange have a mark in one row (or one column).
+    /// The two neighbours of an exchange share a row (or a column), or those of a slide share two.
     Touching,
-    /// Their intervals are neither disjoint nor strictly nested.
+    /// The intervals of an exchange are neither disjoint nor strictly nested.
     Interleaved,
     /// The block of a destabilisation holds this number of marks, which is not three.
     Block { marks: u8 },
     /// A stabilisation of a grid of the size `MAX_SIZE`.
     Full,
+    /// The two neighbours of a slide share no row (or column).
+    Apart,
 }

@@ -46,7 +46,7 @@ fn moves_lead_where_they_were_worked_out_to_lead(rt: HostRuntime) -> Result<(), 
         kind: Kind::Cross,
         corner: Corner::LowLeft,
     };
-    let cases: [(&[u8], &[u8], &[Move], &[u8], &[u8]); 7] = [
+    let cases: [(&[u8], &[u8], &[Move], &[u8], &[u8]); 10] = [
         (&[0, 1], &[1, 0], &[], &[0, 1], &[1, 0]),
         (&[0, 1], &[1, 0], &[grow], &[1, 0, 2], &[0, 2, 1]),
         (
@@ -84,6 +84,27 @@ fn moves_lead_where_they_were_worked_out_to_lead(rt: HostRuntime) -> Result<(), 
             &[0, 1, 2],
             &[1, 2, 0],
         ),
+        (
+            &[1, 0, 2],
+            &[0, 2, 1],
+            &[Move::SlideColumns(0)],
+            &[0, 1, 2],
+            &[2, 0, 1],
+        ),
+        (
+            &[1, 0, 2],
+            &[0, 2, 1],
+            &[Move::SlideRows(0)],
+            &[0, 1, 2],
+            &[1, 2, 0],
+        ),
+        (
+            &[4, 3, 2, 0, 5, 1, 6],
+            &[6, 5, 4, 3, 1, 2, 0],
+            &[Move::SlideColumns(4), Move::SlideColumns(4)],
+            &[4, 3, 2, 0, 5, 1, 6],
+            &[6, 5, 4, 3, 1, 2, 0],
+        ),
     ];
     for (x, o, moves, to_x, to_o) in cases {
         assert!(rt; leads(x, o, moves, to_x, to_o), "{x:?} {o:?} {moves:?}");
@@ -95,7 +116,7 @@ fn moves_lead_where_they_were_worked_out_to_lead(rt: HostRuntime) -> Result<(), 
 fn moves_stop_at_the_first_illegal_one(rt: HostRuntime) -> Result<(), Fail> {
     let trefoil: (&[u8], &[u8]) = (&[4, 3, 2, 1, 0], &[2, 1, 0, 4, 3]);
     let unknot: (&[u8], &[u8]) = (&[0, 1], &[1, 0]);
-    let cases: [((&[u8], &[u8]), &[Move], (usize, MoveFault)); 7] = [
+    let cases: [((&[u8], &[u8]), &[Move], (usize, MoveFault)); 11] = [
         (
             trefoil,
             &[Move::ExchangeColumns(0)],
@@ -116,6 +137,10 @@ fn moves_stop_at_the_first_illegal_one(rt: HostRuntime) -> Result<(), Fail> {
             (0, MoveFault::Touching),
         ),
         (unknot, &[Move::ExchangeColumns(1)], (0, MoveFault::Range)),
+        (unknot, &[Move::SlideColumns(0)], (0, MoveFault::Touching)),
+        (unknot, &[Move::SlideColumns(1)], (0, MoveFault::Range)),
+        (trefoil, &[Move::SlideRows(0)], (0, MoveFault::Apart)),
+        (unknot, &[Move::SlideRows(1)], (0, MoveFault::Range)),
         (
             unknot,
             &[Move::ShiftRows(1), Move::ShiftRows(2)],
@@ -263,6 +288,8 @@ fn try_moves(grid: &Grid, n: u8, lines: &(Lines, Lines)) -> Result<(), Fail>
         try_move(grid, Move::ShiftRows(k), shifts)?;
         try_move(grid, Move::ExchangeColumns(k), may_exchange(&lines.0, k, n))?;
         try_move(grid, Move::ExchangeRows(k), may_exchange(&lines.1, k, n))?;
+        try_move(grid, Move::SlideColumns(k), shared(&lines.0, k, n) == 1)?;
+        try_move(grid, Move::SlideRows(k), shared(&lines.1, k, n) == 1)?;
         try_stabilisations(grid, k, k < n)?;
         for row in 0..n + 2 {
             let block = marks_in_block(&lines.0, k, row, n) == 3;
@@ -325,6 +352,21 @@ fn may_exchange(lines: &Lines, i: u8, n: u8) -> bool {
         }
     }
     i + 1 < usize::from(n) && changes < 3
+}
+
+/// At how many places two neighbouring lines both have a mark, or 0 where there are no two.
+fn shared(lines: &Lines, i: u8, n: u8) -> u8 {
+    let i = usize::from(i);
+    let (Some(near), Some(far)) = (lines.get(i), lines.get(i + 1)) else {
+        return 0;
+    };
+    let mut both: u8 = 0;
+    for (a, b) in near.iter().zip(far.iter()) {
+        if *a && *b {
+            both = both.saturating_add(1);
+        }
+    }
+    if i + 1 < usize::from(n) { both } else { 0 }
 }
 
 /// How many cells of a block have a mark, or 0 where the block does not lie in the grid.

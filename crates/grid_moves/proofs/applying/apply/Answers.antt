@@ -1,5 +1,5 @@
 use Rattle.std.proofs.Common.{subst}
-use Rattle.grid_moves.specs.declared.step.Move.TheVariants.{ShiftColumns, ShiftRows, ExchangeColumns, ExchangeRows, Stabilise, Destabilise}
+use Rattle.grid_moves.specs.declared.step.Move.TheVariants.{ShiftColumns, ShiftRows, ExchangeColumns, ExchangeRows, SlideColumns, SlideRows, Stabilise, Destabilise}
 use Rattle.grid_moves.specs.Step.{Step}
 use Rattle.grid_moves.proofs.OneResult.{answers_each}
 use Rattle.grid_moves.proofs.applying.apply.Goals as goal
@@ -15,6 +15,12 @@ returns-in-ExchangeColumns-clause-complete c = λ e step. answers_each c.args.gr
 
 pub returns-in-ExchangeRows-clause-complete : goal.returns-in-ExchangeRows-clause-complete
 returns-in-ExchangeRows-clause-complete c = λ e step. answers_each c.args.grid.now (ExchangeRows c.in-ExchangeRows.r) c.exchange_rows.result c.exchange_rows.ensures.fault c.exchange_rows.ensures.moved e (subst (λ m. Step c.args.grid.now m e) c.in-ExchangeRows.is step)
+
+pub returns-in-SlideColumns-clause-complete : goal.returns-in-SlideColumns-clause-complete
+returns-in-SlideColumns-clause-complete c = λ e step. answers_each c.args.grid.now (SlideColumns c.in-SlideColumns.c) c.slide_columns.result c.slide_columns.ensures.fault c.slide_columns.ensures.moved e (subst (λ m. Step c.args.grid.now m e) c.in-SlideColumns.is step)
+
+pub returns-in-SlideRows-clause-complete : goal.returns-in-SlideRows-clause-complete
+returns-in-SlideRows-clause-complete c = λ e step. answers_each c.args.grid.now (SlideRows c.in-SlideRows.r) c.slide_rows.result c.slide_rows.ensures.fault c.slide_rows.ensures.moved e (subst (λ m. Step c.args.grid.now m e) c.in-SlideRows.is step)
 
 pub returns-in-Stabilise-clause-complete : goal.returns-in-Stabilise-clause-complete
 returns-in-Stabilise-clause-complete c = λ e step. answers_each c.args.grid.now (Stabilise c.in-Stabilise.column c.in-Stabilise.kind c.in-Stabilise.corner) c.stabilise.result c.stabilise.ensures.fault c.stabilise.ensures.moved e (subst (λ m. Step c.args.grid.now m e) c.in-Stabilise.is step)
