@@ -7,8 +7,8 @@ use Rattle.std.proofs.lemmas.Nat.{mod-mul-add}
 use Rattle.std.proofs.lemmas.Bool.{cases_order}
 use Rattle.grid_core.specs.Diagram.{Diagram, IsGrid}
 use Rattle.grid_core.proofs.OneEach.{each_below}
-use Rattle.colour_laws.proofs.ColumnLists.{Column, dropped, IsNested, IsDisjoint, IsMarkAt, relabel, raised, short, long, with_block}
-use Rattle.colour_laws.proofs.ColouredColumns.{fallen, columns, neighbours_traded, IsTradableAt, xs_of, os_of}
+use Rattle.colour_laws.proofs.ColumnLists.{Column, dropped, IsNested, IsDisjoint, IsMarkAt, relabel, raised, short, long, with_block, ends}
+use Rattle.colour_laws.proofs.ColouredColumns.{fallen, columns, neighbours_traded, IsTradableAt, xs_of, os_of, IsSharing, HasBoth}
 use Rattle.colour_laws.proofs.ShiftRows.{dropped_zero, dropped_other}
 use Rattle.colour_laws.proofs.Marked.{xs_of_columns, os_of_columns}
 use Rattle.colour_laws.proofs.RowShifts.{xs_of_relabel, os_of_relabel}
@@ -97,6 +97,27 @@ tradable_at zero (x ∷ z ∷ xs) (o ∷ w ∷ os) lt size apart = apart
 tradable_at (suc c) [] os lt size apart = absurd (omega (arith, lt))
 tradable_at (suc c) (x ∷ xs) [] lt size apart = absurd (omega (arith, size))
 tradable_at (suc c) (x ∷ xs) (o ∷ os) lt size apart = tradable_at c xs os (omega (arith, lt)) (omega (arith, size)) apart
+
+-- a row that two neighbouring columns share, told at their indices
+pub sharing_at : (r c : ℕ) (xs os ys : List ℕ) → suc c < length xs → length os ≡ length xs → length ys ≡ length xs
+    → ((slice_index xs c ≡ r) × (slice_index os (suc c) ≡ r)) ⊎ ((slice_index os c ≡ r) × (slice_index xs (suc c) ≡ r)) → IsSharing r c (columns xs os ys)
+sharing_at r c [] os ys lt e f is = absurd (omega (arith, lt))
+sharing_at r c (x ∷ xs) [] ys lt e f is = absurd (omega (arith, e))
+sharing_at r c (x ∷ xs) (o ∷ os) [] lt e f is = absurd (omega (arith, f))
+sharing_at r zero (x ∷ []) (o ∷ os) (y ∷ ys) lt e f is = absurd (omega (arith, lt))
+sharing_at r zero (x ∷ z ∷ xs) (o ∷ []) (y ∷ ys) lt e f is = absurd (omega (arith, e))
+sharing_at r zero (x ∷ z ∷ xs) (o ∷ w ∷ os) (y ∷ []) lt e f is = absurd (omega (arith, f))
+sharing_at r zero (x ∷ z ∷ xs) (o ∷ w ∷ os) (y ∷ v ∷ ys) lt e f is = is
+sharing_at r (suc c) (x ∷ xs) (o ∷ os) (y ∷ ys) lt e f is = sharing_at r c xs os ys (omega (arith, lt)) (omega (arith, e)) (omega (arith, f)) is
+
+-- a column that two rows share, told at its index
+pub both_at : (r s k : ℕ) (xs os ys : List ℕ) → k < length xs → length os ≡ length xs → length ys ≡ length xs
+    → ends r (column_at k xs os) ≡ true → ends s (column_at k xs os) ≡ true → HasBoth r s (columns xs os ys)
+both_at r s k [] os ys lt e f one two = absurd (omega (arith, lt))
+both_at r s k (x ∷ xs) [] ys lt e f one two = absurd (omega (arith, e))
+both_at r s k (x ∷ xs) (o ∷ os) [] lt e f one two = absurd (omega (arith, f))
+both_at r s zero (x ∷ xs) (o ∷ os) (y ∷ ys) lt e f one two = inl (one, two)
+both_at r s (suc k) (x ∷ xs) (o ∷ os) (y ∷ ys) lt e f one two = inr (both_at r s k xs os ys (omega (arith, lt)) (omega (arith, e)) (omega (arith, f)) one two)
 
 -- a mark, told at its index
 pub mark_at : (mark : Bool) (r k : ℕ) (xs os ys : List ℕ) → k < length xs → length os ≡ length xs → length ys ≡ length xs

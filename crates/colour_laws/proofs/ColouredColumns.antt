@@ -4,7 +4,7 @@ use Rattle.std.specs.Prelude.{◌≡◌, ◌⊎◌, ◌==◌, ◌&&◌, ◌<◌,
 use Rattle.std.specs.List.{All, position_or_len}
 use Rattle.grid_core.specs.Diagram.{Diagram}
 use Rattle.quandle_core.specs.Quandle.{Table, over, back}
-use Rattle.colour_laws.proofs.ColumnLists.{Column, walk, dropped, recolour, recoloured, rises, covers, IsNested, IsDisjoint, with_block, IsMarkAt}
+use Rattle.colour_laws.proofs.ColumnLists.{Column, ends, walk, dropped, recolour, recoloured, rises, covers, IsNested, IsDisjoint, with_block, IsMarkAt}
 
 -- both numbers are colours
 abbrev pub are_both_colours : Table → ℕ → ℕ → Bool
@@ -161,3 +161,16 @@ pub record IsStabilised (mark right high : Bool) (r k : ℕ) (g h : Diagram) : T
   pub place : IsMarkAt mark r k (bare g)
   pub crosses : h.x ≡ xs_of (with_block mark right high r k (bare g))
   pub rings : h.o ≡ os_of (with_block mark right high r k (bare g))
+
+-- columns c and c + 1 are there, and share row r
+abbrev pub IsSharing : ℕ → ℕ → List Column → Type 0
+IsSharing r zero [] = ⊥
+IsSharing r zero (u ∷ []) = ⊥
+IsSharing r zero (u ∷ v ∷ rest) = ((u.x ≡ r) × (v.o ≡ r)) ⊎ ((u.o ≡ r) × (v.x ≡ r))
+IsSharing r (suc c) [] = ⊥
+IsSharing r (suc c) (u ∷ rest) = IsSharing r c rest
+
+-- some column has marks in both rows
+abbrev pub HasBoth : ℕ → ℕ → List Column → Type 0
+HasBoth r s [] = ⊥
+HasBoth r s (c ∷ cs) = ((ends r c ≡ true) × (ends s c ≡ true)) ⊎ HasBoth r s cs

@@ -11,13 +11,13 @@ use Rattle.grid_core.specs.Diagram.{Diagram, IsGrid, size, row_of}
 use Rattle.grid_core.specs.Span.{span}
 use Rattle.grid_core.specs.Parts.{is_up}
 use Rattle.grid_core.proofs.Marks.{mark_at}
-use Rattle.colour_rows.proofs.Ends.{span_low, span_high}
+use Rattle.grid_core.proofs.Ends.{span_low, span_high}
 use Rattle.grid_moves.specs.declared.step.Move.TheVariants.{ExchangeColumns}
 use Rattle.grid_moves.specs.Renumbered.{Renumbered, unchanged}
 use Rattle.grid_moves.specs.Exchange.{exchanged}
 use Rattle.grid_moves.specs.Step.{Step}
 use Rattle.quandle_core.specs.Quandle.{Table, IsQuandle}
-use Rattle.colour_rows.specs.Equation.{forth, fro}
+use Rattle.colour_rows.specs.Walk.{passed_rightward, passed_leftward}
 use Rattle.colour_rows.specs.Colouring.{IsColouring}
 use Rattle.quandle_core.specs.Bijection.{IsBijection}
 use Rattle.colour_laws.specs.Carried.{carried, columns_exchanged, is_nested_in, gone_left, gone_right}
@@ -99,11 +99,11 @@ apart a b c d disjoint =
     ]
 
 -- on colours the actions are the table's operations
-fro_same : (t : Table) (up : Bool) (a y : ℕ) → a < t.order → y < t.order → act t (not up) a y ≡ fro t up y a
+pub fro_same : (t : Table) (up : Bool) (a y : ℕ) → a < t.order → y < t.order → act t (not up) a y ≡ passed_leftward t up y a
 fro_same t true a y la ly = act_inside t false a y la ly
 fro_same t false a y la ly = act_inside t true a y la ly
 
-forth_same : (t : Table) (up : Bool) (a y : ℕ) → a < t.order → y < t.order → act t up a y ≡ forth t up y a
+forth_same : (t : Table) (up : Bool) (a y : ℕ) → a < t.order → y < t.order → act t up a y ≡ passed_rightward t up y a
 forth_same t true a y la ly = act_inside t true a y la ly
 forth_same t false a y la ly = act_inside t false a y la ly
 
@@ -118,22 +118,22 @@ pair_is t d f c la lb free rest =
           let second : is_nested_in d c (c + 1) ≡ false = around u.x u.o v.x v.o nested in
           ap ys_of (pair_outer (act t) (coloured_at c d.x d.o f) (coloured_at (c + 1) d.x d.o f) rest nested)
           ∙ ap₂ (λ y z. y ∷ z ∷ ys_of rest)
-          (fro_same t (is_up d c) (slice_index f c) (slice_index f (c + 1)) la lb ∙ sym (cond-true (is_nested_in d (c + 1) c) (fro t (is_up d c) (slice_index f (c + 1)) (slice_index f c)) (slice_index f (c + 1)) first))
-          (sym (cond-false (is_nested_in d c (c + 1)) (forth t (is_up d (c + 1)) (slice_index f c) (slice_index f (c + 1))) (slice_index f c) second))
+          (fro_same t (is_up d c) (slice_index f c) (slice_index f (c + 1)) la lb ∙ sym (cond-true (is_nested_in d (c + 1) c) (passed_leftward t (is_up d c) (slice_index f (c + 1)) (slice_index f c)) (slice_index f (c + 1)) first))
+          (sym (cond-false (is_nested_in d c (c + 1)) (passed_rightward t (is_up d (c + 1)) (slice_index f c) (slice_index f (c + 1))) (slice_index f c) second))
       | inr (inl nested) ↦
           let first : is_nested_in d (c + 1) c ≡ false = around v.x v.o u.x u.o nested in
           let second : is_nested_in d c (c + 1) ≡ true = inside u.x u.o v.x v.o nested in
           ap ys_of (pair_inner (act t) (coloured_at c d.x d.o f) (coloured_at (c + 1) d.x d.o f) rest nested)
           ∙ ap₂ (λ y z. y ∷ z ∷ ys_of rest)
-          (sym (cond-false (is_nested_in d (c + 1) c) (fro t (is_up d c) (slice_index f (c + 1)) (slice_index f c)) (slice_index f (c + 1)) first))
-          (forth_same t (is_up d (c + 1)) (slice_index f (c + 1)) (slice_index f c) lb la ∙ sym (cond-true (is_nested_in d c (c + 1)) (forth t (is_up d (c + 1)) (slice_index f c) (slice_index f (c + 1))) (slice_index f c) second))
+          (sym (cond-false (is_nested_in d (c + 1) c) (passed_leftward t (is_up d c) (slice_index f (c + 1)) (slice_index f c)) (slice_index f (c + 1)) first))
+          (forth_same t (is_up d (c + 1)) (slice_index f (c + 1)) (slice_index f c) lb la ∙ sym (cond-true (is_nested_in d c (c + 1)) (passed_rightward t (is_up d (c + 1)) (slice_index f c) (slice_index f (c + 1))) (slice_index f c) second))
       | inr (inr disjoint) ↦
           let first : is_nested_in d (c + 1) c ≡ false = apart v.x v.o u.x u.o (elim disjoint [ inl h ↦ inr h | inr h ↦ inl h ]) in
           let second : is_nested_in d c (c + 1) ≡ false = apart u.x u.o v.x v.o disjoint in
           ap ys_of (pair_disjoint (act t) (coloured_at c d.x d.o f) (coloured_at (c + 1) d.x d.o f) rest disjoint)
           ∙ ap₂ (λ y z. y ∷ z ∷ ys_of rest)
-          (sym (cond-false (is_nested_in d (c + 1) c) (fro t (is_up d c) (slice_index f (c + 1)) (slice_index f c)) (slice_index f (c + 1)) first))
-          (sym (cond-false (is_nested_in d c (c + 1)) (forth t (is_up d (c + 1)) (slice_index f c) (slice_index f (c + 1))) (slice_index f c) second))
+          (sym (cond-false (is_nested_in d (c + 1) c) (passed_leftward t (is_up d c) (slice_index f (c + 1)) (slice_index f c)) (slice_index f (c + 1)) first))
+          (sym (cond-false (is_nested_in d c (c + 1)) (passed_rightward t (is_up d (c + 1)) (slice_index f c) (slice_index f (c + 1))) (slice_index f c) second))
     ]
 
 -- the exchange, place by place
@@ -166,17 +166,28 @@ exchanged_is t d c lt grid free f colouring long =
     ])
 
 -- a mark after the exchange
-moved_row : (c : ℕ) (d e : Diagram) → Renumbered (exchanged c) unchanged d e → (kind : Kind) (b k : ℕ) → b < size d → exchanged c b ≡ k → row_of kind e k ≡ row_of kind d b
+pub moved_row : (c : ℕ) (d e : Diagram) → Renumbered (exchanged c) unchanged d e → (kind : Kind) (b k : ℕ) → b < size d → exchanged c b ≡ k → row_of kind e k ≡ row_of kind d b
 moved_row c d e renumbered kind b k lt is = ap (row_of kind e) (sym is) ∙ (renumbered.marks kind b (row_of kind d b) (mark_at d kind b lt)).row
 
-to_right : (c : ℕ) → exchanged c c ≡ suc c
+pub to_right : (c : ℕ) → exchanged c c ≡ suc c
 to_right c = grind (arith, nat_tests)
 
-to_left : (c : ℕ) → exchanged c (suc c) ≡ c
+pub to_left : (c : ℕ) → exchanged c (suc c) ≡ c
 to_left c = grind (arith, nat_tests)
 
-stays : (c i : ℕ) → i ≢ c → i ≢ suc c → exchanged c i ≡ i
+pub stays : (c i : ℕ) → i ≢ c → i ≢ suc c → exchanged c i ≡ i
 stays c i n m = grind (arith, nat_tests, n, m)
+
+-- the lists of marks after two columns traded their numbers
+pub marks_traded : (c : ℕ) (d e : Diagram) → IsGrid d → IsGrid e → c + 1 < size d → Renumbered (exchanged c) unchanged d e → (e.x ≡ neighbours_traded c d.x) × (e.o ≡ neighbours_traded c d.o)
+marks_traded c d e grid grid' lt moved = (
+  traded_at c e.x d.x (omega (arith, lt)) moved.same_size
+      (moved_row c d e moved Cross (suc c) c (omega (arith, lt)) (to_left c)) (moved_row c d e moved Cross c (suc c) (omega (arith, lt)) (to_right c))
+      (λ i at n m. moved_row c d e moved Cross i i at (stays c i n m)),
+  traded_at c e.o d.o (omega (arith, lt, grid.same)) (grid'.same ∙ moved.same_size ∙ sym grid.same)
+      (moved_row c d e moved Ring (suc c) c (omega (arith, lt)) (to_left c)) (moved_row c d e moved Ring c (suc c) (omega (arith, lt)) (to_right c))
+      (λ i at n m. moved_row c d e moved Ring i i (omega (arith, at, grid.same)) (stays c i n m)),
+)
 
 pub exchange_of_columns : (t : Table) → IsQuandle t → (d e : Diagram) (c : ℕ) → Step d (ExchangeColumns c) e → IsBijection (IsColouring t d) (IsColouring t e) (carried t d (ExchangeColumns c))
 exchange_of_columns t q d e c step =
@@ -185,15 +196,10 @@ exchange_of_columns t q d e c step =
     let moved = step.marks.renumbered in
     let lt : c + 1 < size d = step.marks.inside in
     let free : AreFree (coloured_at c d.x d.o []) (coloured_at (c + 1) d.x d.o []) =
-    are_free (slice_index d.x c) (slice_index d.o c) (slice_index d.x (c + 1)) (slice_index d.o (c + 1)) 0 0 step.marks.free in
+    are_free (slice_index d.x c) (slice_index d.o c) (slice_index d.x (c + 1)) (slice_index d.o (c + 1)) 0 0 step.marks.may_exchange in
     let next : c + 1 ≡ suc c = add-one c in
     let tradable : IsTradableAt c d.x d.o = tradable_at c d.x d.o (omega (arith, lt)) grid.same (subst (λ (k : ℕ). AreFree (column_at c d.x d.o) (column_at k d.x d.o)) next free) in
-    let hx : e.x ≡ neighbours_traded c d.x = traded_at c e.x d.x (omega (arith, lt)) moved.same_size
-    (moved_row c d e moved Cross (suc c) c (omega (arith, lt)) (to_left c)) (moved_row c d e moved Cross c (suc c) (omega (arith, lt)) (to_right c))
-    (λ i at n m. moved_row c d e moved Cross i i at (stays c i n m)) in
-    let ho : e.o ≡ neighbours_traded c d.o = traded_at c e.o d.o (omega (arith, lt, grid.same)) (grid'.same ∙ moved.same_size ∙ sym grid.same)
-    (moved_row c d e moved Ring (suc c) c (omega (arith, lt)) (to_left c)) (moved_row c d e moved Ring c (suc c) (omega (arith, lt)) (to_right c))
-    (λ i at n m. moved_row c d e moved Ring i i (omega (arith, at, grid.same)) (stays c i n m)) in
-    let inverse = lists.columns_exchanged t q d e grid grid' c tradable hx ho in
+    let marks = marks_traded c d e grid grid' lt moved in
+    let inverse = lists.columns_exchanged t q d e grid grid' c tradable marks.0 marks.1 in
     bijection_from t q d e grid grid' (traded_colours t c d) (traded_colours t c e) (carried t d (ExchangeColumns c)) inverse
     (λ f colouring. exchanged_is t d c lt grid free f colouring ((inverse.goes f colouring).size ∙ moved.same_size))

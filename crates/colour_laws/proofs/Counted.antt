@@ -9,7 +9,7 @@ use Rattle.colour_rows.specs.Colouring.{IsColouring}
 use Rattle.colour_list.specs.Listing.{colourings}
 use Rattle.colour_laws.specs.Carried.{carried}
 use Rattle.colour_laws.proofs.Listings.{listing}
-use Rattle.colour_laws.proofs.Lengths.{equal_lengths}
+use Rattle.quandle_core.proofs.Lengths.{equal_lengths}
 use Rattle.colour_laws.proofs.Steps.{step_carries}
 
 pub moved_lengths : (t : Table) → IsQuandle t → (d e : Diagram) (move : Move) → Step d move e → length (colourings t d) ≡ length (colourings t e)

@@ -7,7 +7,7 @@ use Rattle.std.proofs.lemmas.List.Edits.{get_or-insert_at, get_or-insert_below, 
 use Rattle.std.proofs.lemmas.Bool.{cases_lt, cases_eq, lt-ltb, le-ltb, eq-eqb, ne_eqb, and_from, and_left, and_right, cond-true, cond-false}
 use Rattle.grid_core.specs.Diagram.{Diagram, size}
 use Rattle.quandle_core.specs.Quandle.{Table}
-use Rattle.colour_rows.specs.Equation.{fro}
+use Rattle.colour_rows.specs.Walk.{passed_leftward}
 use Rattle.colour_laws.specs.Carried.{by_column, stabilised, destabilised}
 use Rattle.colour_laws.proofs.ByIndex.{is_by_column, by_column_at, length_by_column}
 
@@ -57,12 +57,12 @@ pair_set c n a b ys lt e =
 
 -- the columns strictly between two have passed under a strand of colour a
 abbrev pub between_passed : Table → Bool → ℕ → ℕ → ℕ → List ℕ → List ℕ
-between_passed t up a left to ys = by_column (length ys) (λ i. cond (nat_lt left i && nat_lt i to) (fro t up (slice_index ys i) a) (slice_index ys i))
+between_passed t up a left to ys = by_column (length ys) (λ i. cond (nat_lt left i && nat_lt i to) (passed_leftward t up (slice_index ys i) a) (slice_index ys i))
 
 pub none_passed : (t : Table) (up : Bool) (a left : ℕ) (ys : List ℕ) → ys ≡ between_passed t up a left (left + 1) ys
 none_passed t up a left ys =
-    is_by_column (length ys) (λ i. cond (nat_lt left i && nat_lt i (left + 1)) (fro t up (slice_index ys i) a) (slice_index ys i)) ys refl
-    (λ i at. sym (cond-false (nat_lt left i && nat_lt i (left + 1)) (fro t up (slice_index ys i) a) (slice_index ys i) (elim (cases_lt left i) [
+    is_by_column (length ys) (λ i. cond (nat_lt left i && nat_lt i (left + 1)) (passed_leftward t up (slice_index ys i) a) (slice_index ys i)) ys refl
+    (λ i at. sym (cond-false (nat_lt left i && nat_lt i (left + 1)) (passed_leftward t up (slice_index ys i) a) (slice_index ys i) (elim (cases_lt left i) [
       | inl l ↦ and_right (nat_lt left i) (nat_lt i (left + 1)) (le-ltb i (left + 1) (omega arith))
       | inr g ↦ and_left (nat_lt left i) (nat_lt i (left + 1)) (le-ltb left i g)
     ])))
@@ -70,25 +70,25 @@ none_passed t up a left ys =
 -- the columns from the next one on are as they were
 pub unpassed : (t : Table) (up : Bool) (a left to i : ℕ) (ys : List ℕ) → to ≤ i → i < length ys → slice_index (between_passed t up a left to ys) i ≡ slice_index ys i
 unpassed t up a left to i ys le lt =
-    by_column_at (length ys) (λ i. cond (nat_lt left i && nat_lt i to) (fro t up (slice_index ys i) a) (slice_index ys i)) i lt
-    ∙ cond-false (nat_lt left i && nat_lt i to) (fro t up (slice_index ys i) a) (slice_index ys i) (and_right (nat_lt left i) (nat_lt i to) (le-ltb i to le))
+    by_column_at (length ys) (λ i. cond (nat_lt left i && nat_lt i to) (passed_leftward t up (slice_index ys i) a) (slice_index ys i)) i lt
+    ∙ cond-false (nat_lt left i && nat_lt i to) (passed_leftward t up (slice_index ys i) a) (slice_index ys i) (and_right (nat_lt left i) (nat_lt i to) (le-ltb i to le))
 
 -- one column more
-pub one_passed : (t : Table) (up : Bool) (a left to : ℕ) (ys zs : List ℕ) (b : ℕ) → left < to → to < length ys → zs ≡ between_passed t up a left to ys → b ≡ fro t up (slice_index zs to) a
+pub one_passed : (t : Table) (up : Bool) (a left to : ℕ) (ys zs : List ℕ) (b : ℕ) → left < to → to < length ys → zs ≡ between_passed t up a left to ys → b ≡ passed_leftward t up (slice_index zs to) a
     → set zs to b ≡ between_passed t up a left (to + 1) ys
 one_passed t up a left to ys zs b low lt so_far is =
     let old = unpassed t up a left to to ys (omega arith) lt in
-    let long : length zs ≡ length ys = ap length so_far ∙ length_by_column (length ys) (λ i. cond (nat_lt left i && nat_lt i to) (fro t up (slice_index ys i) a) (slice_index ys i)) in
-    is_by_column (length ys) (λ i. cond (nat_lt left i && nat_lt i (to + 1)) (fro t up (slice_index ys i) a) (slice_index ys i)) (set zs to b) (length-set zs to b ∙ long)
+    let long : length zs ≡ length ys = ap length so_far ∙ length_by_column (length ys) (λ i. cond (nat_lt left i && nat_lt i to) (passed_leftward t up (slice_index ys i) a) (slice_index ys i)) in
+    is_by_column (length ys) (λ i. cond (nat_lt left i && nat_lt i (to + 1)) (passed_leftward t up (slice_index ys i) a) (slice_index ys i)) (set zs to b) (length-set zs to b ∙ long)
     (λ i at. elim (cases_eq i to) [
       | inl same ↦
           ap (slice_index (set zs to b)) same ∙ get_or-set_same zs to b 0 (omega (arith, long, lt)) ∙ is
-          ∙ ap (λ y. fro t up y a) (ap (λ l. slice_index l to) so_far ∙ old ∙ ap (slice_index ys) (sym same))
-          ∙ sym (cond-true (nat_lt left i && nat_lt i (to + 1)) (fro t up (slice_index ys i) a) (slice_index ys i)
+          ∙ ap (λ y. passed_leftward t up y a) (ap (λ l. slice_index l to) so_far ∙ old ∙ ap (slice_index ys) (sym same))
+          ∙ sym (cond-true (nat_lt left i && nat_lt i (to + 1)) (passed_leftward t up (slice_index ys i) a) (slice_index ys i)
           (and_from (nat_lt left i) (nat_lt i (to + 1)) (lt-ltb left i (omega (arith, same))) (lt-ltb i (to + 1) (omega (arith, same)))))
       | inr n ↦
-          get_or-set_other zs to i b 0 n ∙ ap (λ l. slice_index l i) so_far ∙ by_column_at (length ys) (λ i. cond (nat_lt left i && nat_lt i to) (fro t up (slice_index ys i) a) (slice_index ys i)) i at
-          ∙ ap (λ w. cond (nat_lt left i && w) (fro t up (slice_index ys i) a) (slice_index ys i)) (below_next i to n)
+          get_or-set_other zs to i b 0 n ∙ ap (λ l. slice_index l i) so_far ∙ by_column_at (length ys) (λ i. cond (nat_lt left i && nat_lt i to) (passed_leftward t up (slice_index ys i) a) (slice_index ys i)) i at
+          ∙ ap (λ w. cond (nat_lt left i && w) (passed_leftward t up (slice_index ys i) a) (slice_index ys i)) (below_next i to n)
     ])
   where
     below_next : (i to : ℕ) → i ≢ to → nat_lt i to ≡ nat_lt i (to + 1)

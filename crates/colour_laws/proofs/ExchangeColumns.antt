@@ -35,7 +35,7 @@ pub record IsOver (d : Bool) (r : ℕ) (c : Column) : Type 0 where
   pub below : nat_lt c.x r ≡ d
   pub above : nat_lt c.o r ≡ not d
 
-crossed_none : (p : Bool → ℕ → ℕ → ℕ) (l m : Bool) (y a : ℕ) → l ≡ m → crossed p l m y a ≡ a
+pub crossed_none : (p : Bool → ℕ → ℕ → ℕ) (l m : Bool) (y a : ℕ) → l ≡ m → crossed p l m y a ≡ a
 crossed_none p true true y a e = refl
 crossed_none p true false y a e = absurd (true≢false e)
 crossed_none p false true y a e = absurd (false≢true e)
@@ -45,7 +45,7 @@ crossed_one : (p : Bool → ℕ → ℕ → ℕ) (d : Bool) (y a : ℕ) → cros
 crossed_one p true y a = refl
 crossed_one p false y a = refl
 
-crosses_over : (p : Bool → ℕ → ℕ → ℕ) (d : Bool) (r : ℕ) (c : Column) (a : ℕ) → IsOver d r c → crosses p r c a ≡ p d c.y a
+pub crosses_over : (p : Bool → ℕ → ℕ → ℕ) (d : Bool) (r : ℕ) (c : Column) (a : ℕ) → IsOver d r c → crosses p r c a ≡ p d c.y a
 crosses_over p d r c a over = ap₂ (λ l m. crossed p l m c.y a) over.below over.above ∙ crossed_one p d c.y a
 
 -- a column that does nothing in row r trades places with its neighbour

@@ -35,16 +35,16 @@ row_same p h h' r (c ∷ cs) e = elim (cases_Bool (ends r c)) [
       ∙ sym (row_apart p h' r c cs f)
 ]
 
-up_to_end : (r : ℕ) (c : Column) (cs : List Column) → ends r c ≡ true → up_to r (c ∷ cs) ≡ []
+pub up_to_end : (r : ℕ) (c : Column) (cs : List Column) → ends r c ≡ true → up_to r (c ∷ cs) ≡ []
 up_to_end r c cs e = cond-true (ends r c) [] (c ∷ up_to r cs) e
 
-up_to_apart : (r : ℕ) (c : Column) (cs : List Column) → ends r c ≡ false → up_to r (c ∷ cs) ≡ c ∷ up_to r cs
+pub up_to_apart : (r : ℕ) (c : Column) (cs : List Column) → ends r c ≡ false → up_to r (c ∷ cs) ≡ c ∷ up_to r cs
 up_to_apart r c cs e = cond-false (ends r c) [] (c ∷ up_to r cs) e
 
-between_end : (r : ℕ) (c : Column) (cs : List Column) → ends r c ≡ true → between r (c ∷ cs) ≡ up_to r cs
+pub between_end : (r : ℕ) (c : Column) (cs : List Column) → ends r c ≡ true → between r (c ∷ cs) ≡ up_to r cs
 between_end r c cs e = cond-true (ends r c) (up_to r cs) (between r cs) e
 
-between_apart : (r : ℕ) (c : Column) (cs : List Column) → ends r c ≡ false → between r (c ∷ cs) ≡ between r cs
+pub between_apart : (r : ℕ) (c : Column) (cs : List Column) → ends r c ≡ false → between r (c ∷ cs) ≡ between r cs
 between_apart r c cs e = cond-false (ends r c) (up_to r cs) (between r cs) e
 
 -- marks of row s in one column
@@ -73,7 +73,7 @@ few_up_to r s (c ∷ cs) = elim (cases_Bool (ends r c)) [
       (rw is (omega (arith, xs_one s c cs, xs_one s c (up_to r cs), rest)), rw is (omega (arith, os_one s c cs, os_one s c (up_to r cs), rest)))
 ]
 
-few_between : (r s : ℕ) (cs : List Column) → (xs_in s (between r cs) ≤ xs_in s cs) × (os_in s (between r cs) ≤ os_in s cs)
+pub few_between : (r s : ℕ) (cs : List Column) → (xs_in s (between r cs) ≤ xs_in s cs) × (os_in s (between r cs) ≤ os_in s cs)
 few_between r s [] = (omega arith, omega arith)
 few_between r s (c ∷ cs) = elim (cases_Bool (ends r c)) [
   | inl e ↦

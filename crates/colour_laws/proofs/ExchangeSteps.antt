@@ -7,7 +7,7 @@ use Rattle.grid_core.specs.declared.span.Span.{Span}
 use Rattle.grid_core.specs.Diagram.{Diagram}
 use Rattle.grid_core.specs.Span.{span, are_disjoint, are_nested}
 use Rattle.grid_core.specs.Parts.{column_of}
-use Rattle.colour_rows.proofs.Ends.{span_low, span_high}
+use Rattle.grid_core.proofs.Ends.{span_low, span_high}
 use Rattle.grid_moves.specs.declared.step.Move.TheVariants.{ExchangeRows}
 use Rattle.grid_moves.specs.Exchange.{exchanged, MayExchange}
 use Rattle.grid_moves.specs.Step.{Step}
@@ -64,10 +64,10 @@ are_free a b c d y z free =
     ]
 
 -- exchanges of rows
-exchanged_swapped : (r s : ℕ) → exchanged r s ≡ swapped r s
+pub exchanged_swapped : (r s : ℕ) → exchanged r s ≡ swapped r s
 exchanged_swapped r s = ap (λ k. cond (s == r) k (cond (s == k) r s)) (add-one r)
 
-map_same : (f g : ℕ → ℕ) → ((x : ℕ) → f x ≡ g x) → (xs : List ℕ) → map f xs ≡ map g xs
+pub map_same : (f g : ℕ → ℕ) → ((x : ℕ) → f x ≡ g x) → (xs : List ℕ) → map f xs ≡ map g xs
 map_same f g same [] = refl
 map_same f g same (x ∷ xs) = ap₂ (λ y ys. y ∷ ys) (same x) (map_same f g same xs)
 
@@ -76,7 +76,7 @@ exchange_of_rows t q d e r step =
     let is = step_moved d (ExchangeRows r) e step in
     let tradable : AreRowsTradable r d = (
       omega (arith, step.marks.inside),
-      subst (λ (k : ℕ). AreFree (across r d) (across k d)) (add-one r) (are_free (column_of Cross d r) (column_of Ring d r) (column_of Cross d (r + 1)) (column_of Ring d (r + 1)) 0 0 step.marks.free),
+      subst (λ (k : ℕ). AreFree (across r d) (across k d)) (add-one r) (are_free (column_of Cross d r) (column_of Ring d r) (column_of Cross d (r + 1)) (column_of Ring d (r + 1)) 0 0 step.marks.may_exchange),
     ) in
     bijection_from t q d e step.before step.after (λ c. c) (λ c. c) (carried t d (ExchangeRows r))
     (rows_traded t q d e step.before step.after r tradable

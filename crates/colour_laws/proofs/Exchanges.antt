@@ -48,7 +48,7 @@ encloses_disjoint u v disjoint = elim disjoint [
   | inr h ↦ and_left (covers v.x u) (covers v.o u) (covers_below v.x u (omega (arith, h)) (omega (arith, h)))
 ]
 
-disjoint_sym : (u v : Column) → IsDisjoint u v → IsDisjoint v u
+pub disjoint_sym : (u v : Column) → IsDisjoint u v → IsDisjoint v u
 disjoint_sym u v disjoint = elim disjoint [ inl h ↦ inr h | inr h ↦ inl h ]
 
 -- what the exchange makes of the pair, in each case
@@ -111,7 +111,7 @@ traded_twice p acts (suc c) [] tradable = absurd tradable
 traded_twice p acts (suc c) (u ∷ cs) tradable = ap (λ l. u ∷ l) (traded_twice p acts c cs tradable)
 
 -- the marks trade places
-traded_xs : (p : Bool → ℕ → ℕ → ℕ) (c : ℕ) (cs : List Column) → IsTradable c cs → xs_of (columns_traded p c cs) ≡ neighbours_traded c (xs_of cs)
+pub traded_xs : (p : Bool → ℕ → ℕ → ℕ) (c : ℕ) (cs : List Column) → IsTradable c cs → xs_of (columns_traded p c cs) ≡ neighbours_traded c (xs_of cs)
 traded_xs p zero [] tradable = refl
 traded_xs p zero (u ∷ []) tradable = refl
 traded_xs p zero (u ∷ v ∷ rest) tradable = elim tradable [
@@ -122,7 +122,7 @@ traded_xs p zero (u ∷ v ∷ rest) tradable = elim tradable [
 traded_xs p (suc c) [] tradable = refl
 traded_xs p (suc c) (u ∷ rest) tradable = ap (λ l. u.x ∷ l) (traded_xs p c rest tradable)
 
-traded_os : (p : Bool → ℕ → ℕ → ℕ) (c : ℕ) (cs : List Column) → IsTradable c cs → os_of (columns_traded p c cs) ≡ neighbours_traded c (os_of cs)
+pub traded_os : (p : Bool → ℕ → ℕ → ℕ) (c : ℕ) (cs : List Column) → IsTradable c cs → os_of (columns_traded p c cs) ≡ neighbours_traded c (os_of cs)
 traded_os p zero [] tradable = refl
 traded_os p zero (u ∷ []) tradable = refl
 traded_os p zero (u ∷ v ∷ rest) tradable = elim tradable [
@@ -193,7 +193,7 @@ length_traded (suc c) [] = refl
 length_traded (suc c) (x ∷ xs) = ap suc (length_traded c xs)
 
 -- the rule, for columns that carry a grid's marks
-tradable_marked : (g : Diagram) (c : ℕ) (cs : List Column) → IsGrid g → IsMarked g cs → IsTradableAt c g.x g.o → IsTradable c cs
+pub tradable_marked : (g : Diagram) (c : ℕ) (cs : List Column) → IsGrid g → IsMarked g cs → IsTradableAt c g.x g.o → IsTradable c cs
 tradable_marked g c cs grid marked tradable =
     let n : length (ys_of cs) ≡ length g.x = length-map cs (λ (l : Column). l.y) ∙ sym (length-map cs (λ (l : Column). l.x)) ∙ ap length marked.crosses in
     subst (IsTradable c) (columns_marked g cs marked) (tradable_columns c g.x g.o (ys_of cs) grid.same n tradable)

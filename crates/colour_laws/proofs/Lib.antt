@@ -16,6 +16,8 @@ pub mod RowShifts
 pub mod Exchanges
 pub mod Places
 pub mod RowExchanges
+pub mod ColumnSlides
+pub mod RowSlides
 pub mod Stabilise
 pub mod Stabilisations
 pub mod ByPlaces
@@ -27,6 +29,7 @@ pub mod ShiftSteps
 pub mod RowShiftSteps
 pub mod ExchangeSteps
 pub mod ColumnExchangeSteps
+pub mod SlideSteps
 pub mod StabilisationSteps
 pub mod BlockColours
 pub mod Steps
@@ -34,6 +37,5 @@ pub mod Facts
 pub mod Edited
 pub mod Moments
 pub mod Listings
-pub mod Lengths
 pub mod Counted
 mod WorkedRows

@@ -5,25 +5,10 @@ use Rattle.std.specs.List.{All, range_with_len, flat_map, filter}
 use Rattle.std.proofs.lemmas.Bool.{cases_Bool, cases_eq, cond-true, cond-false, false≢true}
 use Rattle.grid_core.specs.Diagram.{Diagram, size}
 use Rattle.quandle_core.specs.Quandle.{Table}
+use Rattle.quandle_core.proofs.Lengths.{IsOneOf, AreDistinct, IsListing}
 use Rattle.colour_rows.specs.Colouring.{IsColouring, is_colouring}
 use Rattle.colour_rows.proofs.Colourings.{coloured, colouring}
 use Rattle.colour_list.specs.Listing.{all_lists, colourings}
-
--- c is one of the lists
-abbrev pub IsOneOf : List ℕ → List (List ℕ) → Type 0
-IsOneOf c [] = ⊥
-IsOneOf c (d ∷ ds) = (c ≡ d) ⊎ IsOneOf c ds
-
--- no list stands there twice
-abbrev pub AreDistinct : List (List ℕ) → Type 0
-AreDistinct [] = Unit {0}
-AreDistinct (d ∷ ds) = (IsOneOf d ds → ⊥) × AreDistinct ds
-
--- exactly the lists with P, each once
-pub record IsListing (P : List ℕ → Type 0) (ds : List (List ℕ)) : Type 0 where
-  pub distinct : AreDistinct ds
-  pub sound : (c : List ℕ) → IsOneOf c ds → P c
-  pub complete : (c : List ℕ) → P c → IsOneOf c ds
 
 one_left : (c : List ℕ) (cs ds : List (List ℕ)) → IsOneOf c cs → IsOneOf c (cs ++ ds)
 one_left c [] ds one = absurd one
@@ -110,14 +95,14 @@ all_distinct q zero = (λ one. one, tt)
 all_distinct q (suc n) = fronts_distinct (all_lists q n) 0 q (all_distinct q n)
 
 -- what a filter keeps
-kept_in : (test : List ℕ → Bool) (c : List ℕ) (ds : List (List ℕ)) → IsOneOf c ds → test c ≡ true → IsOneOf c (filter test ds)
+pub kept_in : (test : List ℕ → Bool) (c : List ℕ) (ds : List (List ℕ)) → IsOneOf c ds → test c ≡ true → IsOneOf c (filter test ds)
 kept_in test c [] one yes' = absurd one
 kept_in test c (d ∷ ds) one yes' = elim (cases_Bool (test d)) [
   | inl e ↦ subst (IsOneOf c) (sym (cond-true (test d) (d ∷ filter test ds) (filter test ds) e)) (elim one [ inl h ↦ inl h | inr h ↦ inr (kept_in test c ds h yes') ])
   | inr e ↦ subst (IsOneOf c) (sym (cond-false (test d) (d ∷ filter test ds) (filter test ds) e)) (elim one [ inl h ↦ absurd (false≢true (sym e ∙ ap test (sym h) ∙ yes')) | inr h ↦ kept_in test c ds h yes' ])
 ]
 
-kept_out : (test : List ℕ → Bool) (c : List ℕ) (ds : List (List ℕ)) → IsOneOf c (filter test ds) → IsOneOf c ds × (test c ≡ true)
+pub kept_out : (test : List ℕ → Bool) (c : List ℕ) (ds : List (List ℕ)) → IsOneOf c (filter test ds) → IsOneOf c ds × (test c ≡ true)
 kept_out test c [] one = absurd one
 kept_out test c (d ∷ ds) one = elim (cases_Bool (test d)) [
   | inl e ↦ elim (subst (IsOneOf c) (cond-true (test d) (d ∷ filter test ds) (filter test ds) e) one) [
@@ -127,7 +112,7 @@ kept_out test c (d ∷ ds) one = elim (cases_Bool (test d)) [
   | inr e ↦ let more = kept_out test c ds (subst (IsOneOf c) (cond-false (test d) (d ∷ filter test ds) (filter test ds) e) one) in (inr more.0, more.1)
 ]
 
-kept_distinct : (test : List ℕ → Bool) (ds : List (List ℕ)) → AreDistinct ds → AreDistinct (filter test ds)
+pub kept_distinct : (test : List ℕ → Bool) (ds : List (List ℕ)) → AreDistinct ds → AreDistinct (filter test ds)
 kept_distinct test [] distinct = tt
 kept_distinct test (d ∷ ds) distinct = elim (cases_Bool (test d)) [
   | inl e ↦ subst AreDistinct (sym (cond-true (test d) (d ∷ filter test ds) (filter test ds) e)) (λ one. distinct.0 (kept_out test d ds one).0, kept_distinct test ds distinct.1)

@@ -13,7 +13,7 @@ use Rattle.grid_core.proofs.Marks.{column_is, column_mark, no_cell_twice, row_be
 use Rattle.grid_moves.specs.Shift.{shifted}
 use Rattle.grid_moves.proofs.Shifted.{shifted_low, shifted_high, rows_shifted-renumbered}
 use Rattle.quandle_core.specs.Quandle.{Table, IsQuandle}
-use Rattle.colour_rows.specs.Equation.{fro}
+use Rattle.colour_rows.specs.Walk.{passed_leftward}
 use Rattle.colour_rows.specs.Colouring.{AreColours, IsColouring}
 use Rattle.colour_laws.specs.Carried.{by_column, after_row_shift, rows_shifted, bottom_row_shifted}
 use Rattle.colour_laws.proofs.ColouredColumns.{IsColouringByColumns, fallen}
@@ -86,5 +86,5 @@ between_is t d grid j lt ys long left to up low high up_is =
     let size_is : length ys ≡ size (after_row_shift j d) = long ∙ sym (length-map d.x (shifted (size d) j)) in
     ap (λ (u : Bool). between_passed t u (slice_index ys left) left to ys) up_is
     ∙ (ap₂ (λ l h. between_passed t (is_up (after_row_shift j d) l) (slice_index ys l) l h ys) low high
-    ∙ (ap (λ (n : ℕ). by_column n (λ i. cond (lies_within (ends d j) i) (fro t (is_up (after_row_shift j d) (ends d j).low) (slice_index ys i) (slice_index ys (ends d j).low)) (slice_index ys i))) size_is
-    ∙ ap (λ (s : Span). by_column (size (after_row_shift j d)) (λ i. cond (lies_within s i) (fro t (is_up (after_row_shift j d) s.low) (slice_index ys i) (slice_index ys s.low)) (slice_index ys i))) (sym (ends_same d grid j lt))))
+    ∙ (ap (λ (n : ℕ). by_column n (λ i. cond (lies_within (ends d j) i) (passed_leftward t (is_up (after_row_shift j d) (ends d j).low) (slice_index ys i) (slice_index ys (ends d j).low)) (slice_index ys i))) size_is
+    ∙ ap (λ (s : Span). by_column (size (after_row_shift j d)) (λ i. cond (lies_within s i) (passed_leftward t (is_up (after_row_shift j d) s.low) (slice_index ys i) (slice_index ys s.low)) (slice_index ys i))) (sym (ends_same d grid j lt))))

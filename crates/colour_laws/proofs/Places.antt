@@ -7,6 +7,7 @@ use Rattle.colour_laws.proofs.ColumnLists.{Column, ends, xs_in, os_in, up_to, be
 use Rattle.colour_laws.proofs.ColouredColumns.{xs_of, os_of, place, IsMarked, across}
 use Rattle.colour_laws.proofs.Rows.{cross, ring, apart, side, ends_cross, ends_ring, ends_apart, row_at, row_end, row_apart}
 use Rattle.colour_laws.proofs.Level.{xs_here, xs_not_here, os_here, os_not_here, on_clear}
+use Rattle.colour_laws.proofs.ExchangeRows.{up_to_end, up_to_apart, between_end, between_apart}
 
 pub place_here : (r m : ℕ) (ms : List ℕ) → m ≡ r → place r (m ∷ ms) ≡ 0
 place_here r m ms e =
@@ -58,27 +59,15 @@ second_here r c cs e = cond-true (ends r c) (suc (first_end r cs)) (suc (second_
 second_later : (r : ℕ) (c : Column) (cs : List Column) → ends r c ≡ false → second_end r (c ∷ cs) ≡ suc (second_end r cs)
 second_later r c cs e = cond-false (ends r c) (suc (first_end r cs)) (suc (second_end r cs)) e
 
-up_end : (r : ℕ) (c : Column) (cs : List Column) → ends r c ≡ true → up_to r (c ∷ cs) ≡ []
-up_end r c cs e = cond-true (ends r c) [] (c ∷ up_to r cs) e
-
-up_apart : (r : ℕ) (c : Column) (cs : List Column) → ends r c ≡ false → up_to r (c ∷ cs) ≡ c ∷ up_to r cs
-up_apart r c cs e = cond-false (ends r c) [] (c ∷ up_to r cs) e
-
-mid_end : (r : ℕ) (c : Column) (cs : List Column) → ends r c ≡ true → between r (c ∷ cs) ≡ up_to r cs
-mid_end r c cs e = cond-true (ends r c) (up_to r cs) (between r cs) e
-
-mid_apart : (r : ℕ) (c : Column) (cs : List Column) → ends r c ≡ false → between r (c ∷ cs) ≡ between r cs
-mid_apart r c cs e = cond-false (ends r c) (up_to r cs) (between r cs) e
-
 -- a part has no more
 few_up : (f : Column → ℕ) (r s : ℕ) (cs : List Column) → marks_in f s (up_to r cs) ≤ marks_in f s cs
 few_up f r s [] = omega arith
 few_up f r s (c ∷ cs) =
     let rest = few_up f r s cs in
     elim (cases_Bool (ends r c)) [
-      | inl e ↦ let is = up_end r c cs e in rw is (omega arith)
+      | inl e ↦ let is = up_to_end r c cs e in rw is (omega arith)
       | inr e ↦
-          let is = up_apart r c cs e in
+          let is = up_to_apart r c cs e in
           rw is (elim (cases_eq (f c) s) [
             | inl h ↦ omega (arith, m_here f s c cs h, m_here f s c (up_to r cs) h, rest)
             | inr h ↦ omega (arith, m_later f s c cs h, m_later f s c (up_to r cs) h, rest)
@@ -92,10 +81,10 @@ few_mid f r s (c ∷ cs) =
     let up = few_up f r s cs in
     elim (cases_Bool (ends r c)) [
       | inl e ↦
-          let is = mid_end r c cs e in
+          let is = between_end r c cs e in
           rw is (elim (cases_eq (f c) s) [ inl h ↦ omega (arith, m_here f s c cs h, up) | inr h ↦ omega (arith, m_later f s c cs h, up) ])
       | inr e ↦
-          let is = mid_apart r c cs e in
+          let is = between_apart r c cs e in
           rw is (elim (cases_eq (f c) s) [ inl h ↦ omega (arith, m_here f s c cs h, rest) | inr h ↦ omega (arith, m_later f s c cs h, rest) ])
     ]
 
@@ -105,7 +94,7 @@ up_in f r s [] one lt = absurd (omega (arith, one))
 up_in f r s (c ∷ cs) one lt = elim (cases_Bool (ends r c)) [
   | inl e ↦ absurd (omega (arith, lt, first_here r c cs e))
   | inr e ↦
-      let is = up_apart r c cs e in
+      let is = up_to_apart r c cs e in
       rw is (elim (cases_eq (f c) s) [
         | inl h ↦ omega (arith, m_here f s c cs h, m_here f s c (up_to r cs) h, few_up f r s cs, one)
         | inr h ↦ m_later f s c (up_to r cs) h ∙ up_in f r s cs (sym (m_later f s c cs h) ∙ one) (omega (arith, lt, first_later r c cs e, place_later s (f c) (map f cs) h))
@@ -116,9 +105,9 @@ up_in f r s (c ∷ cs) one lt = elim (cases_Bool (ends r c)) [
 up_out : (f : Column → ℕ) (r s : ℕ) (cs : List Column) → first_end r cs ≤ place s (map f cs) → marks_in f s (up_to r cs) ≡ 0
 up_out f r s [] le = refl
 up_out f r s (c ∷ cs) le = elim (cases_Bool (ends r c)) [
-  | inl e ↦ let is = up_end r c cs e in rw is refl
+  | inl e ↦ let is = up_to_end r c cs e in rw is refl
   | inr e ↦
-      let is = up_apart r c cs e in
+      let is = up_to_apart r c cs e in
       rw is (elim (cases_eq (f c) s) [
         | inl h ↦ absurd (omega (arith, le, first_later r c cs e, place_here s (f c) (map f cs) h))
         | inr h ↦ m_later f s c (up_to r cs) h ∙ up_out f r s cs (omega (arith, le, first_later r c cs e, place_later s (f c) (map f cs) h))
@@ -134,8 +123,8 @@ mid_in f r s (c ∷ cs) one low high = elim (cases_eq (f c) s) [
       let one' = sym (m_later f s c cs h) ∙ one in
       let later = place_later s (f c) (map f cs) h in
       elim (cases_Bool (ends r c)) [
-        | inl e ↦ let is = mid_end r c cs e in rw is (up_in f r s cs one' (omega (arith, high, second_here r c cs e, later)))
-        | inr e ↦ let is = mid_apart r c cs e in rw is (mid_in f r s cs one' (omega (arith, low, first_later r c cs e, later)) (omega (arith, high, second_later r c cs e, later)))
+        | inl e ↦ let is = between_end r c cs e in rw is (up_in f r s cs one' (omega (arith, high, second_here r c cs e, later)))
+        | inr e ↦ let is = between_apart r c cs e in rw is (mid_in f r s cs one' (omega (arith, low, first_later r c cs e, later)) (omega (arith, high, second_later r c cs e, later)))
       ]
 ]
 
@@ -146,14 +135,14 @@ mid_low f r s (c ∷ cs) one le = elim (cases_eq (f c) s) [
   | inl h ↦
       let none : marks_in f s cs ≡ 0 = omega (arith, m_here f s c cs h, one) in
       elim (cases_Bool (ends r c)) [
-        | inl e ↦ let is = mid_end r c cs e in rw is (omega (arith, none, few_up f r s cs))
-        | inr e ↦ let is = mid_apart r c cs e in rw is (omega (arith, none, few_mid f r s cs))
+        | inl e ↦ let is = between_end r c cs e in rw is (omega (arith, none, few_up f r s cs))
+        | inr e ↦ let is = between_apart r c cs e in rw is (omega (arith, none, few_mid f r s cs))
       ]
   | inr h ↦
       let later = place_later s (f c) (map f cs) h in
       elim (cases_Bool (ends r c)) [
         | inl e ↦ absurd (omega (arith, le, later, first_here r c cs e))
-        | inr e ↦ let is = mid_apart r c cs e in rw is (mid_low f r s cs (sym (m_later f s c cs h) ∙ one) (omega (arith, le, later, first_later r c cs e)))
+        | inr e ↦ let is = between_apart r c cs e in rw is (mid_low f r s cs (sym (m_later f s c cs h) ∙ one) (omega (arith, le, later, first_later r c cs e)))
       ]
 ]
 
@@ -161,13 +150,13 @@ mid_high : (f : Column → ℕ) (r s : ℕ) (cs : List Column) → second_end r 
 mid_high f r s [] le = refl
 mid_high f r s (c ∷ cs) le = elim (cases_Bool (ends r c)) [
   | inl e ↦
-      let is = mid_end r c cs e in
+      let is = between_end r c cs e in
       rw is (elim (cases_eq (f c) s) [
         | inl h ↦ absurd (omega (arith, le, second_here r c cs e, place_here s (f c) (map f cs) h))
         | inr h ↦ up_out f r s cs (omega (arith, le, second_here r c cs e, place_later s (f c) (map f cs) h))
       ])
   | inr e ↦
-      let is = mid_apart r c cs e in
+      let is = between_apart r c cs e in
       rw is (elim (cases_eq (f c) s) [
         | inl h ↦ absurd (omega (arith, le, second_later r c cs e, place_here s (f c) (map f cs) h))
         | inr h ↦ mid_high f r s cs (omega (arith, le, second_later r c cs e, place_later s (f c) (map f cs) h))

@@ -6,7 +6,7 @@ use Rattle.grid_core.specs.declared.mark.Kind.TheVariants.{Cross, Ring}
 use Rattle.grid_core.specs.Diagram.{Diagram, IsGrid, size}
 use Rattle.grid_core.specs.Parts.{column_of, ends}
 use Rattle.grid_core.proofs.Marks.{column_is, column_mark}
-use Rattle.colour_rows.proofs.Ends.{span_low, span_high, has_ends}
+use Rattle.grid_core.proofs.Ends.{span_low, span_high, has_ends}
 
 -- whether a mark of column i stands in row r
 abbrev pub is_end : Diagram → ℕ → ℕ → Bool

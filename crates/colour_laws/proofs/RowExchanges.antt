@@ -16,6 +16,7 @@ use Rattle.colour_laws.proofs.Marked.{IsCarried, bijection_of, ys_of_columns}
 use Rattle.colour_laws.proofs.ColumnShifts.{bijection_same}
 use Rattle.colour_laws.proofs.RowShifts.{xs_of_relabel, os_of_relabel, ys_of_relabel}
 use Rattle.colour_laws.proofs.Places.{place_here, place_later, together}
+use Rattle.colour_laws.proofs.Exchanges.{disjoint_sym}
 
 -- a row under another number has its marks where they were
 place_relabel : (f : ℕ → ℕ) (r r' : ℕ) → ((x : ℕ) → (f x == r') ≡ (x == r)) → (ms : List ℕ) → place r' (map f ms) ≡ place r ms
@@ -34,10 +35,7 @@ pub columns_twice : (r : ℕ) (cs : List Column) → map (relabel (swapped r)) (
 columns_twice r [] = refl
 columns_twice r (c ∷ cs) = ap₂ (λ (a : Column) l. a ∷ l) (ap₂ (λ x o. record { x = x; o = o; y = c.y }) (swapped_twice r c.x) (swapped_twice r c.o)) (columns_twice r cs)
 
-disjoint_sym : (u v : Column) → IsDisjoint u v → IsDisjoint v u
-disjoint_sym u v disjoint = elim disjoint [ inl h ↦ inr h | inr h ↦ inl h ]
-
-any_sym : (u v : Column) → IsNested u v ⊎ (IsNested v u ⊎ IsDisjoint u v) → IsNested v u ⊎ (IsNested u v ⊎ IsDisjoint v u)
+pub any_sym : (u v : Column) → IsNested u v ⊎ (IsNested v u ⊎ IsDisjoint u v) → IsNested v u ⊎ (IsNested u v ⊎ IsDisjoint v u)
 any_sym u v any = elim any [ inl h ↦ inr (inl h) | inr (inl h) ↦ inl h | inr (inr h) ↦ inr (inr (disjoint_sym u v h)) ]
 
 -- the exchanged columns are coloured

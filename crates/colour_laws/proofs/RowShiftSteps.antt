@@ -13,7 +13,7 @@ use Rattle.grid_moves.specs.Step.{Step}
 use Rattle.grid_moves.proofs.OneResult.{step_moved}
 use Rattle.grid_moves.proofs.Shifted.{rows_shifted-grid}
 use Rattle.quandle_core.specs.Quandle.{Table, IsQuandle}
-use Rattle.colour_rows.specs.Equation.{fro}
+use Rattle.colour_rows.specs.Walk.{passed_leftward}
 use Rattle.colour_rows.specs.Colouring.{IsColouring}
 use Rattle.quandle_core.specs.Bijection.{IsBijection}
 use Rattle.colour_laws.specs.Carried.{carried, bottom_row_shifted, rows_shifted, after_row_shift}
@@ -22,12 +22,12 @@ use Rattle.colour_laws.proofs.ColouredColumns.{IsColouringByColumns, AreInverse,
 use Rattle.colour_laws.proofs.ShiftRows.{recoloured_on_end, recoloured_on_apart}
 use Rattle.colour_laws.proofs.RowShifts.{recoloured_end, recoloured_apart, marks_recoloured}
 use Rattle.colour_laws.proofs.RowShifts as lists
-use Rattle.colour_laws.proofs.Tables.{act_inside}
 use Rattle.colour_laws.proofs.Marked.{ys_of_columns, xs_of_columns}
 use Rattle.colour_laws.proofs.ByIndex.{is_by_column, coloured_at, columns_from, columns_next}
 use Rattle.colour_laws.proofs.ByPlaces.{fallen_crosses, fallen_rings}
 use Rattle.colour_laws.proofs.RowEnds.{AreEnds, are_ends, is_end}
 use Rattle.colour_laws.proofs.Bijections.{bijection_from}
+use Rattle.colour_laws.proofs.ColumnExchangeSteps.{fro_same}
 
 -- the colours of the columns from a place on
 ys_from : (d : Diagram) (f : List ℕ) → length d.o ≡ length d.x → length f ≡ length d.x → (i : ℕ) → ys_of (columns_from i d.x d.o f) ≡ drop i f
@@ -111,11 +111,6 @@ row_place p turn d f rings size known (suc k) i (suc j) e lt =
     ∙ (row_place p turn d f rings size known k (suc i) j (omega (arith, e)) (omega (arith, lt))
     ∙ ap (new_colour p turn d f) (let h : suc i + j ≡ i + suc j = omega arith in h)))
 
--- on colours the way of the left end is the table's operation
-fro_same : (t : Table) (up : Bool) (a y : ℕ) → a < t.order → y < t.order → act t (not up) a y ≡ fro t up y a
-fro_same t true a y la ly = act_inside t false a y la ly
-fro_same t false a y la ly = act_inside t true a y la ly
-
 -- the shift by one, place by place
 pub bottom_row_is : (t : Table) (d : Diagram) → IsGrid d → (c : List ℕ) → IsColouringByColumns t d c → fallen_colours t d c ≡ bottom_row_shifted t d c
 bottom_row_is t d grid c colouring =
@@ -124,7 +119,7 @@ bottom_row_is t d grid c colouring =
     length-map (recoloured (act t) not (columns d.x d.o c)) (λ (l : Column). l.y) ∙ sym (length-map (recoloured (act t) not (columns d.x d.o c)) (λ (l : Column). l.x))
     ∙ ap length ((marks_recoloured (act t) not (columns d.x d.o c)).0 ∙ xs_of_columns d.x d.o c grid.same colouring.size) in
     let colour : (i : ℕ) → i < size d → slice_index c i < t.order = λ i lt. All-get_or (λ y. y < t.order) c i 0 (omega (arith, colouring.size, lt)) colouring.below in
-    is_by_column (size d) (λ i. cond (lies_within (ends d 0) i) (fro t (is_up d (ends d 0).low) (slice_index c i) (slice_index c (ends d 0).low)) (slice_index c i)) (fallen_colours t d c) long
+    is_by_column (size d) (λ i. cond (lies_within (ends d 0) i) (passed_leftward t (is_up d (ends d 0).low) (slice_index c i) (slice_index c (ends d 0).low)) (slice_index c i)) (fallen_colours t d c) long
     (λ i lt. row_place (act t) not d c grid.same colouring.size known (ends d 0).low 0 i (omega arith) (omega (arith, lt))
     ∙ (ap (new_colour (act t) not d c) (let h : 0 + i ≡ i = omega arith in h)
     ∙ ap (λ y. cond (lies_within (ends d 0) i) y (slice_index c i))

@@ -49,11 +49,11 @@ eq_dropped_top n x lt = elim (cases_eq x 0) [
   ]
 ]
 
-ends_dropped : (n s : ℕ) → suc s < n → (c : Column) → ends s (relabel (dropped n) c) ≡ ends (suc s) c
+pub ends_dropped : (n s : ℕ) → suc s < n → (c : Column) → ends s (relabel (dropped n) c) ≡ ends (suc s) c
 ends_dropped n s lt c = ap₂ (λ a b. a || b) (eq_dropped n s lt c.x) (eq_dropped n s lt c.o)
 
 -- a column without a mark in the lowest row does the same
-crosses_dropped : (p : Bool → ℕ → ℕ → ℕ) (n s : ℕ) (c : Column) (y a : ℕ) → c.x ≢ 0 → c.o ≢ 0
+pub crosses_dropped : (p : Bool → ℕ → ℕ → ℕ) (n s : ℕ) (c : Column) (y a : ℕ) → c.x ≢ 0 → c.o ≢ 0
     → crosses p s (recolour (relabel (dropped n) c) y) a ≡ crossed p (nat_lt c.x (suc s)) (nat_lt c.o (suc s)) y a
 crosses_dropped p n s c y a u v = ap₂ (λ l m. crossed p l m y a) (lt_dropped n s c.x u) (lt_dropped n s c.o v)
 
@@ -116,7 +116,7 @@ row_dropped p n s lt (c ∷ cs) ex eo = elim (side 0 c) [
 ]
 
 -- how many marks of the lowest row are still to come behind its left end, whose action goes in direction d
-abbrev crosses_left : Bool → ℕ
+abbrev pub crosses_left : Bool → ℕ
 crosses_left true = 1
 crosses_left false = 0
 
@@ -124,7 +124,7 @@ pub same_tests : (p : Bool → ℕ → ℕ → ℕ) → Acts p → (d : Bool) (a
 same_tests p acts d a v y = eq_tests v y (p d a v) (p d a y) (λ e. ap (p d a) e) (λ e. sym (undo p acts d a v) ∙ ap (p (not d) a) e ∙ undo p acts d a y)
 
 -- the right end of the lowest row does what it did, and then undoes the action
-flipped_right : (p : Bool → ℕ → ℕ → ℕ) → Acts p → (n s : ℕ) → suc s < n → (d : Bool) (c : Column) (cs : List Column) → ends 0 c ≡ true
+pub flipped_right : (p : Bool → ℕ → ℕ → ℕ) → Acts p → (n s : ℕ) → suc s < n → (d : Bool) (c : Column) (cs : List Column) → ends 0 c ≡ true
     → xs_in 0 (c ∷ cs) ≡ crosses_left d → os_in 0 (c ∷ cs) ≡ crosses_left (not d) → (v : ℕ)
     → (crosses p s (relabel (dropped n) c) v ≡ p (not d) c.y (crosses p (suc s) c v)) × (xs_in 0 cs ≡ 0) × (os_in 0 cs ≡ 0)
 flipped_right p acts n s lt true c cs e ex eo v = elim (side 0 c) [
@@ -141,7 +141,7 @@ flipped_right p acts n s lt false c cs e ex eo v = elim (side 0 c) [
 ]
 
 -- a column without a mark in the lowest row leaves colours there as they are
-crosses_lowest : (p : Bool → ℕ → ℕ → ℕ) (c : Column) (a : ℕ) → crosses p 0 c a ≡ a
+pub crosses_lowest : (p : Bool → ℕ → ℕ → ℕ) (c : Column) (a : ℕ) → crosses p 0 c a ≡ a
 crosses_lowest p c a =
     let e : nat_lt c.x 0 ≡ false = le-ltb c.x 0 (omega arith) in
     let f : nat_lt c.o 0 ≡ false = le-ltb c.o 0 (omega arith) in
@@ -185,17 +185,17 @@ mid_on p acts n s lt d a (c ∷ cs) low ex eo v = elim (cases_Bool (ends 0 c)) [
       ]
 ]
 
-lowered_on_end : (p : Bool → ℕ → ℕ → ℕ) (n : ℕ) (d : Bool) (a : ℕ) (c : Column) (cs : List Column) → ends 0 c ≡ true → lowered_on p n d a (c ∷ cs) ≡ map (relabel (dropped n)) (c ∷ cs)
+pub lowered_on_end : (p : Bool → ℕ → ℕ → ℕ) (n : ℕ) (d : Bool) (a : ℕ) (c : Column) (cs : List Column) → ends 0 c ≡ true → lowered_on p n d a (c ∷ cs) ≡ map (relabel (dropped n)) (c ∷ cs)
 lowered_on_end p n d a c cs e = cond-true (ends 0 c) (map (relabel (dropped n)) (c ∷ cs)) (recolour (relabel (dropped n) c) (p d a c.y) ∷ lowered_on p n d a cs) e
 
-lowered_on_apart : (p : Bool → ℕ → ℕ → ℕ) (n : ℕ) (d : Bool) (a : ℕ) (c : Column) (cs : List Column) → ends 0 c ≡ false
+pub lowered_on_apart : (p : Bool → ℕ → ℕ → ℕ) (n : ℕ) (d : Bool) (a : ℕ) (c : Column) (cs : List Column) → ends 0 c ≡ false
     → lowered_on p n d a (c ∷ cs) ≡ recolour (relabel (dropped n) c) (p d a c.y) ∷ lowered_on p n d a cs
 lowered_on_apart p n d a c cs e = cond-false (ends 0 c) (map (relabel (dropped n)) (c ∷ cs)) (recolour (relabel (dropped n) c) (p d a c.y) ∷ lowered_on p n d a cs) e
 
-lowered_end : (p : Bool → ℕ → ℕ → ℕ) (n : ℕ) (c : Column) (cs : List Column) → ends 0 c ≡ true → lowered p n (c ∷ cs) ≡ relabel (dropped n) c ∷ lowered_on p n (not (rises c)) c.y cs
+pub lowered_end : (p : Bool → ℕ → ℕ → ℕ) (n : ℕ) (c : Column) (cs : List Column) → ends 0 c ≡ true → lowered p n (c ∷ cs) ≡ relabel (dropped n) c ∷ lowered_on p n (not (rises c)) c.y cs
 lowered_end p n c cs e = ap (λ ds. relabel (dropped n) c ∷ ds) (cond-true (ends 0 c) (lowered_on p n (not (rises c)) c.y cs) (lowered p n cs) e)
 
-lowered_apart : (p : Bool → ℕ → ℕ → ℕ) (n : ℕ) (c : Column) (cs : List Column) → ends 0 c ≡ false → lowered p n (c ∷ cs) ≡ relabel (dropped n) c ∷ lowered p n cs
+pub lowered_apart : (p : Bool → ℕ → ℕ → ℕ) (n : ℕ) (c : Column) (cs : List Column) → ends 0 c ≡ false → lowered p n (c ∷ cs) ≡ relabel (dropped n) c ∷ lowered p n cs
 lowered_apart p n c cs e = ap (λ ds. relabel (dropped n) c ∷ ds) (cond-false (ends 0 c) (lowered_on p n (not (rises c)) c.y cs) (lowered p n cs) e)
 
 -- one more column in front of rows that have the same walks
@@ -232,12 +232,12 @@ mid_row p acts n s lt d a (c ∷ cs) low ex eo = elim (cases_Bool (ends 0 c)) [
 ]
 
 -- what is known at the left end of the lowest row
-record IsLeft (p : Bool → ℕ → ℕ → ℕ) (n s : ℕ) (c : Column) (cs : List Column) (d : Bool) : Type 0 where
-  acted : (v : ℕ) → crosses p s (relabel (dropped n) c) v ≡ p d c.y (crosses p (suc s) c v)
-  crosses : xs_in 0 cs ≡ crosses_left d
-  rings : os_in 0 cs ≡ crosses_left (not d)
+pub record IsLeft (p : Bool → ℕ → ℕ → ℕ) (n s : ℕ) (c : Column) (cs : List Column) (d : Bool) : Type 0 where
+  pub acted : (v : ℕ) → crosses p s (relabel (dropped n) c) v ≡ p d c.y (crosses p (suc s) c v)
+  pub crosses : xs_in 0 cs ≡ crosses_left d
+  pub rings : os_in 0 cs ≡ crosses_left (not d)
 
-left_end : (p : Bool → ℕ → ℕ → ℕ) → Acts p → (n s : ℕ) → suc s < n → (c : Column) (cs : List Column) → ends 0 c ≡ true → on_at p 0 0 c.y cs ≡ true
+pub left_end : (p : Bool → ℕ → ℕ → ℕ) → Acts p → (n s : ℕ) → suc s < n → (c : Column) (cs : List Column) → ends 0 c ≡ true → on_at p 0 0 c.y cs ≡ true
     → xs_in 0 (c ∷ cs) ≡ 1 → os_in 0 (c ∷ cs) ≡ 1 → IsLeft p n s c cs (not (rises c))
 left_end p acts n s lt c cs e on ex eo = elim (side 0 c) [
   | cross f ↦
@@ -310,7 +310,7 @@ crosses_top p n c y a u w lx lo =
     let f : nat_lt (dropped n c.o) (n - 1) ≡ true = elim (cases_order c.o 0) [ inl g ↦ absurd (w g) | inr (inl l) ↦ absurd (omega arith) | inr (inr l) ↦ lt-ltb (dropped n c.o) (n - 1) (omega arith) ] in
     ap₂ (λ l m. crossed p l m y a) e f
 
-ends_top : (n : ℕ) (c : Column) → c.x < n → c.o < n → ends (n - 1) (relabel (dropped n) c) ≡ ends 0 c
+pub ends_top : (n : ℕ) (c : Column) → c.x < n → c.o < n → ends (n - 1) (relabel (dropped n) c) ≡ ends 0 c
 ends_top n c lx lo = ap₂ (λ a b. a || b) (eq_dropped_top n c.x lx) (eq_dropped_top n c.o lo)
 
 top_on : (p : Bool → ℕ → ℕ → ℕ) (n : ℕ) (d : Bool) (a v : ℕ) (cs : List Column) → IsInside n cs → on_at p (n - 1) (n - 1) v (lowered_on p n d a cs) ≡ on_at p 0 0 v cs

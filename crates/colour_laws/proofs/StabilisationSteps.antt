@@ -10,7 +10,7 @@ use Rattle.grid_core.specs.declared.mark.Kind.TheVariants.{Cross, Ring}
 use Rattle.grid_core.specs.declared.mark.Corner.{Corner}
 use Rattle.grid_core.specs.declared.mark.Corner.TheVariants.{LowLeft, LowRight, HighLeft, HighRight}
 use Rattle.grid_core.specs.Diagram.{Diagram, IsGrid, size, row_of, other}
-use Rattle.grid_core.specs.Corners.{right_of, above_of}
+use Rattle.grid_core.specs.Corners.{corner_column, corner_row as row_of_corner}
 use Rattle.grid_core.proofs.Marks.{row_once, no_cell_twice}
 use Rattle.grid_core.proofs.Marks as marks
 use Rattle.grid_moves.specs.Stabilisation.{Stabilises, grown}
@@ -37,13 +37,13 @@ is_high HighLeft = true
 is_high HighRight = true
 
 -- rows of the block, and outside it
-own_row : (r : ℕ) (corner : Corner) → r + 1 - above_of corner ≡ raised r (is_high corner) r
+own_row : (r : ℕ) (corner : Corner) → r + 1 - row_of_corner corner ≡ raised r (is_high corner) r
 own_row r LowLeft = grind (arith, nat_tests)
 own_row r LowRight = grind (arith, nat_tests)
 own_row r HighLeft = grind (arith, nat_tests)
 own_row r HighRight = grind (arith, nat_tests)
 
-new_row : (r : ℕ) (corner : Corner) → r + above_of corner ≡ corner_row r (is_high corner)
+new_row : (r : ℕ) (corner : Corner) → r + row_of_corner corner ≡ corner_row r (is_high corner)
 new_row r LowLeft = omega arith
 new_row r LowRight = omega arith
 new_row r HighLeft = omega arith
@@ -54,10 +54,10 @@ other_row r high s n = grind (arith, nat_tests, n)
 
 -- the marks after a stabilisation, by their old rows
 record HasBlock (kind : Kind) (corner : Corner) (r c : ℕ) (d e : Diagram) : Type 0 where
-  own : row_of kind e (c + right_of corner) ≡ raised r (is_high corner) r
-  own_new : row_of kind e (c + 1 - right_of corner) ≡ corner_row r (is_high corner)
-  other_new : row_of (other kind) e (c + right_of corner) ≡ corner_row r (is_high corner)
-  far : row_of (other kind) e (c + 1 - right_of corner) ≡ raised r (is_high corner) (row_of (other kind) d c)
+  own : row_of kind e (c + corner_column corner) ≡ raised r (is_high corner) r
+  own_new : row_of kind e (c + 1 - corner_column corner) ≡ corner_row r (is_high corner)
+  other_new : row_of (other kind) e (c + corner_column corner) ≡ corner_row r (is_high corner)
+  far : row_of (other kind) e (c + 1 - corner_column corner) ≡ raised r (is_high corner) (row_of (other kind) d c)
   rest : (k : Kind) (b : ℕ) → b < size d → b ≢ c → row_of k e (grown c b) ≡ raised r (is_high corner) (row_of k d b)
 
 has_block : (c : ℕ) (kind : Kind) (corner : Corner) (r : ℕ) (d e : Diagram) → IsGrid d → Stabilises c kind corner r d e → HasBlock kind corner r c d e

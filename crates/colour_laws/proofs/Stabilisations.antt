@@ -17,15 +17,15 @@ use Rattle.colour_laws.proofs.ColumnShifts.{bijection_same}
 use Rattle.colour_laws.proofs.RowShifts.{same_columns, xs_of_relabel, os_of_relabel, ys_of_relabel}
 
 -- both columns of the block have a mark in the corner's row
-short_corner : (mark high : Bool) (r : ℕ) (c : Column) → ends (corner_row r high) (short mark high r c) ≡ true
+pub short_corner : (mark high : Bool) (r : ℕ) (c : Column) → ends (corner_row r high) (short mark high r c) ≡ true
 short_corner true high r c = or_right (raised r high r == corner_row r high) (corner_row r high == corner_row r high) (eq-eqb (corner_row r high) (corner_row r high) refl)
 short_corner false high r c = or_left (corner_row r high == corner_row r high) (raised r high r == corner_row r high) (eq-eqb (corner_row r high) (corner_row r high) refl)
 
-long_corner : (mark high : Bool) (r : ℕ) (c : Column) → ends (corner_row r high) (long mark high r c) ≡ true
+pub long_corner : (mark high : Bool) (r : ℕ) (c : Column) → ends (corner_row r high) (long mark high r c) ≡ true
 long_corner true high r c = or_left (corner_row r high == corner_row r high) (raised r high c.o == corner_row r high) (eq-eqb (corner_row r high) (corner_row r high) refl)
 long_corner false high r c = or_right (raised r high c.x == corner_row r high) (corner_row r high == corner_row r high) (eq-eqb (corner_row r high) (corner_row r high) refl)
 
-raised_apart : (high : Bool) (r x o : ℕ) → ((raised r high x == corner_row r high) || (raised r high o == corner_row r high)) ≡ false
+pub raised_apart : (high : Bool) (r x o : ℕ) → ((raised r high x == corner_row r high) || (raised r high o == corner_row r high)) ≡ false
 raised_apart high r x o = or_from (raised r high x == corner_row r high) (raised r high o == corner_row r high) (ne_eqb (raised r high x) (corner_row r high) (raised_corner r high x)) (ne_eqb (raised r high o) (corner_row r high) (raised_corner r high o))
 
 -- a pair of columns at the front, both with a mark in the row
@@ -79,7 +79,7 @@ common p mark right high r (suc k) (c ∷ cs) (d ∷ ds) is ex eo row =
     ap (λ l. d.y ∷ l) (common p mark right high r k cs ds is ex' eo' (sym (row_apart p (corner_row r high) (corner_row r high) d ds far) ∙ row))
 
 -- colours
-with_block_ys : (mark right high : Bool) (r k : ℕ) (cs : List Column) → ys_of (with_block mark right high r k cs) ≡ doubled k (ys_of cs)
+pub with_block_ys : (mark right high : Bool) (r k : ℕ) (cs : List Column) → ys_of (with_block mark right high r k cs) ≡ doubled k (ys_of cs)
 with_block_ys mark right high r k [] = refl
 with_block_ys mark true high r zero (c ∷ cs) = ap (λ l. c.y ∷ c.y ∷ l) (ys_of_relabel (raised r high) cs)
 with_block_ys mark false high r zero (c ∷ cs) = ap (λ l. c.y ∷ c.y ∷ l) (ys_of_relabel (raised r high) cs)
@@ -111,7 +111,7 @@ all_without b zero (y ∷ ys) all = λ j d lt. all (suc j) d (omega arith)
 all_without b (suc k) (y ∷ ys) all = All-cons (λ m. m < b) y (without k ys) (all 0 0 (omega arith)) (all_without b k ys (λ j d lt. all (suc j) d (omega arith)))
 
 -- what the marks alone decide
-same_marks : (mark right high : Bool) (r k : ℕ) (cs bs : List Column) → xs_of cs ≡ xs_of bs → os_of cs ≡ os_of bs
+pub same_marks : (mark right high : Bool) (r k : ℕ) (cs bs : List Column) → xs_of cs ≡ xs_of bs → os_of cs ≡ os_of bs
     → (xs_of (with_block mark right high r k cs) ≡ xs_of (with_block mark right high r k bs)) × (os_of (with_block mark right high r k cs) ≡ os_of (with_block mark right high r k bs))
 same_marks mark right high r k [] [] ex eo = (refl, refl)
 same_marks mark right high r k [] (b ∷ bs) ex eo = absurd (cc)
@@ -138,7 +138,7 @@ same_marks mark right high r zero (a ∷ cs) (b ∷ bs) ex eo =
     same_block false true high r a b cs bs hx ho rx ro = (ap₂ (λ x l. raised r high x ∷ corner_row r high ∷ l) hx rx, ap (λ l. corner_row r high ∷ raised r high r ∷ l) ro)
     same_block false false high r a b cs bs hx ho rx ro = (ap₂ (λ x l. corner_row r high ∷ raised r high x ∷ l) hx rx, ap (λ l. raised r high r ∷ corner_row r high ∷ l) ro)
 
-same_place : (mark : Bool) (r k : ℕ) (cs bs : List Column) → xs_of cs ≡ xs_of bs → os_of cs ≡ os_of bs → IsMarkAt mark r k cs → IsMarkAt mark r k bs
+pub same_place : (mark : Bool) (r k : ℕ) (cs bs : List Column) → xs_of cs ≡ xs_of bs → os_of cs ≡ os_of bs → IsMarkAt mark r k cs → IsMarkAt mark r k bs
 same_place mark r k [] bs ex eo is = absurd is
 same_place mark r k (a ∷ cs) [] ex eo is = absurd (cc)
 same_place true r zero (a ∷ cs) (b ∷ bs) ex eo is =
@@ -152,7 +152,7 @@ same_place false r zero (a ∷ cs) (b ∷ bs) ex eo is =
 same_place mark r (suc k) (a ∷ cs) (b ∷ bs) ex eo is = same_place mark r k cs bs (cc) (cc) is
 
 -- the column is there, and the row
-place_below : (mark : Bool) (r k n : ℕ) (cs : List Column) → IsInside n cs → IsMarkAt mark r k cs → (r < n) × (k < length cs)
+pub place_below : (mark : Bool) (r k n : ℕ) (cs : List Column) → IsInside n cs → IsMarkAt mark r k cs → (r < n) × (k < length cs)
 place_below mark r k n [] within is = absurd is
 place_below true r zero n (c ∷ cs) within is = (omega (arith, within.0, is.0), omega arith)
 place_below false r zero n (c ∷ cs) within is = (omega (arith, within.1, is.0), omega arith)

@@ -1,12 +1,13 @@
 -- A stabilisation: each row's walk, and the new row's.
 use Rattle.std.proofs.Common.{◌≡◌, ◌≢◌, ◌∙◌, ◌<◌, ℕ, zero, suc, List, [], ◌∷◌, map, ap, ap₂, sym, refl, arith, inl, inr, subst, cond}
 use Rattle.std.specs.Prelude.{Bool, true, false, nat_lt, ◌==◌, ◌⊎◌, ◌||◌}
-use Rattle.std.proofs.lemmas.Bool.{cond-true, cond-false, cases_Bool, cases_eq, cases_order, eq-eqb, ne_eqb, false≢true, lt-ltb, le-ltb, or_from, or_left, or_right}
+use Rattle.std.proofs.lemmas.Bool.{cond-true, cond-false, cases_Bool, cases_eq, cases_order, eq-eqb, ne_eqb, lt-ltb, le-ltb, or_from, or_left, or_right}
 use Rattle.colour_laws.proofs.ColumnLists.{Acts, Column, ends, crossed, crosses, relabel, corner_row, raised, short, long, with_block, IsMarkAt}
 use Rattle.colour_laws.proofs.Actions.{crossed_fixed}
 use Rattle.colour_laws.proofs.Rows.{ends_cross, ends_ring, on_at, row_at, row_end, row_apart, on_end, on_apart}
 use Rattle.colour_laws.proofs.Relabel.{eq_tests, lt_tests, on_relabel, row_relabel}
 use Rattle.colour_laws.proofs.ShiftRows.{on_front, row_front}
+use Rattle.colour_laws.proofs.ExchangeColumns.{crossed_none}
 
 -- the block's two rows
 pub two_rows : (r : ℕ) (high : Bool) → ((raised r high r ≡ r) × (corner_row r high ≡ suc r)) ⊎ ((raised r high r ≡ suc r) × (corner_row r high ≡ r))
@@ -115,15 +116,9 @@ pub record IsHere (r' r : ℕ) (sh lo c : Column) : Type 0 where
   pub short_colour : sh.y ≡ c.y
   pub long_colour : lo.y ≡ c.y
 
-crossed_idle : (p : Bool → ℕ → ℕ → ℕ) (l m : Bool) (y a : ℕ) → l ≡ m → crossed p l m y a ≡ a
-crossed_idle p true true y a e = refl
-crossed_idle p true false y a e = absurd (false≢true (sym e))
-crossed_idle p false true y a e = absurd (false≢true e)
-crossed_idle p false false y a e = refl
-
 skip_short : (p : Bool → ℕ → ℕ → ℕ) (r' s : ℕ) (sh lo c : Column) → IsElsewhere r' s sh lo c → (cs : List Column) → IsLike p r' r' (sh ∷ cs) cs
 skip_short p r' s sh lo c e cs = record {
-  on = λ a. on_apart p r' r' a sh cs e.short_apart ∙ ap (λ b. on_at p r' r' b cs) (crossed_idle p (nat_lt sh.x r') (nat_lt sh.o r') sh.y a e.short_idle);
+  on = λ a. on_apart p r' r' a sh cs e.short_apart ∙ ap (λ b. on_at p r' r' b cs) (crossed_none p (nat_lt sh.x r') (nat_lt sh.o r') sh.y a e.short_idle);
   row = row_apart p r' r' sh cs e.short_apart;
 }
 
@@ -164,11 +159,11 @@ at_mark p acts false r' r sh lo c e cs' cs rest = record {
       ∙ rest.on c.y ∙ sym (row_end p r r c cs e.old_ends);
 }
 
-or_tests : (a b c d : Bool) → a ≡ c → b ≡ d → (a || b) ≡ (c || d)
+pub or_tests : (a b c d : Bool) → a ≡ c → b ≡ d → (a || b) ≡ (c || d)
 or_tests a b c d e f = ap₂ (λ x y. x || y) e f
 
 -- the block's columns are so
-there : (mark : Bool) (high : Bool) (r s : ℕ) (c : Column) (cs : List Column) → IsMarkAt mark r zero (c ∷ cs) → s ≢ r → IsElsewhere (raised r high s) s (short mark high r c) (long mark high r c) c
+pub there : (mark : Bool) (high : Bool) (r s : ℕ) (c : Column) (cs : List Column) → IsMarkAt mark r zero (c ∷ cs) → s ≢ r → IsElsewhere (raised r high s) s (short mark high r c) (long mark high r c) c
 there true high r s c cs at n =
     let old : (c.x == s) ≡ false = ne_eqb c.x s (λ e. n (sym e ∙ at.0)) in
     let now : (corner_row r high == raised r high s) ≡ (c.x == s) = corner_ne r high s ∙ sym old in
@@ -194,7 +189,7 @@ there false high r s c cs at n =
       colour = refl;
     }
 
-here : (mark : Bool) (high : Bool) (r : ℕ) (c : Column) (cs : List Column) → IsMarkAt mark r zero (c ∷ cs) → IsHere (raised r high r) r (short mark high r c) (long mark high r c) c
+pub here : (mark : Bool) (high : Bool) (r : ℕ) (c : Column) (cs : List Column) → IsMarkAt mark r zero (c ∷ cs) → IsHere (raised r high r) r (short mark high r c) (long mark high r c) c
 here true high r c cs at = record {
   short_ends = or_left (raised r high r == raised r high r) (corner_row r high == raised r high r) (eq-eqb (raised r high r) (raised r high r) refl);
   long_apart = or_from (corner_row r high == raised r high r) (raised r high c.o == raised r high r) (corner_ne r high r) (raised_eq r high r c.o ∙ ne_eqb c.o r at.1);

@@ -27,7 +27,7 @@ act_inside t true y a ly la = act_up t y a ly la
 act_inside t false y a ly la = act_down t y a ly la
 
 -- and elsewhere it does nothing
-act_outside : (t : Table) (up : Bool) (y a : ℕ) → (t.order ≤ a) ⊎ (t.order ≤ y) → act t up y a ≡ a
+pub act_outside : (t : Table) (up : Bool) (y a : ℕ) → (t.order ≤ a) ⊎ (t.order ≤ y) → act t up y a ≡ a
 act_outside t true y a out = cond-false (are_both_colours t a y) (back t a y) a (not_both t a y out)
 act_outside t false y a out = cond-false (are_both_colours t a y) (over t a y) a (not_both t a y out)
 

@@ -19,7 +19,7 @@ use Rattle.colour_laws.proofs.ByIndex.{coloured_at, columns_from, columns_next}
 use Rattle.colour_laws.proofs.RowEnds.{AreEnds, are_ends}
 
 -- a column covers a row, told by its two marks in any order
-covers_same : (x o r : ℕ) → ((nat_lt x r && nat_lt r o) || (nat_lt o r && nat_lt r x)) ≡ lies_within (span x o) r
+pub covers_same : (x o r : ℕ) → ((nat_lt x r && nat_lt r o) || (nat_lt o r && nat_lt r x)) ≡ lies_within (span x o) r
 covers_same x o r = grind (arith, nat_tests)
 
 -- what a column does to the walk of a row, in both words
@@ -38,7 +38,7 @@ pub colour_below : (t : Table) (d : Diagram) (f : List ℕ) → HasColours t d f
 colour_below t d f has i lt = All-get_or (λ y. y < t.order) f i 0 (omega (arith, has.size, lt)) has.below
 
 -- one column more on the chain of a walk
-chain_step : (t : Table) (d : Diagram) (f : List ℕ) (i a : ℕ) (rest : List ℕ) (b : Bool)
+pub chain_step : (t : Table) (d : Diagram) (f : List ℕ) (i a : ℕ) (rest : List ℕ) (b : Bool)
     → fold (under t d f) a (cond b (i ∷ rest) rest) ≡ fold (under t d f) (cond b (under t d f a i) a) rest
 chain_step t d f i a rest true = refl
 chain_step t d f i a rest false = refl

@@ -3,7 +3,7 @@ use Rattle.std.proofs.Common.{◌≡◌, refl, [], ◌∷◌, true, List, ℕ}
 use Rattle.grid_core.specs.declared.mark.Kind.TheVariants.{Cross}
 use Rattle.grid_core.specs.declared.mark.Corner.TheVariants.{LowLeft}
 use Rattle.grid_core.specs.Diagram.{Diagram}
-use Rattle.grid_moves.specs.declared.step.Move.TheVariants.{ShiftColumns, ShiftRows, ExchangeColumns, ExchangeRows, Stabilise, Destabilise}
+use Rattle.grid_moves.specs.declared.step.Move.TheVariants.{ShiftColumns, ShiftRows, ExchangeColumns, ExchangeRows, SlideColumns, SlideRows, Stabilise, Destabilise}
 use Rattle.quandle_core.specs.Tables.{tetrahedral, dihedral}
 use Rattle.colour_rows.specs.Colouring.{is_colouring}
 use Rattle.colour_laws.specs.Carried.{carried, after_row_shift}
@@ -62,6 +62,19 @@ exchanged_back = refl
 -- an exchange of rows keeps each column's colour
 row_exchanged : carried tetrahedral closed (ExchangeRows 5) closed_colours ≡ closed_colours
 row_exchanged = refl
+
+-- columns 4 and 5 share row 1 and have one colour; rows 1 and 2 share column 4
+slid_columns : carried tetrahedral closed (SlideColumns 4) closed_colours ≡ closed_colours
+slid_columns = refl
+
+slid_columns_is : is_colouring tetrahedral (record { x = 4 ∷ 3 ∷ 2 ∷ 0 ∷ 5 ∷ 1 ∷ 6 ∷ []; o = 6 ∷ 5 ∷ 4 ∷ 3 ∷ 1 ∷ 2 ∷ 0 ∷ [] }) closed_colours ≡ true
+slid_columns_is = refl
+
+slid_rows : carried tetrahedral closed (SlideRows 1) closed_colours ≡ closed_colours
+slid_rows = refl
+
+slid_rows_is : is_colouring tetrahedral (record { x = 4 ∷ 3 ∷ 1 ∷ 0 ∷ 2 ∷ 5 ∷ 6 ∷ []; o = 6 ∷ 5 ∷ 4 ∷ 3 ∷ 1 ∷ 2 ∷ 0 ∷ [] }) closed_colours ≡ true
+slid_rows_is = refl
 
 -- a stabilisation doubles a colour, and its destabilisation merges the two
 stabilised : carried (dihedral 3) (record { x = 0 ∷ 1 ∷ []; o = 1 ∷ 0 ∷ [] }) (Stabilise 0 Cross LowLeft) (2 ∷ 2 ∷ []) ≡ 2 ∷ 2 ∷ 2 ∷ []

@@ -18,7 +18,8 @@ use quandle_core::Quandle;
 /// Columns go with their colours, but for two cases in which a colour y becomes `y ▷ a` or `y ◁ a`. Where rows are
 /// shifted, the strand of each row that goes from the bottom to the top, of colour a, passes over the columns strictly
 /// between its ends. Where nested columns are exchanged, the inner one passes under the outer one, of colour a.
-/// A stabilisation doubles its column's colour, and a destabilisation merges the two.
+/// A stabilisation doubles its column's colour, and a destabilisation merges the two. Of columns that slide the two have
+/// one colour, so that the list stays as it is.
 ///
 /// Takes no memory. Each column is touched a bounded number of times; a shift of rows by k does so k times.
 pub fn carry(grid: &Grid, step: Move, quandle: &Quandle, colours: &Colouring) -> Colouring
@@ -27,6 +28,16 @@ pub fn carry(grid: &Grid, step: Move, quandle: &Quandle, colours: &Colouring) ->
     ensures carried { result.items ≡ carried quandle.now grid.now step colours.now.items }
     ensures colouring { (e : Diagram) → Step grid.now step e → IsColouring quandle.now e result.items }
 {
+    let _order = quandle.order();
+    by_kind(grid, step, quandle, colours)
+}
+
+/// The colours, by the kind of move.
+fn by_kind(grid: &Grid, step: Move, quandle: &Quandle, colours: &Colouring) -> Colouring
+    requires legal { first_fault grid.now step ≡ None }
+    requires colouring { IsColouring quandle.now grid.now colours.now.items }
+    ensures { result.items ≡ carried quandle.now grid.now step colours.now.items }
+{
     let _size = grid.size();
     let _order = quandle.order();
     match step {
@@ -34,6 +45,8 @@ pub fn carry(grid: &Grid, step: Move, quandle: &Quandle, colours: &Colouring) ->
         Move::ShiftRows(k) => shift_rows(grid, quandle, colours, k),
         Move::ExchangeColumns(c) => exchange_columns(grid, quandle, colours, c),
         Move::ExchangeRows(_r) => copy_of(colours),
+        Move::SlideColumns(_c) => copy_of(colours),
+        Move::SlideRows(_r) => copy_of(colours),
         Move::Stabilise {
             column,
             kind: _,

@@ -1,11 +1,11 @@
 //! Laws of carried colourings, over the definitions alone.
-ghost use Rattle.std.specs.Prelude.{◌≡◌, ◌≢◌, ◌<◌, ◌≤◌, ◌++◌, ◌∷◌, [], ℕ, Bool, not, List, length};
+ghost use Rattle.std.specs.Prelude.{◌≡◌, ◌≢◌, ◌<◌, ◌≤◌, ◌+◌, ◌++◌, ◌∷◌, [], ℕ, Bool, not, List, length, slice_index};
 ghost use Rattle.std.specs.List.{All};
 ghost use Rattle.grid_core.specs.Diagram.{Diagram, IsGrid, size};
 ghost use Rattle.grid_moves.specs.Step.{Step};
 ghost use Rattle.grid_moves.specs.Joining.{Equivalent};
 ghost use Rattle.quandle_core.specs.Quandle.{Table, IsQuandle};
-ghost use Rattle.colour_rows.specs.Equation.{forth};
+ghost use Rattle.colour_rows.specs.Walk.{passed_rightward};
 ghost use Rattle.colour_rows.specs.Colouring.{IsColouring};
 ghost use Rattle.colour_list.specs.Listing.{colourings};
 ghost use Rattle.quandle_core.specs.Bijection.{IsBijection};
@@ -46,6 +46,24 @@ pub fn exchange_rows()
         → IsBijection (IsColouring t d) (IsColouring t e) (carried t d (Move.ExchangeRows r)) }
 {}
 
+/// A slide of columns carries the colourings one to one.
+pub fn slide_columns()
+    ensures { (t : Table) (d e : Diagram) (c : ℕ) → IsQuandle t → Step d (Move.SlideColumns c) e
+        → IsBijection (IsColouring t d) (IsColouring t e) (carried t d (Move.SlideColumns c)) }
+{}
+
+/// In each colouring the two columns of a slide have one colour: the shared row joins them, and nothing lies between its ends.
+pub fn slid_columns_have_one_colour()
+    ensures { (t : Table) (d e : Diagram) (c : ℕ) (colours : List ℕ) → IsQuandle t → Step d (Move.SlideColumns c) e → IsColouring t d colours
+        → slice_index colours c ≡ slice_index colours (c + 1) }
+{}
+
+/// A slide of rows carries the colourings one to one.
+pub fn slide_rows()
+    ensures { (t : Table) (d e : Diagram) (r : ℕ) → IsQuandle t → Step d (Move.SlideRows r) e
+        → IsBijection (IsColouring t d) (IsColouring t e) (carried t d (Move.SlideRows r)) }
+{}
+
 /// A stabilisation, of either kind and at each corner, carries the colourings one to one.
 pub fn stabilise()
     ensures { (t : Table) (d e : Diagram) (c : ℕ) (kind : Kind) (corner : Corner)
@@ -74,7 +92,7 @@ pub fn an_action_slides_along_a_chain()
         → All (λ (column : Bool × ℕ). column.1 < t.order) chain
         → a < t.order
         → x < t.order
-        → follow t chain (forth t up x a) ≡ forth t up (follow t chain x) (follow t chain a) }
+        → follow t chain (passed_rightward t up x a) ≡ passed_rightward t up (follow t chain x) (follow t chain a) }
     ensures cancelling { (t : Table) (up : Bool) (chain : List (Bool × ℕ)) (a x : ℕ)
         → IsQuandle t
         → All (λ (column : Bool × ℕ). column.1 < t.order) chain

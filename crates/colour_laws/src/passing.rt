@@ -2,12 +2,12 @@
 ghost use Rattle.std.specs.Prelude.{◌≡◌, ◌<◌, ◌+◌, length, slice_index, if◌then◌else◌};
 ghost use Rattle.grid_core.specs.Diagram.{size};
 ghost use Rattle.grid_core.specs.Parts.{ends, is_up};
-ghost use Rattle.colour_rows.specs.Equation.{forth, fro};
+ghost use Rattle.colour_rows.specs.Walk.{passed_rightward, passed_leftward};
 ghost use Rattle.colour_rows.specs.Colouring.{AreColours, IsColouring};
 ghost use Rattle.colour_laws.specs.Carried.{is_nested_in, gone_left, gone_right, columns_exchanged, bottom_row_shifted, after_row_shift, rows_shifted};
 
 use crate::blocks::copy_of;
-use colour_rows::Colouring;
+use colour_rows::{Colouring, passed_leftward, passed_rightward};
 use grid_core::Grid;
 use quandle_core::Quandle;
 
@@ -48,7 +48,7 @@ fn gone_left(grid: &Grid, quandle: &Quandle, colours: &[u8], c: u8) -> u8
     let _size = grid.size();
     let colour = colours[c as usize + 1];
     if is_nested_in(grid, c + 1, c) {
-        fro(quandle, grid.is_up(c), colour, colours[c as usize])
+        passed_leftward(quandle, grid.is_up(c), colour, colours[c as usize])
     } else {
         colour
     }
@@ -63,7 +63,7 @@ fn gone_right(grid: &Grid, quandle: &Quandle, colours: &[u8], c: u8) -> u8
     let _size = grid.size();
     let colour = colours[c as usize];
     if is_nested_in(grid, c, c + 1) {
-        forth(quandle, grid.is_up(c + 1), colour, colours[c as usize + 1])
+        passed_rightward(quandle, grid.is_up(c + 1), colour, colours[c as usize + 1])
     } else {
         colour
     }
@@ -103,11 +103,11 @@ fn lift_row(grid: &Grid, quandle: &Quandle, colours: &mut [u8], row: u8)
 {
     let _size = grid.size();
     let _order = quandle.order();
-    let (left, right) = ends_of(grid, row);
+    let (left, right) = grid.ends(row);
     let strand = colours[left as usize];
     let up = is_up_at_bottom(grid, left, row);
     for column in left + 1..right {
-        colours[column as usize] = fro(quandle, up, colours[column as usize], strand);
+        colours[column as usize] = passed_leftward(quandle, up, colours[column as usize], strand);
     }
 }
 
@@ -121,39 +121,4 @@ fn is_up_at_bottom(grid: &Grid, left: u8, row: u8) -> bool
 {
     let _size = grid.size();
     grid.x_row(left) == row
-}
-
-/// The ends of a row, which are two columns, the left one first.
-fn ends_of(grid: &Grid, row: u8) -> (u8, u8)
-    requires { row < size grid.now }
-    ensures left { result.0 ≡ (ends grid.now row).low }
-    ensures right { result.1 ≡ (ends grid.now row).high }
-    ensures within { (result.0 < result.1) × (result.1 < size grid.now) }
-{
-    let _size = grid.size();
-    grid.ends(row)
-}
-
-/// What colour x becomes under a column of colour y, from left to right.
-fn forth(quandle: &Quandle, up: bool, x: u8, y: u8) -> u8
-    requires { (x < quandle.now.order) × (y < quandle.now.order) }
-    ensures { result ≡ forth quandle.now up x y }
-{
-    if up {
-        quandle.back(x, y)
-    } else {
-        quandle.over(x, y)
-    }
-}
-
-/// What colour x becomes under a column of colour y, from right to left.
-fn fro(quandle: &Quandle, up: bool, x: u8, y: u8) -> u8
-    requires { (x < quandle.now.order) × (y < quandle.now.order) }
-    ensures { result ≡ fro quandle.now up x y }
-{
-    if up {
-        quandle.over(x, y)
-    } else {
-        quandle.back(x, y)
-    }
 }

@@ -109,6 +109,37 @@ fn a_row_shift_and_a_nested_exchange_change_one_colour(rt: HostRuntime) -> Resul
     )
 }
 
+#[test]
+fn a_slide_keeps_each_columns_colour(rt: HostRuntime) -> Result<(), Fail> {
+    let closed = || {
+        with_colours(
+            &[4, 3, 2, 0, 1, 5, 6],
+            &[6, 5, 4, 3, 2, 1, 0],
+            &[0, 1, 2, 0, 1, 1, 0],
+        )
+    };
+    compare_moved(
+        &rt,
+        closed(),
+        Move::SlideColumns(4),
+        with_colours(
+            &[4, 3, 2, 0, 5, 1, 6],
+            &[6, 5, 4, 3, 1, 2, 0],
+            &[0, 1, 2, 0, 1, 1, 0],
+        ),
+    )?;
+    compare_moved(
+        &rt,
+        closed(),
+        Move::SlideRows(1),
+        with_colours(
+            &[4, 3, 1, 0, 2, 5, 6],
+            &[6, 5, 4, 3, 1, 2, 0],
+            &[0, 1, 2, 0, 1, 1, 0],
+        ),
+    )
+}
+
 /// The moves that lead from the right trefoil to itself with its strand run backwards.
 const REVERSING: [Move; 9] = [
     Move::Stabilise {

@@ -15,7 +15,7 @@ use Rattle.grid_core.specs.Parts.{bottoms, column_of, is_bottom}
 use Rattle.quandle_core.specs.Quandle.{Table, IsQuandle}
 use Rattle.colour_rows.specs.Colouring.{AreColours, IsColouring, is_colouring}
 use Rattle.colour_rows.specs.Walk.{walk, closes}
-use Rattle.colour_rows.proofs.Ends.{left, right, low, span_low, span_high}
+use Rattle.grid_core.proofs.Ends.{left, right, low, span_low, span_high}
 use Rattle.colour_rows.proofs.Ranges.{range_longer}
 use Rattle.colour_rows.proofs.Walks.{walk_back}
 use Rattle.colour_rows.proofs.Colourings.{coloured}

@@ -14,7 +14,7 @@ use Rattle.grid_core.proofs.Marks.{row_below}
 use Rattle.quandle_core.specs.Quandle.{Table}
 use Rattle.colour_rows.specs.Walk.{walk}
 use Rattle.colour_rows.specs.Colouring.{IsColouring, is_colouring}
-use Rattle.colour_rows.proofs.Ends.{has_ends, right, low, span_low}
+use Rattle.grid_core.proofs.Ends.{has_ends, right, low, span_low}
 use Rattle.colour_rows.proofs.Walks.{closes_agree}
 use Rattle.colour_rows.proofs.Colourings.{coloured, colouring}
 use Rattle.colour_list.specs.Listing.{all_lists, colourings, is_same, times}

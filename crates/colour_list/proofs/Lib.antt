@@ -1,5 +1,5 @@
 mod Counts
-mod Times
+pub mod Times
 mod Order
 mod AllLists
 mod Columns

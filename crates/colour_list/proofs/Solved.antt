@@ -5,7 +5,7 @@ use Rattle.std.proofs.lemmas.Bool.{eqb-true, eqb-false, ne_eqb}
 use Rattle.std.proofs.lemmas.List.FromFn.{get_or-range_with_len, length-range_with_len}
 use Rattle.std.proofs.lemmas.List.Elements.{All-head, All-tail, filter-append}
 use Rattle.grid_core.specs.Diagram.{Diagram, size}
-use Rattle.colour_rows.proofs.Ends.{HasEnds, left, right}
+use Rattle.grid_core.proofs.Ends.{HasEnds, left, right}
 use Rattle.quandle_core.specs.Quandle.{Table, IsQuandle}
 use Rattle.colour_rows.specs.Walk.{walk, closes}
 use Rattle.colour_rows.proofs.Walks.{walk_back, closes_left, closes_right, walk_stays, walk_back_stays}

@@ -11,7 +11,7 @@ use Rattle.grid_core.specs.declared.grid.TheConstants.{MAX_SIZE}
 use Rattle.grid_core.specs.Diagram.{Diagram, IsGrid, size}
 use Rattle.quandle_core.specs.Quandle.{Table, IsQuandle}
 use Rattle.colour_rows.specs.Walk.{closes}
-use Rattle.colour_rows.proofs.Ends.{has_ends, left, right, low}
+use Rattle.grid_core.proofs.Ends.{has_ends, left, right, low}
 use Rattle.colour_rows.proofs.Walks.{closes_ignores}
 use Rattle.colour_list.specs.Listing.{is_same, times}
 use Rattle.colour_list.specs.Level.{spread, Meets, IsLevel, IsUnbegun, RowsClose, IsLevelAt}

@@ -9,7 +9,7 @@ use Rattle.grid_core.specs.Diagram.{Diagram, size}
 use Rattle.quandle_core.specs.Quandle.{Table}
 use Rattle.colour_rows.specs.Walk.{walk, closes}
 use Rattle.colour_rows.specs.Colouring.{AreColours, IsColouring, are_colours, is_colouring}
-use Rattle.colour_rows.proofs.Ends.{right}
+use Rattle.grid_core.proofs.Ends.{right}
 use Rattle.colour_rows.proofs.Ranges.{all_range}
 
 pub colours_from : (n q : ℕ) (f : List ℕ) → are_colours n q f ≡ true → AreColours n q f

@@ -1,5 +1,5 @@
 pub mod Ranges
-pub mod Ends
+mod Turning
 pub mod Walks
 pub mod Equations
 pub mod Colourings

@@ -1,6 +1,6 @@
 -- A test of the numbers below n, case by case.
 use Rattle.grid_core.proofs.OneEach.{range_more}
-use Rattle.std.proofs.Common.{◌+◌, ◌++◌, ◌∷◌, [], add-one, ◌≤◌, zero, suc, cond, refl, ◌≡◌, ◌<◌, ◌∙◌, ℕ, Bool, true, false, ap, arith}
+use Rattle.std.proofs.Common.{◌+◌, ◌++◌, ◌∷◌, [], add-one, ◌≤◌, zero, suc, cond, refl, ◌≡◌, ◌<◌, ◌∙◌, ℕ, List, Bool, true, false, ap, ap₂, arith}
 use Rattle.std.specs.List.{range_with_len, list_all, filter}
 use Rattle.std.proofs.lemmas.List.Folds.{list_all_at}
 use Rattle.std.proofs.lemmas.List.FromFn.{get_or-range_with_len, length-range_with_len}
@@ -24,3 +24,9 @@ filter_none p a zero fails = refl
 filter_none p a (suc n) fails =
     ap (λ b. cond b (a ∷ filter p (range_with_len (a + 1) n)) (filter p (range_with_len (a + 1) n))) (fails a (omega arith) (omega arith))
     ∙ filter_none p (a + 1) n (λ k from to. fails k (omega arith) (omega arith))
+
+pub range_append : (a p q : ℕ) → range_with_len a p ++ range_with_len (a + p) q ≡ range_with_len a (p + q)
+range_append a zero q = ap₂ (λ (b n : ℕ). range_with_len b n) (omega arith) (omega arith)
+range_append a (suc p) q =
+    ap (λ (zs : List ℕ). a ∷ zs) (ap (λ (b : ℕ). range_with_len (a + 1) p ++ range_with_len b q) (omega arith) ∙ range_append (a + 1) p q)
+    ∙ ap (range_with_len a) (let e : suc (p + q) ≡ suc p + q = omega arith in e)

@@ -9,7 +9,7 @@ use Rattle.std.proofs.lemmas.List.Elements.{All-head, All-tail, All-filter, All-
 use Rattle.std.proofs.lemmas.List.Sums.{fold-append}
 use Rattle.grid_core.specs.Diagram.{Diagram, size}
 use Rattle.grid_core.specs.Parts.{covers, is_up, ends}
-use Rattle.colour_rows.proofs.Ends.{HasEnds, left, right, low, high}
+use Rattle.grid_core.proofs.Ends.{HasEnds, left, right, low, high}
 use Rattle.quandle_core.specs.Quandle.{Table, IsQuandle, over, back}
 use Rattle.colour_rows.specs.Walk.{under, passed, walk, closes}
 
@@ -120,15 +120,15 @@ closes_right t d f r b ends at =
     (All-weaker (IsPassed d r) (λ k. k ≢ right d r) (λ k p e. let l = p.ahead in absurd (omega arith)) (passed d r) (each_passed d r ends.ordered)))
     ∙ ap (λ y. walk t d f r == y) (get_or-set_same f (right d r) b 0 at)
 
-turn_stays : (t : Table) → IsQuandle t → (up : Bool) (x y : ℕ) → x < t.order → y < t.order → (if up then back t x y else over t x y) < t.order
+pub turn_stays : (t : Table) → IsQuandle t → (up : Bool) (x y : ℕ) → x < t.order → y < t.order → (if up then back t x y else over t x y) < t.order
 turn_stays t q true x y at by_y = q.back_within x y at by_y
 turn_stays t q false x y at by_y = q.within x y at by_y
 
-return_stays : (t : Table) → IsQuandle t → (up : Bool) (x y : ℕ) → x < t.order → y < t.order → (if up then over t x y else back t x y) < t.order
+pub return_stays : (t : Table) → IsQuandle t → (up : Bool) (x y : ℕ) → x < t.order → y < t.order → (if up then over t x y else back t x y) < t.order
 return_stays t q true x y at by_y = q.within x y at by_y
 return_stays t q false x y at by_y = q.back_within x y at by_y
 
-turn_return : (t : Table) → IsQuandle t → (up : Bool) (x y : ℕ) → x < t.order → y < t.order → (if up then over t (if up then back t x y else over t x y) y else back t (if up then back t x y else over t x y) y) ≡ x
+pub turn_return : (t : Table) → IsQuandle t → (up : Bool) (x y : ℕ) → x < t.order → y < t.order → (if up then over t (if up then back t x y else over t x y) y else back t (if up then back t x y else over t x y) y) ≡ x
 turn_return t q true x y at by_y = q.over_back x y at by_y
 turn_return t q false x y at by_y = q.back_over x y at by_y
 

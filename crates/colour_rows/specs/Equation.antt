@@ -1,9 +1,10 @@
 -- A row read off its diagram once: its ends, and the columns that it passes under with their directions.
-use Rattle.std.specs.Prelude.{ℕ, ◌+◌, ◌-◌, Bool, List, map, filter, fold, reverse, slice_index, if◌then◌else◌}
+use Rattle.std.specs.Prelude.{ℕ, ◌+◌, ◌-◌, List, map, filter, fold, reverse, slice_index}
 use Rattle.std.specs.List.{range_with_len}
 use Rattle.grid_core.specs.Diagram.{Diagram}
 use Rattle.grid_core.specs.Parts.{covers, is_up, ends}
-use Rattle.quandle_core.specs.Quandle.{Table, over, back}
+use Rattle.quandle_core.specs.Quandle.{Table}
+use Rattle.colour_rows.specs.Walk.{passed_rightward, passed_leftward}
 use Rattle.colour_rows.specs.declared.row.Pass.{Pass}
 
 pub record Equation : Type 0 where
@@ -19,16 +20,9 @@ passes d r from to = map (λ c. record { column = c; up = is_up d c }) (filter (
 abbrev pub equation : Diagram → ℕ → Equation
 equation d r = record { left_end = (ends d r).low; right_end = (ends d r).high; passes = passes d r (ends d r).low (ends d r).high }
 
--- what colour x becomes under a column of colour y, and what it was before
-abbrev pub forth : Table → Bool → ℕ → ℕ → ℕ
-forth t up x y = if up then back t x y else over t x y
-
-abbrev pub fro : Table → Bool → ℕ → ℕ → ℕ
-fro t up x y = if up then over t x y else back t x y
-
 -- the walk from the left end's colour, and the walk taken backwards from the right end's colour
 abbrev pub walk_of : Table → Equation → List ℕ → ℕ
-walk_of t e colours = fold (λ x (p : Pass). forth t p.up x (slice_index colours p.column)) (slice_index colours e.left_end) e.passes
+walk_of t e colours = fold (λ x (p : Pass). passed_rightward t p.up x (slice_index colours p.column)) (slice_index colours e.left_end) e.passes
 
 abbrev pub walk_back_of : Table → Equation → List ℕ → ℕ
-walk_back_of t e colours = fold (λ x (p : Pass). fro t p.up x (slice_index colours p.column)) (slice_index colours e.right_end) (reverse e.passes)
+walk_back_of t e colours = fold (λ x (p : Pass). passed_leftward t p.up x (slice_index colours p.column)) (slice_index colours e.right_end) (reverse e.passes)

@@ -5,7 +5,7 @@ ghost use Rattle.grid_core.specs.Diagram.{size};
 ghost use Rattle.colour_rows.specs.Walk.{walk, closes};
 ghost use Rattle.colour_rows.specs.Colouring.{AreColours, are_colours, is_colouring};
 
-use crate::row::{Row, ends_of};
+use crate::row::Row;
 use arrayvec::ArrayVec;
 use grid_core::{Grid, MAX_SIZE};
 use quandle_core::Quandle;
@@ -49,7 +49,7 @@ fn closes(grid: &Grid, quandle: &Quandle, colours: &Colouring, row: u8) -> bool
     requires colours { AreColours (size grid.now) quandle.now.order colours.now.items }
     ensures { result ≡ closes quandle.now grid.now colours.now.items row }
 {
-    let (_left, right) = ends_of(grid, row);
+    let (_left, right) = grid.ends(row);
     walk(grid, quandle, colours, row) == colours[right as usize]
 }
 

@@ -4,9 +4,11 @@
 
 mod colouring;
 pub mod laws;
+mod passing;
 mod row;
 #[cfg(test)]
 mod tests;
 
 pub use colouring::{Colouring, is_colouring, walk};
+pub use passing::{passed_leftward, passed_rightward};
 pub use row::{Pass, Row};

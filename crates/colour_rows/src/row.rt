@@ -2,9 +2,9 @@
 ghost use Rattle.std.specs.Prelude.{◌≡◌, ◌<◌, length};
 ghost use Rattle.std.specs.List.{All};
 ghost use Rattle.grid_core.specs.Diagram.{size};
-ghost use Rattle.grid_core.specs.Parts.{ends};
-ghost use Rattle.colour_rows.specs.Equation.{equation, passes, forth, walk_of, walk_back_of};
+ghost use Rattle.colour_rows.specs.Equation.{equation, passes, walk_of, walk_back_of};
 
+use crate::passing::{passed_leftward, passed_rightward};
 use arrayvec::ArrayVec;
 use grid_core::{Grid, MAX_SIZE};
 use quandle_core::Quandle;
@@ -49,7 +49,7 @@ impl Row {
         ensures equation { result ≡ equation grid.now row }
         ensures within { (result.left_end < result.right_end) × (result.right_end < size grid.now) }
     {
-        let (left, right) = ends_of(grid, row);
+        let (left, right) = grid.ends(row);
         let passed = passed(grid, row, left, right);
         Row {
             left,
@@ -82,7 +82,7 @@ impl Row {
         let _order = quandle.order();
         let mut colour = colours[self.left as usize];
         for pass in self.passed.as_slice() {
-            colour = forth(quandle, pass.up, colour, colours[pass.column as usize]);
+            colour = passed_rightward(quandle, pass.up, colour, colours[pass.column as usize]);
         }
         colour
     }
@@ -99,34 +99,9 @@ impl Row {
         let passed = self.passed.as_slice();
         for done in 0..passed.len() {
             let pass = passed[passed.len() - 1 - done];
-            colour = forth(quandle, !pass.up, colour, colours[pass.column as usize]);
+            colour = passed_leftward(quandle, pass.up, colour, colours[pass.column as usize]);
         }
         colour
-    }
-}
-
-/// The ends of a row, which are two columns, the left one first.
-pub(crate) fn ends_of(grid: &Grid, row: u8) -> (u8, u8)
-    requires { row < size grid.now }
-    ensures left { result.0 ≡ (ends grid.now row).low }
-    ensures right { result.1 ≡ (ends grid.now row).high }
-    ensures within { (result.0 < result.1) × (result.1 < size grid.now) }
-{
-    let _size = grid.size();
-    grid.ends(row)
-}
-
-/// What a colour becomes under a column, from left to right.
-fn forth(quandle: &Quandle, up: bool, colour: u8, column: u8) -> u8
-    requires { (colour < quandle.now.order) × (column < quandle.now.order) }
-    ensures is { result ≡ forth quandle.now up colour column }
-    ensures below { result < quandle.now.order }
-{
-    let _order = quandle.order();
-    if up {
-        quandle.back(colour, column)
-    } else {
-        quandle.over(colour, column)
     }
 }
 

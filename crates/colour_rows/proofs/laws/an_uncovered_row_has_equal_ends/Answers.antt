@@ -2,7 +2,7 @@ use Rattle.std.proofs.Common.{◌≡◌, ◌∙◌, ◌+◌, ◌-◌, ℕ, List,
 use Rattle.grid_core.specs.Parts.{covers}
 use Rattle.colour_rows.specs.Walk.{under, passed}
 use Rattle.colour_rows.proofs.Ranges.{filter_none}
-use Rattle.colour_rows.proofs.Ends.{left, right, highest}
+use Rattle.grid_core.proofs.Ends.{left, right, highest}
 use Rattle.colour_rows.proofs.laws.an_uncovered_row_has_equal_ends.Goals as goal
 
 pub returns-clause-equal : goal.returns-clause-equal

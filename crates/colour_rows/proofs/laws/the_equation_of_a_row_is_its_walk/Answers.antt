@@ -1,5 +1,5 @@
 use Rattle.std.proofs.Common.{◌∙◌, ◌==◌, sym, ap}
-use Rattle.colour_rows.proofs.Ends.{has_ends}
+use Rattle.grid_core.proofs.Ends.{has_ends}
 use Rattle.colour_rows.proofs.Equations.{walk_same, walk_back_same}
 use Rattle.colour_rows.proofs.Walks.{closes_left}
 use Rattle.colour_rows.proofs.laws.the_equation_of_a_row_is_its_walk.Goals as goal

@@ -5,6 +5,6 @@ use Rattle.colour_rows.proofs.row.Row.of.Goals as goal
 
 pub invariant_of-result : goal.invariant_of-result
 invariant_of-result c = (
-  c.ends_of-left.ensures.within.0,
-  subst (λ (ps : List Pass). All (λ (p : Pass). p.column < c.ends_of-left.result.1) ps) (sym c.passed-passed.ensures) (passes_below c.args.grid.now c.args.row c.ends_of-left.result.0 c.ends_of-left.result.1),
+  c.ends-left.ensures.within.0,
+  subst (λ (ps : List Pass). All (λ (p : Pass). p.column < c.ends-left.result.1) ps) (sym c.passed-passed.ensures) (passes_below c.args.grid.now c.args.row c.ends-left.result.0 c.ends-left.result.1),
 )
