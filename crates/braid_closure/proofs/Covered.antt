@@ -3,7 +3,7 @@ use Rattle.std.proofs.Common.{◌≡◌, ◌<◌, ◌≤◌, ◌&&◌, ◌∷◌
 use Rattle.std.proofs.lemmas.Bool.{lt-ltb, le-ltb, leb-true, leb-false, ltb-true, ltb-false}
 use Rattle.std.proofs.lemmas.List.Elements.{All-head, All-tail, All-nil, All-cons, All-filter}
 use Rattle.grid_core.specs.Span.{span, lies_within}
-use Rattle.colour_rows.proofs.Ends.{span_low, span_high}
+use Rattle.grid_core.proofs.Ends.{span_low, span_high}
 use Rattle.quandle_core.specs.Quandle.{Table, over, back}
 use Rattle.braid_closure.specs.declared.column.Column.{Column}
 use Rattle.braid_closure.specs.Columns.{begun, is_open, open_columns}

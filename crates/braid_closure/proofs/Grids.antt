@@ -14,6 +14,7 @@ use Rattle.braid_closure.specs.Columns.{begun, ended, open_columns, at_position,
 use Rattle.braid_closure.specs.Closure.{crossed, crossings, standing, top_row, topped, closing, closure_size, columns, closure}
 use Rattle.braid_closure.proofs.Positions.{Split, split_at, at_split, open_append}
 use Rattle.braid_closure.proofs.Stages.{IsStage, IsUp, x_rows, o_rows, first_stage, stage_as, stage_end, stage_crossings}
+use Rattle.colour_rows.proofs.Ranges.{range_append}
 
 -- the last open column ends in its top row
 pub top_split : (m n i r e : ℕ) (columns : List Column) → i + 1 + (m + e) ≡ n → IsStage m (i + 1) r e columns → Split (i + 1) columns
@@ -37,13 +38,6 @@ stage_topped m n (suc i) r e columns n_is below stage =
     let one = stage_as m (suc i) (i + 1) r r e e columns columns refl (omega arith) refl refl stage in
     stage_as m 0 0 r r (e + 1 + i) (e + suc i) (topped n (suc i) columns) (topped n (suc i) columns) refl refl refl (omega arith)
     (stage_topped m n i r (e + 1) (at_position (i + 1) (λ c. ended (top_row n (i + 1)) c ∷ []) columns) (omega arith) (omega arith) (stage_top m n i r e columns (omega arith) below one))
-
--- the rows of the closing columns
-pub range_append : (a p q : ℕ) → range_with_len a p ++ range_with_len (a + p) q ≡ range_with_len a (p + q)
-range_append a zero q = ap₂ (λ (b n : ℕ). range_with_len b n) (omega arith) (omega arith)
-range_append a (suc p) q =
-    ap (λ (zs : List ℕ). a ∷ zs) (ap (λ (b : ℕ). range_with_len (a + 1) p ++ range_with_len b q) (omega arith) ∙ range_append (a + 1) p q)
-    ∙ ap (range_with_len a) (let e : suc (p + q) ≡ suc p + q = omega arith in e)
 
 closing_x : (n j : ℕ) → j ≤ n → x_rows (closing n j) ≡ range_with_len (n - j) j
 closing_x n zero most = refl

@@ -1,10 +1,11 @@
 -- The colours of the open columns: where the new column has the colour that a letter makes, they are the letter's image.
-use Rattle.std.proofs.Common.{◌≡◌, ◌+◌, ◌-◌, ◌∷◌, ◌++◌, ◌∙◌, [], ℕ, suc, ℤ, pos, negsuc, List, length, set, get_or, arith, sym, refl, ap, ap₂}
+use Rattle.std.proofs.Common.{◌≡◌, ◌+◌, ◌∷◌, ◌++◌, ◌∙◌, ℕ, ℤ, pos, negsuc, List, length, arith, sym, ap, ap₂}
 use Rattle.std.proofs.lemmas.List.{map-append, length-map}
 use Rattle.quandle_core.specs.Quandle.{Table, over, back}
 use Rattle.braid_core.specs.Braid.{IsLetter}
 use Rattle.braid_core.specs.Action.{IsTuple, colour_at, with_pair, letter_action, action}
 use Rattle.braid_core.specs.Action as acts
+use Rattle.braid_core.proofs.Pairs.{low_at, high_at, pair_positive, pair_negative}
 use Rattle.braid_closure.specs.declared.column.Column.{Column}
 use Rattle.braid_closure.specs.Columns.{begun, ended, open_columns}
 use Rattle.braid_closure.specs.Closure.{positive, negative, crossed}
@@ -15,25 +16,6 @@ use Rattle.braid_closure.proofs.Walked.{colours_of}
 -- the colours of the open columns, from left to right
 abbrev pub open_colours : (ℕ → ℕ) → List Column → List ℕ
 open_colours colour columns = colours_of colour (open_columns columns)
-
--- a pair in the midst of a list
-mid_at : (left : List ℕ) (y : ℕ) (right : List ℕ) (k : ℕ) → k ≡ length left → get_or (left ++ y ∷ right) k 0 ≡ y
-mid_at [] y right k k_is = ap (λ (z : ℕ). get_or (y ∷ right) z 0) k_is
-mid_at (x ∷ left) y right k k_is = ap (λ (z : ℕ). get_or (x ∷ (left ++ y ∷ right)) z 0) k_is ∙ mid_at left y right (length left) refl
-
-mid_set : (left : List ℕ) (y u : ℕ) (right : List ℕ) (k : ℕ) → k ≡ length left → set (left ++ y ∷ right) k u ≡ left ++ u ∷ right
-mid_set [] y u right k k_is = ap (λ (z : ℕ). set (y ∷ right) z u) k_is
-mid_set (x ∷ left) y u right k k_is = ap (λ (z : ℕ). set (x ∷ (left ++ y ∷ right)) z u) k_is ∙ ap (λ (zs : List ℕ). x ∷ zs) (mid_set left y u right (length left) refl)
-
-next_at : (left : List ℕ) (y z : ℕ) (right : List ℕ) (k : ℕ) → k ≡ length left + 1 → get_or (left ++ y ∷ z ∷ right) k 0 ≡ z
-next_at [] y z right k k_is = ap (λ (i : ℕ). get_or (y ∷ z ∷ right) i 0) k_is
-next_at (x ∷ left) y z right k k_is =
-    ap (λ (i : ℕ). get_or (x ∷ (left ++ y ∷ z ∷ right)) i 0) (k_is ∙ let e : suc (length left) + 1 ≡ suc (length left + 1) = omega arith in e) ∙ next_at left y z right (length left + 1) refl
-
-next_set : (left : List ℕ) (y z v : ℕ) (right : List ℕ) (k : ℕ) → k ≡ length left + 1 → set (left ++ y ∷ z ∷ right) k v ≡ left ++ y ∷ v ∷ right
-next_set [] y z v right k k_is = ap (λ (i : ℕ). set (y ∷ z ∷ right) i v) k_is
-next_set (x ∷ left) y z v right k k_is =
-    ap (λ (i : ℕ). set (x ∷ (left ++ y ∷ z ∷ right)) i v) (k_is ∙ let e : suc (length left) + 1 ≡ suc (length left + 1) = omega arith in e) ∙ ap (λ (zs : List ℕ). x ∷ zs) (next_set left y z v right (length left + 1) refl)
 
 -- the colour that a letter makes
 abbrev pub new_colour : Table → List ℕ → ℤ → ℕ
@@ -46,24 +28,16 @@ pub record Mid (k : ℕ) (xs left : List ℕ) (y z : ℕ) (right : List ℕ) : T
   pub before : length left + 1 ≡ k
 
 pub mid_low : (k : ℕ) (xs left : List ℕ) (y z : ℕ) (right : List ℕ) → Mid k xs left y z right → colour_at xs k ≡ y
-mid_low k xs left y z right mid = ap (λ (zs : List ℕ). get_or zs (k - 1) 0) mid.is ∙ mid_at left y (z ∷ right) (k - 1) (let e = mid.before in omega arith)
+mid_low k xs left y z right mid = ap (λ (zs : List ℕ). colour_at zs k) mid.is ∙ low_at k left y z right mid.before
 
 pub mid_high : (k : ℕ) (xs left : List ℕ) (y z : ℕ) (right : List ℕ) → Mid k xs left y z right → colour_at xs (k + 1) ≡ z
-mid_high k xs left y z right mid = ap (λ (zs : List ℕ). get_or zs (k + 1 - 1) 0) mid.is ∙ next_at left y z right (k + 1 - 1) (let e = mid.before in omega arith)
-
-mid_pair : (k : ℕ) (xs left : List ℕ) (y z u v : ℕ) (right : List ℕ) → Mid k xs left y z right → with_pair xs k u v ≡ left ++ u ∷ v ∷ right
-mid_pair k xs left y z u v right mid =
-    ap (λ (zs : List ℕ). set (set zs (k - 1) u) k v) mid.is
-    ∙ (ap (λ (zs : List ℕ). set zs k v) (mid_set left y u (z ∷ right) (k - 1) (let e = mid.before in omega arith))
-    ∙ next_set left u z v right k (let e = mid.before in omega arith))
+mid_high k xs left y z right mid = ap (λ (zs : List ℕ). colour_at zs (k + 1)) mid.is ∙ high_at k left y z right mid.before
 
 mid_positive : (t : Table) (k : ℕ) (xs left : List ℕ) (y z : ℕ) (right : List ℕ) → Mid k xs left y z right → acts.positive t k xs ≡ left ++ over t z y ∷ y ∷ right
-mid_positive t k xs left y z right mid =
-    ap₂ (λ (u v : ℕ). with_pair xs k (over t u v) v) (mid_high k xs left y z right mid) (mid_low k xs left y z right mid) ∙ mid_pair k xs left y z (over t z y) y right mid
+mid_positive t k xs left y z right mid = ap (acts.positive t k) mid.is ∙ pair_positive t k left y z right mid.before
 
 mid_negative : (t : Table) (k : ℕ) (xs left : List ℕ) (y z : ℕ) (right : List ℕ) → Mid k xs left y z right → acts.negative t k xs ≡ left ++ z ∷ back t y z ∷ right
-mid_negative t k xs left y z right mid =
-    ap₂ (λ (u v : ℕ). with_pair xs k u (back t v u)) (mid_high k xs left y z right mid) (mid_low k xs left y z right mid) ∙ mid_pair k xs left y z z (back t y z) right mid
+mid_negative t k xs left y z right mid = ap (acts.negative t k) mid.is ∙ pair_negative t k left y z right mid.before
 
 -- the colours of the open columns around a pair, before and after a letter
 pub open_mid : (colour : ℕ → ℕ) (k : ℕ) (columns : List Column) (pair : Pair k columns) → Mid k (open_colours colour columns) (open_colours colour pair.left) (colour pair.first.x) (colour pair.second.x) (open_colours colour pair.right)

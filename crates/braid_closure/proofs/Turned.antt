@@ -11,13 +11,14 @@ use Rattle.braid_closure.specs.Columns.{begun, ended, open_columns, at_position}
 use Rattle.braid_closure.specs.Closure.{standing, top_row, topped, closing}
 use Rattle.braid_closure.proofs.Positions.{Split, open_append, open_here}
 use Rattle.braid_closure.proofs.Stages.{IsStage, EndsBelow, stage_as, stage_x, stage_o, up_back}
-use Rattle.braid_closure.proofs.Grids.{top_split, topped_is, stage_top, range_append}
+use Rattle.braid_closure.proofs.Grids.{top_split, topped_is, stage_top}
 use Rattle.braid_closure.proofs.Cut.{cut, cut_append, cut_whole, cut_topped, cut_split, here_x, here_o}
 use Rattle.braid_closure.proofs.Walked.{colours_of, column_covers}
 use Rattle.braid_closure.proofs.Covered.{Rising, rising_none, covers_none, covers_above, covers_below, ended_under}
 use Rattle.braid_closure.proofs.Crossed.{Reads, Closer, closing_split, closing_row}
 use Rattle.braid_closure.proofs.Strands.{open_colours}
 use Rattle.braid_closure.proofs.Followed.{Closes, Parts}
+use Rattle.colour_rows.proofs.Ranges.{range_append}
 
 -- a row closes exactly where these two colours are equal
 pub record ClosesWhere (t : Table) (colour : ℕ → ℕ) (r : ℕ) (columns : List Column) (one two : ℕ) : Type 0 where

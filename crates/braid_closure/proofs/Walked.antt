@@ -10,7 +10,7 @@ use Rattle.grid_core.specs.Parts.{column_of, covers, ends}
 use Rattle.grid_core.proofs.Marks.{column_is}
 use Rattle.quandle_core.specs.Quandle.{Table, over, back}
 use Rattle.colour_rows.specs.Walk.{under, walk}
-use Rattle.colour_rows.proofs.Ends.{span_low, span_high}
+use Rattle.grid_core.proofs.Ends.{span_low, span_high}
 use Rattle.braid_closure.specs.declared.column.Column.{Column}
 use Rattle.braid_closure.specs.Columns.{diagram_of}
 

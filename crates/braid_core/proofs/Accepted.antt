@@ -9,6 +9,7 @@ use Rattle.braid_core.specs.Fault.{is_outside, or_next, first_fault}
 use Rattle.braid_core.specs.declared.braid.TheConstants.{MAX_STRANDS}
 use Rattle.braid_core.specs.declared.fault.BraidFault.{BraidFault}
 use Rattle.braid_core.specs.declared.fault.BraidFault.TheVariants.{Strands, Letter, Size}
+use Rattle.grid_core.proofs.Accepted.{cond_none}
 
 if_none : (s : Bool) (fault : BraidFault) (rest : Option BraidFault) → cond s (Some fault) rest ≡ None → (s ≡ false) × (rest ≡ None)
 if_none true fault rest e = absurd (let no : ◌≡◌ {A = Option BraidFault} (Some fault) None = e in cc)
@@ -21,10 +22,6 @@ next_none None fault rest e = (refl, e)
 not_false : (s : Bool) → not s ≡ false → s ≡ true
 not_false true e = refl
 not_false false e = absurd (let no : ◌≡◌ {A = Bool} true false = e in cc)
-
-found_none : (s : Bool) (k : ℕ) → cond s (Some k) None ≡ None → s ≡ false
-found_none true k e = absurd (let no : ◌≡◌ {A = Option ℕ} (Some k) None = e in cc)
-found_none false k e = refl
 
 -- a letter that is not outside is one of the letters of m strands
 pub letter_from : (m : ℕ) (a : ℤ) → is_outside m a ≡ false → IsLetter m a
@@ -40,7 +37,7 @@ letter_not_outside m a letter =
 -- no letter is outside
 pub none_letters : (m : ℕ) (letters : List ℤ) → position (is_outside m) letters ≡ None → All (IsLetter m) letters
 none_letters m letters e k d lt =
-    let past : length letters ≤ position_or_len (is_outside m) letters = ltb-false (position_or_len (is_outside m) letters) (length letters) (found_none (nat_lt (position_or_len (is_outside m) letters) (length letters)) (position_or_len (is_outside m) letters) e) in
+    let past : length letters ≤ position_or_len (is_outside m) letters = ltb-false (position_or_len (is_outside m) letters) (length letters) (cond_none (nat_lt (position_or_len (is_outside m) letters) (length letters)) (position_or_len (is_outside m) letters) e) in
     letter_from m (get_or letters k d) (fails_before_first (is_outside m) letters k d (omega arith))
 
 pub letters_none : (m : ℕ) (letters : List ℤ) → All (IsLetter m) letters → position (is_outside m) letters ≡ None

@@ -1,4 +1,4 @@
-//! The action of a braid on a tuple of colours.
+//! The action of a braid, and of its letters, on a tuple of colours.
 ghost use Rattle.std.specs.Prelude.{◌≡◌, ◌<◌, length};
 ghost use Rattle.std.specs.List.{All};
 ghost use Rattle.braid_core.specs.Braid.{IsLetter};
@@ -9,21 +9,35 @@ use quandle_core::Quandle;
 
 /// Changes the colours as the braid acts on them, by its letters from first to last.
 ///
-/// Letter `+k` takes `(x_k, x_{k+1})` to `(x_{k+1} ▷ x_k, x_k)`, and letter `-k` takes it to `(x_{k+1}, x_k ◁ x_{k+1})`.
 /// There is to be a colour below the order for each strand, position 1 first. Takes no memory.
 pub fn act(braid: &Braid, quandle: &Quandle, colours: &mut [u8])
     requires { IsTuple quandle.now braid.now.strands colours.old }
     ensures action { colours.new ≡ action quandle.now braid.now.letters colours.old }
     ensures tuple { IsTuple quandle.now braid.now.strands colours.new }
 {
-    let letters = braid.letters();
+    let _strands = braid.strands();
+    act_letters(braid.letters(), quandle, colours);
+}
+
+/// Changes the colours as these letters act on them, from first to last. Any number of letters and of strands will do.
+///
+/// There is to be a colour below the order for each strand, position 1 first, and each letter is to be one of so many strands. Takes no memory.
+pub fn act_letters(letters: &[i8], quandle: &Quandle, colours: &mut [u8])
+    requires letters { All (IsLetter (length colours.old)) letters.now }
+    requires colours { All (λ y. y < quandle.now.order) colours.old }
+    ensures action { colours.new ≡ action quandle.now letters.now colours.old }
+    ensures tuple { IsTuple quandle.now (length colours.old) colours.new }
+{
     for place in 0..letters.len() {
         act_letter(letters[place], quandle, colours);
     }
 }
 
 /// Changes the colours as one letter acts on them.
-fn act_letter(letter: i8, quandle: &Quandle, colours: &mut [u8])
+///
+/// Letter `+k` takes `(x_k, x_{k+1})` to `(x_{k+1} ▷ x_k, x_k)`, and letter `-k` takes it to `(x_{k+1}, x_k ◁ x_{k+1})`; all other colours stay.
+/// There is to be a colour below the order for each strand, position 1 first, and k is to be from 1 to one less than the number of strands. Takes no memory.
+pub fn act_letter(letter: i8, quandle: &Quandle, colours: &mut [u8])
     requires letter { IsLetter (length colours.old) letter }
     requires colours { All (λ y. y < quandle.now.order) colours.old }
     ensures action { colours.new ≡ letter_action quandle.now colours.old letter }

@@ -10,7 +10,7 @@ pub mod laws;
 mod tests;
 mod tuples;
 
-pub use action::act;
+pub use action::{act, act_letter, act_letters};
 pub use braid::{Braid, INLINE_LETTERS, MAX_STRANDS};
 pub use fault::BraidFault;
 pub use tuples::{FixFault, MAX_TUPLES, Tuple, fixed_points};
