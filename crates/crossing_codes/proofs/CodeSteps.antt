@@ -4,6 +4,7 @@ use Rattle.std.specs.Prelude.{if◌then◌else◌}
 use Rattle.std.specs.List.{range_with_len, flat_map}
 use Rattle.std.proofs.lemmas.List.{map-append}
 use Rattle.grid_core.specs.Diagram.{Diagram, IsGrid, size}
+use Rattle.grid_core.specs.Crossing.{is_positive}
 use Rattle.std.proofs.lemmas.List.Concat.{flat_map-append}
 use Rattle.colour_rows.specs.Walk.{passed}
 use Rattle.colour_rows.proofs.Ranges.{range_longer}
@@ -12,7 +13,7 @@ use Rattle.crossing_codes.specs.declared.crossing.Code.{Code}
 use Rattle.crossing_codes.specs.Passages.{through, crossings, passages}
 use Rattle.crossing_codes.specs.Edges.{place, edges_after, edge_from, edge_to, loops}
 use Rattle.crossing_codes.specs.Layout.{slot, HasNumbers}
-use Rattle.crossing_codes.specs.Code.{is_positive, crossing, code}
+use Rattle.crossing_codes.specs.Code.{crossing, code}
 use Rattle.crossing_codes.proofs.Crossings.{cell, IsCrossing}
 use Rattle.crossing_codes.proofs.AllPassages.{stands_at}
 use Rattle.crossing_codes.proofs.Placed.{length_after}
@@ -27,7 +28,7 @@ number_is d grid numbers has over c r k lt x is =
     (number, omega (arith, number, at.within, length_after d))
 
 -- a crossing from its parts
-pub crossing_is : (d : Diagram) (c r first second third fourth : ℕ) (positive : Bool) → positive ≡ is_positive d (cell c r)
+pub crossing_is : (d : Diagram) (c r first second third fourth : ℕ) (positive : Bool) → positive ≡ is_positive d c r
     → first ≡ edge_from d (through false (cell c r)) → second ≡ (if positive then edge_to d (through true (cell c r)) else edge_from d (through true (cell c r)))
     → third ≡ edge_to d (through false (cell c r)) → fourth ≡ (if positive then edge_from d (through true (cell c r)) else edge_to d (through true (cell c r)))
     → (let x : Crossing = record { first = first; second = second; third = third; fourth = fourth; positive = positive } in x) ≡ crossing d (cell c r)

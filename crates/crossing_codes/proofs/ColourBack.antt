@@ -9,17 +9,18 @@ use Rattle.std.proofs.lemmas.List.Elements.{All-get_or, All-from_get_or}
 use Rattle.std.proofs.lemmas.List.Sums.{fold_more, fold-append}
 use Rattle.grid_core.specs.declared.mark.Kind.TheVariants.{Cross, Ring}
 use Rattle.grid_core.specs.Diagram.{Diagram, IsGrid, size, row_of}
-use Rattle.grid_core.specs.Parts.{column_of, is_up}
+use Rattle.grid_core.specs.Parts.{column_of, is_up, is_rightward}
 use Rattle.grid_core.proofs.Marks.{column_mark}
+use Rattle.grid_core.specs.Crossing.{is_positive}
 use Rattle.quandle_core.specs.Quandle.{Table, IsQuandle}
 use Rattle.colour_rows.specs.Colouring.{AreColours, IsColouring, are_colours}
 use Rattle.colour_rows.proofs.Colourings.{colours_from}
 use Rattle.crossing_codes.specs.declared.passage.Passage.{Passage}
 use Rattle.crossing_codes.specs.declared.crossing.Crossing.{Crossing}
 use Rattle.crossing_codes.specs.Components.{next_column, column_after, round_length}
-use Rattle.crossing_codes.specs.Passages.{crossings, through, is_rightward, as_met, passed_over, along_column, along_row, along, passages_from, passages}
+use Rattle.crossing_codes.specs.Passages.{crossings, through, as_met, passed_over, along_column, along_row, along, passages_from, passages}
 use Rattle.crossing_codes.specs.Edges.{place, edges_after, loops}
-use Rattle.crossing_codes.specs.Code.{is_positive, crossing, code}
+use Rattle.crossing_codes.specs.Code.{crossing, code}
 use Rattle.crossing_codes.specs.CodeColouring.{agrees, names_edges, is_code_colouring}
 use Rattle.crossing_codes.specs.EdgeColours.{arriving, edge_colours, strand}
 use Rattle.crossing_codes.specs.OnTheWay.{passing}
@@ -169,7 +170,7 @@ turns_under t d e grid q coded i z lt under =
     let z_below : after_colour d e i < t.order = All-get_or (λ y. y < t.order) e (get_or (edges_after d) i 0 - 1) 0 (omega arith) coded.below in
     meets_to t q (is_up d c) (is_rightward d r) (get_or e i 0) (get_or e o 0) (after_colour d e i) z_below y_below
     (ap (λ b. meets t b (get_or e i 0) (get_or e o 0) (after_colour d e i)) (sym (positive_is d c r))
-    ∙ (ap (λ (k : ℕ). meets t (is_positive d (cell c r)) (get_or e k 0) (get_or e o 0) (after_colour d e k)) (sym is) ∙ says.under))
+    ∙ (ap (λ (k : ℕ). meets t (is_positive d c r) (get_or e k 0) (get_or e o 0) (after_colour d e k)) (sym is) ∙ says.under))
     ∙ ap (goes t (is_up d c) (is_rightward d r) (get_or e i 0)) column
 
 -- so the colours follow the strands

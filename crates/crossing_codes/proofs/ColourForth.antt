@@ -7,29 +7,30 @@ use Rattle.std.proofs.lemmas.List.{length-append, length-map, get_or_append_left
 use Rattle.std.proofs.lemmas.List.Elements.{All-append, All-map}
 use Rattle.std.proofs.lemmas.List.Sums.{fold_more}
 use Rattle.grid_core.specs.Diagram.{Diagram, IsGrid, size}
-use Rattle.grid_core.specs.Parts.{is_up}
+use Rattle.grid_core.specs.Parts.{is_up, is_rightward}
 use Rattle.quandle_core.specs.Quandle.{Table, IsQuandle}
-use Rattle.colour_rows.specs.Walk.{under}
+use Rattle.colour_rows.specs.Walk.{under, walk_to}
 use Rattle.colour_rows.specs.Colouring.{IsColouring, are_colours}
 use Rattle.colour_rows.proofs.Colourings.{colours_test}
-use Rattle.colour_rows.proofs.Ends.{has_ends}
+use Rattle.grid_core.proofs.Ends.{has_ends}
 use Rattle.crossing_codes.specs.declared.passage.Passage.{Passage}
 use Rattle.crossing_codes.specs.Components.{column_after, round_length}
-use Rattle.crossing_codes.specs.Passages.{crossings, through, is_rightward, passages_from, passages}
+use Rattle.crossing_codes.specs.Passages.{crossings, through, passages_from, passages}
 use Rattle.crossing_codes.specs.Edges.{place, edges_after, loops}
 use Rattle.crossing_codes.specs.Code.{crossing, code}
 use Rattle.crossing_codes.specs.CodeColouring.{agrees, names_edges, is_code_colouring}
-use Rattle.crossing_codes.specs.EdgeColours.{walk_to, arriving, edge_colours, strand}
+use Rattle.crossing_codes.specs.EdgeColours.{arriving, edge_colours, strand}
 use Rattle.crossing_codes.specs.OnTheWay.{passing}
 use Rattle.crossing_codes.proofs.Members.{Has, has_at, of_map, place_in}
 use Rattle.crossing_codes.proofs.Components.{all_pass, which_after, start_of, start_below}
 use Rattle.crossing_codes.proofs.Crossings.{cell, IsCrossing, of_crossings}
 use Rattle.crossing_codes.proofs.AllPassages.{passage_at, stands_at}
-use Rattle.crossing_codes.proofs.RowWalks.{Coloured, coloured_from, stays_under, walk_to_stays, scans_at}
+use Rattle.crossing_codes.proofs.RowWalks.{Coloured, coloured_from, walk_to_stays, scans_at}
 use Rattle.crossing_codes.proofs.Legs.{legs, legs_follow, round_follows}
 use Rattle.crossing_codes.proofs.Placed.{IsPlaced, among, placed}
 use Rattle.crossing_codes.proofs.Strands.{before, before_most, round_parts, turn_less, turn_whole, strand_is, strand_of_loop, loop_start, has_loop}
 use Rattle.crossing_codes.proofs.Turns.{after_colour, Turns, Says, goes, meets, meets_from, positive_is, says_agrees, crossing_names}
+use Rattle.colour_rows.proofs.Walks.{turn_stays}
 
 -- the colours of an edge and of a loop
 pub edge_at : (t : Table) (d : Diagram) (f : List ℕ) (i : ℕ) (z : Passage) → i < length (passages d) → get_or (edge_colours t d f) i 0 ≡ arriving t d f (get_or (passages d) i z)
@@ -96,7 +97,7 @@ arrives_below t d f grid c p h =
     let inside = at.1 in
     let w = walk_to_stays t d f c p.row p.column (omega arith) (omega arith) in
     arrives_by t d f p.over (is_rightward d p.row) (get_or f p.column 0) (walk_to t d f p.row p.column) (under t d f (walk_to t d f p.row p.column) p.column)
-    (c.below p.column at.1) w (stays_under t c.quandle (is_up d p.column) (walk_to t d f p.row p.column) (get_or f p.column 0) w (c.below p.column at.1))
+    (c.below p.column at.1) w (turn_stays t c.quandle (is_up d p.column) (walk_to t d f p.row p.column) (get_or f p.column 0) w (c.below p.column at.1))
 
 pub edges_below : (t : Table) (d : Diagram) (f : List ℕ) → IsGrid d → Coloured t d f → All (λ y. y < t.order) (edge_colours t d f)
 edges_below t d f grid c =

@@ -7,12 +7,12 @@ use Rattle.grid_core.specs.declared.mark.Kind.TheVariants.{Cross, Ring}
 use Rattle.grid_core.specs.declared.span.Span.{Span}
 use Rattle.grid_core.specs.Diagram.{Diagram, IsGrid, size, row_of}
 use Rattle.grid_core.specs.Span.{lies_within}
-use Rattle.grid_core.specs.Parts.{column_span, covers, ends, is_up}
+use Rattle.grid_core.specs.Parts.{column_span, covers, ends, is_up, is_rightward}
 use Rattle.grid_core.proofs.Marks.{row_below}
 use Rattle.colour_rows.specs.Walk.{passed}
-use Rattle.colour_rows.proofs.Ends.{has_ends, span_high}
+use Rattle.grid_core.proofs.Ends.{has_ends, span_high}
 use Rattle.crossing_codes.specs.declared.passage.Passage.{Passage}
-use Rattle.crossing_codes.specs.Passages.{Crossed, crossings, through, passed_over, is_rightward, as_met, along_column, along_row, along}
+use Rattle.crossing_codes.specs.Passages.{Crossed, crossings, through, passed_over, as_met, along_column, along_row, along}
 use Rattle.crossing_codes.proofs.Members.{Has, Apart, has_left, has_right, has_either, has_map, of_map, has_filter, of_filter, has_flat_map, of_flat_map, has_range, of_range, has_reverse, of_reverse, apart_append, apart_map, apart_filter, apart_range, apart_reverse, apart_flat_map}
 
 abbrev pub cell : ℕ → ℕ → Crossed

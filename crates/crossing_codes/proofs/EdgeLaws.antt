@@ -1,23 +1,24 @@
 -- Edges, component by component.
 use Rattle.std.proofs.Common.{◌≡◌, ◌<◌, ◌+◌, ◌-◌, ◌*◌, ◌++◌, ◌∙◌, ◌∷◌, [], inl, inr, ℕ, zero, suc, Bool, true, false, List, length, map, get_or, refl, sym, ap, ap₂, subst, arith, ◌↔◌, ◌⊎◌}
-use Rattle.std.specs.Prelude.{codes, take, nat_lt, if◌then◌else◌, pos, negsuc, Contains}
+use Rattle.std.specs.Prelude.{codes, take, nat_lt, if◌then◌else◌, pos, int_lt, Contains}
 use Rattle.std.specs.List.{range_with_len, flat_map}
 use Rattle.std.specs.List.Sorted.{IsPermutation}
-use Rattle.std.proofs.lemmas.Bool.{cases_lt, lt-ltb, le-ltb, cond-true, cond-false}
+use Rattle.std.proofs.lemmas.Bool.{cases_lt, lt-ltb, le-ltb, cond-true, cond-false, and_parts, and_from}
 use Rattle.std.proofs.lemmas.List.{length-append, length-map, get_or-map, ext_get_or}
 use Rattle.std.proofs.lemmas.List.FromFn.{length-range_with_len, get_or-range_with_len, get_or-map-range_with_len, length-map-range_with_len, map-range_with_len_more}
 use Rattle.std.proofs.lemmas.List.Sorted.{IsPermutation-refl, IsPermutation-append, IsPermutation-to_front, IsPermutation-sym, length_permutation}
 use Rattle.grid_core.specs.Diagram.{Diagram, IsGrid, size}
 use Rattle.grid_core.specs.Span.{lies_within}
-use Rattle.grid_core.specs.Parts.{covers, ends, is_up}
+use Rattle.grid_core.specs.Parts.{covers, ends, is_up, is_rightward}
+use Rattle.grid_core.specs.Crossing.{crosses, Direction, unit, row_direction, turned_left, cross_product, is_positive}
 use Rattle.quandle_core.specs.Quandle.{Table, IsQuandle}
 use Rattle.colour_rows.specs.Colouring.{IsColouring}
 use Rattle.crossing_codes.specs.declared.passage.Passage.{Passage}
 use Rattle.crossing_codes.specs.Components.{component, starts}
-use Rattle.crossing_codes.specs.Passages.{Crossed, crossings, through, is_rightward, passages, passages_from}
+use Rattle.crossing_codes.specs.Passages.{Crossed, crossings, through, passages, passages_from}
 use Rattle.crossing_codes.specs.Edges.{leads_to, all_lead_to, edges_after, edges_before, place, edge_from, edge_to}
 use Rattle.crossing_codes.specs.Printed.{passage_token}
-use Rattle.crossing_codes.specs.Code.{is_positive, Direction, row_direction, opposite, turned_left, is_positive_turn, crossing, AreCounterclockwise}
+use Rattle.crossing_codes.specs.Code.{opposite, crossing, AreCounterclockwise}
 use Rattle.crossing_codes.specs.CodeColouring.{edge_colour}
 use Rattle.crossing_codes.specs.EdgeColours.{arriving, edge_colours}
 use Rattle.crossing_codes.specs.OnTheWay.{passing}
@@ -36,10 +37,14 @@ has_contained xs x h = subst (λ y. Has xs y) h.2 (has_at xs h.0 x h.1)
 pub contained : {A : Type 0} (xs : List A) (x : A) → Has xs x → Contains xs x
 contained xs x h = let r = place_in xs x h in (r.0, r.1, r.2 x)
 
-pub where_crossings : (d : Diagram) (at : Crossed) → Contains (crossings d) at ↔ ((at.row < size d) × (covers d at.column at.row ≡ true) × (lies_within (ends d at.row) at.column ≡ true))
+pub where_crossings : (d : Diagram) (at : Crossed) → Contains (crossings d) at ↔ ((at.row < size d) × (crosses d at.column at.row ≡ true))
 where_crossings d at = (
-  λ h. let r = of_crossings d at (has_contained (crossings d) at h) in (r.0, r.1.covered, r.1.across),
-  λ h. contained (crossings d) at (has_crossing d at.column at.row h.0 (record { covered = h.1; across = h.2 })),
+  λ h.
+      let r = of_crossings d at (has_contained (crossings d) at h) in
+      (r.0, and_from (covers d at.column at.row) (lies_within (ends d at.row) at.column) r.1.covered r.1.across),
+  λ h.
+      let both = and_parts (covers d at.column at.row) (lies_within (ends d at.row) at.column) h.1 in
+      contained (crossings d) at (has_crossing d at.column at.row h.0 (record { covered = both.0; across = both.1 })),
 )
 
 pub columns_shared : (d : Diagram) → IsGrid d → IsPermutation (range_with_len 0 (size d)) (flat_map (component d) (starts d))
@@ -150,10 +155,14 @@ column_goes t d f at q grid colouring h =
 
 -- a quarter turn
 abbrev upward : Bool → Direction
-upward up = record { x = pos 0; y = if up then pos 1 else negsuc 0 }
+upward up = record { x = pos 0; y = unit up }
 
 abbrev rightward : Bool → Direction
-rightward r = record { x = if r then pos 1 else negsuc 0; y = pos 0 }
+rightward r = record { x = unit r; y = pos 0 }
+
+-- a column and a row that run these ways cross positively
+abbrev positive : Bool → Bool → Bool
+positive up right = int_lt (pos 0) (cross_product (upward up) (rightward right))
 
 -- an edge of the strand over or under lies in a direction
 abbrev Towards : Bool → Bool → ℕ → ℕ → ℕ → ℕ → Direction → ℕ → Type 0
@@ -161,7 +170,7 @@ Towards up right over_to over_from under_to under_from v e =
     (((v ≡ upward up) × (e ≡ over_to)) ⊎ ((v ≡ opposite (upward up)) × (e ≡ over_from)))
     ⊎ (((v ≡ rightward right) × (e ≡ under_to)) ⊎ ((v ≡ opposite (rightward right)) × (e ≡ under_from)))
 
-second_lies : (up right : Bool) (a b c e : ℕ) → Towards up right a b c e (turned_left (opposite (rightward right))) (if is_positive_turn (upward up) (rightward right) then a else b)
+second_lies : (up right : Bool) (a b c e : ℕ) → Towards up right a b c e (turned_left (opposite (rightward right))) (if positive up right then a else b)
 second_lies true true a b c e = inl (inr (refl, refl))
 second_lies true false a b c e = inl (inl (refl, refl))
 second_lies false true a b c e = inl (inl (refl, refl))
@@ -171,7 +180,8 @@ third_lies : (up right : Bool) (a b c e : ℕ) → Towards up right a b c e (tur
 third_lies up true a b c e = inr (inl (refl, refl))
 third_lies up false a b c e = inr (inl (refl, refl))
 
-fourth_lies : (up right : Bool) (a b c e : ℕ) → Towards up right a b c e (turned_left (turned_left (turned_left (opposite (rightward right))))) (if is_positive_turn (upward up) (rightward right) then b else a)
+fourth_lies : (up right : Bool) (a b c e : ℕ)
+    → Towards up right a b c e (turned_left (turned_left (turned_left (opposite (rightward right))))) (if positive up right then b else a)
 fourth_lies true true a b c e = inl (inl (refl, refl))
 fourth_lies true false a b c e = inl (inr (refl, refl))
 fourth_lies false true a b c e = inl (inr (refl, refl))
@@ -194,11 +204,12 @@ counterclockwise d at =
 
 -- the two passages of a crossing as they are printed, and the edges on which they come
 pub printed_over : (d : Diagram) (at : Crossed) → (take 1 (passage_token d (through true at)) ≡ codes "O") × ((edge_from d (through true at) ≡ (crossing d at).second) ⊎ (edge_from d (through true at) ≡ (crossing d at).fourth))
-printed_over d at = (refl, by (is_positive d at) refl)
+printed_over d at = (refl, by (is_positive d at.column at.row) refl)
   where
-    by : (t : Bool) → is_positive d at ≡ t → (edge_from d (through true at) ≡ (crossing d at).second) ⊎ (edge_from d (through true at) ≡ (crossing d at).fourth)
-    by true is = inr (sym (cond-true (is_positive d at) (edge_from d (through true at)) (edge_to d (through true at)) is))
-    by false is = inl (sym (cond-false (is_positive d at) (edge_to d (through true at)) (edge_from d (through true at)) is))
+    by : (t : Bool) → is_positive d at.column at.row ≡ t
+        → (edge_from d (through true at) ≡ (crossing d at).second) ⊎ (edge_from d (through true at) ≡ (crossing d at).fourth)
+    by true is = inr (sym (cond-true (is_positive d at.column at.row) (edge_from d (through true at)) (edge_to d (through true at)) is))
+    by false is = inl (sym (cond-false (is_positive d at.column at.row) (edge_to d (through true at)) (edge_from d (through true at)) is))
 
 pub printed_under : (d : Diagram) (at : Crossed) → (take 1 (passage_token d (through false at)) ≡ codes "U") × (edge_from d (through false at) ≡ (crossing d at).first)
 printed_under d at = (refl, refl)

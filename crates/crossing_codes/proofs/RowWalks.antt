@@ -8,19 +8,20 @@ use Rattle.std.proofs.lemmas.List.Elements.{filter-append, All-get_or}
 use Rattle.std.proofs.lemmas.List.Sums.{fold-append}
 use Rattle.grid_core.specs.declared.mark.Kind.TheVariants.{Cross, Ring}
 use Rattle.grid_core.specs.Diagram.{Diagram, IsGrid, size}
-use Rattle.grid_core.specs.Parts.{column_of, covers, is_up}
+use Rattle.grid_core.specs.Parts.{column_of, covers, is_up, is_rightward}
 use Rattle.grid_core.proofs.OneEach.{range_more}
 use Rattle.quandle_core.specs.Quandle.{Table, IsQuandle, over, back}
-use Rattle.colour_rows.specs.Walk.{under, passed, walk}
+use Rattle.colour_rows.specs.Walk.{under, passed, walk, walk_to}
 use Rattle.colour_rows.specs.Colouring.{AreColours}
-use Rattle.colour_rows.proofs.Ends.{left, right, has_ends, span_low, span_high}
-use Rattle.colour_rows.proofs.Walks.{past}
+use Rattle.grid_core.proofs.Ends.{left, right, has_ends, span_low, span_high}
+use Rattle.colour_rows.proofs.Walks.{past, turn_stays, return_stays, turn_return}
 use Rattle.crossing_codes.specs.declared.passage.Passage.{Passage}
-use Rattle.crossing_codes.specs.Passages.{through, is_rightward, as_met, along_row}
-use Rattle.crossing_codes.specs.EdgeColours.{walk_to, arriving}
+use Rattle.crossing_codes.specs.Passages.{through, as_met, along_row}
+use Rattle.crossing_codes.specs.EdgeColours.{arriving}
 use Rattle.crossing_codes.specs.OnTheWay.{passing}
 use Rattle.crossing_codes.proofs.Members.{Has, of_filter, of_range}
 use Rattle.crossing_codes.proofs.Crossings.{cell}
+use Rattle.quandle_core.proofs.Accepted.{apart_in_column}
 
 -- from colour x on, the strand comes to each passage with the colour that it has so far
 abbrev pub Scans : Table → Diagram → List ℕ → ℕ → List Passage → Type 0
@@ -56,22 +57,6 @@ coloured_from t d f q colours = record {
   below = λ c lt. All-get_or (λ y. y < t.order) f c 0 (let n = colours.0 in omega arith) colours.1;
 }
 
--- passing under and back again, whichever way the column runs
-turned : (t : Table) → IsQuandle t → (up : Bool) (x y : ℕ) → x < t.order → y < t.order → (if up then over t (if up then back t x y else over t x y) y else back t (if up then back t x y else over t x y) y) ≡ x
-turned t q true x y at by_y = q.over_back x y at by_y
-turned t q false x y at by_y = q.back_over x y at by_y
-
-pub stays_under : (t : Table) → IsQuandle t → (up : Bool) (x y : ℕ) → x < t.order → y < t.order → (if up then back t x y else over t x y) < t.order
-stays_under t q true x y at by_y = q.back_within x y at by_y
-stays_under t q false x y at by_y = q.within x y at by_y
-
-stays_past : (t : Table) → IsQuandle t → (up : Bool) (x y : ℕ) → x < t.order → y < t.order → (if up then over t x y else back t x y) < t.order
-stays_past t q true x y at by_y = q.within x y at by_y
-stays_past t q false x y at by_y = q.back_within x y at by_y
-
-once_over : (t : Table) → IsQuandle t → (x z y : ℕ) → x < t.order → z < t.order → y < t.order → over t x y ≡ over t z y → x ≡ z
-once_over t q x z y hx hz hy e = sym (q.back_over x y hx hy) ∙ (ap (λ w. back t w y) e ∙ q.back_over z y hz hy)
-
 once_back : (t : Table) → IsQuandle t → (x z y : ℕ) → x < t.order → z < t.order → y < t.order → back t x y ≡ back t z y → x ≡ z
 once_back t q x z y hx hz hy e = sym (q.over_back x y hx hy) ∙ (ap (λ w. over t w y) e ∙ q.over_back z y hz hy)
 
@@ -81,15 +66,15 @@ once_by : (t : Table) → IsQuandle t → (above rightward up : Bool) (x z y : �
     → x ≡ z
 once_by t q true r u x z y hx hz hy e = e
 once_by t q false true true x z y hx hz hy e = once_back t q x z y hx hz hy e
-once_by t q false true false x z y hx hz hy e = once_over t q x z y hx hz hy e
-once_by t q false false true x z y hx hz hy e = once_over t q x z y hx hz hy e
+once_by t q false true false x z y hx hz hy e = apart_in_column t q x z y hx hz hy e
+once_by t q false false true x z y hx hz hy e = apart_in_column t q x z y hx hz hy e
 once_by t q false false false x z y hx hz hy e = once_back t q x z y hx hz hy e
 
 stays_by : (t : Table) → IsQuandle t → (above rightward up : Bool) (x y : ℕ) → x < t.order → y < t.order
     → (if above then x else (if rightward then (if up then back t x y else over t x y) else (if up then over t x y else back t x y))) < t.order
 stays_by t q true r u x y hx hy = hx
-stays_by t q false true u x y hx hy = stays_under t q u x y hx hy
-stays_by t q false false u x y hx hy = stays_past t q u x y hx hy
+stays_by t q false true u x y hx hy = turn_stays t q u x y hx hy
+stays_by t q false false u x y hx hy = return_stays t q u x y hx hy
 
 pub passing_stays : (t : Table) (d : Diagram) (f : List ℕ) → Coloured t d f → (x : ℕ) (p : Passage) → p.column < size d → x < t.order → passing t d f x p < t.order
 passing_stays t d f c x p inside at = stays_by t c.quandle p.over (is_rightward d p.row) (is_up d p.column) x (get_or f p.column 0) at (c.below p.column inside)
@@ -107,7 +92,7 @@ run_once t d f c x z (p ∷ ps) inside hx hz e =
 fold_stays : (t : Table) (d : Diagram) (f : List ℕ) → Coloured t d f → (cs : List ℕ) → ((k : ℕ) → Has cs k → k < size d) → (x : ℕ) → x < t.order → fold (under t d f) x cs < t.order
 fold_stays t d f c [] inside x at = at
 fold_stays t d f c (k ∷ cs) inside x at =
-    fold_stays t d f c cs (λ i h. inside i (inr h)) (under t d f x k) (stays_under t c.quandle (is_up d k) x (get_or f k 0) at (c.below k (inside k (inl refl))))
+    fold_stays t d f c cs (λ i h. inside i (inr h)) (under t d f x k) (turn_stays t c.quandle (is_up d k) x (get_or f k 0) at (c.below k (inside k (inl refl))))
 
 pub walk_to_stays : (t : Table) (d : Diagram) (f : List ℕ) → Coloured t d f → (r a : ℕ) → left d r < size d → a ≤ size d → walk_to t d f r a < t.order
 walk_to_stays t d f c r a start most =
@@ -181,7 +166,7 @@ left_scans t d f r leftward c start (suc m) a after most =
     subst (λ (bs : List ℕ). Scans t d f (walk_to t d f r (a + suc m)) (unders d r bs) × (fold (passing t d f) (walk_to t d f r (a + suc m)) (unders d r bs) ≡ walk_to t d f r a)) (sym split)
     (by (covers d (a + m) r) (left_scans t d f r leftward c start m a after (omega arith))
     (sym (ap (walk_to t d f r) further) ∙ walk_step t d f r (a + m) (omega arith))
-    (turned t c.quandle (is_up d (a + m)) (walk_to t d f r (a + m)) (get_or f (a + m) 0) within (c.below (a + m) (omega arith))))
+    (turn_return t c.quandle (is_up d (a + m)) (walk_to t d f r (a + m)) (get_or f (a + m) 0) within (c.below (a + m) (omega arith))))
   where
     rest : List ℕ
     rest = filter (λ b. covers d b r) (range_with_len a m)

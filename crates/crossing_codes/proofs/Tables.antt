@@ -6,7 +6,7 @@ use Rattle.grid_core.specs.declared.mark.Kind.TheVariants.{Cross, Ring}
 use Rattle.grid_core.specs.Diagram.{Diagram, IsGrid, size, row_of}
 use Rattle.grid_core.specs.Parts.{column_of, column_span, ends}
 use Rattle.grid_core.proofs.Marks.{row_below, row_once, column_mark, no_cell_twice}
-use Rattle.colour_rows.proofs.Ends.{has_ends, span_low, span_high}
+use Rattle.grid_core.proofs.Ends.{has_ends, span_low, span_high}
 use Rattle.crossing_codes.specs.Layout.{HasColumns}
 
 -- the columns by row, for the columns before c

@@ -1,15 +1,16 @@
 -- The equations of a code at the crossings are those of following its strands.
 use Rattle.std.proofs.Common.{◌≡◌, ◌<◌, ◌≤◌, ◌+◌, ◌-◌, ◌∙◌, ℕ, Bool, true, false, not, List, length, get_or, refl, sym, ap, arith, ◌==◌}
-use Rattle.std.specs.Prelude.{if◌then◌else◌, pos, negsuc, nat_le}
+use Rattle.std.specs.Prelude.{if◌then◌else◌, pos, int_lt, nat_le}
 use Rattle.std.proofs.lemmas.Bool.{eqb-true, eq-eqb, and_parts, and_from, le-leb}
 use Rattle.grid_core.specs.Diagram.{Diagram, IsGrid, size}
-use Rattle.grid_core.specs.Parts.{is_up}
+use Rattle.grid_core.specs.Parts.{is_up, is_rightward}
+use Rattle.grid_core.specs.Crossing.{unit, cross_product, is_positive}
 use Rattle.quandle_core.specs.Quandle.{Table, IsQuandle, over, back}
 use Rattle.crossing_codes.specs.declared.passage.Passage.{Passage}
 use Rattle.crossing_codes.specs.declared.crossing.Crossing.{Crossing}
-use Rattle.crossing_codes.specs.Passages.{through, is_rightward, passages}
+use Rattle.crossing_codes.specs.Passages.{through, passages}
 use Rattle.crossing_codes.specs.Edges.{place, edge_from, edge_to, edges_after}
-use Rattle.crossing_codes.specs.Code.{is_positive_turn, is_positive, crossing}
+use Rattle.crossing_codes.specs.Code.{crossing}
 use Rattle.crossing_codes.specs.CodeColouring.{edge_colour, agrees, is_edge, names_edges}
 use Rattle.crossing_codes.specs.OnTheWay.{passing}
 use Rattle.crossing_codes.proofs.Crossings.{cell, IsCrossing}
@@ -17,13 +18,14 @@ use Rattle.crossing_codes.proofs.AllPassages.{stands_at}
 use Rattle.crossing_codes.proofs.Placed.{leads_within}
 
 -- a crossing is positive where its column runs up and its row to the left, or the column down and the row to the right
-pub positive_by : (up rightward : Bool) → is_positive_turn (record { x = pos 0; y = if up then pos 1 else negsuc 0 }) (record { x = if rightward then pos 1 else negsuc 0; y = pos 0 }) ≡ (if up then not rightward else rightward)
+pub positive_by : (up rightward : Bool)
+    → int_lt (pos 0) (cross_product (record { x = pos 0; y = unit up }) (record { x = unit rightward; y = pos 0 })) ≡ (if up then not rightward else rightward)
 positive_by true true = refl
 positive_by true false = refl
 positive_by false true = refl
 positive_by false false = refl
 
-pub positive_is : (d : Diagram) (c r : ℕ) → is_positive d (cell c r) ≡ (if is_up d c then not (is_rightward d r) else is_rightward d r)
+pub positive_is : (d : Diagram) (c r : ℕ) → is_positive d c r ≡ (if is_up d c then not (is_rightward d r) else is_rightward d r)
 positive_is d c r = positive_by (is_up d c) (is_rightward d r)
 
 -- the colour after a passage, where e has the colours of the edges
@@ -67,7 +69,7 @@ crossing_by d c r positive = record {
 -- what a list of colours says at a crossing
 pub record Says (t : Table) (d : Diagram) (e : List ℕ) (c r : ℕ) : Type 0 where
   pub over : after_colour d e (place d (through true (cell c r))) ≡ get_or e (place d (through true (cell c r))) 0
-  pub under : meets t (is_positive d (cell c r)) (get_or e (place d (through false (cell c r))) 0) (get_or e (place d (through true (cell c r))) 0) (after_colour d e (place d (through false (cell c r)))) ≡ true
+  pub under : meets t (is_positive d c r) (get_or e (place d (through false (cell c r))) 0) (get_or e (place d (through true (cell c r))) 0) (after_colour d e (place d (through false (cell c r)))) ≡ true
 
 from_colour : (d : Diagram) (e : List ℕ) (i : ℕ) → edge_colour e (i + 1) ≡ get_or e i 0
 from_colour d e i = let s : i + 1 - 1 ≡ i = omega arith in ap (λ k. get_or e k 0) s
@@ -105,10 +107,10 @@ agrees_to t d e c r false h =
     (above, rw (← from_colour d e o, ← from_colour d e u) parts.1)
 
 pub says_agrees : (t : Table) (d : Diagram) (e : List ℕ) (c r : ℕ) → Says t d e c r → agrees t e (crossing d (cell c r)) ≡ true
-says_agrees t d e c r says = agrees_from t d e c r (is_positive d (cell c r)) says.over says.under
+says_agrees t d e c r says = agrees_from t d e c r (is_positive d c r) says.over says.under
 
 pub agrees_says : (t : Table) (d : Diagram) (e : List ℕ) (c r : ℕ) → agrees t e (crossing d (cell c r)) ≡ true → Says t d e c r
-agrees_says t d e c r h = let parts = agrees_to t d e c r (is_positive d (cell c r)) h in record { over = parts.0; under = parts.1 }
+agrees_says t d e c r h = let parts = agrees_to t d e c r (is_positive d c r) h in record { over = parts.0; under = parts.1 }
 
 -- the edges of a crossing are the diagram's
 is_edge_from : (n i : ℕ) → (1 ≤ i) × (i ≤ n) → is_edge n i ≡ true
@@ -126,6 +128,6 @@ crossing_names d grid c r lt x =
     let n = length (passages d) in
     let at_over = above.within in
     let at_under = below.within in
-    names_by d c r (is_positive d (cell c r))
+    names_by d c r (is_positive d c r)
     (is_edge_from n (edge_from d (through false (cell c r))) (omega arith, omega arith)) (is_edge_from n (edge_to d (through false (cell c r))) (leads_within d grid (place d (through false (cell c r))) below.within))
     (is_edge_from n (edge_from d (through true (cell c r))) (omega arith, omega arith)) (is_edge_from n (edge_to d (through true (cell c r))) (leads_within d grid (place d (through true (cell c r))) above.within))

@@ -1,36 +1,15 @@
 -- Planar diagram codes of grid diagrams, in the order of the KnotTheory package.
-use Rattle.std.specs.Prelude.{◌≡◌, ◌⊎◌, ℕ, Bool, true, false, map, length, ℤ, pos, negsuc, ◌*ℤ◌, ◌-ℤ◌, neg_ℤ, int_lt, if◌then◌else◌}
+use Rattle.std.specs.Prelude.{◌≡◌, ◌⊎◌, ℕ, true, false, map, length, neg_ℤ, if◌then◌else◌}
 use Rattle.grid_core.specs.Diagram.{Diagram}
-use Rattle.grid_core.specs.Parts.{is_up}
+use Rattle.grid_core.specs.Crossing.{Direction, column_direction, row_direction, turned_left, is_positive}
 use Rattle.crossing_codes.specs.declared.crossing.Code.{Code}
 use Rattle.crossing_codes.specs.declared.crossing.Crossing.{Crossing}
-use Rattle.crossing_codes.specs.Passages.{Crossed, crossings, through, is_rightward, passages}
+use Rattle.crossing_codes.specs.Passages.{Crossed, crossings, through, passages}
 use Rattle.crossing_codes.specs.Edges.{edge_from, edge_to, loops}
 
--- the directions in which a column and a row run
-pub record Direction : Type 0 where
-  pub x : ℤ
-  pub y : ℤ
-
-abbrev pub column_direction : Diagram → ℕ → Direction
-column_direction d c = record { x = pos 0; y = if is_up d c then pos 1 else negsuc 0 }
-
-abbrev pub row_direction : Diagram → ℕ → Direction
-row_direction d r = record { x = if is_rightward d r then pos 1 else negsuc 0; y = pos 0 }
-
--- a crossing is positive where ox uy - oy ux is, for the direction o of the strand over and u of the strand under
-abbrev pub is_positive_turn : Direction → Direction → Bool
-is_positive_turn o u = int_lt (pos 0) ((o.x *ℤ u.y) -ℤ (o.y *ℤ u.x))
-
-abbrev pub is_positive : Diagram → Crossed → Bool
-is_positive d at = is_positive_turn (column_direction d at.column) (row_direction d at.row)
-
--- the other way, and a quarter turn counterclockwise
+-- the other way
 abbrev pub opposite : Direction → Direction
 opposite v = record { x = neg_ℤ v.x; y = neg_ℤ v.y }
-
-abbrev pub turned_left : Direction → Direction
-turned_left v = record { x = neg_ℤ v.y; y = v.x }
 
 -- the edges counterclockwise from that on which the strand under comes: at a positive crossing the strand over runs from the fourth to the second, at a negative one from the second to the fourth
 abbrev pub crossing : Diagram → Crossed → Crossing
@@ -39,10 +18,10 @@ crossing d at =
     let over = through true at in
     record {
       first = edge_from d under;
-      second = if is_positive d at then edge_to d over else edge_from d over;
+      second = if is_positive d at.column at.row then edge_to d over else edge_from d over;
       third = edge_to d under;
-      fourth = if is_positive d at then edge_from d over else edge_to d over;
-      positive = is_positive d at;
+      fourth = if is_positive d at.column at.row then edge_from d over else edge_to d over;
+      positive = is_positive d at.column at.row;
     }
 
 -- the edge that lies in this direction from a crossing: the strand leaves on it along its own direction, and comes on it the other way

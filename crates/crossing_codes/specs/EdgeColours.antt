@@ -2,19 +2,13 @@
 use Rattle.std.specs.Prelude.{ℕ, ◌+◌, ◌-◌, ◌==◌, List, [], ◌∷◌, ◌++◌, map, filter, fold, length, slice_index, if◌then◌else◌}
 use Rattle.std.specs.List.{range_with_len, position_or_len, list_any}
 use Rattle.grid_core.specs.Diagram.{Diagram}
-use Rattle.grid_core.specs.Parts.{covers, ends}
+use Rattle.grid_core.specs.Parts.{covers, ends, is_rightward}
 use Rattle.quandle_core.specs.Quandle.{Table}
-use Rattle.colour_rows.specs.Walk.{under}
+use Rattle.colour_rows.specs.Walk.{under, walk_to}
 use Rattle.crossing_codes.specs.declared.passage.Passage.{Passage}
 use Rattle.crossing_codes.specs.Components.{component}
-use Rattle.crossing_codes.specs.Passages.{passages, passages_from, is_rightward}
+use Rattle.crossing_codes.specs.Passages.{passages, passages_from}
 use Rattle.crossing_codes.specs.Edges.{place, loops}
-
--- the colour of the walk of row r when it has come to column c, before it passes under it
-abbrev pub walk_to : Table → Diagram → List ℕ → ℕ → ℕ → ℕ
-walk_to t d colours r c =
-    fold (under t d colours) (slice_index colours (ends d r).low)
-    (filter (λ b. covers d b r) (range_with_len ((ends d r).low + 1) (c - (ends d r).low - 1)))
 
 -- the colour of the walk of row r on the side of column c from which its strand comes, which is that of the row's O
 abbrev pub walk_before : Table → Diagram → List ℕ → ℕ → ℕ → ℕ

@@ -10,6 +10,7 @@ pub mod OnTheWay
 pub use Rattle.grid_core.specs.Diagram
 pub use Rattle.grid_core.specs.Span
 pub use Rattle.grid_core.specs.Parts
+pub use Rattle.grid_core.specs.Crossing
 pub use Rattle.quandle_core.specs.Quandle
 pub use Rattle.colour_rows.specs.Walk
 pub use Rattle.colour_rows.specs.Colouring

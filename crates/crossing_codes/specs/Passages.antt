@@ -1,10 +1,10 @@
 -- Crossings, and the passages through them as one follows the strands.
-use Rattle.std.specs.Prelude.{ℕ, ◌+◌, ◌-◌, Bool, true, false, List, ◌++◌, map, filter, flat_map, reverse, nat_lt, if◌then◌else◌}
+use Rattle.std.specs.Prelude.{ℕ, ◌+◌, ◌-◌, Bool, true, false, List, ◌++◌, map, filter, flat_map, reverse, if◌then◌else◌}
 use Rattle.std.specs.List.{range_with_len}
-use Rattle.grid_core.specs.declared.mark.Kind.TheVariants.{Cross, Ring}
+use Rattle.grid_core.specs.declared.mark.Kind.TheVariants.{Ring}
 use Rattle.grid_core.specs.Diagram.{Diagram, size, row_of}
 use Rattle.grid_core.specs.Span.{lies_within}
-use Rattle.grid_core.specs.Parts.{column_of, column_span, ends, is_up}
+use Rattle.grid_core.specs.Parts.{column_span, ends, is_up, is_rightward}
 use Rattle.colour_rows.specs.Walk.{passed}
 use Rattle.crossing_codes.specs.declared.passage.Passage.{Passage}
 use Rattle.crossing_codes.specs.Components.{component, starts}
@@ -25,10 +25,6 @@ through over at = record { over = over; column = at.column; row = at.row }
 -- the rows that column c passes over, from below: those strictly between its marks whose ends lie on either side of it
 abbrev pub passed_over : Diagram → ℕ → List ℕ
 passed_over d c = filter (λ r. lies_within (ends d r) c) (range_with_len ((column_span d c).low + 1) ((column_span d c).high - (column_span d c).low - 1))
-
--- row r runs to the right: its O lies left of its X
-abbrev pub is_rightward : Diagram → ℕ → Bool
-is_rightward d r = nat_lt (column_of Ring d r) (column_of Cross d r)
 
 -- numbers as they are met when one goes up or to the right, or the other way
 abbrev pub as_met : Bool → List ℕ → List ℕ

@@ -2,12 +2,12 @@
 use Rattle.std.specs.Prelude.{ℕ, ◌+◌, ◌==◌, ◌&&◌, not, List, ◌++◌, map, filter, flat_map, length, codes, decimal, if◌then◌else◌}
 use Rattle.std.specs.List.{position_or_len}
 use Rattle.grid_core.specs.Diagram.{Diagram}
+use Rattle.grid_core.specs.Crossing.{is_positive}
 use Rattle.crossing_codes.specs.declared.crossing.Code.{Code}
 use Rattle.crossing_codes.specs.declared.crossing.Crossing.{Crossing}
 use Rattle.crossing_codes.specs.declared.passage.Passage.{Passage}
 use Rattle.crossing_codes.specs.Components.{starts}
 use Rattle.crossing_codes.specs.Passages.{Crossed, crossings, passages_from}
-use Rattle.crossing_codes.specs.Code.{is_positive}
 
 -- X[i,j,k,l]
 abbrev pub crossing_line : Crossing → List ℕ
@@ -27,7 +27,7 @@ crossing_number d c r = position_or_len (λ (at : Crossed). (at.column == c) && 
 abbrev pub passage_token : Diagram → Passage → List ℕ
 passage_token d p =
     (if p.over then codes "O" else codes "U") ++ (decimal (crossing_number d p.column p.row)
-    ++ (if is_positive d (record { column = p.column; row = p.row }) then codes "+" else codes "-"))
+    ++ (if is_positive d p.column p.row then codes "+" else codes "-"))
 
 abbrev pub gauss_line : Diagram → List Passage → List ℕ
 gauss_line d ps = codes "gauss" ++ (flat_map (λ p. codes " " ++ passage_token d p) ps ++ codes "\n")

@@ -3,6 +3,7 @@ ghost use Rattle.std.specs.Prelude.{◌≡◌, ◌<◌, ◌++◌, length, map, t
 ghost use Rattle.grid_core.specs.Diagram.{size};
 ghost use Rattle.grid_core.specs.Span.{lies_within};
 ghost use Rattle.grid_core.specs.Parts.{covers, ends};
+ghost use Rattle.grid_core.specs.Crossing.{is_positive};
 ghost use Rattle.colour_rows.specs.Walk.{passed};
 ghost use Rattle.crossing_codes.specs.Passages.{passages, crossings};
 ghost use Rattle.crossing_codes.specs.Edges.{edges_after};
@@ -10,7 +11,7 @@ ghost use Rattle.crossing_codes.specs.Layout.{HasNumbers};
 ghost use Rattle.quandle_core.specs.Quandle.{Table, IsQuandle};
 ghost use Rattle.quandle_core.specs.Bijection.{IsBijection};
 ghost use Rattle.colour_rows.specs.Colouring.{IsColouring};
-ghost use Rattle.crossing_codes.specs.Code.{crossing, is_positive, code};
+ghost use Rattle.crossing_codes.specs.Code.{crossing, code};
 ghost use Rattle.crossing_codes.specs.CodeColouring.{is_code_colouring};
 ghost use Rattle.crossing_codes.specs.EdgeColours.{edge_colours};
 
@@ -112,7 +113,7 @@ fn crossing(
 /// Whether the sign of a crossing is positive: the column runs up and the row to the left, or down and to the right.
 pub(crate) fn is_positive(layout: &Layout, column: u8, row: u8) -> bool
     requires { (column < size layout.now) × (row < size layout.now) }
-    ensures { result ≡ is_positive layout.now (record { column = column; row = row }) }
+    ensures { result ≡ is_positive layout.now column row }
 {
     layout.is_up(column) != layout.is_rightward(row)
 }

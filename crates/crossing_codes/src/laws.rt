@@ -2,8 +2,7 @@
 ghost use Rattle.std.specs.Prelude.{◌≡◌, ◌<◌, ◌≤◌, ◌+◌, ◌*◌, ◌++◌, ◌↔◌, ◌⊎◌, ℕ, true, false, List, map, take, codes, flat_map, length, slice_index, Contains, IsPermutation, if◌then◌else◌};
 ghost use Rattle.std.specs.List.{range_with_len};
 ghost use Rattle.grid_core.specs.Diagram.{Diagram, IsGrid, size};
-ghost use Rattle.grid_core.specs.Span.{lies_within};
-ghost use Rattle.grid_core.specs.Parts.{covers, ends};
+ghost use Rattle.grid_core.specs.Crossing.{crosses, row_direction};
 ghost use Rattle.quandle_core.specs.Quandle.{Table, IsQuandle};
 ghost use Rattle.colour_rows.specs.Colouring.{IsColouring};
 ghost use Rattle.colour_list.specs.Listing.{colourings};
@@ -11,7 +10,7 @@ ghost use Rattle.quandle_core.specs.Bijection.{IsBijection};
 ghost use Rattle.crossing_codes.specs.Components.{component, starts};
 ghost use Rattle.crossing_codes.specs.Passages.{Crossed, crossings, through, passages, passages_from};
 ghost use Rattle.crossing_codes.specs.Edges.{leads_to, edges_after, edges_before, edge_from, edge_to};
-ghost use Rattle.crossing_codes.specs.Code.{row_direction, opposite, crossing, AreCounterclockwise, code};
+ghost use Rattle.crossing_codes.specs.Code.{opposite, crossing, AreCounterclockwise, code};
 ghost use Rattle.crossing_codes.specs.Printed.{passage_token};
 ghost use Rattle.crossing_codes.specs.CodeColouring.{edge_colour, is_code_colouring, code_colourings};
 ghost use Rattle.crossing_codes.specs.EdgeColours.{edge_colours, strand};
@@ -36,10 +35,10 @@ pub fn a_column_has_the_colour_of_its_edges()
         → edge_colour (edge_colours t d colours) (edge_to d (through true at)) ≡ slice_index colours at.column }
 {}
 
-/// A crossing stands where a column covers a row and lies strictly between the row's ends.
+/// A crossing stands exactly where a column crosses a row of the diagram: it covers the row, and lies strictly between the row's ends.
 pub fn where_crossings_stand()
     ensures { (d : Diagram) (at : Crossed)
-        → Contains (crossings d) at ↔ ((at.row < size d) × (covers d at.column at.row ≡ true) × (lies_within (ends d at.row) at.column ≡ true)) }
+        → Contains (crossings d) at ↔ ((at.row < size d) × (crosses d at.column at.row ≡ true)) }
 {}
 
 /// The components share out the columns: each column is in exactly one, and none comes before the start of its component.

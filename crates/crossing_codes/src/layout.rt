@@ -4,9 +4,8 @@ ghost use Rattle.grid_core.specs.declared.grid.TheConstants.{MAX_SIZE};
 ghost use Rattle.grid_core.specs.declared.mark.Kind.TheVariants.{Cross, Ring};
 ghost use Rattle.grid_core.specs.Diagram.{IsGrid, IsOneEach, size, rows_of, row_of};
 ghost use Rattle.grid_core.specs.Span.{lies_within};
-ghost use Rattle.grid_core.specs.Parts.{column_of, column_span, ends, is_up, covers};
+ghost use Rattle.grid_core.specs.Parts.{column_of, column_span, ends, is_up, is_rightward, covers};
 ghost use Rattle.crossing_codes.specs.Components.{next_column};
-ghost use Rattle.crossing_codes.specs.Passages.{is_rightward};
 ghost use Rattle.crossing_codes.specs.Layout.{HasColumns, cell};
 ghost use Rattle.crossing_codes.specs.declared.layout.TheConstants.{MAX_CELLS};
 
