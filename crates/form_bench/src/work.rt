@@ -4,7 +4,7 @@ ghost use Rattle.grid_core.specs.declared.grid.TheConstants.{MAX_SIZE};
 ghost use Rattle.grid_core.specs.Diagram.{size};
 
 use crate::task::{Task, Work};
-use grid_canon::{LeastForm, canonical, canonical_key, translate};
+use grid_canon::{LeastForm, Packed, canonical, canonical_key, translate};
 use grid_core::{Grid, Kind, MAX_SIZE};
 use next_moves::Offers;
 
@@ -19,6 +19,12 @@ impl Made {
     /// Counts one more number in.
     fn add(&mut self, number: u128) {
         self.sum = self.sum.wrapping_mul(31).wrapping_add(number);
+    }
+
+    /// Counts the numbers of a key in.
+    fn add_words(&mut self, key: Packed) {
+        self.add(key.first);
+        self.add(key.second);
     }
 }
 
@@ -103,8 +109,7 @@ fn add_form(made: &mut Made, form: &LeastForm, turn: u32) {
 /// Makes a key and counts it in.
 fn add_key(made: &mut Made, grid: &Grid) {
     let least = canonical_key(grid);
-    made.add(least.key.first);
-    made.add(least.key.second);
+    made.add_words(least.key);
     made.add(u128::from(least.columns) * 32 + u128::from(least.rows));
 }
 
@@ -113,8 +118,7 @@ fn add_offers(made: &mut Made, offers: &Offers, turn: u32) {
     let list = offers.offers();
     made.offers = made.offers.saturating_add(list.len() as u64);
     if let Some(offer) = list.get(turn as usize % MAX_SIZE) {
-        made.add(offer.key.first);
-        made.add(offer.key.second);
+        made.add_words(offer.key);
         made.add(u128::from(offer.link.after.0) * 32 + u128::from(offer.link.after.1));
     }
 }

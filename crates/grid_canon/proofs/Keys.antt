@@ -1,12 +1,12 @@
--- A key is read back, and keys are in the order of their diagrams.
-use Rattle.std.proofs.Common.{◌≡◌, ◌<◌, ◌-◌, ◌/◌, ◌^◌, ◌∷◌, ◌++◌, ◌∙◌, ℕ, Option, Some, None, replicate, List, length, map, arith, sym, ap, ap₂, inl, inr}
+-- A key is read back, two keys are told apart, and keys are in the order of their diagrams.
+use Rattle.std.proofs.Common.{◌≡◌, ◌≢◌, ◌<◌, ◌-◌, ◌∷◌, ◌++◌, ◌∙◌, ℕ, ◌==◌, true, false, Option, Some, None, replicate, List, length, map, arith, refl, sym, ap, ap₂, inl, inr}
 use Rattle.std.specs.List.{range_with_len}
 use Rattle.std.specs.Option.{IfSome, IfNone}
 use Rattle.std.specs.declared.cmp.Ordering.{Ordering}
 use Rattle.std.specs.declared.cmp.Ordering.TheVariants.{Less, Equal, Greater}
 use Rattle.std.specs.Ordering.{nat_cmp, ordering_then}
 use Rattle.std.specs.Cmp.Lexicographic.{slice_cmp}
-use Rattle.std.proofs.lemmas.Bool.{cases_order}
+use Rattle.std.proofs.lemmas.Bool.{and_parts, and_from, both_ways, cases_order, eqb-true, eq-eqb}
 use Rattle.std.proofs.lemmas.List.Elements.{All-cons}
 use Rattle.grid_core.specs.declared.grid.TheConstants.{MAX_SIZE}
 use Rattle.grid_core.specs.declared.mark.Kind.{Kind}
@@ -22,7 +22,7 @@ use Rattle.grid_canon.specs.declared.packed.Packed.{Packed}
 use Rattle.grid_canon.specs.Translate.{turned, translate}
 use Rattle.grid_canon.proofs.Turned.{size-translate}
 use Rattle.grid_canon.specs.Order.{compare}
-use Rattle.grid_canon.specs.Key.{number, filled, key_of, compare_keys, digit_at}
+use Rattle.grid_canon.specs.Key.{number, filled, key_of, size_of, same_key, compare_keys, digit_at}
 use Rattle.grid_canon.proofs.Ordered.{nat_cmp_less, nat_cmp_greater, nat_cmp_same}
 use Rattle.grid_canon.proofs.Numbers.{AreDigits, leading_digit, digits_are_rows, length-filled, filled-digits, number-order, slice_cmp-append}
 
@@ -35,7 +35,7 @@ size_is_digit d grid = omega (arith, grid.most)
 pub no_digit_before : (rows : List ℕ) → number (0 ∷ rows) ≡ number rows
 no_digit_before rows = omega arith
 
-pub size_of_key : (d : Diagram) → IsGrid d → (key_of d).first / BASE ^ MAX_SIZE ≡ size d
+pub size_of_key : (d : Diagram) → IsGrid d → size_of (key_of d) ≡ size d
 size_of_key d grid = leading_digit (size d) d.x grid.most (rows_are_digits d Cross grid)
 
 pub crosses_of_key : (d : Diagram) → IsGrid d → map (digit_at (key_of d).first) (range_with_len 0 (size d)) ≡ d.x
@@ -46,12 +46,33 @@ rings_of_key d grid =
     ap₂ (λ (z n : ℕ). map (digit_at z) (range_with_len 0 n)) (sym (no_digit_before (filled d.o))) (sym grid.same)
     ∙ digits_are_rows 0 d.o (omega arith) (rows_fit d Ring grid) (rows_are_digits d Ring grid)
 
+-- a key of no grid, where a list has to be asked with some key
+abbrev pub no_key : Packed
+no_key = record { first = 0; second = 0 }
+
+-- keys are told apart
+pub same_key_true : (p q : Packed) → same_key p q ≡ true → p ≡ q
+same_key_true p q is =
+    let parts = and_parts (p.first == q.first) (p.second == q.second) is in
+    ap₂ pair (eqb-true p.first q.first parts.0) (eqb-true p.second q.second parts.1)
+  where
+    pair : ℕ → ℕ → Packed
+    pair first second = record { first = first; second = second }
+
+pub same_key_of : (p q : Packed) → p ≡ q → same_key p q ≡ true
+same_key_of p q same =
+    and_from (p.first == q.first) (p.second == q.second)
+    (eq-eqb p.first q.first (ap (λ (k : Packed). k.first) same)) (eq-eqb p.second q.second (ap (λ (k : Packed). k.second) same))
+
+pub same_key_false : (p q : Packed) → same_key p q ≡ false → p ≢ q
+same_key_false p q is same = both_ways (same_key p q) is (same_key_of p q same)
+
 abbrev made : List ℕ → List ℕ → Diagram
 made x o = record { x = x; o = o }
 
 pub key_once : (d e : Diagram) → IsGrid d → IsGrid e → key_of d ≡ key_of e → d ≡ e
 key_once d e gd ge same =
-    let sizes : size d ≡ size e = sym (size_of_key d gd) ∙ ap (λ (p : Packed). p.first / BASE ^ MAX_SIZE) same ∙ size_of_key e ge in
+    let sizes : size d ≡ size e = sym (size_of_key d gd) ∙ ap size_of same ∙ size_of_key e ge in
     ap₂ made
     (sym (crosses_of_key d gd) ∙ ap₂ (λ (p : Packed) (n : ℕ). map (digit_at p.first) (range_with_len 0 n)) same sizes ∙ crosses_of_key e ge)
     (sym (rings_of_key d gd) ∙ ap₂ (λ (p : Packed) (n : ℕ). map (digit_at p.second) (range_with_len 0 n)) same sizes ∙ rings_of_key e ge)
@@ -106,19 +127,27 @@ key_order d e gd ge =
     ]
 
 -- reading a key back
-pub read_back : (d : Diagram) (key : Packed) (n : ℕ) → IsGrid d → key_of d ≡ key → n ≡ key.first / BASE ^ MAX_SIZE → d ≡ record { x = map (digit_at key.first) (range_with_len 0 n); o = map (digit_at key.second) (range_with_len 0 n) }
+read_back : (d : Diagram) (key : Packed) (n : ℕ) → IsGrid d → key_of d ≡ key → n ≡ size_of key → d ≡ record { x = map (digit_at key.first) (range_with_len 0 n); o = map (digit_at key.second) (range_with_len 0 n) }
 read_back d key n grid same is =
-    let sizes : size d ≡ n = sym (size_of_key d grid) ∙ ap (λ (p : Packed). p.first / BASE ^ MAX_SIZE) same ∙ sym is in
+    let sizes : size d ≡ n = sym (size_of_key d grid) ∙ ap size_of same ∙ sym is in
     ap₂ (λ (x o : List ℕ). made x o)
     (sym (crosses_of_key d grid) ∙ ap₂ (λ (p : Packed) (n : ℕ). map (digit_at p.first) (range_with_len 0 n)) same sizes)
     (sym (rings_of_key d grid) ∙ ap₂ (λ (p : Packed) (n : ℕ). map (digit_at p.second) (range_with_len 0 n)) same sizes)
 
+-- the diagram whose rows are the digits of a key
+pub named : Packed → Diagram
+named key = record { x = map (digit_at key.first) (range_with_len 0 (size_of key)); o = map (digit_at key.second) (range_with_len 0 (size_of key)) }
+
+pub named_back : (d : Diagram) (key : Packed) → IsGrid d → key_of d ≡ key → named key ≡ d
+unfolding named
+named_back d key grid same = sym (read_back d key (size_of key) grid same refl)
+
 -- the lists that were read are those of each grid with the key
-pub read_lists : (d : Diagram) (key : Packed) (n : ℕ) (x o : List ℕ) → IsGrid d → key_of d ≡ key → n ≡ key.first / BASE ^ MAX_SIZE → x ≡ map (digit_at key.first) (range_with_len 0 n) → o ≡ map (digit_at key.second) (range_with_len 0 n) → d ≡ record { x = x; o = o }
+pub read_lists : (d : Diagram) (key : Packed) (n : ℕ) (x o : List ℕ) → IsGrid d → key_of d ≡ key → n ≡ size_of key → x ≡ map (digit_at key.first) (range_with_len 0 n) → o ≡ map (digit_at key.second) (range_with_len 0 n) → d ≡ record { x = x; o = o }
 read_lists d key n x o grid same is ex eo = read_back d key n grid same is ∙ ap₂ (λ (x o : List ℕ). made x o) (sym ex) (sym eo)
 
-pub too_large : (d : Diagram) (key : Packed) → IsGrid d → key_of d ≡ key → MAX_SIZE < key.first / BASE ^ MAX_SIZE → ⊥
-too_large d key grid same large = omega (arith, sym (size_of_key d grid) ∙ ap (λ (p : Packed). p.first / BASE ^ MAX_SIZE) same, grid.most, large)
+pub too_large : (d : Diagram) (key : Packed) → IsGrid d → key_of d ≡ key → MAX_SIZE < size_of key → ⊥
+too_large d key grid same large = omega (arith, sym (size_of_key d grid) ∙ ap size_of same, grid.most, large)
 
 pub kept_where_key : (o : Option Diagram) (g d : Diagram) (key : Packed) → IfSome o (λ h. (h ≡ g) × (key_of h ≡ key)) → IfNone o (key_of g ≡ key → ⊥) → g ≡ d → key_of d ≡ key → o ≡ Some d
 kept_where_key None g d key some none is same = absurd (none (ap (λ (f : Diagram). key_of f) is ∙ same))

@@ -5,7 +5,7 @@ pub mod Numbers
 pub mod Digits
 mod DigitLists
 mod Guards
-mod CutNumbers
+pub mod CutNumbers
 mod TurnedNumbers
 pub mod Keys
 mod ShortGrids

@@ -1,7 +1,7 @@
 -- The number of the rows of a translate, from two pieces of the rows.
-use Rattle.std.proofs.Common.{◌≡◌, ◌<◌, ◌≤◌, ◌+◌, ◌-◌, ◌*◌, ◌%◌, ◌^◌, ◌++◌, ◌∷◌, ◌∙◌, ℕ, List, All, length, map, take, drop, arith, ap, sym, length-append}
+use Rattle.std.proofs.Common.{◌≡◌, ◌<◌, ◌≤◌, ◌+◌, ◌-◌, ◌*◌, ◌%◌, ◌^◌, ◌++◌, ◌∷◌, ◌∙◌, ℕ, List, All, length, map, take, drop, arith, ap, sym}
 use Rattle.std.proofs.Math.Nat.{pow-le-pow_right}
-use Rattle.std.proofs.lemmas.List.{length-map, length-take, length-drop}
+use Rattle.std.proofs.lemmas.List.{length-map}
 use Rattle.std.proofs.lemmas.List.Elements.{All-append, All-take, All-drop}
 use Rattle.grid_core.specs.declared.grid.TheConstants.{MAX_SIZE}
 use Rattle.grid_moves.specs.Shift.{shifted}
@@ -10,6 +10,7 @@ use Rattle.grid_canon.specs.Key.{number, filled}
 use Rattle.grid_canon.specs.Translate.{turned}
 use Rattle.grid_canon.proofs.Turned.{length-turned}
 use Rattle.grid_canon.proofs.Numbers.{AreDigits, filled_by_shift, appended_below, appended_twice, lowered_rows}
+use Rattle.grid_canon.proofs.CutNumbers.{length-cut}
 
 -- a number with some rows behind, each lower round the circle
 abbrev pub behind : ℕ → ℕ → ℕ → List ℕ → ℕ
@@ -34,9 +35,6 @@ turned_digits : (n a b : ℕ) (rows : List ℕ) → n ≤ MAX_SIZE → b < n →
 turned_digits n a b rows le lt inside =
     lowered_rows n b (drop a rows ++ take a rows) le lt (All-append (λ r. r < n) (drop a rows) (take a rows) (All-drop (λ r. r < n) a rows inside) (All-take (λ r. r < n) a rows inside))
 
-both_pieces : (a : ℕ) (rows : List ℕ) → a ≤ length rows → length (drop a rows ++ take a rows) ≡ length rows
-both_pieces a rows le = omega (arith, length-append (drop a rows) (take a rows), length-drop a rows, length-take a rows, le)
-
 -- the number of all rows, filled
 pub long_filled : (n a b head one value : ℕ) (rows : List ℕ) → length rows ≡ n → n ≤ MAX_SIZE → a ≤ n → b < n → head < BASE → All (λ r. r < n) rows → one ≡ head * BASE ^ length (drop a rows) + number (map (shifted n b) (drop a rows)) → value ≡ one * BASE ^ length (take a rows) + number (map (shifted n b) (take a rows)) → value * 2 ^ (DIGIT_BITS * (MAX_SIZE - n)) % 2 ^ 128 ≡ number (head ∷ filled (turned n a b rows))
 long_filled n a b head one value rows long le inner lt small inside e1 e2 =
@@ -44,6 +42,6 @@ long_filled n a b head one value rows long le inner lt small inside e1 e2 =
     let count : length t ≡ n = length-turned n a b rows (omega (arith, long, inner)) ∙ long in
     let whole : value ≡ number (head ∷ t) =
     appended_twice (shifted n b) head one value (drop a rows) (take a rows) e1 e2
-    ∙ ap (λ (z : ℕ). head * BASE ^ z + number t) (both_pieces a rows (omega (arith, long, inner)) ∙ long ∙ sym count) in
+    ∙ ap (λ (z : ℕ). head * BASE ^ z + number t) (length-cut a rows (omega (arith, long, inner)) ∙ long ∙ sym count) in
     ap (λ (z : ℕ). value * 2 ^ (DIGIT_BITS * (MAX_SIZE - z)) % 2 ^ 128) (sym count)
     ∙ filled_by_shift head t value small (omega (arith, count, le)) (turned_digits n a b rows le lt inside) whole

@@ -1,5 +1,5 @@
 -- Keys: a grid as two numbers.
-use Rattle.std.specs.Prelude.{ℕ, ◌+◌, ◌-◌, ◌*◌, ◌/◌, ◌%◌, ◌^◌, List, [], ◌∷◌, ◌++◌, length, replicate}
+use Rattle.std.specs.Prelude.{ℕ, ◌+◌, ◌-◌, ◌*◌, ◌/◌, ◌%◌, ◌^◌, List, [], ◌∷◌, ◌++◌, Bool, ◌==◌, ◌&&◌, length, replicate}
 use Rattle.std.specs.Ordering.{nat_cmp, ordering_then}
 use Rattle.std.specs.declared.cmp.Ordering.{Ordering}
 use Rattle.grid_core.specs.declared.grid.TheConstants.{MAX_SIZE}
@@ -19,6 +19,14 @@ filled rows = rows ++ replicate (MAX_SIZE - length rows) 0
 -- the key of a diagram: its size and the rows of its Xs, and the rows of its Os
 abbrev pub key_of : Diagram → Packed
 key_of d = record { first = number (size d ∷ filled d.x); second = number (filled d.o) }
+
+-- the size of the diagram with this key, which is the key's first digit
+abbrev pub size_of : Packed → ℕ
+size_of key = key.first / BASE ^ MAX_SIZE
+
+-- whether two keys are one
+abbrev pub same_key : Packed → Packed → Bool
+same_key p q = (p.first == q.first) && (p.second == q.second)
 
 -- the order of keys: by the first number, then by the second
 abbrev pub compare_keys : Packed → Packed → Ordering

@@ -10,7 +10,7 @@ ghost use Rattle.grid_canon.specs.Translate.{translate, translates};
 ghost use Rattle.grid_canon.specs.Shifts.{shift_moves};
 ghost use Rattle.grid_canon.specs.Order.{compare};
 ghost use Rattle.grid_canon.specs.Canonical.{IsCanonicalForm, IsCanonical, IsLeastForm};
-ghost use Rattle.grid_canon.specs.Key.{key_of, compare_keys};
+ghost use Rattle.grid_canon.specs.Key.{key_of, size_of, compare_keys};
 
 use crate::least::LeastForm;
 
@@ -85,6 +85,11 @@ pub fn the_least_shifts_are_determined()
 /// Two grids have one key exactly where they are equal.
 pub fn a_key_names_one_grid()
     ensures { (d e : Diagram) → IsGrid d → IsGrid e → (key_of d ≡ key_of e) ↔ (d ≡ e) }
+{}
+
+/// The size that is read from the key of a grid is the grid's size.
+pub fn the_size_of_a_key_is_that_of_its_diagram()
+    ensures { (d : Diagram) → IsGrid d → size_of (key_of d) ≡ size d }
 {}
 
 /// Keys are in the order of sizes, and for one size in that of the diagrams.

@@ -5,7 +5,7 @@ ghost use Rattle.grid_core.specs.declared.grid.TheConstants.{MAX_SIZE};
 ghost use Rattle.grid_core.specs.Diagram.{Diagram, IsGrid};
 ghost use Rattle.grid_moves.specs.Shift.{shifted};
 ghost use Rattle.grid_canon.specs.Translate.{turned, translate};
-ghost use Rattle.grid_canon.specs.Key.{number, filled, key_of, compare_keys, digit_at};
+ghost use Rattle.grid_canon.specs.Key.{number, filled, key_of, size_of, compare_keys, digit_at};
 
 use crate::translation::lowered;
 use arrayvec::ArrayVec;
@@ -26,6 +26,15 @@ pub struct Packed {
     pub first: u128,
     /// The number with the rows of the Os by column as its digits, filled with 0 up to the greatest size.
     pub second: u128,
+}
+
+impl Packed {
+    /// The size of the grid that has this key, which is the key's first digit.
+    pub fn size(self) -> u8
+        ensures { result ≡ size_of self }
+    {
+        (self.first >> (DIGIT_BITS * MAX_SIZE as u32)) as u8
+    }
 }
 
 /// The key of a grid. Takes no memory.
@@ -51,12 +60,12 @@ pub fn unpack(key: Packed) -> Option<Grid>
     ensures some { IfSome result (λ g. key_of g ≡ key) }
     ensures complete { (d : Diagram) → IsGrid d → key_of d ≡ key → result ≡ Some d }
 {
-    let size = key.first >> (DIGIT_BITS * MAX_SIZE as u32);
-    if size > MAX_SIZE as u128 {
+    let size = key.size();
+    if size as usize > MAX_SIZE {
         return None;
     }
-    let x = rows_of_key(key.first, size as u8);
-    let o = rows_of_key(key.second, size as u8);
+    let x = rows_of_key(key.first, size);
+    let o = rows_of_key(key.second, size);
     match Grid::new(x.as_slice(), o.as_slice()) {
         Ok(grid) => if_key(grid, key),
         Err(_) => None,

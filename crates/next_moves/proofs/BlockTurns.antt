@@ -1,11 +1,10 @@
 -- A stabilisation, seen on a translate: the block comes to the place of its mark, and the other lines follow round the circle.
-use Rattle.std.proofs.Common.{◌≡◌, ◌≢◌, ◌<◌, ◌≤◌, ◌+◌, ◌-◌, ◌∙◌, ℕ, arith, sym, refl, ap, subst}
+use Rattle.std.proofs.Common.{◌≡◌, ◌≢◌, ◌<◌, ◌+◌, ◌-◌, ◌∙◌, ℕ, arith, sym, refl, ap, subst}
 use Rattle.grid_core.specs.declared.mark.Kind.{Kind}
 use Rattle.grid_core.specs.declared.mark.Kind.TheVariants.{Cross, Ring}
 use Rattle.grid_core.specs.declared.mark.Corner.{Corner}
-use Rattle.grid_core.specs.declared.mark.Corner.TheVariants.{LowLeft, LowRight, HighLeft, HighRight}
 use Rattle.grid_core.specs.Diagram.{Diagram, IsGrid, HasMark, size, row_of, other}
-use Rattle.grid_core.specs.Corners.{right_of, above_of}
+use Rattle.grid_core.specs.Corners.{corner_column, corner_row}
 use Rattle.grid_core.proofs.Marks.{no_cell_twice, mark_below}
 use Rattle.grid_moves.specs.declared.step.Move.TheVariants.{Stabilise, Destabilise}
 use Rattle.grid_moves.specs.Renumbered.{Renumbered}
@@ -18,18 +17,7 @@ use Rattle.grid_moves.proofs.Undone.{stabilise_back}
 use Rattle.grid_canon.specs.Translate.{translate}
 use Rattle.grid_canon.proofs.Turned.{origin, origin-shifted, shifted-origin, shifted-turns, size-translate, translate-renumbered, translate-grid}
 use Rattle.next_moves.proofs.Rounds.{brought, brought_by, brought_other, grown_brought}
-
-right_le : (corner : Corner) → right_of corner ≤ 1
-right_le LowLeft = omega arith
-right_le LowRight = omega arith
-right_le HighLeft = omega arith
-right_le HighRight = omega arith
-
-above_le : (corner : Corner) → above_of corner ≤ 1
-above_le LowLeft = omega arith
-above_le LowRight = omega arith
-above_le HighLeft = omega arith
-above_le HighRight = omega arith
+use Rattle.grid_moves.proofs.Widened.{right_small, above_small}
 
 -- the marks of a column, and of a row, stand in different cells
 other_row : (kind : Kind) (d : Diagram) (c r s : ℕ) → IsGrid d → HasMark d kind c r → HasMark d (other kind) c s → s ≢ r
@@ -68,8 +56,8 @@ stabilises_turned c kind corner r d e p u grid gride stab hp hu =
     let there : (k2 : Kind) (x y x' y' : ℕ) → shifted (m + 1) k' x ≡ x' → shifted (m + 1) l' y ≡ y' → HasMark e k2 x y → HasMark (translate e k' l') k2 x' y' =
     λ k2 x y x' y' ex ey mark.
     placed (translate e k' l') k2 (shifted (size e) k' x) (shifted (size e) l' y) x' y' (ap (λ (z : ℕ). shifted z k' x) stab.larger ∙ ex) (ap (λ (z : ℕ). shifted z l' y) stab.larger ∙ ey) ((translate-renumbered e k' l' gride ek).marks k2 x y mark) in
-    let right = right_le corner in
-    let above = above_le corner in
+    let right = right_small corner in
+    let above = above_small corner in
     let c1 : c + 1 < m + 1 = omega (arith, hc) in
     let r1 : r + 1 < m + 1 = omega (arith, hr) in
     let p1 : p + 1 < m + 1 = omega (arith, hp) in
@@ -77,23 +65,23 @@ stabilises_turned c kind corner r d e p u grid gride stab hp hu =
     record {
       marked = placed (translate d k l) kind (shifted m k c) (shifted m l r) p u column row (turned.marks kind c r stab.marked);
       larger = size-translate e k' l' ek ∙ stab.larger ∙ ap (λ (z : ℕ). z + 1) (sym long);
-      at_corner = there (other kind) (c + right_of corner) (r + above_of corner) (p + right_of corner) (u + above_of corner) (brought_by (m + 1) p c (right_of corner) right p1 c1) (brought_by (m + 1) u r (above_of corner) above u1 r1) stab.at_corner;
-      in_its_row = there kind (c + 1 - right_of corner) (r + above_of corner) (p + 1 - right_of corner) (u + above_of corner) (brought_other (m + 1) p c (right_of corner) right p1 c1) (brought_by (m + 1) u r (above_of corner) above u1 r1) stab.in_its_row;
-      in_its_column = there kind (c + right_of corner) (r + 1 - above_of corner) (p + right_of corner) (u + 1 - above_of corner) (brought_by (m + 1) p c (right_of corner) right p1 c1) (brought_other (m + 1) u r (above_of corner) above u1 r1) stab.in_its_column;
+      at_corner = there (other kind) (c + corner_column corner) (r + corner_row corner) (p + corner_column corner) (u + corner_row corner) (brought_by (m + 1) p c (corner_column corner) right p1 c1) (brought_by (m + 1) u r (corner_row corner) above u1 r1) stab.at_corner;
+      in_its_row = there kind (c + 1 - corner_column corner) (r + corner_row corner) (p + 1 - corner_column corner) (u + corner_row corner) (brought_other (m + 1) p c (corner_column corner) right p1 c1) (brought_by (m + 1) u r (corner_row corner) above u1 r1) stab.in_its_row;
+      in_its_column = there kind (c + corner_column corner) (r + 1 - corner_row corner) (p + corner_column corner) (u + 1 - corner_row corner) (brought_by (m + 1) p c (corner_column corner) right p1 c1) (brought_other (m + 1) u r (corner_row corner) above u1 r1) stab.in_its_column;
       of_column = λ s mark.
           let low : s < m = omega (arith, long, mark_below (translate d k l) (translate-grid d k l grid hk hl) (other kind) p s mark) in
           let old : HasMark d (other kind) c (origin m l s) = placed d (other kind) (origin m k p) (origin m l s) c (origin m l s) from_column refl (back.marks (other kind) p s mark) in
           let ne = other_row kind d c r (origin m l s) grid stab.marked old in
-          there (other kind) (c + 1 - right_of corner) (grown r (origin m l s)) (p + 1 - right_of corner) (grown u s) (brought_other (m + 1) p c (right_of corner) right p1 c1)
+          there (other kind) (c + 1 - corner_column corner) (grown r (origin m l s)) (p + 1 - corner_column corner) (grown u s) (brought_other (m + 1) p c (corner_column corner) right p1 c1)
           (grown_brought m u r (origin m l s) hu hr (mark_below d grid (other kind) c (origin m l s) old) ne ∙ ap (λ (z : ℕ). grown u z) (shifted-origin m l s hl low))
           (stab.of_column (origin m l s) old);
       of_row = λ b mark.
           let near : b < m = omega (arith, long, mark.inside) in
           let old : HasMark d (other kind) (origin m k b) r = placed d (other kind) (origin m k b) (origin m l u) (origin m k b) r refl from_row (back.marks (other kind) b u mark) in
           let ne = other_column kind d c (origin m k b) r grid stab.marked old in
-          there (other kind) (grown c (origin m k b)) (r + 1 - above_of corner) (grown p b) (u + 1 - above_of corner)
+          there (other kind) (grown c (origin m k b)) (r + 1 - corner_row corner) (grown p b) (u + 1 - corner_row corner)
           (grown_brought m p c (origin m k b) hp hc old.inside ne ∙ ap (λ (z : ℕ). grown p z) (shifted-origin m k b hk near))
-          (brought_other (m + 1) u r (above_of corner) above u1 r1)
+          (brought_other (m + 1) u r (corner_row corner) above u1 r1)
           (stab.of_row (origin m k b) old);
       of_others = λ k2 b s nb ns mark.
           let near : b < m = omega (arith, long, mark.inside) in

@@ -1,11 +1,12 @@
--- Four numbers on a circle: two pairs that do not separate each other do not after a shift either.
+-- Four numbers on a circle: two pairs that do not separate each other do not after a shift either, and two pairs that share one number share one.
 use Rattle.std.proofs.Common.{◌≡◌, ◌<◌, ◌≤◌, ◌+◌, ◌-◌, ◌||◌, ◌⊎◌, ◌∙◌, ℕ, Bool, true, false, cond, arith, sym, refl, ap, ap₂, inl, inr}
 use Rattle.std.proofs.lemmas.Bool.{cases_order, lt-ltb, le-ltb}
 use Rattle.std.proofs.lemmas.Bool.Decides.{nat_tests}
 use Rattle.grid_core.specs.declared.span.Span.{Span}
-use Rattle.grid_core.specs.Span.{span, share_an_end, are_disjoint, are_nested}
+use Rattle.grid_core.specs.Span.{span, share_an_end, are_disjoint, are_nested, share_both_ends}
 use Rattle.grid_moves.specs.Shift.{shifted}
 use Rattle.grid_moves.specs.Exchange.{MayExchange}
+use Rattle.grid_moves.specs.Slide.{MaySlide}
 use Rattle.grid_canon.proofs.Turned.{shifted_cases, shifted-turns}
 
 abbrev is_clear : ℕ → ℕ → ℕ → ℕ → Bool
@@ -79,4 +80,20 @@ may_exchange_shifted n k p q s t hk hp hq hs ht free =
     record {
       different = share_shifted p q s t (shifted n k p) (shifted n k q) (shifted n k s) (shifted n k t) free.different (one p s hp hs) (one p t hp ht) (one q s hq hs) (one q t hq ht);
       placed = clear_shifted n k p q s t hk hp hq hs ht free.different free.placed;
+    }
+
+-- two pairs that share one number and not the other
+share_kept : (p q s t P Q S T : ℕ) → share_an_end (span p q) (span s t) ≡ true → (p ≡ s → P ≡ S) → (p ≡ t → P ≡ T) → (q ≡ s → Q ≡ S) → (q ≡ t → Q ≡ T) → share_an_end (span P Q) (span S T) ≡ true
+share_kept p q s t P Q S T d ps pt qs qt = grind (arith, nat_tests)
+
+both_kept : (p q s t P Q S T : ℕ) → share_both_ends (span p q) (span s t) ≡ false → (P ≡ S → p ≡ s) → (P ≡ T → p ≡ t) → (Q ≡ S → q ≡ s) → (Q ≡ T → q ≡ t) → share_both_ends (span P Q) (span S T) ≡ false
+both_kept p q s t P Q S T d ps pt qs qt = grind (arith, nat_tests)
+
+pub may_slide_shifted : (n k p q s t : ℕ) → k < n → p < n → q < n → s < n → t < n → MaySlide (span p q) (span s t) → MaySlide (span (shifted n k p) (shifted n k q)) (span (shifted n k s) (shifted n k t))
+may_slide_shifted n k p q s t hk hp hq hs ht free =
+    let one = (shifted-turns n k hk).same in
+    let to : (a b : ℕ) → a ≡ b → shifted n k a ≡ shifted n k b = λ a b e. ap (λ (z : ℕ). shifted n k z) e in
+    record {
+      shared = share_kept p q s t (shifted n k p) (shifted n k q) (shifted n k s) (shifted n k t) free.shared (to p s) (to p t) (to q s) (to q t);
+      not_both = both_kept p q s t (shifted n k p) (shifted n k q) (shifted n k s) (shifted n k t) free.not_both (one p s hp hs) (one p t hp ht) (one q s hq hs) (one q t hq ht);
     }

@@ -4,7 +4,7 @@ use Rattle.std.specs.List.{All, AllPairs, Contains}
 use Rattle.std.proofs.lemmas.List.Elements.{All-contains}
 use Rattle.grid_core.specs.Diagram.{Diagram, IsGrid, size}
 use Rattle.grid_moves.specs.declared.step.Move.{Move}
-use Rattle.grid_moves.specs.declared.step.Move.TheVariants.{ShiftColumns, ShiftRows, ExchangeColumns, ExchangeRows, Stabilise, Destabilise}
+use Rattle.grid_moves.specs.declared.step.Move.TheVariants.{ShiftColumns, ShiftRows, ExchangeColumns, ExchangeRows, SlideColumns, SlideRows, Stabilise, Destabilise}
 use Rattle.grid_moves.specs.Step.{Step}
 use Rattle.grid_moves.specs.Joining.{JoinsWithin, WithinCap}
 use Rattle.grid_moves.proofs.OneResult.{step_once}
@@ -23,13 +23,15 @@ use Rattle.next_moves.proofs.Linked.{within_larger}
 use Rattle.next_moves.specs.Neighbours.{is_shift, IsNeighbour}
 
 -- a shift leads to a translate
-shift_translates : (move : Move) (d e : Diagram) → is_shift move ≡ true → Step d move e → Contains (translates d) e
+pub shift_translates : (move : Move) (d e : Diagram) → is_shift move ≡ true → Step d move e → Contains (translates d) e
 shift_translates (ShiftColumns k) d e shifts step =
     subst (λ t. Contains (translates d) t) (step_once d (ShiftColumns k) (translate d k 0) e (column_shift_step d k step.before step.marks.least step.marks.most) step) (translates_contains d k 0 step.marks.most (omega (arith, step.before.least)))
 shift_translates (ShiftRows k) d e shifts step =
     subst (λ t. Contains (translates d) t) (step_once d (ShiftRows k) (translate d 0 k) e (row_shift_step d k step.before step.marks.least step.marks.most) step) (translates_contains d 0 k (omega (arith, step.before.least)) step.marks.most)
 shift_translates (ExchangeColumns c) d e shifts step = absurd (let no_shift : false ≡ true = shifts in cc)
 shift_translates (ExchangeRows r) d e shifts step = absurd (let no_shift : false ≡ true = shifts in cc)
+shift_translates (SlideColumns c) d e shifts step = absurd (let no_shift : false ≡ true = shifts in cc)
+shift_translates (SlideRows r) d e shifts step = absurd (let no_shift : false ≡ true = shifts in cc)
 shift_translates (Stabilise c kind corner) d e shifts step = absurd (let no_shift : false ≡ true = shifts in cc)
 shift_translates (Destabilise c r) d e shifts step = absurd (let no_shift : false ≡ true = shifts in cc)
 

@@ -2,7 +2,7 @@
 use Rattle.std.proofs.Common.{◌≡◌, ◌≤◌, ◌++◌, ◌∷◌, ◌∙◌, [], ℕ, List, true, false, map, get_or, arith, sym, refl, ap, subst}
 use Rattle.std.specs.List.{All, Contains, range_with_len, flat_map}
 use Rattle.std.proofs.lemmas.Bool.{le-leb, leb-true}
-use Rattle.std.proofs.lemmas.List.Elements.{All-append, All-map, All-contains}
+use Rattle.std.proofs.lemmas.List.Elements.{All-nil, All-cons, All-append, All-map, All-contains}
 use Rattle.grid_core.specs.declared.mark.Kind.TheVariants.{Cross, Ring}
 use Rattle.grid_core.specs.Diagram.{Diagram, IsGrid, size}
 use Rattle.grid_moves.specs.Step.{Step}
@@ -14,7 +14,7 @@ use Rattle.grid_canon.proofs.LeastTranslates.{shifts_of, translates_contains, ma
 use Rattle.grid_canon.proofs.CanonicalForms.{translated_size, canonical_of_translate, canonical_once}
 use Rattle.next_moves.specs.declared.offer.Offer.{Offer}
 use Rattle.next_moves.specs.Neighbours.{is_shift, IsNeighbour}
-use Rattle.next_moves.specs.Tries.{Try, tries, column_exchange, row_exchange, destabilisation, destabilisations, stabilisation, stabilisations, corners}
+use Rattle.next_moves.specs.Tries.{Try, tries, column_exchange, column_slide, column_trades, row_exchange, row_slide, row_trades, destabilisation, destabilisations, stabilisation, stabilisations, corners}
 use Rattle.next_moves.specs.Offers.{is_offered, Leads, IsOfferOf, IsOfferList, try_of}
 use Rattle.next_moves.proofs.Extended.{legal_offered}
 use Rattle.next_moves.proofs.Members.{contains_filter, filter_contains, mapped_from}
@@ -26,8 +26,8 @@ offer_of_try d cap offers t list among offered =
     mapped_from try_of offers t (subst (λ ts. Contains ts t) (sym list.order) (contains_filter (is_offered d cap) (tries (size d)) t among offered))
 
 -- where its link leads
-led_by : (d : Diagram) (offer : Offer) (t : Try) (result f : Diagram) → IsGrid d → IsOfferOf d offer → try_of offer ≡ t → Step (translate d t.before.0 t.before.1) t.step result → IsCanonicalForm result f → key_of f ≡ offer.key
-led_by d offer t result f grid is same step form =
+pub led_by : (d : Diagram) (offer : Offer) (t : Try) (result f : Diagram) → IsOfferOf d offer → try_of offer ≡ t → Step (translate d t.before.0 t.before.1) t.step result → IsCanonicalForm result f → key_of f ≡ offer.key
+led_by d offer t result f is same step form =
     let P : Try → Type 0 = λ u. Step (translate d u.before.0 u.before.1) u.step result in
     let here : P (try_of offer) = subst P (sym same) step in
     let one : is.leads.moved ≡ result = step_once (translate d offer.link.before.0 offer.link.before.1) offer.link.step is.leads.moved result is.leads.step here in
@@ -42,24 +42,27 @@ neighbour_offered d f cap offers grid list near =
     let small : size m.result ≤ cap = omega (arith, translated_size near.after m.result near.step.after m.same, near.small) in
     let offered : is_offered d cap m.try ≡ true = legal_offered d (translate d m.try.before.0 m.try.before.1) m.result cap m.try m.columns refl m.step ∙ le-leb (size m.result) cap small in
     let found = offer_of_try d cap offers m.try list m.among offered in
-    (found.0, (found.1, led_by d found.0 m.try m.result f grid (All-contains (IsOfferOf d) offers found.0 list.leads found.1) found.2 m.step (canonical_of_translate near.after m.result f near.step.after m.same near.form)))
+    (found.0, (found.1, led_by d found.0 m.try m.result f (All-contains (IsOfferOf d) offers found.0 list.leads found.1) found.2 m.step (canonical_of_translate near.after m.result f near.step.after m.same near.form)))
 
 -- no try is a shift
-ranged : (P : Try → Type 0) (f : ℕ → Try) (n : ℕ) → ((k : ℕ) → P (f k)) → All P (map f (range_with_len 0 n))
+pub ranged : (P : Try → Type 0) (f : ℕ → Try) (n : ℕ) → ((k : ℕ) → P (f k)) → All P (map f (range_with_len 0 n))
 ranged P f n all = All-map P f (range_with_len 0 n) (λ k d lt. all (get_or (range_with_len 0 n) k d))
 
-flat_ranged : (P : Try → Type 0) (f : ℕ → List Try) (xs : List ℕ) → ((k : ℕ) → All P (f k)) → All P (flat_map f xs)
+pub flat_ranged : (P : Try → Type 0) (f : ℕ → List Try) (xs : List ℕ) → ((k : ℕ) → All P (f k)) → All P (flat_map f xs)
 flat_ranged P f [] all = λ k d lt. absurd (omega (arith, lt))
 flat_ranged P f (x ∷ xs) all = All-append P (f x) (flat_map f xs) (all x) (flat_ranged P f xs all)
 
 abbrev Turns : Try → Type 0
 Turns t = is_shift t.step ≡ false
 
+two_turn : (s t : Try) → Turns s → Turns t → All Turns (s ∷ t ∷ [])
+two_turn s t one two = All-cons Turns s (t ∷ []) one (All-cons Turns t [] two (All-nil Turns))
+
 tries_turn : (n : ℕ) → All Turns (tries n)
 tries_turn n =
-    All-append Turns (map (column_exchange n) (range_with_len 0 n) ++ map (row_exchange n) (range_with_len 0 n) ++ flat_map (destabilisations n) (range_with_len 0 n)) (flat_map stabilisations (range_with_len 0 n))
-    (All-append Turns (map (column_exchange n) (range_with_len 0 n) ++ map (row_exchange n) (range_with_len 0 n)) (flat_map (destabilisations n) (range_with_len 0 n))
-    (All-append Turns (map (column_exchange n) (range_with_len 0 n)) (map (row_exchange n) (range_with_len 0 n)) (ranged Turns (column_exchange n) n (λ k. refl)) (ranged Turns (row_exchange n) n (λ k. refl)))
+    All-append Turns (flat_map (column_trades n) (range_with_len 0 n) ++ flat_map (row_trades n) (range_with_len 0 n) ++ flat_map (destabilisations n) (range_with_len 0 n)) (flat_map stabilisations (range_with_len 0 n))
+    (All-append Turns (flat_map (column_trades n) (range_with_len 0 n) ++ flat_map (row_trades n) (range_with_len 0 n)) (flat_map (destabilisations n) (range_with_len 0 n))
+    (All-append Turns (flat_map (column_trades n) (range_with_len 0 n)) (flat_map (row_trades n) (range_with_len 0 n)) (flat_ranged Turns (column_trades n) (range_with_len 0 n) (λ k. two_turn (column_exchange n k) (column_slide n k) refl refl)) (flat_ranged Turns (row_trades n) (range_with_len 0 n) (λ k. two_turn (row_exchange n k) (row_slide n k) refl refl)))
     (flat_ranged Turns (destabilisations n) (range_with_len 0 n) (λ c. ranged Turns (destabilisation n c) n (λ k. refl))))
     (flat_ranged Turns stabilisations (range_with_len 0 n) (λ c. All-append Turns (map (stabilisation c Cross) corners) (map (stabilisation c Ring) corners) (All-map Turns (stabilisation c Cross) corners (λ k d lt. refl)) (All-map Turns (stabilisation c Ring) corners (λ k d lt. refl))))
 

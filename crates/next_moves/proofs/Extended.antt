@@ -10,7 +10,7 @@ use Rattle.grid_core.proofs.OneEach.{range_more}
 use Rattle.grid_core.specs.declared.mark.Kind.TheVariants.{Cross, Ring}
 use Rattle.grid_core.specs.Diagram.{Diagram, size}
 use Rattle.grid_moves.specs.declared.step.Move.{Move}
-use Rattle.grid_moves.specs.declared.step.Move.TheVariants.{ShiftColumns, ShiftRows, ExchangeColumns, ExchangeRows, Stabilise, Destabilise}
+use Rattle.grid_moves.specs.declared.step.Move.TheVariants.{ShiftColumns, ShiftRows, ExchangeColumns, ExchangeRows, SlideColumns, SlideRows, Stabilise, Destabilise}
 use Rattle.grid_moves.specs.declared.step.MoveFault.{MoveFault}
 use Rattle.grid_moves.specs.MoveFault.{first_fault}
 use Rattle.grid_moves.specs.Step.{Step, Moves}
@@ -21,7 +21,7 @@ use Rattle.grid_canon.specs.declared.least.LeastForm.{LeastForm}
 use Rattle.grid_canon.specs.Key.{key_of}
 use Rattle.grid_canon.proofs.Turned.{size-translate}
 use Rattle.next_moves.specs.declared.offer.Offer.{Offer}
-use Rattle.next_moves.specs.Tries.{Try, column_exchange, row_exchange, destabilisations, stabilisation, stabilisations, corners}
+use Rattle.next_moves.specs.Tries.{Try, column_trades, row_trades, destabilisations, stabilisation, stabilisations, corners}
 use Rattle.next_moves.specs.Offers.{size_after, is_offered, Leads, IsOfferOf, AreOffersOf, IsOfferList, try_of}
 use Rattle.next_moves.specs.Extends.{Extends}
 
@@ -65,6 +65,8 @@ moved_size (ShiftColumns k) d e m = m.renumbered.same_size
 moved_size (ShiftRows k) d e m = m.renumbered.same_size
 moved_size (ExchangeColumns c) d e m = m.renumbered.same_size
 moved_size (ExchangeRows r) d e m = m.renumbered.same_size
+moved_size (SlideColumns c) d e m = m.renumbered.same_size
+moved_size (SlideRows r) d e m = m.renumbered.same_size
 moved_size (Stabilise c kind corner) d e m = m.1.1.larger
 moved_size (Destabilise c r) d e m = omega (arith, m.undone.larger)
 
@@ -151,11 +153,11 @@ pub offers_from_nothing : (d : Diagram) (cap : ℕ) (list : List Try) (old new :
 offers_from_nothing d cap list old new empty all = subst (λ xs. AreOffersOf d cap list xs) (sym (all.is ∙ ap (λ xs. xs ++ all.more) empty)) all.offers
 
 -- the four parts are the whole list
-pub whole_list : (d : Diagram) (cap : ℕ) (l m o p q : List Offer) → l ≡ [] → Extends d cap (map (column_exchange (size d)) (range_with_len 0 (size d))) l m → Extends d cap (map (row_exchange (size d)) (range_with_len 0 (size d))) m o → Extends d cap (flat_map (destabilisations (size d)) (range_with_len 0 (size d))) o p → Extends d cap (flat_map stabilisations (range_with_len 0 (size d))) p q → IsOfferList d cap q
+pub whole_list : (d : Diagram) (cap : ℕ) (l m o p q : List Offer) → l ≡ [] → Extends d cap (flat_map (column_trades (size d)) (range_with_len 0 (size d))) l m → Extends d cap (flat_map (row_trades (size d)) (range_with_len 0 (size d))) m o → Extends d cap (flat_map (destabilisations (size d)) (range_with_len 0 (size d))) o p → Extends d cap (flat_map stabilisations (range_with_len 0 (size d))) p q → IsOfferList d cap q
 whole_list d cap l m o p q empty columns rows blocks marks =
     let n : ℕ = size d in
-    let a : List Try = map (column_exchange n) (range_with_len 0 n) in
-    let b : List Try = map (row_exchange n) (range_with_len 0 n) in
+    let a : List Try = flat_map (column_trades n) (range_with_len 0 n) in
+    let b : List Try = flat_map (row_trades n) (range_with_len 0 n) in
     let e : List Try = flat_map (destabilisations n) (range_with_len 0 n) in
     let f : List Try = flat_map stabilisations (range_with_len 0 n) in
     offers_from_nothing d cap (a ++ b ++ e ++ f) l q empty

@@ -1,4 +1,5 @@
 pub mod Extended
+pub mod Trades
 pub mod Sides
 pub mod BlockRows
 pub mod Circle
@@ -8,6 +9,7 @@ pub mod BlockTurns
 pub mod Members
 pub mod Matched
 pub mod Complete
+pub mod Exchanges
 pub mod Determined
 pub mod Linked
 pub mod Closed

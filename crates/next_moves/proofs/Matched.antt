@@ -1,5 +1,5 @@
 -- Each move that is no shift, on any translate, is matched by one of the tries: both lead to translates of each other.
-use Rattle.std.proofs.Common.{◌≡◌, ◌<◌, ◌+◌, ◌++◌, ◌∷◌, ◌∙◌, [], ℕ, List, true, false, map, arith, sym, ap, ap₂, subst, zero-add, ◌%◌}
+use Rattle.std.proofs.Common.{◌≡◌, ◌<◌, ◌+◌, ◌++◌, ◌∷◌, ◌∙◌, [], ℕ, List, true, false, map, arith, refl, sym, ap, ap₂, subst, zero-add, ◌%◌}
 use Rattle.std.proofs.Math.Nat.{mod-eq_of_lt}
 use Rattle.std.specs.List.{Contains, range_with_len, flat_map}
 use Rattle.grid_core.specs.declared.mark.Kind.{Kind}
@@ -9,7 +9,7 @@ use Rattle.grid_core.specs.declared.mark.Corner.TheVariants.{LowLeft, LowRight, 
 use Rattle.grid_core.specs.Diagram.{Diagram, IsGrid, size, row_of}
 use Rattle.grid_core.proofs.Marks.{row_below, mark_below}
 use Rattle.grid_moves.specs.declared.step.Move.{Move}
-use Rattle.grid_moves.specs.declared.step.Move.TheVariants.{ShiftColumns, ShiftRows, ExchangeColumns, ExchangeRows, Stabilise, Destabilise}
+use Rattle.grid_moves.specs.declared.step.Move.TheVariants.{ShiftColumns, ShiftRows, ExchangeColumns, ExchangeRows, SlideColumns, SlideRows, Stabilise, Destabilise}
 use Rattle.grid_moves.specs.Shift.{shifted}
 use Rattle.grid_moves.specs.Step.{Step}
 use Rattle.grid_moves.proofs.Shifted.{shifted_below}
@@ -18,16 +18,17 @@ use Rattle.grid_canon.proofs.Turned.{origin, origin-below, origin-shifted, size-
 use Rattle.grid_canon.proofs.Joined.{at_origin}
 use Rattle.grid_canon.proofs.LeastTranslates.{translates_contains, contains_left, contains_right, flat_map_contains, range_contains, map_contains}
 use Rattle.next_moves.specs.Neighbours.{is_shift}
-use Rattle.next_moves.specs.Tries.{Try, turn, place, tries, column_exchange, row_exchange, destabilisation, destabilisations, stabilisation, stabilisations, corners}
+use Rattle.next_moves.specs.Tries.{Try, turn, place, tries, is_exchange, column_exchange, column_slide, column_trades, row_exchange, row_slide, row_trades, destabilisation, destabilisations, stabilisation, stabilisations, corners}
 use Rattle.next_moves.proofs.Members.{contains_first, contains_later}
 use Rattle.next_moves.proofs.Sides.{turn-below, place-below, first_origin}
 use Rattle.next_moves.proofs.Rounds.{brought, brought_next, brought_from}
-use Rattle.next_moves.proofs.Turns.{exchange_columns_turned, exchange_rows_turned}
+use Rattle.next_moves.proofs.Turns.{exchange_columns_turned, exchange_rows_turned, slide_columns_turned, slide_rows_turned}
 use Rattle.next_moves.proofs.BlockTurns.{stabilise_turned, destabilise_turned}
 
--- a try on d leads to a translate of e
-pub record Matched (d e : Diagram) : Type 0 where
+-- a try on d leads to a translate of e, to which the move leads from a translate of d; it is an exchange where the move is
+pub record Matched (move : Move) (d e : Diagram) : Type 0 where
   pub try : Try
+  pub alike : is_exchange try.step ≡ is_exchange move
   pub among : Contains (tries (size d)) try
   pub columns : try.before.0 < size d
   pub rows : try.before.1 < size d
@@ -38,10 +39,10 @@ pub record Matched (d e : Diagram) : Type 0 where
 -- the parts of the list of tries
 module _ (n : ℕ) where
   abbrev columns_part : List Try
-  columns_part = map (column_exchange n) (range_with_len 0 n)
+  columns_part = flat_map (column_trades n) (range_with_len 0 n)
 
   abbrev rows_part : List Try
-  rows_part = map (row_exchange n) (range_with_len 0 n)
+  rows_part = flat_map (row_trades n) (range_with_len 0 n)
 
   abbrev blocks_part : List Try
   blocks_part = flat_map (destabilisations n) (range_with_len 0 n)
@@ -49,17 +50,17 @@ module _ (n : ℕ) where
   abbrev marks_part : List Try
   marks_part = flat_map stabilisations (range_with_len 0 n)
 
-  tries_column : (q : ℕ) → q < n → Contains (tries n) (column_exchange n q)
-  tries_column q lt =
-      contains_left (columns_part ++ rows_part ++ blocks_part) marks_part (column_exchange n q)
-      (contains_left (columns_part ++ rows_part) blocks_part (column_exchange n q)
-      (contains_left columns_part rows_part (column_exchange n q) (map_contains (column_exchange n) (range_with_len 0 n) q (range_contains n q lt))))
+  tries_column : (q : ℕ) (t : Try) → q < n → Contains (column_trades n q) t → Contains (tries n) t
+  tries_column q t lt among =
+      contains_left (columns_part ++ rows_part ++ blocks_part) marks_part t
+      (contains_left (columns_part ++ rows_part) blocks_part t
+      (contains_left columns_part rows_part t (flat_map_contains (column_trades n) (range_with_len 0 n) q t (range_contains n q lt) among)))
 
-  tries_row : (q : ℕ) → q < n → Contains (tries n) (row_exchange n q)
-  tries_row q lt =
-      contains_left (columns_part ++ rows_part ++ blocks_part) marks_part (row_exchange n q)
-      (contains_left (columns_part ++ rows_part) blocks_part (row_exchange n q)
-      (contains_right columns_part rows_part (row_exchange n q) (map_contains (row_exchange n) (range_with_len 0 n) q (range_contains n q lt))))
+  tries_row : (q : ℕ) (t : Try) → q < n → Contains (row_trades n q) t → Contains (tries n) t
+  tries_row q t lt among =
+      contains_left (columns_part ++ rows_part ++ blocks_part) marks_part t
+      (contains_left (columns_part ++ rows_part) blocks_part t
+      (contains_right columns_part rows_part t (flat_map_contains (row_trades n) (range_with_len 0 n) q t (range_contains n q lt) among)))
 
   tries_block : (q s : ℕ) → q < n → s < n → Contains (tries n) (destabilisation n q s)
   tries_block q s hq hs =
@@ -96,11 +97,23 @@ origin_of_zero n b lt = ap (λ (z : ℕ). z % n) (zero-add b) ∙ at_zero
 back_to_zero : (n b : ℕ) → b < n → origin n (shifted n b 0) b ≡ 0
 back_to_zero n b lt = brought_from n b 0 b 0 lt (omega (arith, lt)) lt (omega (arith, lt)) (at_origin n b lt ∙ sym (origin_of_zero n b lt))
 
-match_columns : (d : Diagram) (a b c : ℕ) (e : Diagram) → IsGrid d → a < size d → b < size d → Step (translate d a b) (ExchangeColumns c) e → Matched d e
-match_columns d a b c e grid ha hb step =
+-- columns c and c + 1 of a translate, brought side by side where the tries have them
+record ColumnsRound (d : Diagram) (a b c : ℕ) : Type 0 where
+  q : ℕ
+  below : q < size d
+  k : ℕ
+  l : ℕ
+  columns : k < size d
+  rows : l < size d
+  inside : place (size d) q + 1 < size d
+  turned : turn (size d) q < size d
+  first : origin (size d) k (place (size d) q) ≡ c
+  second : origin (size d) k (place (size d) q + 1) ≡ c + 1
+  there : translate (translate d a b) k l ≡ translate d (turn (size d) q) 0
+
+columns_round : (d : Diagram) (a b c : ℕ) → IsGrid d → a < size d → b < size d → c + 1 < size d → ColumnsRound d a b c
+columns_round d a b c grid ha hb inside =
     let n : ℕ = size d in
-    let long : size (translate d a b) ≡ n = size-translate d a b ha in
-    let inside : c + 1 < n = omega (arith, step.marks.inside, long) in
     let hc : c < n = omega (arith, inside) in
     let q : ℕ = origin n a c in
     let hq : q < n = origin-below n a c ha hc in
@@ -111,50 +124,130 @@ match_columns d a b c e grid ha hb step =
     let l : ℕ = shifted n b 0 in
     let hk : k < n = shifted_below n p c hp hc in
     let hl : l < n = shifted_below n b 0 hb (omega (arith, hb)) in
-    let there : translate (translate d a b) k l ≡ translate d (turn n q) 0 =
-    brought_translate d a b k l (turn n q) 0 grid ha hb hk hl (brought_from n a c p (turn n q) ha hc hp (turn-below n q grid.least hq) (first_origin n q grid.least hq)) (back_to_zero n b hb) in
-    let first : origin n k p ≡ c = ap (λ (z : ℕ). origin n k z) (sym (brought n p c hp hc)) ∙ origin-shifted n k c hk hc in
-    let second : origin n k (p + 1) ≡ c + 1 = ap (λ (z : ℕ). origin n k z) (sym (brought_next n p c p1 inside)) ∙ origin-shifted n k (c + 1) hk inside in
-    let turned = exchange_columns_turned (translate d a b) e c p k l step (omega (arith, hk, long)) (omega (arith, hl, long)) (omega (arith, p1, long)) (ap (λ (z : ℕ). origin z k p) long ∙ first) (ap (λ (z : ℕ). origin z k (p + 1)) long ∙ second) in
     record {
-      try = column_exchange n q;
-      among = tries_column n q hq;
-      columns = turn-below n q grid.least hq;
-      rows = omega (arith, hb);
-      result = translate e k l;
-      step = subst (λ t. Step t (ExchangeColumns p) (translate e k l)) there turned;
-      same = translates_contains e k l (omega (arith, hk, long, step.marks.renumbered.same_size)) (omega (arith, hl, long, step.marks.renumbered.same_size));
+      q = q;
+      below = hq;
+      k = k;
+      l = l;
+      columns = hk;
+      rows = hl;
+      inside = p1;
+      turned = turn-below n q grid.least hq;
+      first = ap (λ (z : ℕ). origin n k z) (sym (brought n p c hp hc)) ∙ origin-shifted n k c hk hc;
+      second = ap (λ (z : ℕ). origin n k z) (sym (brought_next n p c p1 inside)) ∙ origin-shifted n k (c + 1) hk inside;
+      there = brought_translate d a b k l (turn n q) 0 grid ha hb hk hl (brought_from n a c p (turn n q) ha hc hp (turn-below n q grid.least hq) (first_origin n q grid.least hq)) (back_to_zero n b hb);
     }
 
-match_rows : (d : Diagram) (a b r : ℕ) (e : Diagram) → IsGrid d → a < size d → b < size d → Step (translate d a b) (ExchangeRows r) e → Matched d e
-match_rows d a b r e grid ha hb step =
+match_column_exchange : (d : Diagram) (a b c : ℕ) (e : Diagram) → IsGrid d → a < size d → b < size d → Step (translate d a b) (ExchangeColumns c) e → Matched (ExchangeColumns c) d e
+match_column_exchange d a b c e grid ha hb step =
+    let long : size (translate d a b) ≡ size d = size-translate d a b ha in
+    let r = columns_round d a b c grid ha hb (omega (arith, step.marks.inside, long)) in
+    let same : size e ≡ size d = step.marks.renumbered.same_size ∙ long in
+    let turned = exchange_columns_turned (translate d a b) e c (place (size d) r.q) r.k r.l step (omega (arith, r.columns, long)) (omega (arith, r.rows, long)) (omega (arith, r.inside, long)) (ap (λ (z : ℕ). origin z r.k (place (size d) r.q)) long ∙ r.first) (ap (λ (z : ℕ). origin z r.k (place (size d) r.q + 1)) long ∙ r.second) in
+    record {
+      try = column_exchange (size d) r.q;
+      alike = refl;
+      among = tries_column (size d) r.q (column_exchange (size d) r.q) r.below (contains_first (column_exchange (size d) r.q) (column_slide (size d) r.q ∷ []));
+      columns = r.turned;
+      rows = omega (arith, hb);
+      result = translate e r.k r.l;
+      step = subst (λ t. Step t (ExchangeColumns (place (size d) r.q)) (translate e r.k r.l)) r.there turned;
+      same = translates_contains e r.k r.l (omega (arith, r.columns, same)) (omega (arith, r.rows, same));
+    }
+
+match_column_slide : (d : Diagram) (a b c : ℕ) (e : Diagram) → IsGrid d → a < size d → b < size d → Step (translate d a b) (SlideColumns c) e → Matched (SlideColumns c) d e
+match_column_slide d a b c e grid ha hb step =
+    let long : size (translate d a b) ≡ size d = size-translate d a b ha in
+    let r = columns_round d a b c grid ha hb (omega (arith, step.marks.inside, long)) in
+    let same : size e ≡ size d = step.marks.renumbered.same_size ∙ long in
+    let turned = slide_columns_turned (translate d a b) e c (place (size d) r.q) r.k r.l step (omega (arith, r.columns, long)) (omega (arith, r.rows, long)) (omega (arith, r.inside, long)) (ap (λ (z : ℕ). origin z r.k (place (size d) r.q)) long ∙ r.first) (ap (λ (z : ℕ). origin z r.k (place (size d) r.q + 1)) long ∙ r.second) in
+    record {
+      try = column_slide (size d) r.q;
+      alike = refl;
+      among = tries_column (size d) r.q (column_slide (size d) r.q) r.below (contains_later (column_exchange (size d) r.q) (column_slide (size d) r.q ∷ []) (column_slide (size d) r.q) (contains_first (column_slide (size d) r.q) []));
+      columns = r.turned;
+      rows = omega (arith, hb);
+      result = translate e r.k r.l;
+      step = subst (λ t. Step t (SlideColumns (place (size d) r.q)) (translate e r.k r.l)) r.there turned;
+      same = translates_contains e r.k r.l (omega (arith, r.columns, same)) (omega (arith, r.rows, same));
+    }
+
+-- rows c and c + 1 likewise
+record RowsRound (d : Diagram) (a b c : ℕ) : Type 0 where
+  q : ℕ
+  below : q < size d
+  k : ℕ
+  l : ℕ
+  columns : k < size d
+  rows : l < size d
+  inside : place (size d) q + 1 < size d
+  turned : turn (size d) q < size d
+  first : shifted (size d) l c ≡ place (size d) q
+  second : shifted (size d) l (c + 1) ≡ place (size d) q + 1
+  there : translate (translate d a b) k l ≡ translate d 0 (turn (size d) q)
+
+rows_round : (d : Diagram) (a b c : ℕ) → IsGrid d → a < size d → b < size d → c + 1 < size d → RowsRound d a b c
+rows_round d a b c grid ha hb inside =
     let n : ℕ = size d in
-    let long : size (translate d a b) ≡ n = size-translate d a b ha in
-    let inside : r + 1 < n = omega (arith, step.marks.inside, long) in
-    let hr : r < n = omega (arith, inside) in
-    let q : ℕ = origin n b r in
-    let hq : q < n = origin-below n b r hb hr in
+    let hc : c < n = omega (arith, inside) in
+    let q : ℕ = origin n b c in
+    let hq : q < n = origin-below n b c hb hc in
     let p : ℕ = place n q in
     let p1 : p + 1 < n = place-below n q grid.least hq in
     let hp : p < n = omega (arith, p1) in
     let k : ℕ = shifted n a 0 in
-    let l : ℕ = shifted n p r in
+    let l : ℕ = shifted n p c in
     let hk : k < n = shifted_below n a 0 ha (omega (arith, ha)) in
-    let hl : l < n = shifted_below n p r hp hr in
-    let there : translate (translate d a b) k l ≡ translate d 0 (turn n q) =
-    brought_translate d a b k l 0 (turn n q) grid ha hb hk hl (back_to_zero n a ha) (brought_from n b r p (turn n q) hb hr hp (turn-below n q grid.least hq) (first_origin n q grid.least hq)) in
-    let turned = exchange_rows_turned (translate d a b) e r p k l step (omega (arith, hk, long)) (omega (arith, hl, long)) (omega (arith, p1, long)) (ap (λ (z : ℕ). shifted z l r) long ∙ brought n p r hp hr) (ap (λ (z : ℕ). shifted z l (r + 1)) long ∙ brought_next n p r p1 inside) in
+    let hl : l < n = shifted_below n p c hp hc in
     record {
-      try = row_exchange n q;
-      among = tries_row n q hq;
-      columns = omega (arith, ha);
-      rows = turn-below n q grid.least hq;
-      result = translate e k l;
-      step = subst (λ t. Step t (ExchangeRows p) (translate e k l)) there turned;
-      same = translates_contains e k l (omega (arith, hk, long, step.marks.renumbered.same_size)) (omega (arith, hl, long, step.marks.renumbered.same_size));
+      q = q;
+      below = hq;
+      k = k;
+      l = l;
+      columns = hk;
+      rows = hl;
+      inside = p1;
+      turned = turn-below n q grid.least hq;
+      first = brought n p c hp hc;
+      second = brought_next n p c p1 inside;
+      there = brought_translate d a b k l 0 (turn n q) grid ha hb hk hl (back_to_zero n a ha) (brought_from n b c p (turn n q) hb hc hp (turn-below n q grid.least hq) (first_origin n q grid.least hq));
     }
 
-match_marks : (d : Diagram) (a b c : ℕ) (kind : Kind) (corner : Corner) (e : Diagram) → IsGrid d → a < size d → b < size d → Step (translate d a b) (Stabilise c kind corner) e → Matched d e
+match_row_exchange : (d : Diagram) (a b c : ℕ) (e : Diagram) → IsGrid d → a < size d → b < size d → Step (translate d a b) (ExchangeRows c) e → Matched (ExchangeRows c) d e
+match_row_exchange d a b c e grid ha hb step =
+    let long : size (translate d a b) ≡ size d = size-translate d a b ha in
+    let r = rows_round d a b c grid ha hb (omega (arith, step.marks.inside, long)) in
+    let same : size e ≡ size d = step.marks.renumbered.same_size ∙ long in
+    let turned = exchange_rows_turned (translate d a b) e c (place (size d) r.q) r.k r.l step (omega (arith, r.columns, long)) (omega (arith, r.rows, long)) (omega (arith, r.inside, long)) (ap (λ (z : ℕ). shifted z r.l c) long ∙ r.first) (ap (λ (z : ℕ). shifted z r.l (c + 1)) long ∙ r.second) in
+    record {
+      try = row_exchange (size d) r.q;
+      alike = refl;
+      among = tries_row (size d) r.q (row_exchange (size d) r.q) r.below (contains_first (row_exchange (size d) r.q) (row_slide (size d) r.q ∷ []));
+      columns = omega (arith, ha);
+      rows = r.turned;
+      result = translate e r.k r.l;
+      step = subst (λ t. Step t (ExchangeRows (place (size d) r.q)) (translate e r.k r.l)) r.there turned;
+      same = translates_contains e r.k r.l (omega (arith, r.columns, same)) (omega (arith, r.rows, same));
+    }
+
+match_row_slide : (d : Diagram) (a b c : ℕ) (e : Diagram) → IsGrid d → a < size d → b < size d → Step (translate d a b) (SlideRows c) e → Matched (SlideRows c) d e
+match_row_slide d a b c e grid ha hb step =
+    let long : size (translate d a b) ≡ size d = size-translate d a b ha in
+    let r = rows_round d a b c grid ha hb (omega (arith, step.marks.inside, long)) in
+    let same : size e ≡ size d = step.marks.renumbered.same_size ∙ long in
+    let turned = slide_rows_turned (translate d a b) e c (place (size d) r.q) r.k r.l step (omega (arith, r.columns, long)) (omega (arith, r.rows, long)) (omega (arith, r.inside, long)) (ap (λ (z : ℕ). shifted z r.l c) long ∙ r.first) (ap (λ (z : ℕ). shifted z r.l (c + 1)) long ∙ r.second) in
+    record {
+      try = row_slide (size d) r.q;
+      alike = refl;
+      among = tries_row (size d) r.q (row_slide (size d) r.q) r.below (contains_later (row_exchange (size d) r.q) (row_slide (size d) r.q ∷ []) (row_slide (size d) r.q) (contains_first (row_slide (size d) r.q) []));
+      columns = omega (arith, ha);
+      rows = r.turned;
+      result = translate e r.k r.l;
+      step = subst (λ t. Step t (SlideRows (place (size d) r.q)) (translate e r.k r.l)) r.there turned;
+      same = translates_contains e r.k r.l (omega (arith, r.columns, same)) (omega (arith, r.rows, same));
+    }
+
+match_marks : (d : Diagram) (a b c : ℕ) (kind : Kind) (corner : Corner) (e : Diagram) → IsGrid d → a < size d → b < size d → Step (translate d a b) (Stabilise c kind corner) e → Matched (Stabilise c kind corner) d e
 match_marks d a b c kind corner e grid ha hb step =
     let n : ℕ = size d in
     let long : size (translate d a b) ≡ n = size-translate d a b ha in
@@ -185,6 +278,7 @@ match_marks d a b c kind corner e grid ha hb step =
     let l' : ℕ = shifted (size (translate d a b) + 1) s r in
     record {
       try = stabilisation q kind corner;
+      alike = refl;
       among = tries_mark n q kind corner hq;
       columns = zero_below;
       rows = zero_below;
@@ -193,7 +287,7 @@ match_marks d a b c kind corner e grid ha hb step =
       same = translates_contains e k' l' (omega (arith, grown, shifted_below (size (translate d a b) + 1) q c (omega (arith, hq, long)) (omega (arith, hc, long)))) (omega (arith, grown, shifted_below (size (translate d a b) + 1) s r (omega (arith, hs, long)) (omega (arith, hr, long))));
     }
 
-match_blocks : (d : Diagram) (a b c r : ℕ) (e : Diagram) → IsGrid d → a < size d → b < size d → Step (translate d a b) (Destabilise c r) e → Matched d e
+match_blocks : (d : Diagram) (a b c r : ℕ) (e : Diagram) → IsGrid d → a < size d → b < size d → Step (translate d a b) (Destabilise c r) e → Matched (Destabilise c r) d e
 match_blocks d a b c r e grid ha hb step =
     let n : ℕ = size d in
     let long : size (translate d a b) ≡ n = size-translate d a b ha in
@@ -227,6 +321,7 @@ match_blocks d a b c r e grid ha hb step =
     let in_row : r < size e = mark_below e step.after step.marks.kind c r step.marks.undone.marked in
     record {
       try = destabilisation n q s;
+      alike = refl;
       among = tries_block n q s hq hs;
       columns = turn-below n q grid.least hq;
       rows = turn-below n s grid.least hs;
@@ -235,10 +330,12 @@ match_blocks d a b c r e grid ha hb step =
       same = translates_contains e (shifted (size e) p c) (shifted (size e) u r) (shifted_below (size e) p c ep in_column) (shifted_below (size e) u r eu in_row);
     }
 
-pub matched : (move : Move) (d : Diagram) (a b : ℕ) (e : Diagram) → IsGrid d → a < size d → b < size d → is_shift move ≡ false → Step (translate d a b) move e → Matched d e
+pub matched : (move : Move) (d : Diagram) (a b : ℕ) (e : Diagram) → IsGrid d → a < size d → b < size d → is_shift move ≡ false → Step (translate d a b) move e → Matched move d e
 matched (ShiftColumns k) d a b e grid ha hb turns step = absurd (let impossible : true ≡ false = turns in cc)
 matched (ShiftRows k) d a b e grid ha hb turns step = absurd (let impossible : true ≡ false = turns in cc)
-matched (ExchangeColumns c) d a b e grid ha hb turns step = match_columns d a b c e grid ha hb step
-matched (ExchangeRows r) d a b e grid ha hb turns step = match_rows d a b r e grid ha hb step
+matched (ExchangeColumns c) d a b e grid ha hb turns step = match_column_exchange d a b c e grid ha hb step
+matched (ExchangeRows r) d a b e grid ha hb turns step = match_row_exchange d a b r e grid ha hb step
+matched (SlideColumns c) d a b e grid ha hb turns step = match_column_slide d a b c e grid ha hb step
+matched (SlideRows r) d a b e grid ha hb turns step = match_row_slide d a b r e grid ha hb step
 matched (Stabilise c kind corner) d a b e grid ha hb turns step = match_marks d a b c kind corner e grid ha hb step
 matched (Destabilise c r) d a b e grid ha hb turns step = match_blocks d a b c r e grid ha hb step

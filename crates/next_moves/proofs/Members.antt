@@ -1,6 +1,7 @@
 -- Members of lists that were mapped and filtered.
 use Rattle.std.proofs.Common.{◌≡◌, ◌<◌, ◌∷◌, ◌∙◌, [], ℕ, zero, suc, List, Bool, true, false, cond, filter, map, length, get_or, arith, sym, refl, ap, subst}
-use Rattle.std.specs.List.{Contains}
+use Rattle.std.specs.List.{All, Contains}
+use Rattle.std.proofs.lemmas.List.Elements.{All-head, All-tail}
 
 -- the first, or one of the others
 pub contains_first : {A : Type 0} (x : A) (xs : List A) → Contains (x ∷ xs) x
@@ -50,3 +51,36 @@ mapped_at f (x ∷ xs) y (suc k) lt is = let r = mapped_at f xs y k (omega (arit
 
 pub mapped_from : {A B : Type 0} (f : A → B) (xs : List A) (y : B) → Contains (map f xs) y → (x : A) × Contains xs x × (f x ≡ y)
 mapped_from f xs y c = mapped_at f xs y c.0 c.1 c.2
+
+-- filters and maps in another order
+filter_first : {A : Type 0} (test : A → Bool) (x : A) (xs : List A) (b : Bool) → test x ≡ b → filter test (x ∷ xs) ≡ cond b (x ∷ filter test xs) (filter test xs)
+filter_first test x xs b is = ap (λ t. cond t (x ∷ filter test xs) (filter test xs)) is
+
+pub map_filter : {A B : Type 0} (f : A → B) (test : B → Bool) (xs : List A) → map f (filter (λ x. test (f x)) xs) ≡ filter test (map f xs)
+map_filter f test [] = refl
+map_filter f test (x ∷ xs) = by (test (f x)) refl (map_filter f test xs)
+  where
+    by : (b : Bool) → test (f x) ≡ b → map f (filter (λ y. test (f y)) xs) ≡ filter test (map f xs) → map f (filter (λ y. test (f y)) (x ∷ xs)) ≡ filter test (f x ∷ map f xs)
+    by true is rest =
+        ap (map f) (filter_first (λ y. test (f y)) x xs true is) ∙ ap (λ ys. f x ∷ ys) rest ∙ sym (filter_first test (f x) (map f xs) true is)
+    by false is rest =
+        ap (map f) (filter_first (λ y. test (f y)) x xs false is) ∙ rest ∙ sym (filter_first test (f x) (map f xs) false is)
+
+pub filter_swap : {A : Type 0} (p q : A → Bool) (xs : List A) → filter p (filter q xs) ≡ filter q (filter p xs)
+filter_swap p q [] = refl
+filter_swap p q (x ∷ xs) = by (p x) (q x) refl refl (filter_swap p q xs)
+  where
+    by : (a b : Bool) → p x ≡ a → q x ≡ b → filter p (filter q xs) ≡ filter q (filter p xs) → filter p (filter q (x ∷ xs)) ≡ filter q (filter p (x ∷ xs))
+    by true true a b rest =
+        ap (filter p) (filter_first q x xs true b) ∙ filter_first p x (filter q xs) true a ∙ ap (λ ys. x ∷ ys) rest
+        ∙ sym (ap (filter q) (filter_first p x xs true a) ∙ filter_first q x (filter p xs) true b)
+    by true false a b rest =
+        ap (filter p) (filter_first q x xs false b) ∙ rest ∙ sym (ap (filter q) (filter_first p x xs true a) ∙ filter_first q x (filter p xs) false b)
+    by false true a b rest =
+        ap (filter p) (filter_first q x xs true b) ∙ filter_first p x (filter q xs) false a ∙ rest ∙ sym (ap (filter q) (filter_first p x xs false a))
+    by false false a b rest = ap (filter p) (filter_first q x xs false b) ∙ rest ∙ sym (ap (filter q) (filter_first p x xs false a))
+
+pub filter_none : {A : Type 0} (test : A → Bool) (xs : List A) → All (λ x. test x ≡ false) xs → filter test xs ≡ []
+filter_none test [] none = refl
+filter_none test (x ∷ xs) none =
+    filter_first test x xs false (All-head (λ y. test y ≡ false) x xs none) ∙ filter_none test xs (All-tail (λ y. test y ≡ false) x xs none)

@@ -1,19 +1,19 @@
--- How many of the tries are offered: two of each number for exchanges and destabilisations, and eight for stabilisations.
-use Rattle.std.proofs.Common.{◌≡◌, ◌<◌, ◌≤◌, ◌+◌, ◌*◌, ◌++◌, ◌∷◌, ◌∙◌, [], ℕ, zero, suc, List, Bool, false, cond, filter, map, length, arith, sym, ap, inl, inr, add-one}
+-- How many of the tries are offered: of each number one exchange or slide of columns and one of rows, two destabilisations and eight stabilisations.
+use Rattle.std.proofs.Common.{◌⊎◌, ◌≡◌, ◌<◌, ◌≤◌, ◌+◌, ◌*◌, ◌++◌, ◌∷◌, ◌∙◌, [], ℕ, zero, suc, List, Bool, false, cond, filter, map, length, arith, sym, ap, inl, inr, add-one}
 use Rattle.std.specs.List.{range_with_len, flat_map}
 use Rattle.std.proofs.lemmas.Bool.{cases_eq}
 use Rattle.std.proofs.lemmas.Bool.Decides.{nat_tests}
 use Rattle.std.proofs.lemmas.List.{length-append}
 use Rattle.std.proofs.lemmas.List.Elements.{filter-append}
-use Rattle.std.proofs.lemmas.List.FromFn.{length-map-range_with_len}
 use Rattle.std.proofs.lemmas.List.Sums.{length-filter, count_by-le-length}
 use Rattle.grid_core.specs.Diagram.{Diagram, IsGrid, size}
-use Rattle.next_moves.specs.Tries.{column_exchange, row_exchange, destabilisation, destabilisations, stabilisations, exchanges, all_destabilisations, all_stabilisations}
+use Rattle.next_moves.specs.Tries.{Try, column_exchange, column_slide, column_trades, row_exchange, row_slide, row_trades, destabilisation, destabilisations, stabilisations, trades, all_destabilisations, all_stabilisations}
 use Rattle.next_moves.specs.Offers.{is_offered}
 use Rattle.next_moves.specs.Extends.{next, row_of_both, counted, passed}
 use Rattle.next_moves.proofs.Extended.{map_range_more, flat_map_range_more}
 use Rattle.next_moves.proofs.Sides.{passed_more, passed_le}
 use Rattle.next_moves.proofs.BlockRows.{no_other_block}
+use Rattle.next_moves.proofs.Trades.{columns_once, rows_once}
 
 -- what passes is not more than what is tested
 kept_le : {A : Type 0} (p : A → Bool) (xs : List A) → length (filter p xs) ≤ length xs
@@ -72,10 +72,26 @@ blocks_offered d cap grid =
           omega (arith, blocks_passed d cap c (size d) grid hc (omega arith), passed_le (row_of_both d c) (size d), passed_le (row_of_both d (next (size d) c)) (size d))),
     )
 
-pub exchanges_offered : (d : Diagram) (cap : ℕ) → length (filter (is_offered d cap) (exchanges (size d))) ≤ 2 * size d
-exchanges_offered d cap =
+-- of two tries of which one is not offered
+one_kept : (d : Diagram) (cap : ℕ) (s t : Try) → (is_offered d cap s ≡ false) ⊎ (is_offered d cap t ≡ false) → length (filter (is_offered d cap) (s ∷ t ∷ [])) ≤ 1
+one_kept d cap s t once =
+    let p = is_offered d cap in
+    let both = kept_append p (s ∷ []) (t ∷ []) in
+    elim once [
+      | inl e ↦ omega (arith, both, none_kept p s e, kept_le p (t ∷ []))
+      | inr e ↦ omega (arith, both, none_kept p t e, kept_le p (s ∷ []))
+    ]
+
+pub trades_offered : (d : Diagram) (cap : ℕ) → length (filter (is_offered d cap) (trades (size d))) ≤ 2 * size d
+trades_offered d cap =
     let n : ℕ = size d in
-    omega (arith, kept_le (is_offered d cap) (exchanges n), length-append (map (column_exchange n) (range_with_len 0 n)) (map (row_exchange n) (range_with_len 0 n)), length-map-range_with_len (column_exchange n) 0 n, length-map-range_with_len (row_exchange n) 0 n)
+    let p = is_offered d cap in
+    omega (
+      arith,
+      kept_append p (flat_map (column_trades n) (range_with_len 0 n)) (flat_map (row_trades n) (range_with_len 0 n)),
+      kept_each p (column_trades n) 1 n (λ c lt. one_kept d cap (column_exchange n c) (column_slide n c) (columns_once d cap n c)),
+      kept_each p (row_trades n) 1 n (λ r lt. one_kept d cap (row_exchange n r) (row_slide n r) (rows_once d cap n r)),
+    )
 
 pub stabilisations_offered : (d : Diagram) (cap : ℕ) → length (filter (is_offered d cap) (all_stabilisations (size d))) ≤ 8 * size d
 stabilisations_offered d cap = omega (arith, kept_each (is_offered d cap) stabilisations 8 (size d) (λ c hc. kept_le (is_offered d cap) (stabilisations c)))

@@ -1,11 +1,11 @@
 -- Neighbours on the circle, brought side by side.
-use Rattle.std.proofs.Common.{◌≡◌, ◌≢◌, ◌<◌, ◌≤◌, ◌+◌, ◌-◌, ◌⊎◌, ◌∙◌, ℕ, cond, arith, sym, ap, ap₂, inl, inr}
+use Rattle.std.proofs.Common.{List, [], ◌∷◌, ◌≡◌, ◌≢◌, ◌<◌, ◌≤◌, ◌+◌, ◌-◌, ◌⊎◌, ◌∙◌, ℕ, cond, arith, sym, ap, ap₂, inl, inr}
 use Rattle.std.proofs.lemmas.Bool.{cases_eq, eq-eqb, ne_eqb}
 use Rattle.std.proofs.lemmas.Bool.Decides.{nat_tests}
 use Rattle.grid_moves.specs.Shift.{shifted}
 use Rattle.grid_canon.proofs.Turned.{origin, origin_cases, origin-shifted}
-use Rattle.grid_moves.specs.declared.step.Move.TheVariants.{ExchangeColumns, ExchangeRows, Destabilise}
-use Rattle.next_moves.specs.Tries.{Try, turn, place, column_exchange, row_exchange, destabilisation}
+use Rattle.grid_moves.specs.declared.step.Move.TheVariants.{ExchangeColumns, ExchangeRows, SlideColumns, SlideRows, Destabilise}
+use Rattle.next_moves.specs.Tries.{Try, turn, place, column_trades, row_trades, destabilisation}
 use Rattle.next_moves.specs.Extends.{next, first_of_pair, counted, passed}
 
 -- the last, or any other
@@ -67,18 +67,18 @@ block_made n c r a b least hc hr ea eb =
     made : ℕ → ℕ → ℕ → ℕ → Try
     made a b c r = record { before = (a, b); step = Destabilise c r }
 
--- an exchange by its turn
-pub column_made : (n c a q : ℕ) → a ≡ turn n c → q ≡ place n c → ◌≡◌ {A = Try} (record { before = (a, 0); step = ExchangeColumns q }) (column_exchange n c)
+-- an exchange and a slide by their turn
+pub column_made : (n c a q : ℕ) → a ≡ turn n c → q ≡ place n c → ◌≡◌ {A = List Try} (record { before = (a, 0); step = ExchangeColumns q } ∷ record { before = (a, 0); step = SlideColumns q } ∷ []) (column_trades n c)
 column_made n c a q ea eq = ap₂ (λ (z w : ℕ). made z w) ea eq
   where
-    made : ℕ → ℕ → Try
-    made a q = record { before = (a, 0); step = ExchangeColumns q }
+    made : ℕ → ℕ → List Try
+    made a q = record { before = (a, 0); step = ExchangeColumns q } ∷ record { before = (a, 0); step = SlideColumns q } ∷ []
 
-pub row_made : (n r b q : ℕ) → b ≡ turn n r → q ≡ place n r → ◌≡◌ {A = Try} (record { before = (0, b); step = ExchangeRows q }) (row_exchange n r)
+pub row_made : (n r b q : ℕ) → b ≡ turn n r → q ≡ place n r → ◌≡◌ {A = List Try} (record { before = (0, b); step = ExchangeRows q } ∷ record { before = (0, b); step = SlideRows q } ∷ []) (row_trades n r)
 row_made n r b q eb eq = ap₂ (λ (z w : ℕ). made z w) eb eq
   where
-    made : ℕ → ℕ → Try
-    made b q = record { before = (0, b); step = ExchangeRows q }
+    made : ℕ → ℕ → List Try
+    made b q = record { before = (0, b); step = ExchangeRows q } ∷ record { before = (0, b); step = SlideRows q } ∷ []
 
 -- all but the last stand side by side as they are
 pub inner_turn : (n c : ℕ) → c + 1 < n → 0 ≡ turn n c

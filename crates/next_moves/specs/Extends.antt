@@ -2,6 +2,10 @@
 use Rattle.std.specs.Prelude.{◌≡◌, ◌+◌, ◌==◌, ◌++◌, ℕ, List, if◌then◌else◌, nat_lt}
 use Rattle.grid_core.specs.declared.mark.Kind.TheVariants.{Cross, Ring}
 use Rattle.grid_core.specs.Diagram.{Diagram, size, row_of}
+use Rattle.grid_core.specs.Span.{share_an_end}
+use Rattle.grid_core.specs.Parts.{column_span, ends}
+use Rattle.grid_moves.specs.declared.step.Move.{Move}
+use Rattle.grid_moves.specs.declared.step.Move.TheVariants.{ExchangeColumns, ExchangeRows, SlideColumns, SlideRows}
 use Rattle.next_moves.specs.declared.offer.Offer.{Offer}
 use Rattle.next_moves.specs.Tries.{Try}
 use Rattle.next_moves.specs.Offers.{AreOffersOf}
@@ -11,6 +15,14 @@ pub record Extends (d : Diagram) (cap : ℕ) (list : List Try) (old new : List O
   pub more : List Offer
   pub is : new ≡ old ++ more
   pub offers : AreOffersOf d cap list more
+
+-- the only move by which columns c and c + 1 may trade places: a slide where they share a row, else an exchange
+abbrev pub column_trade : Diagram → ℕ → Move
+column_trade d c = if share_an_end (column_span d c) (column_span d (c + 1)) then SlideColumns c else ExchangeColumns c
+
+-- rows r and r + 1 likewise
+abbrev pub row_trade : Diagram → ℕ → Move
+row_trade d r = if share_an_end (ends d r) (ends d (r + 1)) then SlideRows r else ExchangeRows r
 
 -- the next number, round the circle of n
 abbrev pub next : ℕ → ℕ → ℕ

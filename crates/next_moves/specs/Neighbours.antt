@@ -3,7 +3,7 @@ use Rattle.std.specs.Prelude.{◌≡◌, ◌≤◌, ℕ, Bool, true, false}
 use Rattle.std.specs.List.{Contains}
 use Rattle.grid_core.specs.Diagram.{Diagram, size}
 use Rattle.grid_moves.specs.declared.step.Move.{Move}
-use Rattle.grid_moves.specs.declared.step.Move.TheVariants.{ShiftColumns, ShiftRows, ExchangeColumns, ExchangeRows, Stabilise, Destabilise}
+use Rattle.grid_moves.specs.declared.step.Move.TheVariants.{ShiftColumns, ShiftRows, ExchangeColumns, ExchangeRows, SlideColumns, SlideRows, Stabilise, Destabilise}
 use Rattle.grid_moves.specs.Step.{Step}
 use Rattle.grid_canon.specs.Translate.{translates}
 use Rattle.grid_canon.specs.Canonical.{IsCanonicalForm}
@@ -13,6 +13,8 @@ is_shift (ShiftColumns k) = true
 is_shift (ShiftRows k) = true
 is_shift (ExchangeColumns c) = false
 is_shift (ExchangeRows r) = false
+is_shift (SlideColumns c) = false
+is_shift (SlideRows r) = false
 is_shift (Stabilise c kind corner) = false
 is_shift (Destabilise c r) = false
 

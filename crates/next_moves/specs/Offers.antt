@@ -5,7 +5,7 @@ use Rattle.std.specs.Option.{is_none}
 use Rattle.grid_core.specs.declared.grid.TheConstants.{MAX_SIZE}
 use Rattle.grid_core.specs.Diagram.{Diagram, IsGrid, size}
 use Rattle.grid_moves.specs.declared.step.Move.{Move}
-use Rattle.grid_moves.specs.declared.step.Move.TheVariants.{ShiftColumns, ShiftRows, ExchangeColumns, ExchangeRows, Stabilise, Destabilise}
+use Rattle.grid_moves.specs.declared.step.Move.TheVariants.{ShiftColumns, ShiftRows, ExchangeColumns, ExchangeRows, SlideColumns, SlideRows, Stabilise, Destabilise}
 use Rattle.grid_moves.specs.Step.{Step}
 use Rattle.grid_moves.specs.MoveFault.{first_fault}
 use Rattle.grid_canon.specs.declared.packed.Packed.{Packed}
@@ -14,7 +14,7 @@ use Rattle.grid_canon.specs.Canonical.{IsCanonical, IsLeastForm}
 use Rattle.grid_canon.specs.Key.{key_of}
 use Rattle.next_moves.specs.declared.offer.Link.{Link}
 use Rattle.next_moves.specs.declared.offer.Offer.{Offer}
-use Rattle.next_moves.specs.Tries.{Try, tries}
+use Rattle.next_moves.specs.Tries.{Try, tries, is_exchange}
 
 -- the size of the result of a move on a diagram of this size
 abbrev pub size_after : Move → ℕ → ℕ
@@ -22,6 +22,8 @@ size_after (ShiftColumns k) n = n
 size_after (ShiftRows k) n = n
 size_after (ExchangeColumns c) n = n
 size_after (ExchangeRows r) n = n
+size_after (SlideColumns c) n = n
+size_after (SlideRows r) n = n
 size_after (Stabilise c kind corner) n = n + 1
 size_after (Destabilise c r) n = n - 1
 
@@ -46,6 +48,10 @@ pub record IsOfferOf (d : Diagram) (offer : Offer) : Type 0 where
 
 abbrev pub try_of : Offer → Try
 try_of offer = record { before = offer.link.before; step = offer.link.step }
+
+-- the exchanges among offers, in order
+abbrev pub exchanges_among : List Offer → List Offer
+exchanges_among offers = filter (λ (offer : Offer). is_exchange offer.link.step) offers
 
 -- of a list of tries, those that are legal within the cap, in order, each with what it leads to
 pub record AreOffersOf (d : Diagram) (cap : ℕ) (list : List Try) (offers : List Offer) : Type 0 where

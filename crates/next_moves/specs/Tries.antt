@@ -1,13 +1,13 @@
 -- The moves that are tried on a diagram of n columns and rows, each on one of its translates, in order.
 -- Columns c and c + 1 are neighbours, and so are the last and the first: after a shift by 1 these two stand side by side, at the end.
-use Rattle.std.specs.Prelude.{◌+◌, ◌-◌, ◌==◌, ◌++◌, ℕ, List, [], ◌∷◌, map, if◌then◌else◌}
+use Rattle.std.specs.Prelude.{◌+◌, ◌-◌, ◌==◌, ◌++◌, ℕ, List, [], ◌∷◌, Bool, true, false, map, if◌then◌else◌}
 use Rattle.std.specs.List.{range_with_len, flat_map}
 use Rattle.grid_core.specs.declared.mark.Kind.{Kind}
 use Rattle.grid_core.specs.declared.mark.Kind.TheVariants.{Cross, Ring}
 use Rattle.grid_core.specs.declared.mark.Corner.{Corner}
 use Rattle.grid_core.specs.declared.mark.Corner.TheVariants.{LowLeft, LowRight, HighLeft, HighRight}
 use Rattle.grid_moves.specs.declared.step.Move.{Move}
-use Rattle.grid_moves.specs.declared.step.Move.TheVariants.{ExchangeColumns, ExchangeRows, Stabilise, Destabilise}
+use Rattle.grid_moves.specs.declared.step.Move.TheVariants.{ShiftColumns, ShiftRows, ExchangeColumns, ExchangeRows, SlideColumns, SlideRows, Stabilise, Destabilise}
 
 -- a move, after a shift of columns and a shift of rows, of which 0 means none
 pub record Try : Type 0 where
@@ -21,13 +21,25 @@ turn n c = if c + 1 == n then 1 else 0
 abbrev pub place : ℕ → ℕ → ℕ
 place n c = if c + 1 == n then n - 2 else c
 
--- column c and the next one trade places
+-- column c and the next one trade places, by an exchange or by a slide: never are both legal
 abbrev pub column_exchange : ℕ → ℕ → Try
 column_exchange n c = record { before = (turn n c, 0); step = ExchangeColumns (place n c) }
 
--- row r and the next one trade places
+abbrev pub column_slide : ℕ → ℕ → Try
+column_slide n c = record { before = (turn n c, 0); step = SlideColumns (place n c) }
+
+abbrev pub column_trades : ℕ → ℕ → List Try
+column_trades n c = column_exchange n c ∷ column_slide n c ∷ []
+
+-- row r and the next one trade places, likewise
 abbrev pub row_exchange : ℕ → ℕ → Try
 row_exchange n r = record { before = (0, turn n r); step = ExchangeRows (place n r) }
+
+abbrev pub row_slide : ℕ → ℕ → Try
+row_slide n r = record { before = (0, turn n r); step = SlideRows (place n r) }
+
+abbrev pub row_trades : ℕ → ℕ → List Try
+row_trades n r = row_exchange n r ∷ row_slide n r ∷ []
 
 -- the block of column c and the next one, and of row r and the next one, becomes one mark
 abbrev pub destabilisation : ℕ → ℕ → ℕ → Try
@@ -48,7 +60,21 @@ corners = LowLeft ∷ LowRight ∷ HighLeft ∷ HighRight ∷ []
 abbrev pub stabilisations : ℕ → List Try
 stabilisations c = map (stabilisation c Cross) corners ++ map (stabilisation c Ring) corners
 
--- exchanges of columns, and exchanges of rows
+-- neighbouring columns, and neighbouring rows, that trade places
+abbrev pub trades : ℕ → List Try
+trades n = flat_map (column_trades n) (range_with_len 0 n) ++ flat_map (row_trades n) (range_with_len 0 n)
+
+abbrev pub is_exchange : Move → Bool
+is_exchange (ShiftColumns k) = false
+is_exchange (ShiftRows k) = false
+is_exchange (ExchangeColumns c) = true
+is_exchange (ExchangeRows r) = true
+is_exchange (SlideColumns c) = false
+is_exchange (SlideRows r) = false
+is_exchange (Stabilise c kind corner) = false
+is_exchange (Destabilise c r) = false
+
+-- of these the exchanges alone
 abbrev pub exchanges : ℕ → List Try
 exchanges n = map (column_exchange n) (range_with_len 0 n) ++ map (row_exchange n) (range_with_len 0 n)
 
@@ -62,4 +88,4 @@ all_stabilisations n = flat_map stabilisations (range_with_len 0 n)
 
 -- all of them, in the order of the offers
 abbrev pub tries : ℕ → List Try
-tries n = exchanges n ++ all_destabilisations n ++ all_stabilisations n
+tries n = trades n ++ all_destabilisations n ++ all_stabilisations n

@@ -6,7 +6,7 @@ ghost use Rattle.grid_moves.specs.Joining.{Joins, JoinsWithin, WithinCap};
 ghost use Rattle.grid_canon.specs.Canonical.{IsCanonicalForm, IsCanonical};
 ghost use Rattle.grid_canon.specs.Key.{key_of};
 ghost use Rattle.next_moves.specs.Neighbours.{IsNeighbour};
-ghost use Rattle.next_moves.specs.Tries.{exchanges, all_destabilisations, all_stabilisations};
+ghost use Rattle.next_moves.specs.Tries.{trades, all_destabilisations, all_stabilisations};
 ghost use Rattle.next_moves.specs.Offers.{is_offered, Leads, IsOfferList, Neighbourhood, IsWhole};
 ghost use Rattle.next_moves.specs.Links.{link_moves};
 ghost use Rattle.next_moves.specs.Reach.{IsReached, AreMembers, HasMembers, HasMoreMembers};
@@ -31,9 +31,9 @@ pub fn every_offer_is_a_neighbour()
         → (f : Diagram) × (IsNeighbour d cap f × (key_of f ≡ offer.key) × Leads d offer.link f) }
 {}
 
-/// Of the tries on a grid of size n at most 2n exchanges, 2n destabilisations and 8n stabilisations are offered.
+/// Of the tries on a grid of size n at most 2n exchanges and slides together, 2n destabilisations and 8n stabilisations are offered.
 pub fn how_many_tries_are_offered()
-    ensures exchanges { (d : Diagram) (cap : ℕ) → length (filter (is_offered d cap) (exchanges (size d))) ≤ 2 * size d }
+    ensures trades { (d : Diagram) (cap : ℕ) → length (filter (is_offered d cap) (trades (size d))) ≤ 2 * size d }
     ensures destabilisations { (d : Diagram) (cap : ℕ)
         → IsGrid d
         → length (filter (is_offered d cap) (all_destabilisations (size d))) ≤ 2 * size d }

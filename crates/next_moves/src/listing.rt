@@ -6,8 +6,8 @@ ghost use Rattle.grid_core.specs.Diagram.{size};
 ghost use Rattle.grid_moves.specs.Step.{Step};
 ghost use Rattle.grid_canon.specs.Translate.{translate};
 ghost use Rattle.next_moves.specs.declared.offers.TheConstants.{MAX_OFFERS};
-ghost use Rattle.next_moves.specs.Tries.{turn, column_exchange, row_exchange, destabilisation, destabilisations, stabilisations, stabilisation, corners};
-ghost use Rattle.next_moves.specs.Extends.{Extends, next, row_of_both, counted};
+ghost use Rattle.next_moves.specs.Tries.{turn, column_trades, row_trades, destabilisation, destabilisations, stabilisations, stabilisation, corners};
+ghost use Rattle.next_moves.specs.Extends.{Extends, column_trade, row_trade, next, row_of_both, counted};
 
 use crate::offer::{Link, Offer};
 use crate::offers::MAX_OFFERS;
@@ -73,46 +73,86 @@ fn push_within(
     }
 }
 
-/// Appends the exchanges of neighbouring columns.
-pub(crate) fn exchange_columns(list: &mut OfferList, grid: &Grid, cap: u8)
+/// Appends the exchanges and slides of neighbouring columns.
+pub(crate) fn trade_columns(list: &mut OfferList, grid: &Grid, cap: u8)
     requires room { length list.old.items + size grid.now ≤ MAX_OFFERS }
-    ensures offered { Extends grid.now cap (map (column_exchange (size grid.now)) (range_with_len 0 (size grid.now))) list.old.items list.new.items }
+    ensures offered { Extends grid.now cap (flat_map (column_trades (size grid.now)) (range_with_len 0 (size grid.now))) list.old.items list.new.items }
     ensures fits { length list.new.items ≤ length list.old.items + size grid.now }
 {
     let last = grid.size() - 1;
     for c in 0..last {
-        try_move(list, grid, cap, (0, 0), grid, Move::ExchangeColumns(c));
+        try_columns(list, grid, cap, (0, 0), grid, c);
     }
     let turned = translate(grid, 1, 0);
-    try_move(
-        list,
-        grid,
-        cap,
-        (1, 0),
-        &turned,
-        Move::ExchangeColumns(last - 1),
-    );
+    try_columns(list, grid, cap, (1, 0), &turned, last - 1);
 }
 
-/// Appends the exchanges of neighbouring rows.
-pub(crate) fn exchange_rows(list: &mut OfferList, grid: &Grid, cap: u8)
+/// Appends the offer of the move by which columns c and c + 1 of a translate trade places, where there is one.
+fn try_columns(list: &mut OfferList, grid: &Grid, cap: u8, before: (u8, u8), turned: &Grid, c: u8)
+    requires columns { before.0 < size grid.now }
+    requires rows { before.1 < size grid.now }
+    requires turned { turned.now ≡ translate grid.now before.0 before.1 }
+    requires inside { c + 1 < size turned.now }
+    requires room { length list.old.items < MAX_OFFERS }
+    ensures offered { Extends grid.now cap (record { before = before; step = Move.ExchangeColumns c } ∷ record { before = before; step = Move.SlideColumns c } ∷ []) list.old.items list.new.items }
+    ensures fits { length list.new.items ≤ length list.old.items + 1 }
+{
+    let step = column_trade(turned, c);
+    try_move(list, grid, cap, before, turned, step);
+}
+
+/// The only move by which columns c and c + 1 may trade places: a slide where they share a row, else an exchange.
+fn column_trade(grid: &Grid, c: u8) -> Move
+    requires { c + 1 < size grid.now }
+    ensures { result ≡ column_trade grid.now c }
+{
+    let _size = grid.size();
+    if grid.column_span(c).touches(grid.column_span(c + 1)) {
+        Move::SlideColumns(c)
+    } else {
+        Move::ExchangeColumns(c)
+    }
+}
+
+/// Appends the exchanges and slides of neighbouring rows.
+pub(crate) fn trade_rows(list: &mut OfferList, grid: &Grid, cap: u8)
     requires room { length list.old.items + size grid.now ≤ MAX_OFFERS }
-    ensures offered { Extends grid.now cap (map (row_exchange (size grid.now)) (range_with_len 0 (size grid.now))) list.old.items list.new.items }
+    ensures offered { Extends grid.now cap (flat_map (row_trades (size grid.now)) (range_with_len 0 (size grid.now))) list.old.items list.new.items }
     ensures fits { length list.new.items ≤ length list.old.items + size grid.now }
 {
     let last = grid.size() - 1;
     for r in 0..last {
-        try_move(list, grid, cap, (0, 0), grid, Move::ExchangeRows(r));
+        try_rows(list, grid, cap, (0, 0), grid, r);
     }
     let turned = translate(grid, 0, 1);
-    try_move(
-        list,
-        grid,
-        cap,
-        (0, 1),
-        &turned,
-        Move::ExchangeRows(last - 1),
-    );
+    try_rows(list, grid, cap, (0, 1), &turned, last - 1);
+}
+
+/// Appends the offer of the move by which rows r and r + 1 of a translate trade places, where there is one.
+fn try_rows(list: &mut OfferList, grid: &Grid, cap: u8, before: (u8, u8), turned: &Grid, r: u8)
+    requires columns { before.0 < size grid.now }
+    requires rows { before.1 < size grid.now }
+    requires turned { turned.now ≡ translate grid.now before.0 before.1 }
+    requires inside { r + 1 < size turned.now }
+    requires room { length list.old.items < MAX_OFFERS }
+    ensures offered { Extends grid.now cap (record { before = before; step = Move.ExchangeRows r } ∷ record { before = before; step = Move.SlideRows r } ∷ []) list.old.items list.new.items }
+    ensures fits { length list.new.items ≤ length list.old.items + 1 }
+{
+    let step = row_trade(turned, r);
+    try_move(list, grid, cap, before, turned, step);
+}
+
+/// The only move by which rows r and r + 1 may trade places: a slide where they share a column, else an exchange.
+fn row_trade(grid: &Grid, r: u8) -> Move
+    requires { r + 1 < size grid.now }
+    ensures { result ≡ row_trade grid.now r }
+{
+    let _size = grid.size();
+    if grid.row_span(r).touches(grid.row_span(r + 1)) {
+        Move::SlideRows(r)
+    } else {
+        Move::ExchangeRows(r)
+    }
 }
 
 /// Appends the destabilisations, by column and then by row.

@@ -6,7 +6,7 @@ ghost use Rattle.grid_canon.specs.Canonical.{IsCanonical};
 ghost use Rattle.grid_canon.specs.Key.{key_of};
 ghost use Rattle.next_moves.specs.Offers.{IsOfferList};
 
-use crate::listing::{OfferList, destabilise, exchange_columns, exchange_rows, stabilise};
+use crate::listing::{OfferList, destabilise, stabilise, trade_columns, trade_rows};
 use crate::offer::Offer;
 use arrayvec::ArrayVec;
 use grid_canon::{LeastForm, Packed, pack};
@@ -106,8 +106,8 @@ fn fill(list: &mut OfferList, grid: &Grid, cap: u8)
     ensures count { length list.new.items ≤ 12 * size grid.now }
 {
     let _size = grid.size();
-    exchange_columns(list, grid, cap);
-    exchange_rows(list, grid, cap);
+    trade_columns(list, grid, cap);
+    trade_rows(list, grid, cap);
     destabilise(list, grid, cap);
     stabilise(list, grid, cap);
 }

@@ -46,11 +46,11 @@ fn count(x: &[u8], o: &[u8], spare: u8) -> Option<usize> {
 fn there_are_as_many_offers_as_were_counted(rt: HostRuntime) -> Result<(), Fail> {
     let cases: [(&[u8], &[u8], usize, usize); 8] = [
         (&[0, 1], &[1, 0], 0, 16),
-        (&[0, 1, 2], &[1, 2, 0], 6, 30),
-        (&[0, 1, 2, 3], &[3, 2, 0, 1], 4, 36),
+        (&[0, 1, 2], &[1, 2, 0], 12, 36),
+        (&[0, 1, 2, 3], &[3, 2, 0, 1], 8, 40),
         (&[4, 3, 2, 1, 0], &[2, 1, 0, 4, 3], 0, 40),
         (&[0, 1, 2, 3, 4], &[2, 3, 4, 0, 1], 0, 40),
-        (&[4, 3, 2, 0, 1, 5, 6], &[6, 5, 4, 3, 2, 1, 0], 6, 62),
+        (&[4, 3, 2, 0, 1, 5, 6], &[6, 5, 4, 3, 2, 1, 0], 10, 66),
         (&[1, 0, 3, 2, 5, 4], &[0, 1, 2, 3, 4, 5], 6, 54),
         (
             &[0, 1, 2, 3, 4, 5, 6, 7, 8, 9],
@@ -89,6 +89,38 @@ fn the_offers_of_two_unknots_are_those_worked_out(rt: HostRuntime) -> Result<(),
         return Err(Fail::from("no grid"));
     };
     let block = |column, row| Move::Destabilise { column, row };
+    let slides: [(&[u8], &[u8], Link); 6] = [
+        (
+            &[0, 2, 1],
+            &[1, 0, 2],
+            link_of((0, 0), Move::SlideColumns(0), (0, 1)),
+        ),
+        (
+            &[0, 2, 1],
+            &[1, 0, 2],
+            link_of((0, 0), Move::SlideColumns(1), (0, 0)),
+        ),
+        (
+            &[0, 2, 1],
+            &[1, 0, 2],
+            link_of((1, 0), Move::SlideColumns(1), (0, 1)),
+        ),
+        (
+            &[0, 2, 1],
+            &[2, 1, 0],
+            link_of((0, 0), Move::SlideRows(0), (0, 1)),
+        ),
+        (
+            &[0, 2, 1],
+            &[2, 1, 0],
+            link_of((0, 0), Move::SlideRows(1), (0, 0)),
+        ),
+        (
+            &[0, 2, 1],
+            &[2, 1, 0],
+            link_of((0, 1), Move::SlideRows(1), (0, 1)),
+        ),
+    ];
     let links = [
         link_of((0, 0), block(0, 0), (0, 0)),
         link_of((0, 0), block(0, 1), (0, 0)),
@@ -100,15 +132,27 @@ fn the_offers_of_two_unknots_are_those_worked_out(rt: HostRuntime) -> Result<(),
     assert_eq!(rt; Some(three.origin()), key_of(&[0, 1, 2], &[1, 2, 0]));
     assert_eq!(rt; three.cap(), 3);
     for place in 0..6 {
+        let (x, o, link) = slides[place];
+        assert!(rt; is_offer(&three, place, x, o, link), "{place}");
         assert!(rt;
-            is_offer(&three, place, &[0, 1], &[1, 0], links[place]),
+            is_offer(&three, place + 6, &[0, 1], &[1, 0], links[place]),
             "{place}"
         );
     }
     let Some(four) = offers_of(&[0, 1, 2, 3], &[1, 3, 0, 2], 0) else {
         return Err(Fail::from("no grid"));
     };
-    let expected: [(&[u8], &[u8], Link); 4] = [
+    let expected: [(&[u8], &[u8], Link); 8] = [
+        (
+            &[0, 1, 3, 2],
+            &[2, 0, 1, 3],
+            link_of((0, 0), Move::SlideColumns(0), (2, 2)),
+        ),
+        (
+            &[0, 1, 3, 2],
+            &[1, 3, 2, 0],
+            link_of((0, 0), Move::SlideColumns(2), (0, 0)),
+        ),
         (
             &[0, 1, 3, 2],
             &[2, 3, 0, 1],
@@ -116,13 +160,23 @@ fn the_offers_of_two_unknots_are_those_worked_out(rt: HostRuntime) -> Result<(),
         ),
         (
             &[0, 1, 3, 2],
+            &[3, 0, 2, 1],
+            link_of((0, 0), Move::SlideRows(0), (2, 2)),
+        ),
+        (
+            &[0, 1, 3, 2],
             &[2, 3, 0, 1],
             link_of((0, 0), Move::ExchangeRows(1), (3, 3)),
+        ),
+        (
+            &[0, 1, 3, 2],
+            &[1, 2, 0, 3],
+            link_of((0, 0), Move::SlideRows(2), (0, 0)),
         ),
         (&[0, 1, 2], &[2, 0, 1], link_of((0, 0), block(0, 0), (0, 0))),
         (&[0, 1, 2], &[1, 2, 0], link_of((0, 0), block(2, 2), (0, 0))),
     ];
-    for place in 0..4 {
+    for place in 0..8 {
         let (x, o, link) = expected[place];
         assert!(rt; is_offer(&four, place, x, o, link), "{place}");
     }
@@ -177,7 +231,7 @@ fn renewed_offers_are_those_of_a_new_list(rt: HostRuntime) -> Result<(), Fail> {
     assert!(rt; offers.offers() == first.offers());
     offers.renew(&small, small.grid.size());
     assert!(rt; offers.offers() == Offers::of(&small, small.grid.size()).offers());
-    assert_eq!(rt; offers.offers().len(), 6);
+    assert_eq!(rt; offers.offers().len(), 12);
     Ok(())
 }
 

@@ -18,6 +18,8 @@ fn moves(alloc: Global, size: u8) -> Result<Vec<Move>, Fail> {
     for column in 0..size {
         moves.push(Move::ExchangeColumns(column))?;
         moves.push(Move::ExchangeRows(column))?;
+        moves.push(Move::SlideColumns(column))?;
+        moves.push(Move::SlideRows(column))?;
         for row in 0..size {
             moves.push(Move::Destabilise { column, row })?;
         }

@@ -1,0 +1,62 @@
+-- The exchanges among the tries and among the offers.
+use Rattle.std.proofs.Common.{◌≡◌, ◌++◌, ◌∷◌, ◌∙◌, [], ℕ, List, Bool, false, filter, map, refl, ap, ap₂}
+use Rattle.std.specs.List.{All, range_with_len, flat_map}
+use Rattle.std.proofs.lemmas.List.{append-nil}
+use Rattle.std.proofs.lemmas.List.Elements.{All-append, All-filter, All-map, filter-append}
+use Rattle.grid_core.specs.declared.mark.Kind.TheVariants.{Cross, Ring}
+use Rattle.grid_core.specs.Diagram.{Diagram}
+use Rattle.next_moves.specs.declared.offer.Offer.{Offer}
+use Rattle.next_moves.specs.Tries.{Try, tries, trades, exchanges, is_exchange, column_exchange, column_trades, row_exchange, row_trades, destabilisation, destabilisations, all_destabilisations, stabilisation, stabilisations, all_stabilisations, corners}
+use Rattle.next_moves.specs.Offers.{is_offered, IsOfferOf, AreOffersOf, try_of, exchanges_among}
+use Rattle.next_moves.proofs.Members.{map_filter, filter_swap, filter_none}
+use Rattle.next_moves.proofs.Complete.{ranged, flat_ranged}
+
+abbrev exchanges_in : Try → Bool
+exchanges_in t = is_exchange t.step
+
+abbrev IsNone : Try → Type 0
+IsNone t = exchanges_in t ≡ false
+
+of_columns : (n : ℕ) (xs : List ℕ) → filter exchanges_in (flat_map (column_trades n) xs) ≡ map (column_exchange n) xs
+of_columns n [] = refl
+of_columns n (x ∷ xs) = ap (λ (ts : List Try). column_exchange n x ∷ ts) (of_columns n xs)
+
+of_rows : (n : ℕ) (xs : List ℕ) → filter exchanges_in (flat_map (row_trades n) xs) ≡ map (row_exchange n) xs
+of_rows n [] = refl
+of_rows n (x ∷ xs) = ap (λ (ts : List Try). row_exchange n x ∷ ts) (of_rows n xs)
+
+no_destabilisation : (n : ℕ) → All IsNone (all_destabilisations n)
+no_destabilisation n =
+    flat_ranged IsNone (destabilisations n) (range_with_len 0 n) (λ c. ranged IsNone (destabilisation n c) n (λ k. refl))
+
+no_stabilisation : (n : ℕ) → All IsNone (all_stabilisations n)
+no_stabilisation n =
+    flat_ranged IsNone stabilisations (range_with_len 0 n) (λ c.
+    All-append IsNone (map (stabilisation c Cross) corners) (map (stabilisation c Ring) corners)
+    (All-map IsNone (stabilisation c Cross) corners (λ k d lt. refl))
+    (All-map IsNone (stabilisation c Ring) corners (λ k d lt. refl)))
+
+pub exchanges_of_tries : (n : ℕ) → filter exchanges_in (tries n) ≡ exchanges n
+exchanges_of_tries n =
+    filter-append exchanges_in (trades n ++ all_destabilisations n) (all_stabilisations n)
+    ∙ ap₂ (λ (ts us : List Try). ts ++ us)
+    (filter-append exchanges_in (trades n) (all_destabilisations n)
+    ∙ ap₂ (λ (ts us : List Try). ts ++ us) of_trades (filter_none exchanges_in (all_destabilisations n) (no_destabilisation n))
+    ∙ append-nil (exchanges n))
+    (filter_none exchanges_in (all_stabilisations n) (no_stabilisation n))
+    ∙ append-nil (exchanges n)
+  where
+    of_trades : filter exchanges_in (trades n) ≡ exchanges n
+    of_trades =
+        filter-append exchanges_in (flat_map (column_trades n) (range_with_len 0 n)) (flat_map (row_trades n) (range_with_len 0 n))
+        ∙ ap₂ (λ (ts us : List Try). ts ++ us) (of_columns n (range_with_len 0 n)) (of_rows n (range_with_len 0 n))
+
+-- the exchanges among the offers of all tries are the offers of all exchanges
+pub exchanges_offered : (d : Diagram) (cap n : ℕ) (offers : List Offer) → AreOffersOf d cap (tries n) offers → AreOffersOf d cap (exchanges n) (exchanges_among offers)
+exchanges_offered d cap n offers are = record {
+  order = map_filter try_of exchanges_in offers
+      ∙ ap (filter exchanges_in) are.order
+      ∙ filter_swap exchanges_in (is_offered d cap) (tries n)
+      ∙ ap (filter (is_offered d cap)) (exchanges_of_tries n);
+  leads = All-filter (λ (o : Offer). is_exchange o.link.step) (IsOfferOf d) offers are.leads;
+}

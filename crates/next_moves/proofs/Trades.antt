@@ -1,0 +1,104 @@
+-- Of the exchange and the slide of two neighbours at most one is legal.
+use Rattle.std.proofs.Common.{◌≡◌, ◌∙◌, ◌⊎◌, ◌+◌, ◌∷◌, ◌&&◌, ◌||◌, [], ℕ, List, Bool, true, false, cond, nat_lt, nat_le, Option, Some, None, refl, sym, ap, subst, inl, inr}
+use Rattle.std.specs.Option.{is_none}
+use Rattle.std.proofs.lemmas.Bool.{cases_Bool, cond-true, cond-false}
+use Rattle.grid_core.specs.declared.span.Span.{Span}
+use Rattle.grid_core.specs.Diagram.{Diagram, size}
+use Rattle.grid_core.specs.Span.{share_an_end, share_both_ends, are_disjoint, are_nested}
+use Rattle.grid_core.specs.Parts.{column_span, ends}
+use Rattle.grid_moves.specs.declared.step.Move.{Move}
+use Rattle.grid_moves.specs.declared.step.Move.TheVariants.{ExchangeColumns, ExchangeRows, SlideColumns, SlideRows}
+use Rattle.grid_moves.specs.declared.step.MoveFault.{MoveFault}
+use Rattle.grid_moves.specs.declared.step.MoveFault.TheVariants.{Range, Touching, Interleaved, Apart}
+use Rattle.grid_moves.specs.MoveFault.{first_fault, exchange_fault, slide_fault}
+use Rattle.grid_canon.specs.Translate.{translate}
+use Rattle.next_moves.specs.declared.offer.Offer.{Offer}
+use Rattle.next_moves.specs.Tries.{Try, place, column_exchange, column_slide, row_exchange, row_slide}
+use Rattle.next_moves.specs.Offers.{size_after, is_offered}
+use Rattle.next_moves.specs.Extends.{Extends, column_trade, row_trade}
+use Rattle.next_moves.proofs.Extended.{extends_then, extends_skip}
+
+-- neighbours that touch are not exchanged, and neighbours that don't touch do not slide
+touching : (s t : Span) → share_an_end s t ≡ true → is_none (exchange_fault s t) ≡ false
+touching s t shared = ap is_none (cond-true (share_an_end s t) (Some Touching) (cond (are_disjoint s t || are_nested s t) None (Some Interleaved)) shared)
+
+parted_by : (b : Bool) → is_none (cond b (Some Touching) (Some Apart)) ≡ false
+parted_by true = refl
+parted_by false = refl
+
+parted : (s t : Span) → share_an_end s t ≡ false → is_none (slide_fault s t) ≡ false
+parted s t apart = ap (λ o. is_none (cond (share_both_ends s t) (Some Touching) o)) (cond-false (share_an_end s t) None (Some Apart) apart) ∙ parted_by (share_both_ends s t)
+
+refused : (b : Bool) (fault : Option MoveFault) → is_none fault ≡ false → is_none (cond b fault (Some Range)) ≡ false
+refused true fault e = e
+refused false fault e = refl
+
+not_offered : (d : Diagram) (cap : ℕ) (before : ℕ × ℕ) (turned : Diagram) (step : Move) → turned ≡ translate d before.0 before.1 → is_none (first_fault turned step) ≡ false → is_offered d cap (record { before = before; step = step }) ≡ false
+not_offered d cap before turned step is e = ap (λ b. b && nat_le (size_after step (size d)) cap) (ap (λ f. is_none (first_fault f step)) (sym is) ∙ e)
+
+-- of two tries one that is not offered
+extends_second : (d : Diagram) (cap : ℕ) (s t : Try) (old new : List Offer) → is_offered d cap s ≡ false → Extends d cap (t ∷ []) old new → Extends d cap (s ∷ t ∷ []) old new
+extends_second d cap s t old new e one = extends_then d cap (s ∷ []) (t ∷ []) old old new (extends_skip d cap s old old refl e) one
+
+extends_first : (d : Diagram) (cap : ℕ) (s t : Try) (old new : List Offer) → is_offered d cap t ≡ false → Extends d cap (s ∷ []) old new → Extends d cap (s ∷ t ∷ []) old new
+extends_first d cap s t old new e one = extends_then d cap (s ∷ []) (t ∷ []) old new new one (extends_skip d cap t new new refl e)
+
+-- columns: of the exchange and the slide the one that is not taken has a fault
+column_exchange_refused : (d : Diagram) (c : ℕ) → share_an_end (column_span d c) (column_span d (c + 1)) ≡ true → is_none (first_fault d (ExchangeColumns c)) ≡ false
+column_exchange_refused d c shared = refused (nat_lt (c + 1) (size d)) (exchange_fault (column_span d c) (column_span d (c + 1))) (touching (column_span d c) (column_span d (c + 1)) shared)
+
+column_slide_refused : (d : Diagram) (c : ℕ) → share_an_end (column_span d c) (column_span d (c + 1)) ≡ false → is_none (first_fault d (SlideColumns c)) ≡ false
+column_slide_refused d c apart = refused (nat_lt (c + 1) (size d)) (slide_fault (column_span d c) (column_span d (c + 1))) (parted (column_span d c) (column_span d (c + 1)) apart)
+
+pub extends_columns : (d : Diagram) (cap : ℕ) (before : ℕ × ℕ) (turned : Diagram) (c : ℕ) (old new : List Offer) → turned ≡ translate d before.0 before.1
+    → Extends d cap (record { before = before; step = column_trade turned c } ∷ []) old new → Extends d cap (record { before = before; step = ExchangeColumns c } ∷ record { before = before; step = SlideColumns c } ∷ []) old new
+extends_columns d cap before turned c old new is one = elim (cases_Bool (share_an_end (column_span turned c) (column_span turned (c + 1)))) [
+  | inl shared ↦
+      extends_second d cap (record { before = before; step = ExchangeColumns c }) (record { before = before; step = SlideColumns c }) old new
+      (not_offered d cap before turned (ExchangeColumns c) is (column_exchange_refused turned c shared))
+      (subst (λ m. Extends d cap (record { before = before; step = m } ∷ []) old new) (cond-true (share_an_end (column_span turned c) (column_span turned (c + 1))) (SlideColumns c) (ExchangeColumns c) shared) one)
+  | inr apart ↦
+      extends_first d cap (record { before = before; step = ExchangeColumns c }) (record { before = before; step = SlideColumns c }) old new
+      (not_offered d cap before turned (SlideColumns c) is (column_slide_refused turned c apart))
+      (subst (λ m. Extends d cap (record { before = before; step = m } ∷ []) old new) (cond-false (share_an_end (column_span turned c) (column_span turned (c + 1))) (SlideColumns c) (ExchangeColumns c) apart) one)
+]
+
+pub columns_once : (d : Diagram) (cap n c : ℕ) → (is_offered d cap (column_exchange n c) ≡ false) ⊎ (is_offered d cap (column_slide n c) ≡ false)
+columns_once d cap n c =
+    let before : ℕ × ℕ = (column_exchange n c).before in
+    let p : ℕ = place n c in
+    let turned : Diagram = translate d before.0 before.1 in
+    elim (cases_Bool (share_an_end (column_span turned p) (column_span turned (p + 1)))) [
+      | inl shared ↦ inl (not_offered d cap before turned (ExchangeColumns p) refl (column_exchange_refused turned p shared))
+      | inr apart ↦ inr (not_offered d cap before turned (SlideColumns p) refl (column_slide_refused turned p apart))
+    ]
+
+-- rows: of the exchange and the slide the one that is not taken has a fault
+row_exchange_refused : (d : Diagram) (r : ℕ) → share_an_end (ends d r) (ends d (r + 1)) ≡ true → is_none (first_fault d (ExchangeRows r)) ≡ false
+row_exchange_refused d r shared = refused (nat_lt (r + 1) (size d)) (exchange_fault (ends d r) (ends d (r + 1))) (touching (ends d r) (ends d (r + 1)) shared)
+
+row_slide_refused : (d : Diagram) (r : ℕ) → share_an_end (ends d r) (ends d (r + 1)) ≡ false → is_none (first_fault d (SlideRows r)) ≡ false
+row_slide_refused d r apart = refused (nat_lt (r + 1) (size d)) (slide_fault (ends d r) (ends d (r + 1))) (parted (ends d r) (ends d (r + 1)) apart)
+
+pub extends_rows : (d : Diagram) (cap : ℕ) (before : ℕ × ℕ) (turned : Diagram) (r : ℕ) (old new : List Offer) → turned ≡ translate d before.0 before.1
+    → Extends d cap (record { before = before; step = row_trade turned r } ∷ []) old new → Extends d cap (record { before = before; step = ExchangeRows r } ∷ record { before = before; step = SlideRows r } ∷ []) old new
+extends_rows d cap before turned r old new is one = elim (cases_Bool (share_an_end (ends turned r) (ends turned (r + 1)))) [
+  | inl shared ↦
+      extends_second d cap (record { before = before; step = ExchangeRows r }) (record { before = before; step = SlideRows r }) old new
+      (not_offered d cap before turned (ExchangeRows r) is (row_exchange_refused turned r shared))
+      (subst (λ m. Extends d cap (record { before = before; step = m } ∷ []) old new) (cond-true (share_an_end (ends turned r) (ends turned (r + 1))) (SlideRows r) (ExchangeRows r) shared) one)
+  | inr apart ↦
+      extends_first d cap (record { before = before; step = ExchangeRows r }) (record { before = before; step = SlideRows r }) old new
+      (not_offered d cap before turned (SlideRows r) is (row_slide_refused turned r apart))
+      (subst (λ m. Extends d cap (record { before = before; step = m } ∷ []) old new) (cond-false (share_an_end (ends turned r) (ends turned (r + 1))) (SlideRows r) (ExchangeRows r) apart) one)
+]
+
+pub rows_once : (d : Diagram) (cap n r : ℕ) → (is_offered d cap (row_exchange n r) ≡ false) ⊎ (is_offered d cap (row_slide n r) ≡ false)
+rows_once d cap n r =
+    let before : ℕ × ℕ = (row_exchange n r).before in
+    let p : ℕ = place n r in
+    let turned : Diagram = translate d before.0 before.1 in
+    elim (cases_Bool (share_an_end (ends turned p) (ends turned (p + 1)))) [
+      | inl shared ↦ inl (not_offered d cap before turned (ExchangeRows p) refl (row_exchange_refused turned p shared))
+      | inr apart ↦ inr (not_offered d cap before turned (SlideRows p) refl (row_slide_refused turned p apart))
+    ]
