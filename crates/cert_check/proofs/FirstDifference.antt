@@ -8,9 +8,7 @@ use Rattle.std.proofs.lemmas.Option.{slice_get-map, slice_get_read, slice_get_pa
 use Rattle.arrayvec.specs.ArrayVec.{ArrayVec}
 use Rattle.colour_list.specs.Listing.{is_same, lists_of}
 use Rattle.cert_check.specs.Cause.{first_difference}
-
-same_lists : (a b : List ℕ) → is_same a b ≡ true → a ≡ b
-same_lists a b same = (bytes_eq-Decides a b).0 same
+use Rattle.colour_list.proofs.Times.{true_same}
 
 same_as_itself : (a : List ℕ) → is_same a a ≡ true
 same_as_itself a = (bytes_eq-Decides a a).1 refl
@@ -35,7 +33,7 @@ equal_of_none (a ∷ one) [] h = absurd cc
 equal_of_none (a ∷ one) (b ∷ two) h = by (is_same a b) refl h (λ none. equal_of_none one two none)
   where
     by : (t : Bool) → is_same a b ≡ t → cond t (next (first_difference one two)) (Some 0) ≡ None → (first_difference one two ≡ None → one ≡ two) → ◌≡◌ {A = List (List ℕ)} (a ∷ one) (b ∷ two)
-    by true same h rest = ap₂ (λ (x : List ℕ) (xs : List (List ℕ)). x ∷ xs) (same_lists a b same) (rest (next_none (first_difference one two) h))
+    by true same h rest = ap₂ (λ (x : List ℕ) (xs : List (List ℕ)). x ∷ xs) (true_same a b same) (rest (next_none (first_difference one two) h))
     by false same h rest = absurd cc
 
 -- what lists have in common before the place, and have not at it
@@ -64,7 +62,7 @@ differ_of_some (a ∷ one) (b ∷ two) place h = by (is_same a b) refl h (λ n s
         let later = next_some (first_difference one two) place h in
         let on = rest later.0 later.1.0 in
         subst (λ (n : ℕ). DifferAt (a ∷ one) (b ∷ two) n) (sym later.1.1) (record {
-          before = ap₂ (λ (x : List ℕ) (xs : List (List ℕ)). x ∷ xs) (same_lists a b same) on.before;
+          before = ap₂ (λ (x : List ℕ) (xs : List (List ℕ)). x ∷ xs) (true_same a b same) on.before;
           here = on.here;
         })
     by false same h rest = differ_at_zero (a ∷ one) (b ∷ two) place h (λ heads.
@@ -83,7 +81,7 @@ some_of_differ (a ∷ one) [] (suc place) before here = let no : ◌≡◌ {A = 
 some_of_differ (a ∷ one) (b ∷ two) zero before here = by (is_same a b) refl
   where
     by : (t : Bool) → is_same a b ≡ t → cond t (next (first_difference one two)) (Some 0) ≡ Some 0
-    by true same = absurd (here (ap (λ (x : List ℕ). Some x) (same_lists a b same)))
+    by true same = absurd (here (ap (λ (x : List ℕ). Some x) (true_same a b same)))
     by false same = refl
 some_of_differ (a ∷ one) (b ∷ two) (suc place) before here =
     let fronts : ◌≡◌ {A = List (List ℕ)} (a ∷ take place one) (b ∷ take place two) = before in
@@ -98,7 +96,7 @@ some_of_differ (a ∷ one) (b ∷ two) (suc place) before here =
 pub same_more : (given complete : List (ArrayVec ℕ)) (place : ℕ) (x y : ArrayVec ℕ) → place < length given → place < length complete → x ≡ get_or given place x → y ≡ get_or complete place y → is_same x.items y.items ≡ true → take place (lists_of given) ≡ take place (lists_of complete) → take (place + 1) (lists_of given) ≡ take (place + 1) (lists_of complete)
 same_more given complete place x y in_given in_complete x_is y_is same before =
     let f = λ (c : ArrayVec ℕ). c.items in
-    let items : x.items ≡ y.items = same_lists x.items y.items same in
+    let items : x.items ≡ y.items = true_same x.items y.items same in
     let items_given : x.items ≡ (get_or given place x).items = ap f x_is in
     let items_complete : y.items ≡ (get_or complete place y).items = ap f y_is in
     let given_more : take (place + 1) (map f given) ≡ map f (take place given) ++ (get_or given place x).items ∷ [] = take-map f (place + 1) given ∙ map_more f given place x in_given in

@@ -20,6 +20,7 @@ use Rattle.knot_text.specs.declared.braids.KeptLetters.{KeptLetters}
 use Rattle.knot_text.specs.Reading.{Fails, word, number}
 use Rattle.knot_text.specs.BraidItem.{letters, is_long_letter, exceeds, braid_of, braid_at}
 use Rattle.knot_text.specs.KeptLetters.{low_letter, TellsLetters, KeepsLetters, kept_exceeds, refused}
+use Rattle.grid_core.proofs.Accepted.{either_false}
 
 abbrev pub word_of : ℕ → List ℤ → Word
 word_of m ls = record { strands = m; letters = ls }
@@ -60,10 +61,6 @@ size_by kept ls m tells false is =
 exceeds_same : (kept : KeptLetters) (ls : List ℤ) (m : ℕ) → TellsLetters kept ls → kept_exceeds m kept ≡ exceeds (word_of m ls)
 exceeds_same kept ls m tells = ap₂ (λ (a b : Bool). nat_lt MAX_STRANDS m || (a || b)) tells.long (size_by kept ls m tells kept.more refl)
 
-neither : (a b : Bool) → (a || b) ≡ false → (a ≡ false) × (b ≡ false)
-neither true b e = absurd (let no : ◌≡◌ {A = Bool} true false = e in cc)
-neither false b e = (refl, e)
-
 -- a word that exceeds no limit
 record WithinLimits (m : ℕ) (ls : List ℤ) : Type 0 where
   strands : m ≤ MAX_STRANDS
@@ -71,13 +68,13 @@ record WithinLimits (m : ℕ) (ls : List ℤ) : Type 0 where
 
 within : (m : ℕ) (ls : List ℤ) → exceeds (word_of m ls) ≡ false → WithinLimits m ls
 within m ls is =
-    let a = neither (nat_lt MAX_STRANDS m) (list_any is_long_letter ls || nat_lt MAX_SIZE (length ls + 2 * m)) is in
-    let b = neither (list_any is_long_letter ls) (nat_lt MAX_SIZE (length ls + 2 * m)) a.1 in
+    let a = either_false (nat_lt MAX_STRANDS m) (list_any is_long_letter ls || nat_lt MAX_SIZE (length ls + 2 * m)) is in
+    let b = either_false (list_any is_long_letter ls) (nat_lt MAX_SIZE (length ls + 2 * m)) a.1 in
     record { strands = ltb-false MAX_STRANDS m a.0; size = omega (arith, ltb-false MAX_SIZE (length ls + 2 * m) b.1) }
 
 -- so many strands fit into a byte
 pub strands_fit : (kept : KeptLetters) (m : ℕ) → kept_exceeds m kept ≡ false → m ≤ MAX_STRANDS
-strands_fit kept m is = ltb-false MAX_STRANDS m (neither (nat_lt MAX_STRANDS m) (kept.long || (kept.more || nat_lt MAX_SIZE (length kept.first.items + 2 * m))) is).0
+strands_fit kept m is = ltb-false MAX_STRANDS m (either_false (nat_lt MAX_STRANDS m) (kept.long || (kept.more || nat_lt MAX_SIZE (length kept.first.items + 2 * m))) is).0
 
 -- ---- content
 

@@ -10,7 +10,7 @@ use Rattle.grid_core.specs.Fault.{first_fault}
 use Rattle.braid_core.specs.Braid.{Word}
 use Rattle.braid_core.specs.Fault.{first_fault as word_fault}
 use Rattle.grid_moves.specs.declared.step.Move.{Move}
-use Rattle.grid_moves.specs.declared.step.Move.TheVariants.{ShiftColumns, ShiftRows, ExchangeColumns, ExchangeRows}
+use Rattle.grid_moves.specs.declared.step.Move.TheVariants.{ShiftColumns, ShiftRows, ExchangeColumns, ExchangeRows, SlideColumns, SlideRows}
 use Rattle.quandle_core.specs.Fault.{first_fault as table_fault}
 use Rattle.text_lines.specs.Lines.{Text}
 use Rattle.text_lines.specs.Numbers.{number_of}
@@ -23,7 +23,7 @@ use Rattle.knot_text.specs.Reading.{◌>>=◌, next_token, line_end, word, or_ma
 use Rattle.knot_text.specs.Numbers.{is_long, numbers_behind, numbers_below}
 use Rattle.knot_text.specs.GridItem.{are_rows, x_at, o_at, grid_item}
 use Rattle.knot_text.specs.BraidItem.{letter_of, exceeds, braid_of, braid_at, braid_item}
-use Rattle.knot_text.specs.MovesItem.{last_place, one_place, shift, exchange, kind_at, corner_at, stabilise, destabilise, move_at, next_move, moves_item}
+use Rattle.knot_text.specs.MovesItem.{last_place, one_place, shift, exchange, slide, kind_at, corner_at, stabilise, destabilise, move_at, next_move, moves_item}
 use Rattle.knot_text.specs.QuandleItem.{with_order, alexander_at, tetrahedral_at, written_at, is_over, meant, table_row, table_rows, table_item, quandle_of, quandle_at, quandle_item, surplus_quandle, quandles, quandle_list}
 use Rattle.knot_text.specs.ColoursItem.{colours_at, colours_item, coloured_item, coloured}
 use Rattle.knot_text.specs.VerdictItem.{equal_at, colour_line, list_item, different_at, budget_at, exhausted_at, unknown_at, unknown_item, verdict_item}
@@ -128,6 +128,10 @@ exchange_alike : (ts : List (List ℕ)) (n m : ℕ) → Alike Same (exchange (li
 unfolding exchange
 exchange_alike ts n m = rest_bind _ _ (token_alike ts n m) (λ t us i j. alike_if (bytes_eq t (codes "columns")) (one_alike (λ c. ExchangeColumns c) us i j) (alike_if (bytes_eq t (codes "rows")) (one_alike (λ r. ExchangeRows r) us i j) alike_err))
 
+slide_alike : (ts : List (List ℕ)) (n m : ℕ) → Alike Same (slide (line_of n ts)) (slide (line_of m ts))
+unfolding slide
+slide_alike ts n m = rest_bind _ _ (token_alike ts n m) (λ t us i j. alike_if (bytes_eq t (codes "columns")) (one_alike (λ c. SlideColumns c) us i j) (alike_if (bytes_eq t (codes "rows")) (one_alike (λ r. SlideRows r) us i j) alike_err))
+
 kind_alike : (ts : List (List ℕ)) (n m : ℕ) → Alike SameRest (kind_at (line_of n ts)) (kind_at (line_of m ts))
 unfolding kind_at
 kind_alike ts n m = rest_bind _ _ (token_alike ts n m) (λ t us i j. alike_if (bytes_eq t (codes "x")) (alike_ok (refl, refl)) (alike_if (bytes_eq t (codes "o")) (alike_ok (refl, refl)) alike_err))
@@ -151,7 +155,8 @@ move_alike : (ts : List (List ℕ)) (n m : ℕ) → Alike Same (move_at (line_of
 unfolding move_at
 move_alike ts n m = rest_bind _ _ (token_alike ts n m) (λ t us i j.
     alike_if (bytes_eq t (codes "shift")) (shift_alike us i j) (alike_if (bytes_eq t (codes "exchange")) (exchange_alike us i j)
-    (alike_if (bytes_eq t (codes "stabilise")) (stabilise_alike us i j) (alike_if (bytes_eq t (codes "destabilise")) (destabilise_alike us i j) alike_err))))
+    (alike_if (bytes_eq t (codes "slide")) (slide_alike us i j)
+    (alike_if (bytes_eq t (codes "stabilise")) (stabilise_alike us i j) (alike_if (bytes_eq t (codes "destabilise")) (destabilise_alike us i j) alike_err)))))
 
 next_move_alike : (t u : Text) → SameText t u → Alike SameLeft (next_move t) (next_move u)
 unfolding next_move

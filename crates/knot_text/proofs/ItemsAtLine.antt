@@ -13,7 +13,7 @@ use Rattle.braid_core.specs.Braid.{Word}
 use Rattle.braid_core.specs.Fault.{first_fault as braid_fault}
 use Rattle.colour_rows.specs.Colouring.{are_colours}
 use Rattle.grid_moves.specs.declared.step.Move.{Move}
-use Rattle.grid_moves.specs.declared.step.Move.TheVariants.{ShiftColumns, ShiftRows, ExchangeColumns, ExchangeRows, Stabilise, Destabilise}
+use Rattle.grid_moves.specs.declared.step.Move.TheVariants.{ShiftColumns, ShiftRows, ExchangeColumns, ExchangeRows, SlideColumns, SlideRows, Stabilise, Destabilise}
 use Rattle.text_lines.specs.Lines.{NumberedLine}
 use Rattle.knot_text.specs.declared.fault.TextFault.{TextFault}
 use Rattle.knot_text.specs.declared.fault.TextFault.TheVariants.{Malformed, Limit}
@@ -27,7 +27,7 @@ use Rattle.knot_text.specs.Numbers.{numbers, is_long, numbers_behind}
 use Rattle.knot_text.specs.GridItem.{are_rows, x_at, o_at}
 use Rattle.knot_text.specs.BraidItem.{letter_of, letters, exceeds, braid_of, braid_at}
 use Rattle.knot_text.specs.ColoursItem.{colours_at}
-use Rattle.knot_text.specs.MovesItem.{last_place, one_place, shift, exchange, kind_at, corner_at, stabilise, destabilise, move_at}
+use Rattle.knot_text.specs.MovesItem.{last_place, one_place, shift, exchange, slide, kind_at, corner_at, stabilise, destabilise, move_at}
 use Rattle.knot_text.specs.QuandleItem.{with_order, alexander_at, tetrahedral_at, written_at}
 use Rattle.knot_text.specs.VerdictItem.{budget_at, exhausted_at, unknown_at}
 use Rattle.knot_text.proofs.AtLine.{At, Keeps, at_ok, at_malformed, at_limit, at_bind, at_cond, at_same, keeps_ok, keeps_err, keeps_bind, keeps_cond, keeps_same, next_token_at, next_token_keeps, line_end_at, line_end_keeps, word_at, word_keeps, number_at, number_keeps, last_number_at, last_number_keeps, at_most_at, counted_at, last_count_at, tokens_at, numbers_at}
@@ -113,6 +113,10 @@ shift_at line = axis_at (λ k. ShiftColumns k) (λ k. ShiftRows k) line
 exchange_at : (line : NumberedLine) → At line.number (exchange line)
 unfolding exchange
 exchange_at line = axis_at (λ c. ExchangeColumns c) (λ r. ExchangeRows r) line
+
+slide_at : (line : NumberedLine) → At line.number (slide line)
+unfolding slide
+slide_at line = axis_at (λ c. SlideColumns c) (λ r. SlideRows r) line
 
 -- a word that stands for something
 named_at : {A : Type 0} (f : List ℕ → NumberedLine → Result (A × NumberedLine) TextFault) (line : NumberedLine) → ((t : List ℕ) (rest : NumberedLine) → At rest.number (f t rest)) → At line.number (next_token line >>= λ t. f t.0 t.1)
@@ -201,8 +205,11 @@ destabilise_at line = two_numbers_at MAX_PLACE (λ c r. Destabilise c r) line
 abbrev others : List ℕ → NumberedLine → Result Move TextFault
 others t rest = cond (bytes_eq t (codes "stabilise")) (stabilise rest) (cond (bytes_eq t (codes "destabilise")) (destabilise rest) (Err (Malformed rest.number)))
 
+abbrev slides : List ℕ → NumberedLine → Result Move TextFault
+slides t rest = cond (bytes_eq t (codes "slide")) (slide rest) (others t rest)
+
 abbrev moves : List ℕ → NumberedLine → Result Move TextFault
-moves t rest = cond (bytes_eq t (codes "shift")) (shift rest) (cond (bytes_eq t (codes "exchange")) (exchange rest) (others t rest))
+moves t rest = cond (bytes_eq t (codes "shift")) (shift rest) (cond (bytes_eq t (codes "exchange")) (exchange rest) (slides t rest))
 
 -- what a first word leads to
 pub chosen_at : {A : Type 0} (f : List ℕ → NumberedLine → Result A TextFault) (line : NumberedLine) → ((t : List ℕ) (rest : NumberedLine) → At rest.number (f t rest)) → At line.number (next_token line >>= λ t. f t.0 t.1)
@@ -211,10 +218,11 @@ chosen_at f line each = at_bind line.number (next_token line) (λ t. f t.0 t.1) 
 pub move_at_at : (line : NumberedLine) → At line.number (move_at line)
 unfolding move_at
 move_at_at line = chosen_at moves line (λ t rest.
-    at_cond rest.number (bytes_eq t (codes "shift")) (shift rest) (cond (bytes_eq t (codes "exchange")) (exchange rest) (others t rest)) (shift_at rest)
-    (at_cond rest.number (bytes_eq t (codes "exchange")) (exchange rest) (others t rest) (exchange_at rest)
+    at_cond rest.number (bytes_eq t (codes "shift")) (shift rest) (cond (bytes_eq t (codes "exchange")) (exchange rest) (slides t rest)) (shift_at rest)
+    (at_cond rest.number (bytes_eq t (codes "exchange")) (exchange rest) (slides t rest) (exchange_at rest)
+    (at_cond rest.number (bytes_eq t (codes "slide")) (slide rest) (others t rest) (slide_at rest)
     (at_cond rest.number (bytes_eq t (codes "stabilise")) (stabilise rest) (cond (bytes_eq t (codes "destabilise")) (destabilise rest) (Err (Malformed rest.number))) (stabilise_at rest)
-    (at_cond rest.number (bytes_eq t (codes "destabilise")) (destabilise rest) (Err (Malformed rest.number)) (destabilise_at rest) (at_malformed rest.number)))))
+    (at_cond rest.number (bytes_eq t (codes "destabilise")) (destabilise rest) (Err (Malformed rest.number)) (destabilise_at rest) (at_malformed rest.number))))))
 
 -- a word, and a number that ends the line
 pub word_count_at : (w : List ℕ) (most : ℕ) (line : NumberedLine) → At line.number (word w line >>= λ rest. last_number rest >>= λ v. at_most most v.1.number v.0)

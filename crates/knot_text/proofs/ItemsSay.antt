@@ -16,7 +16,7 @@ use Rattle.grid_core.specs.declared.grid.TheConstants.{MAX_SIZE}
 use Rattle.grid_core.specs.declared.fault.GridFault.{GridFault}
 use Rattle.grid_core.specs.Diagram.{Diagram as Marks, IsGrid}
 use Rattle.grid_core.specs.Fault.{first_fault}
-use Rattle.grid_core.proofs.Accepted.{accepted_lists}
+use Rattle.grid_core.proofs.Accepted.{accepted_lists, either_false}
 use Rattle.braid_core.specs.declared.braid.TheConstants.{MAX_STRANDS}
 use Rattle.braid_core.specs.declared.fault.BraidFault.{BraidFault}
 use Rattle.braid_core.specs.Braid.{Word, IsLetter, IsBraid}
@@ -26,7 +26,7 @@ use Rattle.braid_closure.specs.Closure.{closure_size}
 use Rattle.colour_rows.specs.Colouring.{AreColours, are_colours}
 use Rattle.colour_rows.proofs.Colourings.{colours_from}
 use Rattle.grid_moves.specs.declared.step.Move.{Move}
-use Rattle.grid_moves.specs.declared.step.Move.TheVariants.{ShiftColumns, ShiftRows, ExchangeColumns, ExchangeRows, Stabilise, Destabilise}
+use Rattle.grid_moves.specs.declared.step.Move.TheVariants.{ShiftColumns, ShiftRows, ExchangeColumns, ExchangeRows, SlideColumns, SlideRows, Stabilise, Destabilise}
 use Rattle.text_lines.specs.Lines.{NumberedLine, Text}
 use Rattle.text_lines.specs.Numbers.{number_of}
 use Rattle.knot_text.specs.declared.fault.TextFault.{TextFault}
@@ -34,12 +34,12 @@ use Rattle.knot_text.specs.declared.steps.TheConstants.{MAX_NUMBER, MAX_PLACE}
 use Rattle.knot_text.specs.Reading.{◌>>=◌, next_line, in_turn, each_token}
 use Rattle.knot_text.specs.GridItem.{x_at, o_at, grid_item, are_rows}
 use Rattle.knot_text.specs.BraidItem.{letter_of, is_long_letter, exceeds, braid_of, braid_at, braid_item}
-use Rattle.knot_text.specs.MovesItem.{last_place, one_place, shift, exchange, kind_at, corner_at, stabilise, destabilise, move_at, next_move, move_lines, moves_item}
+use Rattle.knot_text.specs.MovesItem.{last_place, one_place, shift, exchange, slide, kind_at, corner_at, stabilise, destabilise, move_at, next_move, move_lines, moves_item}
 use Rattle.knot_text.specs.ColoursItem.{colours_at, colours_item}
 use Rattle.knot_text.specs.Printed.{rows_tokens, grid_lines, kind_word, corner_word, move_tokens, moves_lines, HasMoveText, HaveText, letter_token, braid_lines, colours_lines}
 use Rattle.knot_text.specs.WrittenThere.{StandInFront}
 use Rattle.knot_text.proofs.Says.{Says, says_ok, says_err, says_bind, says_if, says_more, no_lines_in_front, in_front_of, in_front_is, IsNext, next_says}
-use Rattle.knot_text.proofs.LineSays.{IsFirst, next_token_says, HasNone, line_end_says, is_word, word_says, or_malformed_says, IsNumberFirst, number_says, IsNumberAlone, last_number_says, at_most_says, last_count_says, spelled, neither, AreBehind, numbers_behind_says}
+use Rattle.knot_text.proofs.LineSays.{IsFirst, next_token_says, HasNone, line_end_says, is_word, word_says, or_malformed_says, IsNumberFirst, number_says, IsNumberAlone, last_number_says, at_most_says, last_count_says, spelled, AreBehind, numbers_behind_says}
 
 -- the value has this, and its printed lines stand in front of the rest
 abbrev pub IsWritten : {A : Type 0} → (A → Type 0) → (A → List (List (List ℕ))) → Text → A × Text → Type 0
@@ -139,7 +139,7 @@ each_letter_says n [] = says_ok [] (λ few some. refl)
 each_letter_says n (t ∷ ts) = says_bind (λ (a : ℤ). letter_of t ≡ Some a) (or_malformed_says n (letter_of t)) (λ a reads.
     says_bind (AreSpelled ts) (each_letter_says n ts) (λ ls is.
     says_ok (a ∷ ls) (λ few some.
-    let both = neither (is_long_letter a) (list_any is_long_letter ls) few in
+    let both = either_false (is_long_letter a) (list_any is_long_letter ls) few in
     ap₂ (λ (s : List ℕ) (ss : List (List ℕ)). s ∷ ss) (letter_spelled t a reads (ltb-false MAX_NUMBER (unsigned_abs a) both.0) some.0) (is both.1 some.1))))
 
 not_zero : (m : ℕ) (ls : List ℤ) → AllByRecursion (IsLetter m) ls → AllByRecursion (λ (a : ℤ). 1 ≤ unsigned_abs a) ls
@@ -158,8 +158,8 @@ braid_by : (line : NumberedLine) (b : Word) (n : ℕ) (f : Option BraidFault) �
 braid_by line b n (Some fault) is there within e = says_err
 braid_by line b n None is there within e =
     let braid = none_braid b is in
-    let a = neither (nat_lt MAX_STRANDS b.strands) (list_any is_long_letter b.letters || nat_lt MAX_SIZE (closure_size b)) within in
-    let c = neither (list_any is_long_letter b.letters) (nat_lt MAX_SIZE (closure_size b)) a.1 in
+    let a = either_false (nat_lt MAX_STRANDS b.strands) (list_any is_long_letter b.letters || nat_lt MAX_SIZE (closure_size b)) within in
+    let c = either_false (list_any is_long_letter b.letters) (nat_lt MAX_SIZE (closure_size b)) a.1 in
     says_ok b (braid, there.strands (omega (arith, braid.most)) c.0 (not_zero b.strands b.letters (recursion_from_All (IsLetter b.strands) b.letters braid.crossings)))
 
 braid_of_says : (line : NumberedLine) (b : Word) → IsBraidLine line b → Says (braid_of line.number b) (IsLine IsBraid braid_tokens line)
@@ -215,6 +215,11 @@ unfolding exchange
 exchange_says line = says_bind (IsFirst line.tokens) (next_token_says line) (λ t is.
     along_say (codes "exchange") (λ c. ExchangeColumns c) (λ r. ExchangeRows r) (record { fits = λ k few. few; tokens = λ k. refl }) (record { fits = λ k few. few; tokens = λ k. refl }) line.tokens _ t is)
 
+slide_says : (line : NumberedLine) → Says (slide line) (IsMoveBehind (codes "slide" ∷ []) line.tokens)
+unfolding slide
+slide_says line = says_bind (IsFirst line.tokens) (next_token_says line) (λ t is.
+    along_say (codes "slide") (λ c. SlideColumns c) (λ r. SlideRows r) (record { fits = λ k few. few; tokens = λ k. refl }) (record { fits = λ k few. few; tokens = λ k. refl }) line.tokens _ t is)
+
 abbrev IsKindFirst : List (List ℕ) → Kind × NumberedLine → Type 0
 IsKindFirst tokens k = tokens ≡ kind_word k.0 ∷ k.1.tokens
 
@@ -269,8 +274,9 @@ unfolding move_at
 move_says line = says_bind (IsFirst line.tokens) (next_token_says line) (λ t is.
     says_if (bytes_eq t.0 (codes "shift")) (λ same. behind_says (codes "shift") line t is same (shift_says t.1)) (λ a.
     says_if (bytes_eq t.0 (codes "exchange")) (λ same. behind_says (codes "exchange") line t is same (exchange_says t.1)) (λ b.
-    says_if (bytes_eq t.0 (codes "stabilise")) (λ same. behind_says (codes "stabilise") line t is same (stabilise_says t.1)) (λ c.
-    says_if (bytes_eq t.0 (codes "destabilise")) (λ same. behind_says (codes "destabilise") line t is same (destabilise_says t.1)) (λ d. says_err)))))
+    says_if (bytes_eq t.0 (codes "slide")) (λ same. behind_says (codes "slide") line t is same (slide_says t.1)) (λ c.
+    says_if (bytes_eq t.0 (codes "stabilise")) (λ same. behind_says (codes "stabilise") line t is same (stabilise_says t.1)) (λ d.
+    says_if (bytes_eq t.0 (codes "destabilise")) (λ same. behind_says (codes "destabilise") line t is same (destabilise_says t.1)) (λ e. says_err))))))
 
 next_move_says : (text : Text) → Says (next_move text) (IsWritten HasMoveText (λ move. move_tokens move ∷ []) text)
 unfolding next_move

@@ -1,5 +1,5 @@
 -- What was read of a line stands there, token for token.
-use Rattle.std.proofs.Common.{◌≡◌, ℕ, ◌≤◌, ◌||◌, List, [], ◌∷◌, length, map, Bool, true, false, Option, Some, None, refl, ap, ap₂, ◌∙◌, arith, nat_le, nat_lt}
+use Rattle.std.proofs.Common.{◌≡◌, ℕ, ◌≤◌, ◌||◌, List, [], ◌∷◌, length, map, true, false, Option, Some, None, refl, ap, ap₂, ◌∙◌, arith, nat_le, nat_lt}
 use Rattle.std.specs.List.{list_any}
 use Rattle.std.specs.Str.{bytes_eq}
 use Rattle.std.specs.Fmt.{decimal}
@@ -15,6 +15,7 @@ use Rattle.knot_text.specs.declared.steps.TheConstants.{MAX_NUMBER}
 use Rattle.knot_text.specs.Reading.{token_among, next_token, no_token_among, line_end, word, or_malformed, number, last_number, at_most, last_count, each_token}
 use Rattle.knot_text.specs.Numbers.{is_long, numbers_behind, numbers_below}
 use Rattle.knot_text.proofs.Says.{Says, says_ok, says_err, says_bind, says_if, says_more}
+use Rattle.grid_core.proofs.Accepted.{either_false}
 
 -- ---- tokens
 
@@ -89,17 +90,13 @@ last_count_says line = says_bind (IsNumberAlone line.tokens) (last_number_says l
 
 -- ---- lines of numbers
 
-pub neither : (a b : Bool) → (a || b) ≡ false → (a ≡ false) × (b ≡ false)
-neither true b e = absurd (let no : ◌≡◌ {A = Bool} true false = e in cc)
-neither false b e = (refl, e)
-
 pub each_says : (n : ℕ) (tokens : List (List ℕ)) → Says (each_token number_of n tokens) (λ vs. list_any is_long vs ≡ false → tokens ≡ map decimal vs)
 unfolding each_token
 each_says n [] = says_ok [] (λ few. refl)
 each_says n (t ∷ ts) = says_bind (λ (k : ℕ). number_of t ≡ Some k) (or_malformed_says n (number_of t)) (λ k reads.
     says_bind (λ (vs : List ℕ). list_any is_long vs ≡ false → ts ≡ map decimal vs) (each_says n ts) (λ vs is.
     says_ok (k ∷ vs) (λ few.
-    let both = neither (is_long k) (list_any is_long vs) few in
+    let both = either_false (is_long k) (list_any is_long vs) few in
     ap₂ (λ (s : List ℕ) (ss : List (List ℕ)). s ∷ ss) (spelled t k reads (ltb-false MAX_NUMBER k both.0)) (is both.1))))
 
 -- the word, and at most MAX_SIZE numbers
@@ -112,7 +109,7 @@ unfolding numbers_behind
 numbers_behind_says w line = says_bind (λ (rest : NumberedLine). line.tokens ≡ w ∷ rest.tokens) (word_says w line) (λ rest is.
     says_bind (λ (vs : List ℕ). list_any is_long vs ≡ false → rest.tokens ≡ map decimal vs) (each_says rest.number rest.tokens) (λ vs written.
     says_if (nat_lt MAX_SIZE (length vs) || list_any is_long vs) (λ over. says_err) (λ within.
-    let both = neither (nat_lt MAX_SIZE (length vs)) (list_any is_long vs) within in
+    let both = either_false (nat_lt MAX_SIZE (length vs)) (list_any is_long vs) within in
     says_ok vs (record { tokens = is ∙ ap (λ (ts : List (List ℕ)). w ∷ ts) (written both.1); few = ltb-false MAX_SIZE (length vs) both.0 }))))
 
 -- so many numbers below the order, and nothing else

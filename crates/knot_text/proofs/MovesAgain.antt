@@ -7,12 +7,12 @@ use Rattle.grid_core.specs.declared.mark.Kind.TheVariants.{Cross, Ring}
 use Rattle.grid_core.specs.declared.mark.Corner.{Corner}
 use Rattle.grid_core.specs.declared.mark.Corner.TheVariants.{LowLeft, LowRight, HighLeft, HighRight}
 use Rattle.grid_moves.specs.declared.step.Move.{Move}
-use Rattle.grid_moves.specs.declared.step.Move.TheVariants.{ShiftColumns, ShiftRows, ExchangeColumns, ExchangeRows, Stabilise, Destabilise}
+use Rattle.grid_moves.specs.declared.step.Move.TheVariants.{ShiftColumns, ShiftRows, ExchangeColumns, ExchangeRows, SlideColumns, SlideRows, Stabilise, Destabilise}
 use Rattle.text_lines.specs.Lines.{Text}
 use Rattle.text_lines.specs.Spelled.{numbered}
 use Rattle.knot_text.specs.declared.steps.TheConstants.{MAX_PLACE}
 use Rattle.knot_text.specs.Reading.{next_line, next_token, line_end}
-use Rattle.knot_text.specs.MovesItem.{last_place, shift, exchange, kind_at, corner_at, stabilise, destabilise, move_at, next_move, move_lines, moves_item}
+use Rattle.knot_text.specs.MovesItem.{last_place, shift, exchange, slide, kind_at, corner_at, stabilise, destabilise, move_at, next_move, move_lines, moves_item}
 use Rattle.knot_text.specs.Printed.{kind_word, corner_word, move_tokens, moves_lines, HasMoveText, HaveText}
 use Rattle.knot_text.proofs.StepsAgain.{line_of, lines_before, word_again, number_again, last_again, most_again, count_again, turns_again}
 
@@ -43,11 +43,13 @@ destabilise_again c r n few low =
     rw (number_again c n (decimal r ∷ []) (omega arith), last_again r n (omega arith), most_again MAX_PLACE n c few, most_again MAX_PLACE n r low) refl
 
 move_again : (n : ℕ) (move : Move) → HasMoveText move → move_at (line_of n (move_tokens move)) ≡ Ok move
-unfolding move_at shift exchange next_token
+unfolding move_at shift exchange slide next_token
 move_again n (ShiftColumns k) few = rw (place_again k n few) refl
 move_again n (ShiftRows k) few = rw (place_again k n few) refl
 move_again n (ExchangeColumns c) few = rw (place_again c n few) refl
 move_again n (ExchangeRows r) few = rw (place_again r n few) refl
+move_again n (SlideColumns c) few = rw (place_again c n few) refl
+move_again n (SlideRows r) few = rw (place_again r n few) refl
 move_again n (Stabilise c kind corner) few = stabilise_again c n kind corner few
 move_again n (Destabilise c r) few = destabilise_again c r n few.0 few.1
 

@@ -1,7 +1,6 @@
 -- Whole texts that were printed are read.
-use Rattle.std.proofs.Common.{◌≡◌, ℕ, ◌≤◌, ◌<◌, List, [], ◌∷◌, ◌++◌, map, true, Option, Some, None, Ok, refl, sym, ap, ◌∙◌, arith, codes}
+use Rattle.std.proofs.Common.{◌≡◌, ℕ, ◌≤◌, ◌<◌, List, [], ◌∷◌, ◌++◌, true, Option, Some, None, Ok, refl, sym, ap, ◌∙◌, arith, codes}
 use Rattle.std.specs.List.{AllByRecursion, list_all}
-use Rattle.std.specs.Fmt.{decimal}
 use Rattle.std.proofs.lemmas.Bool.{and_parts, and_from}
 use Rattle.std.proofs.lemmas.List.{append-nil}
 use Rattle.std.proofs.lemmas.List.Concat.{flat_map-append}
@@ -12,7 +11,7 @@ use Rattle.quandle_core.specs.declared.quandle.TheConstants.{MAX_ORDER}
 use Rattle.colour_rows.specs.Colouring.{AreColours}
 use Rattle.grid_moves.specs.declared.step.Move.{Move}
 use Rattle.text_lines.specs.Lines.{text_of}
-use Rattle.text_lines.specs.Spelled.{lines_text, line_text, is_word, is_line, numbered}
+use Rattle.text_lines.specs.Spelled.{lines_text, line_text, is_line, numbered}
 use Rattle.text_lines.proofs.Written.{lines_read}
 use Rattle.knot_text.specs.declared.diagram.Diagram.{Diagram}
 use Rattle.knot_text.specs.declared.diagram.Diagram.TheVariants.{Grid, Braid}
@@ -24,9 +23,9 @@ use Rattle.knot_text.specs.Names.{NamedQuandle}
 use Rattle.knot_text.specs.Shapes.{columns, problem_of, check_of, replay_of}
 use Rattle.knot_text.specs.Printed.{grid_lines, grid_text, moves_lines, moves_text, HaveText, quandle_lines, quandle_text, HasQuandleText, list_lines, verdict_lines, HasListText, HasVerdictText, diagram_lines, HasDiagramText, colours_lines, colours_text}
 use Rattle.knot_text.specs.WrittenThere.{tokens_by_line, said_by, listed_lines, HasProblemText, problem_lines, given_lines, HasGivenText, HasReplayText, replay_lines}
-use Rattle.knot_text.proofs.StepsAgain.{IsShort, all_short}
+use Rattle.knot_text.proofs.StepsAgain.{all_short}
 use Rattle.knot_text.proofs.VerdictAgain.{names_order}
-use Rattle.knot_text.proofs.Words.{decimal_word, grid_words, moves_words, verdict_words}
+use Rattle.knot_text.proofs.Words.{grid_words, moves_words, verdict_words, numbers_words}
 use Rattle.knot_text.proofs.BraidAgain.{braid_words}
 use Rattle.knot_text.proofs.WrittenAgain.{numbered_tokens}
 use Rattle.knot_text.proofs.ShapesAgain.{diagram_grid, problem_in_written, check_in_written, replay_in_written}
@@ -44,10 +43,6 @@ front_lines [] ys all = refl
 front_lines (x ∷ xs) ys all =
     let h = and_parts (is_line x) (list_all is_line (xs ++ ys)) all in
     and_from (is_line x) (list_all is_line xs) h.0 (front_lines xs ys h.1)
-
-short_words : (ks : List ℕ) → AllByRecursion IsShort ks → list_all is_word (map decimal ks) ≡ true
-short_words [] few = refl
-short_words (k ∷ ks) few = and_from (is_word (decimal k)) (list_all is_word (map decimal ks)) (decimal_word k few.0) (short_words ks few.1)
 
 diagram_words : (d : Diagram) → HasDiagramText d → list_all is_line (diagram_lines d) ≡ true
 diagram_words (Grid d) grid = grid_words d grid
@@ -67,7 +62,7 @@ listed_words (q ∷ listed) each = both_lines (quandle_lines (codes "quandle") q
 colours_words : (width order : ℕ) (c : ArrayVec ℕ) → order ≤ MAX_ORDER → AreColours width order c.items → list_all is_line (colours_lines c) ≡ true
 colours_words width order c most are =
     let few = all_short order c.items (omega (arith, most)) (recursion_from_All (λ y. y < order) c.items are.1) in
-    rw (short_words c.items few) refl
+    rw (numbers_words c.items few) refl
 
 given_words : (width : ℕ) (given : Option (NamedQuandle × ArrayVec ℕ)) → HasGivenText width given → list_all is_line (given_lines given) ≡ true
 given_words width None fits = refl

@@ -30,8 +30,9 @@ use Rattle.knot_text.specs.WrittenThere.{StandInFront, listed_lines}
 use Rattle.knot_text.proofs.LineTexts.{map_decimals}
 use Rattle.knot_text.proofs.Tables.{row}
 use Rattle.knot_text.proofs.Says.{Says, says_ok, says_err, says_bind, says_if, says_more, no_lines_in_front, in_front_of, in_front_is, IsNext, next_says}
-use Rattle.knot_text.proofs.LineSays.{IsFirst, next_token_says, HasNone, line_end_says, is_word, word_says, or_malformed_says, IsNumberFirst, number_says, IsNumberAlone, last_number_says, neither, AreColoursAlone, numbers_below_says}
+use Rattle.knot_text.proofs.LineSays.{IsFirst, next_token_says, HasNone, line_end_says, is_word, word_says, or_malformed_says, IsNumberFirst, number_says, IsNumberAlone, last_number_says, AreColoursAlone, numbers_below_says}
 use Rattle.knot_text.proofs.ItemsSay.{IsWritten, line_says}
+use Rattle.grid_core.proofs.Accepted.{either_false}
 
 -- ---- the rows of a table
 
@@ -161,7 +162,7 @@ unfolding alexander_at
 alexander_says tokens t is same = says_bind (IsNumberFirst t.1.tokens) (number_says t.1) (λ n first.
     says_bind (IsNumberAlone n.1.tokens) (last_number_says n.1) (λ a second.
     says_ok (written.Alexander n.0 a.0, a.1) (λ within.
-    let both = neither (nat_lt MAX_ORDER n.0) (is_long a.0) within in
+    let both = either_false (nat_lt MAX_ORDER n.0) (is_long a.0) within in
     is ∙ ap₂ (λ (s : List ℕ) (ts : List (List ℕ)). s ∷ ts) (is_word t.0 (codes "alexander") same)
     (first (few_order n.0 both.0) ∙ ap (λ (ts : List (List ℕ)). decimal n.0 ∷ ts) (second (ltb-false MAX_NUMBER a.0 both.1))))))
 

@@ -18,7 +18,7 @@ use Rattle.grid_core.specs.declared.mark.Corner.TheVariants.{LowLeft, LowRight, 
 use Rattle.grid_core.specs.Diagram.{Diagram, IsGrid}
 use Rattle.grid_core.proofs.OneEach.{each_below}
 use Rattle.grid_moves.specs.declared.step.Move.{Move}
-use Rattle.grid_moves.specs.declared.step.Move.TheVariants.{ShiftColumns, ShiftRows, ExchangeColumns, ExchangeRows, Stabilise, Destabilise}
+use Rattle.grid_moves.specs.declared.step.Move.TheVariants.{ShiftColumns, ShiftRows, ExchangeColumns, ExchangeRows, SlideColumns, SlideRows, Stabilise, Destabilise}
 use Rattle.quandle_core.specs.Quandle.{Table, IsQuandle, over}
 use Rattle.text_lines.specs.Spelled.{is_plain, is_word, is_line}
 use Rattle.knot_text.specs.declared.steps.TheConstants.{MAX_NUMBER}
@@ -47,7 +47,7 @@ digits_word (d ∷ ds) some all = digits_plain (d ∷ ds) all
 pub decimal_word : (k : ℕ) → k ≤ MAX_NUMBER → is_word (decimal k) ≡ true
 decimal_word k few = digits_word (decimal k) (decimal_nonempty k (omega arith)) (decimal_is_IsNumeral k (omega arith)).0.1
 
-numbers_words : (ks : List ℕ) → AllByRecursion IsShort ks → list_all is_word (map decimal ks) ≡ true
+pub numbers_words : (ks : List ℕ) → AllByRecursion IsShort ks → list_all is_word (map decimal ks) ≡ true
 numbers_words [] few = refl
 numbers_words (k ∷ ks) few = and_from (is_word (decimal k)) (list_all is_word (map decimal ks)) (decimal_word k few.0) (numbers_words ks few.1)
 
@@ -89,6 +89,8 @@ move_line (ShiftColumns k) few = rw (decimal_word k (omega arith)) refl
 move_line (ShiftRows k) few = rw (decimal_word k (omega arith)) refl
 move_line (ExchangeColumns c) few = rw (decimal_word c (omega arith)) refl
 move_line (ExchangeRows r) few = rw (decimal_word r (omega arith)) refl
+move_line (SlideColumns c) few = rw (decimal_word c (omega arith)) refl
+move_line (SlideRows r) few = rw (decimal_word r (omega arith)) refl
 move_line (Stabilise c kind corner) few = rw (decimal_word c (omega arith), kind_is_word kind, corner_is_word corner) refl
 move_line (Destabilise c r) few = rw (decimal_word c (omega (arith, few.0)), decimal_word r (omega (arith, few.1))) refl
 

@@ -6,7 +6,7 @@ use Rattle.grid_core.specs.declared.mark.Kind.TheVariants.{Cross, Ring}
 use Rattle.grid_core.specs.declared.mark.Corner.{Corner}
 use Rattle.grid_core.specs.declared.mark.Corner.TheVariants.{LowLeft, LowRight, HighLeft, HighRight}
 use Rattle.grid_moves.specs.declared.step.Move.{Move}
-use Rattle.grid_moves.specs.declared.step.Move.TheVariants.{ShiftColumns, ShiftRows, ExchangeColumns, ExchangeRows, Stabilise, Destabilise}
+use Rattle.grid_moves.specs.declared.step.Move.TheVariants.{ShiftColumns, ShiftRows, ExchangeColumns, ExchangeRows, SlideColumns, SlideRows, Stabilise, Destabilise}
 use Rattle.text_lines.specs.Lines.{NumberedLine, Text}
 use Rattle.knot_text.specs.declared.fault.TextFault.{TextFault}
 use Rattle.knot_text.specs.declared.fault.TextFault.TheVariants.{Malformed}
@@ -38,6 +38,14 @@ exchange line = do
   axis ← next_token line
   if bytes_eq axis.0 (codes "columns") then one_place (λ c. ExchangeColumns c) axis.1
       else if bytes_eq axis.0 (codes "rows") then one_place (λ r. ExchangeRows r) axis.1
+      else Err (Malformed axis.1.number)
+
+-- columns or rows, behind `slide`
+unfoldable pub slide : NumberedLine → Result Move TextFault
+slide line = do
+  axis ← next_token line
+  if bytes_eq axis.0 (codes "columns") then one_place (λ c. SlideColumns c) axis.1
+      else if bytes_eq axis.0 (codes "rows") then one_place (λ r. SlideRows r) axis.1
       else Err (Malformed axis.1.number)
 
 unfoldable pub kind_at : NumberedLine → Result (Kind × NumberedLine) TextFault
@@ -81,6 +89,7 @@ move_at line = do
   name ← next_token line
   if bytes_eq name.0 (codes "shift") then shift name.1
       else if bytes_eq name.0 (codes "exchange") then exchange name.1
+      else if bytes_eq name.0 (codes "slide") then slide name.1
       else if bytes_eq name.0 (codes "stabilise") then stabilise name.1
       else if bytes_eq name.0 (codes "destabilise") then destabilise name.1
       else Err (Malformed name.1.number)

@@ -10,7 +10,7 @@ use Rattle.grid_core.specs.declared.mark.Corner.TheVariants.{LowLeft, LowRight, 
 use Rattle.grid_core.specs.Diagram.{Diagram, IsGrid}
 use Rattle.braid_core.specs.Braid.{Word, IsBraid}
 use Rattle.grid_moves.specs.declared.step.Move.{Move}
-use Rattle.grid_moves.specs.declared.step.Move.TheVariants.{ShiftColumns, ShiftRows, ExchangeColumns, ExchangeRows, Stabilise, Destabilise}
+use Rattle.grid_moves.specs.declared.step.Move.TheVariants.{ShiftColumns, ShiftRows, ExchangeColumns, ExchangeRows, SlideColumns, SlideRows, Stabilise, Destabilise}
 use Rattle.quandle_core.specs.Quandle.{Table, over}
 use Rattle.colour_list.specs.declared.limits.TheConstants.{MAX_COLOURINGS}
 use Rattle.colour_rows.specs.Colouring.{AreColours}
@@ -65,6 +65,8 @@ move_tokens (ShiftColumns k) = codes "shift" ∷ codes "columns" ∷ decimal k �
 move_tokens (ShiftRows k) = codes "shift" ∷ codes "rows" ∷ decimal k ∷ []
 move_tokens (ExchangeColumns c) = codes "exchange" ∷ codes "columns" ∷ decimal c ∷ []
 move_tokens (ExchangeRows r) = codes "exchange" ∷ codes "rows" ∷ decimal r ∷ []
+move_tokens (SlideColumns c) = codes "slide" ∷ codes "columns" ∷ decimal c ∷ []
+move_tokens (SlideRows r) = codes "slide" ∷ codes "rows" ∷ decimal r ∷ []
 move_tokens (Stabilise c kind corner) = codes "stabilise" ∷ decimal c ∷ kind_word kind ∷ corner_word corner ∷ []
 move_tokens (Destabilise c r) = codes "destabilise" ∷ decimal c ∷ decimal r ∷ []
 
@@ -81,6 +83,8 @@ HasMoveText (ShiftColumns k) = k ≤ MAX_PLACE
 HasMoveText (ShiftRows k) = k ≤ MAX_PLACE
 HasMoveText (ExchangeColumns c) = c ≤ MAX_PLACE
 HasMoveText (ExchangeRows r) = r ≤ MAX_PLACE
+HasMoveText (SlideColumns c) = c ≤ MAX_PLACE
+HasMoveText (SlideRows r) = r ≤ MAX_PLACE
 HasMoveText (Stabilise c kind corner) = c ≤ MAX_PLACE
 HasMoveText (Destabilise c r) = (c ≤ MAX_PLACE) × (r ≤ MAX_PLACE)
 

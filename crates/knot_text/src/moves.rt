@@ -1,7 +1,7 @@
 //! Moves, a line each, and the item of several.
 ghost use Rattle.std.specs.Prelude.{◌≡◌};
 ghost use Rattle.knot_text.specs.Reading.{Gives};
-ghost use Rattle.knot_text.specs.MovesItem.{last_place, shift, exchange, kind_at, corner_at, stabilise, destabilise, move_at, next_move, move_lines, moves_item};
+ghost use Rattle.knot_text.specs.MovesItem.{last_place, shift, exchange, slide, kind_at, corner_at, stabilise, destabilise, move_at, next_move, move_lines, moves_item};
 
 use crate::fault::TextFault;
 use crate::steps::{last_count, last_number, line_end, next_line, next_token, number, place, word};
@@ -46,6 +46,23 @@ fn exchange(line: &mut Line) -> Result<Move, TextFault>
         Ok(Move::ExchangeColumns(last_place(line)?))
     } else if axis == b"rows".as_slice() {
         Ok(Move::ExchangeRows(last_place(line)?))
+    } else {
+        Err(TextFault::Malformed {
+            line: line.number(),
+        })
+    }
+}
+
+/// Columns or rows, behind `slide`.
+#[tactic(auto, unfolding(crate::specs::MovesItem::slide))]
+fn slide(line: &mut Line) -> Result<Move, TextFault>
+    ensures { Gives (λ m. m) result (slide line.old) }
+{
+    let axis = next_token(line)?;
+    if axis == b"columns".as_slice() {
+        Ok(Move::SlideColumns(last_place(line)?))
+    } else if axis == b"rows".as_slice() {
+        Ok(Move::SlideRows(last_place(line)?))
     } else {
         Err(TextFault::Malformed {
             line: line.number(),
@@ -130,6 +147,8 @@ fn move_at(line: &mut Line) -> Result<Move, TextFault>
         shift(line)
     } else if name == b"exchange".as_slice() {
         exchange(line)
+    } else if name == b"slide".as_slice() {
+        slide(line)
     } else if name == b"stabilise".as_slice() {
         stabilise(line)
     } else if name == b"destabilise".as_slice() {

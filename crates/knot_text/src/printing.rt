@@ -118,6 +118,8 @@ fn push_move(out: &mut Vec<u8>, step: Move) -> Result<(), AllocError>
         Move::ShiftRows(k) => push_counted(out, b"shift rows ", u64::from(k)),
         Move::ExchangeColumns(c) => push_counted(out, b"exchange columns ", u64::from(c)),
         Move::ExchangeRows(r) => push_counted(out, b"exchange rows ", u64::from(r)),
+        Move::SlideColumns(c) => push_counted(out, b"slide columns ", u64::from(c)),
+        Move::SlideRows(r) => push_counted(out, b"slide rows ", u64::from(r)),
         Move::Stabilise {
             column,
             kind,

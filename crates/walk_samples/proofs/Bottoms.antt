@@ -18,16 +18,12 @@ use Rattle.colour_list.specs.declared.limits.ListFault.TheVariants as fault
 use Rattle.colour_list.specs.Fits.{fits}
 use Rattle.walk_samples.specs.declared.walk.TheConstants.{LARGEST}
 use Rattle.walk_samples.specs.declared.text.TheConstants.{LARGEST_ORDER}
+use Rattle.grid_core.proofs.Bottoms.{count_more}
 
 -- ---- counts
 
 counted_first : {X : Type 0} (p : X → Bool) (x : X) (xs : List X) → count_by p (x ∷ xs) ≡ cond (p x) 1 0 + count_by p xs
 counted_first p x xs = sum_by-cons (λ y. cond (p y) 1 0) x xs
-
-counted_last : (p : ℕ → Bool) (n : ℕ) → count_by p (range_with_len 0 (n + 1)) ≡ count_by p (range_with_len 0 n) + cond (p n) 1 0
-counted_last p n =
-    let zero_first : 0 + n ≡ n = omega arith in
-    ap (count_by p) (range_longer 0 n) ∙ sum_by_push (λ y. cond (p y) 1 0) (range_with_len 0 n) (0 + n) ∙ ap (λ (z : ℕ). count_by p (range_with_len 0 n) + cond (p z) 1 0) zero_first
 
 -- at most k, or k itself
 counted_next : (f : ℕ → ℕ) (k : ℕ) (xs : List ℕ) → count_by (λ c. nat_lt (f c) (k + 1)) xs ≡ count_by (λ c. nat_lt (f c) k) xs + count_by (λ c. f c == k) xs
@@ -93,13 +89,13 @@ record Half (d : Diagram) (k : ℕ) : Type 0 where
 
 one_more_row : (d : Diagram) → IsGrid d → (k : ℕ) → k < size d → (b : Bool) → is_bottom d k ≡ b → Half d k → Half d (k + 1)
 one_more_row d grid k lt true is below =
-    let rows = counted_last (λ r. is_bottom d r) k in
+    let rows = count_more (λ r. is_bottom d r) k in
     let one : cond {A = ℕ} (is_bottom d k) 1 0 ≡ 1 = ap (λ (b : Bool). cond {A = ℕ} b 1 0) is in
     let columns = counted_next (low d) k (range_with_len 0 (size d)) in
     let two = two_begin d grid k lt is in
     record { half = omega (arith, below.half, rows, one, columns, two) }
 one_more_row d grid k lt false is below =
-    let rows = counted_last (λ r. is_bottom d r) k in
+    let rows = count_more (λ r. is_bottom d r) k in
     let none : cond {A = ℕ} (is_bottom d k) 1 0 ≡ 0 = ap (λ (b : Bool). cond {A = ℕ} b 1 0) is in
     let columns = counted_next (low d) k (range_with_len 0 (size d)) in
     record { half = omega (arith, below.half, rows, none, columns) }

@@ -4,7 +4,7 @@ use Rattle.std.specs.Fmt.{decimal, digits}
 use Rattle.grid_core.specs.Diagram.{Diagram, size}
 use Rattle.grid_moves.specs.declared.step.Move.{Move}
 use Rattle.grid_moves.specs.Joining.{Joins, JoinsWithin, StopsAt, Equivalent}
-use Rattle.grid_moves.proofs.Within.{within_joins}
+use Rattle.grid_moves.proofs.Within.{within_joins, within_end}
 use Rattle.grid_moves.proofs.Stopped.{joins_once, not_both}
 use Rattle.grid_moves.specs.declared.step.MoveFault.{MoveFault}
 use Rattle.quandle_core.specs.Quandle.{Table, IsQuandle}
@@ -90,10 +90,6 @@ pub record Found (seed : ℕ) (moves : List Move) (last : Diagram) : Type 0 wher
   pub joined : Joins right_trefoil moves last
   pub small : size last ≤ LARGEST
 
-ended_small : (cap : ℕ) (moves : List Move) (d e : Diagram) → JoinsWithin cap d moves e → size e ≤ cap
-ended_small cap [] d e joined = subst (λ (f : Diagram). size f ≤ cap) joined.1 joined.0
-ended_small cap (move ∷ moves) d e joined = ended_small cap moves joined.1.0 e joined.1.1.1
-
 pub walk_found : (seed : ℕ) (moves made : List Move) (first last : Diagram) → (e : Diagram) × (Walks right_trefoil (words seed) moves e × JoinsWithin LARGEST right_trefoil moves e) → first ≡ right_trefoil → made ≡ moves → Joins first made last → Found seed moves last
 walk_found seed moves made first last known start same joined =
     let joins : Joins right_trefoil moves last = subst (λ (d : Diagram). Joins d moves last) start (subst (λ (ms : List Move). Joins first ms last) same joined) in
@@ -101,7 +97,7 @@ walk_found seed moves made first last known start same joined =
     record {
       walk = subst (λ (d : Diagram). Walks right_trefoil (words seed) moves d) end known.1.0;
       joined = joins;
-      small = subst (λ (d : Diagram). size d ≤ LARGEST) end (ended_small LARGEST moves right_trefoil known.0 known.1.1);
+      small = subst (λ (d : Diagram). size d ≤ LARGEST) end (within_end LARGEST moves right_trefoil known.0 known.1.1);
     }
 
 -- they do not stop

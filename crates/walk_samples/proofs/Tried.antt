@@ -1,9 +1,9 @@
 -- Each legal move is tried, so the candidates are the moves that lead to a diagram that is not too large.
-use Rattle.std.proofs.Common.{◌≡◌, ◌<◌, ◌≤◌, ◌+◌, ◌-◌, ◌++◌, ◌∙◌, ◌&&◌, ℕ, List, Bool, true, false, cond, nat_le, nat_lt, map, Option, Some, None, arith, refl, ap, ◌↔◌}
-use Rattle.std.specs.List.{range_with_len, flat_map, Contains}
+use Rattle.std.proofs.Common.{[], ◌∷◌, ◌≡◌, ◌<◌, ◌≤◌, ◌+◌, ◌-◌, ◌++◌, ◌∙◌, ◌&&◌, ℕ, List, Bool, true, false, cond, nat_le, nat_lt, map, Option, Some, None, arith, refl, ap, ◌↔◌}
+use Rattle.std.specs.List.{All, range_with_len, flat_map, Contains}
 use Rattle.std.specs.Option.{is_none}
 use Rattle.std.proofs.lemmas.Bool.{le-leb, and_parts, ltb-true}
-use Rattle.std.proofs.lemmas.List.Elements.{Contains-append_left, Contains-append_right}
+use Rattle.std.proofs.lemmas.List.Elements.{All-append, All-nil, All-cons, All-contains, Contains-append_left, Contains-append_right}
 use Rattle.std.proofs.lemmas.List.FromFn.{length-range_with_len, get_or-range_with_len}
 use Rattle.grid_core.specs.declared.mark.Kind.{Kind}
 use Rattle.grid_core.specs.declared.mark.Kind.TheVariants.{Cross, Ring}
@@ -11,7 +11,7 @@ use Rattle.grid_core.specs.declared.mark.Corner.{Corner}
 use Rattle.grid_core.specs.declared.mark.Corner.TheVariants.{LowLeft, LowRight, HighLeft, HighRight}
 use Rattle.grid_core.specs.Diagram.{Diagram, IsGrid, size}
 use Rattle.grid_moves.specs.declared.step.Move.{Move}
-use Rattle.grid_moves.specs.declared.step.Move.TheVariants.{ShiftColumns, ShiftRows, ExchangeColumns, ExchangeRows, Stabilise, Destabilise}
+use Rattle.grid_moves.specs.declared.step.Move.TheVariants.{ShiftColumns, ShiftRows, ExchangeColumns, ExchangeRows, SlideColumns, SlideRows, Stabilise, Destabilise}
 use Rattle.grid_moves.specs.declared.step.MoveFault.{MoveFault}
 use Rattle.grid_moves.specs.declared.step.MoveFault.TheVariants.{Range}
 use Rattle.grid_moves.specs.MoveFault.{first_fault, shift_fault}
@@ -21,9 +21,9 @@ use Rattle.grid_canon.proofs.LeastTranslates.{map_contains, flat_map_contains, r
 use Rattle.next_moves.specs.Tries.{corners}
 use Rattle.next_moves.specs.Offers.{size_after}
 use Rattle.next_moves.proofs.Extended.{step_size}
-use Rattle.next_moves.proofs.Members.{contains_filter}
+use Rattle.next_moves.proofs.Members.{contains_filter, filter_contains}
 use Rattle.walk_samples.specs.declared.walk.TheConstants.{LARGEST}
-use Rattle.walk_samples.specs.Candidates.{is_candidate, candidates, tries, column_shift, row_shift, column_exchange, row_exchange, destabilisation, destabilisations, stabilisation, stabilisations}
+use Rattle.walk_samples.specs.Candidates.{is_slide, is_candidate, candidates, tries, column_shift, row_shift, column_exchange, row_exchange, destabilisation, destabilisations, stabilisation, stabilisations}
 use Rattle.walk_samples.proofs.Picked.{candidate_legal, candidate_small}
 
 range_contains_from : (a n k : ℕ) → a ≤ k → k < a + n → Contains (range_with_len a n) k
@@ -116,24 +116,54 @@ module _ (n : ℕ) where
       of_kind Cross = Contains-append_left (map (stabilisation c Cross) corners) (map (stabilisation c Ring) corners) (Stabilise c Cross corner) (map_contains (stabilisation c Cross) corners corner (each corner))
       of_kind Ring = Contains-append_right (map (stabilisation c Cross) corners) (map (stabilisation c Ring) corners) (Stabilise c Ring corner) (map_contains (stabilisation c Ring) corners corner (each corner))
 
-legal_tried : (d : Diagram) (move : Move) → first_fault d move ≡ None → Contains (tries (size d)) move
-legal_tried d (ShiftColumns k) legal = let inside = between k (size d) legal in tried_column_shift (size d) k inside.0 inside.1
-legal_tried d (ShiftRows k) legal = let inside = between k (size d) legal in tried_row_shift (size d) k inside.0 inside.1
-legal_tried d (ExchangeColumns c) legal = tried_column_exchange (size d) c (ltb-true (c + 1) (size d) (passed_test (nat_lt (c + 1) (size d)) _ legal))
-legal_tried d (ExchangeRows r) legal = tried_row_exchange (size d) r (ltb-true (r + 1) (size d) (passed_test (nat_lt (r + 1) (size d)) _ legal))
-legal_tried d (Stabilise c kind corner) legal = tried_mark (size d) c kind corner (ltb-true c (size d) (passed_test (nat_lt c (size d)) _ legal))
-legal_tried d (Destabilise c r) legal =
+legal_tried : (d : Diagram) (move : Move) → is_slide move ≡ false → first_fault d move ≡ None → Contains (tries (size d)) move
+legal_tried d (ShiftColumns k) six legal = let inside = between k (size d) legal in tried_column_shift (size d) k inside.0 inside.1
+legal_tried d (ShiftRows k) six legal = let inside = between k (size d) legal in tried_row_shift (size d) k inside.0 inside.1
+legal_tried d (ExchangeColumns c) six legal = tried_column_exchange (size d) c (ltb-true (c + 1) (size d) (passed_test (nat_lt (c + 1) (size d)) _ legal))
+legal_tried d (ExchangeRows r) six legal = tried_row_exchange (size d) r (ltb-true (r + 1) (size d) (passed_test (nat_lt (r + 1) (size d)) _ legal))
+legal_tried d (SlideColumns c) six legal = absurd (let none : true ≡ false = six in cc)
+legal_tried d (SlideRows r) six legal = absurd (let none : true ≡ false = six in cc)
+legal_tried d (Stabilise c kind corner) six legal = tried_mark (size d) c kind corner (ltb-true c (size d) (passed_test (nat_lt c (size d)) _ legal))
+legal_tried d (Destabilise c r) six legal =
     let inside = and_parts (nat_lt (c + 1) (size d)) (nat_lt (r + 1) (size d)) (passed_test (nat_lt (c + 1) (size d) && nat_lt (r + 1) (size d)) _ legal) in
     tried_block (size d) c r (ltb-true (c + 1) (size d) inside.0) (ltb-true (r + 1) (size d) inside.1)
 
-small_candidate : (d : Diagram) (move : Move) (e : Diagram) → Step d move e → size e ≤ LARGEST → Contains (candidates d) move
-small_candidate d move e step small =
+small_candidate : (d : Diagram) (move : Move) (e : Diagram) → is_slide move ≡ false → Step d move e → size e ≤ LARGEST → Contains (candidates d) move
+small_candidate d move e six step small =
     let legal = step_legal d move e step in
     let fits : nat_le (size_after move (size d)) LARGEST ≡ true = le-leb (size_after move (size d)) LARGEST (omega (arith, small, step_size move d e step)) in
-    contains_filter (is_candidate d) (tries (size d)) move (legal_tried d move legal) (ap (λ (fault : Option MoveFault). is_none fault && nat_le (size_after move (size d)) LARGEST) legal ∙ fits)
+    contains_filter (is_candidate d) (tries (size d)) move (legal_tried d move six legal) (ap (λ (fault : Option MoveFault). is_none fault && nat_le (size_after move (size d)) LARGEST) legal ∙ fits)
 
-pub candidates_are : (d : Diagram) (move : Move) → IsGrid d → Contains (candidates d) move ↔ ((e : Diagram) × (Step d move e × (size e ≤ LARGEST)))
+-- no slide is tried
+abbrev IsNoSlide : Move → Type 0
+IsNoSlide move = is_slide move ≡ false
+
+all_mapped : {A : Type 0} (f : A → Move) (xs : List A) → ((x : A) → IsNoSlide (f x)) → All IsNoSlide (map f xs)
+all_mapped f [] each = All-nil IsNoSlide
+all_mapped f (x ∷ xs) each = All-cons IsNoSlide (f x) (map f xs) (each x) (all_mapped f xs each)
+
+all_flat : (f : ℕ → List Move) (xs : List ℕ) → ((x : ℕ) → All IsNoSlide (f x)) → All IsNoSlide (flat_map f xs)
+all_flat f [] each = All-nil IsNoSlide
+all_flat f (x ∷ xs) each = All-append IsNoSlide (f x) (flat_map f xs) (each x) (all_flat f xs each)
+
+tries_slide_not : (n : ℕ) → All IsNoSlide (tries n)
+tries_slide_not n =
+    All-append IsNoSlide (column_shifts n ++ row_shifts n ++ column_exchanges n ++ row_exchanges n ++ blocks n) (marks n)
+    (All-append IsNoSlide (column_shifts n ++ row_shifts n ++ column_exchanges n ++ row_exchanges n) (blocks n)
+    (All-append IsNoSlide (column_shifts n ++ row_shifts n ++ column_exchanges n) (row_exchanges n)
+    (All-append IsNoSlide (column_shifts n ++ row_shifts n) (column_exchanges n)
+    (All-append IsNoSlide (column_shifts n) (row_shifts n) (all_mapped column_shift (range_with_len 1 (n - 1)) (λ k. refl)) (all_mapped row_shift (range_with_len 1 (n - 1)) (λ k. refl)))
+    (all_mapped column_exchange (range_with_len 0 (n - 1)) (λ c. refl)))
+    (all_mapped row_exchange (range_with_len 0 (n - 1)) (λ r. refl)))
+    (all_flat (destabilisations n) (range_with_len 0 (n - 1)) (λ c. all_mapped (destabilisation c) (range_with_len 0 (n - 1)) (λ r. refl))))
+    (all_flat stabilisations (range_with_len 0 n) (λ c.
+    All-append IsNoSlide (map (stabilisation c Cross) corners) (map (stabilisation c Ring) corners) (all_mapped (stabilisation c Cross) corners (λ corner. refl)) (all_mapped (stabilisation c Ring) corners (λ corner. refl))))
+
+no_slide : (d : Diagram) (move : Move) → Contains (candidates d) move → is_slide move ≡ false
+no_slide d move among = All-contains IsNoSlide (tries (size d)) move (tries_slide_not (size d)) (filter_contains (is_candidate d) (tries (size d)) move among).0
+
+pub candidates_are : (d : Diagram) (move : Move) → IsGrid d → Contains (candidates d) move ↔ ((is_slide move ≡ false) × ((e : Diagram) × (Step d move e × (size e ≤ LARGEST))))
 candidates_are d move grid = (
-  λ among. (let made = step_exists d move grid (candidate_legal d move among) in (made.0, (made.1, candidate_small d move made.0 among made.1))),
-  λ leads. small_candidate d move leads.0 leads.1.0 leads.1.1,
+  λ among. (let made = step_exists d move grid (candidate_legal d move among) in (no_slide d move among, (made.0, (made.1, candidate_small d move made.0 among made.1)))),
+  λ leads. small_candidate d move leads.1.0 leads.0 leads.1.1.0 leads.1.1.1,
 )

@@ -1,5 +1,5 @@
--- The moves among which a word picks: the legal ones whose result is not too large, in order.
-use Rattle.std.specs.Prelude.{◌-◌, ◌++◌, ◌&&◌, ℕ, Bool, List, map, filter, nat_le}
+-- The moves among which a word picks: the legal ones but slides whose result is not too large, in order.
+use Rattle.std.specs.Prelude.{◌-◌, ◌++◌, ◌&&◌, ℕ, Bool, true, false, List, map, filter, nat_le}
 use Rattle.std.specs.List.{range_with_len, flat_map}
 use Rattle.std.specs.Option.{is_none}
 use Rattle.grid_core.specs.declared.mark.Kind.{Kind}
@@ -7,11 +7,21 @@ use Rattle.grid_core.specs.declared.mark.Kind.TheVariants.{Cross, Ring}
 use Rattle.grid_core.specs.declared.mark.Corner.{Corner}
 use Rattle.grid_core.specs.Diagram.{Diagram, size}
 use Rattle.grid_moves.specs.declared.step.Move.{Move}
-use Rattle.grid_moves.specs.declared.step.Move.TheVariants.{ShiftColumns, ShiftRows, ExchangeColumns, ExchangeRows, Stabilise, Destabilise}
+use Rattle.grid_moves.specs.declared.step.Move.TheVariants.{ShiftColumns, ShiftRows, ExchangeColumns, ExchangeRows, SlideColumns, SlideRows, Stabilise, Destabilise}
 use Rattle.grid_moves.specs.MoveFault.{first_fault}
 use Rattle.next_moves.specs.Tries.{corners}
 use Rattle.next_moves.specs.Offers.{size_after}
 use Rattle.walk_samples.specs.declared.walk.TheConstants.{LARGEST}
+
+abbrev pub is_slide : Move → Bool
+is_slide (ShiftColumns k) = false
+is_slide (ShiftRows k) = false
+is_slide (ExchangeColumns c) = false
+is_slide (ExchangeRows r) = false
+is_slide (SlideColumns c) = true
+is_slide (SlideRows r) = true
+is_slide (Stabilise c kind corner) = false
+is_slide (Destabilise c r) = false
 
 abbrev pub column_shift : ℕ → Move
 column_shift k = ShiftColumns k

@@ -1,22 +1,22 @@
 //! Laws of sample walks, over the definitions alone.
-ghost use Rattle.std.specs.Prelude.{◌≡◌, ◌≤◌, ◌*◌, ◌↔◌, ℕ, List, length};
+ghost use Rattle.std.specs.Prelude.{◌≡◌, false, ◌≤◌, ◌*◌, ◌↔◌, ℕ, List, length};
 ghost use Rattle.std.specs.List.{Contains};
 ghost use Rattle.grid_core.specs.Diagram.{Diagram, IsGrid, size};
 ghost use Rattle.grid_core.specs.Parts.{bottoms};
 ghost use Rattle.grid_moves.specs.Step.{Step};
 ghost use Rattle.grid_moves.specs.Joining.{JoinsWithin};
 ghost use Rattle.walk_samples.specs.declared.walk.TheConstants.{LARGEST, TURNS};
-ghost use Rattle.walk_samples.specs.Candidates.{candidates};
+ghost use Rattle.walk_samples.specs.Candidates.{is_slide, candidates};
 ghost use Rattle.walk_samples.specs.Walk.{right_trefoil, words, Walks};
 ghost use Rattle.walk_samples.specs.Text.{walk_text, sample_text};
 
 use grid_moves::Move;
 
-/// The candidates are the moves that lead to a diagram that is not too large.
+/// The candidates are the moves, but for slides, that lead to a diagram that is not too large.
 pub fn the_candidates_are_the_small_steps()
     ensures { (d : Diagram) (move : Move)
         → IsGrid d
-        → Contains (candidates d) move ↔ ((e : Diagram) × (Step d move e × (size e ≤ LARGEST))) }
+        → Contains (candidates d) move ↔ ((is_slide move ≡ false) × ((e : Diagram) × (Step d move e × (size e ≤ LARGEST)))) }
 {}
 
 /// Each seed has one walk.

@@ -50,9 +50,10 @@ fn is_printed_as_read(alloc: Global, verdict: &[u8]) -> Result<bool, Fail> {
 
 #[test]
 fn verdicts_are_printed_as_they_were_read(rt: HostRuntime) -> Result<(), Fail> {
-    let rows: [&[u8]; 8] = [
+    let rows: [&[u8]; 9] = [
         b"equal 0\n",
         b"equal 2\nexchange columns 0\nshift columns 255\n",
+        b"equal 2\nslide columns 4\nslide rows 0\n",
         b"unknown budget 20000\n",
         b"unknown exhausted 5 2\n",
         b"different tetrahedral\nlist 2\n0 0\n3 1\nlist 1\n0 1 2\n",

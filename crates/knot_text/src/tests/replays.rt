@@ -82,12 +82,15 @@ fn colours_stand_behind_their_quandle(rt: HostRuntime) -> Result<(), Fail> {
 
 #[test]
 fn moves_have_a_form(rt: HostRuntime) -> Result<(), Fail> {
-    let rows: [(&[u8], Option<TextFault>); 10] = [
+    let rows: [(&[u8], Option<TextFault>); 13] = [
         (b"moves 1\nshift columns 255\n", None),
         (b"moves 1\nshift columns 256\n", limit(4)),
         (b"moves 1\nshift columns 256 1\n", malformed(4)),
         (b"moves 1\nshift rows\n", malformed(4)),
         (b"moves 1\nexchange diagonals 1\n", malformed(4)),
+        (b"moves 1\nslide rows 255\n", None),
+        (b"moves 1\nslide columns 256\n", limit(4)),
+        (b"moves 1\nslide 1\n", malformed(4)),
         (b"moves 1\nstabilise 0 z lowleft\n", malformed(4)),
         (b"moves 1\nstabilise 1000000000 x left\n", malformed(4)),
         (b"moves 1\nstabilise 1000000000 x lowleft\n", limit(4)),
@@ -103,7 +106,7 @@ fn moves_have_a_form(rt: HostRuntime) -> Result<(), Fail> {
 #[test]
 fn each_kind_of_move_is_read(rt: HostRuntime) -> Result<(), Fail> {
     let text =
-        b"x 0 1\no 1 0\nmoves 4\nshift\tcolumns 1\n\nstabilise 3 o highright\r\nexchange rows 4\n#\ndestabilise 2 1";
+        b"x 0 1\no 1 0\nmoves 6\nshift\tcolumns 1\n\nstabilise 3 o highright\r\nexchange rows 4\n#\ndestabilise 2 1\nslide columns 5\nslide rows 0";
     let read = read_replay(rt.alloc(), text);
     assert!(rt; read.is_ok());
     let Ok(replay) = read else { return Ok(()) };
@@ -116,6 +119,8 @@ fn each_kind_of_move_is_read(rt: HostRuntime) -> Result<(), Fail> {
         },
         Move::ExchangeRows(4),
         Move::Destabilise { column: 2, row: 1 },
+        Move::SlideColumns(5),
+        Move::SlideRows(0),
     ];
     assert_eq!(rt; replay.moves.as_slice(), moves.as_slice());
     assert!(rt; replay.colours.is_none());
