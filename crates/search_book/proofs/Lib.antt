@@ -8,10 +8,11 @@ mod Claimed
 mod Taking
 mod Sizes
 pub mod ReachedEntries
-mod RootEntries
+pub mod RootEntries
 pub mod EndedBooks
 mod WorkedRows
-mod Lookups
+pub mod Lookups
+mod Indexes
 mod Offering
 mod Appended
 mod SoundEntries
@@ -24,6 +25,7 @@ mod Opened
 mod Standing
 mod AfterSettling
 mod KeptEntries
+pub mod Recorded
 mod WaysDown
 mod TurnedBack
 mod SidesMet

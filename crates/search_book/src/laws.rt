@@ -1,13 +1,16 @@
 //! Laws of the machine and of sound books, over the definitions alone.
-ghost use Rattle.std.specs.Prelude.{◌≡◌, ℕ, Some, slice_get};
-ghost use Rattle.grid_core.specs.Diagram.{Diagram, IsGrid, size};
-ghost use Rattle.grid_canon.specs.Key.{key_of};
+ghost use Rattle.std.specs.Prelude.{◌≡◌, ◌≢◌, ◌++◌, ◌∷◌, [], ℕ, None, Some, slice_get};
+ghost use Rattle.next_moves.specs.Offers.{Neighbourhood};
+ghost use Rattle.search_book.specs.declared.answer.Claim.{Claim};
+ghost use Rattle.search_book.specs.declared.answer.Settled.{Settled};
 ghost use Rattle.search_book.specs.declared.problem.Problem.{Problem};
 ghost use Rattle.search_book.specs.declared.entry.Entry.{Entry};
 ghost use Rattle.search_book.specs.declared.event.Event.{Event};
-ghost use Rattle.search_book.specs.Machine.{State, Begins, After, size_of};
+ghost use Rattle.search_book.specs.Machine.{State, Begins, After};
 ghost use Rattle.search_book.specs.Sound.{IsProblem, IsSound, IsLater};
+ghost use Rattle.search_book.specs.Answers.{AnswersClaim, AnswersSettle};
 
+use crate::answer::{Claim, Settled};
 use crate::entry::Entry;
 use crate::event::Event;
 use crate::problem::Problem;
@@ -37,7 +40,18 @@ pub fn a_claimed_entry_is_never_unclaimed_again()
         → (f : Entry) × ((slice_get t.entries id ≡ Some f) × IsLater e f) }
 {}
 
-/// The size that the machine reads from the key of a grid is the grid's size.
-pub fn the_size_of_a_key_is_that_of_its_diagram()
-    ensures { (d : Diagram) → IsGrid d → size_of (key_of d) ≡ size d }
+/// An event is put behind the history, and leaves the problem.
+pub fn each_event_is_put_behind_the_history()
+    ensures history { (s t : State) (event : Event) → After s event t → t.history ≡ s.history ++ event ∷ [] }
+    ensures problem { (s t : State) (event : Event) → After s event t → t.problem ≡ s.problem }
+{}
+
+/// No event happens to a book that is over, and no answer to a claim or a settlement changes it: it stays over.
+pub fn a_book_that_is_over_stays_over()
+    ensures event { (s t : State) (event : Event) → After s event t → s.end ≡ None }
+    ensures claim { (s t : State) (worker : ℕ) (answer : Claim) → s.end ≢ None → AnswersClaim s worker answer t → t ≡ s }
+    ensures settle { (s t : State) (worker id : ℕ) (offers : Neighbourhood) (answer : Settled)
+        → s.end ≢ None
+        → AnswersSettle s worker id offers answer t
+        → t ≡ s }
 {}
