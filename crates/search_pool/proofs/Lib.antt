@@ -1,2 +1,5 @@
 mod Turns
 mod Settling
+mod SeatLists
+mod Tasks
+mod Holdings

@@ -1,12 +1,12 @@
 //! What a search leaves.
 ghost use Rattle.std.specs.Prelude.{◌≡◌, ◌≢◌, None};
 ghost use Rattle.search_book.specs.Ended.{Shows};
-ghost use Rattle.search_pool.specs.Finding.{IsFinding};
+ghost use Rattle.search_pool.specs.Finding.{IsFinding, settlements};
 
 use search_book::{Book, End, Problem};
 
-/// What a search leaves: its book, a number of settlements, and perhaps a stray, which is a problem with which the book
-/// of several workers came back where it was not the given one. In every finding that a call here answers the book is
+/// What a search leaves: its book, a number of settlements, and perhaps a stray, which is the problem with which the book
+/// of `pool` came back where that was not the given one. In every finding that a call here answers the book is
 /// over and sound, `settled` is the number of settlements in its history, and a stray is not the given problem.
 #[derive(Drop)]
 pub struct Finding {
@@ -24,8 +24,20 @@ impl Finding {
         ensures finding { IsFinding book.problem result }
         ensures shows { (end : End) → book.end ≡ Some end → Shows book end }
     {
-        let _problem = book.problem();
         let settled = book.settles();
+        Finding::counted(book, settled)
+    }
+
+    /// The finding of a book that is over, whose settlements were counted, of its own problem and with no stray.
+    pub(crate) fn counted(book: Book, settled: u64) -> Finding
+        requires over { book.end ≢ None }
+        requires settled { settled ≡ settlements book.history }
+        ensures book { result.book ≡ book }
+        ensures stray { result.stray ≡ None }
+        ensures finding { IsFinding book.problem result }
+        ensures shows { (end : End) → book.end ≡ Some end → Shows book end }
+    {
+        let _problem = book.problem();
         Finding {
             book,
             settled,

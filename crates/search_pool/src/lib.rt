@@ -2,9 +2,19 @@
 #![tactic(auto)]
 
 mod finding;
+mod gate;
+mod holding;
+mod locked;
+mod many;
 mod searcher;
+mod seat;
+mod shared;
 #[cfg(test)]
 mod tests;
 
 pub use finding::Finding;
+pub use gate::{Gate, OpenGate};
+pub use many::{MAX_WORKERS, pool};
 pub use searcher::alone;
+pub use seat::Seat;
+pub use shared::SharedBook;

@@ -1,0 +1,63 @@
+-- What lies under the lock before and after a claim or a settlement.
+use Rattle.std.proofs.Common.{◌≡◌, ◌≢◌, ◌∙◌, ap, sym, subst, refl, ℕ, ◌<◌, ◌≤◌, ◌+◌, ◌-◌, ◌^◌, not, arith, None}
+use Rattle.std.proofs.lemmas.List.Sums.{count_by-le-length}
+use Rattle.grid_core.specs.declared.grid.TheConstants.{MAX_SIZE}
+use Rattle.grid_core.specs.Diagram.{size}
+use Rattle.next_moves.specs.Offers.{Neighbourhood}
+use Rattle.search_book.specs.declared.answer.Settled.{Settled}
+use Rattle.search_book.specs.declared.answer.Settled.TheVariants.{Done, Late, Stranger}
+use Rattle.search_book.specs.declared.event.Event.TheVariants.{Settle}
+use Rattle.search_book.specs.declared.event.Event.{Event}
+use Rattle.search_book.specs.Machine.{State}
+use Rattle.search_book.specs.Sound.{IsSound, is_claim}
+use Rattle.search_book.specs.Answers.{AnswersSettle}
+use Rattle.search_book.proofs.Histories.{count_more}
+use Rattle.search_book.proofs.Recorded.{settled_history, settle_when_over}
+use Rattle.search_pool.specs.declared.locked.Task.{Task}
+use Rattle.search_pool.specs.Finding.{settlements}
+use Rattle.search_pool.specs.Task.{AllowsOffers, IsTaskOf, Counts}
+use Rattle.search_pool.proofs.Settling.{ticket_small}
+
+-- what is handed out has offers within the cap of its book
+pub allows_offers : (s t : State) (worker : ℕ) (task : Task) → IsSound s → IsTaskOf s worker task t → AllowsOffers task
+allows_offers s t worker task sound is =
+    let small : size task.form.grid ≤ s.problem.cap = ticket_small s (record { id = task.id; form = task.form }) sound is.ticket in
+    let least : size task.form.grid ≤ task.cap = subst (λ (k : ℕ). size task.form.grid ≤ k) (sym is.cap) small in
+    let most : task.cap ≤ MAX_SIZE = subst (λ (k : ℕ). k ≤ MAX_SIZE) (sym is.cap) sound.problem.cap in
+    record { canonical = is.ticket.form.canonical; least = least; most = most }
+
+-- a sound book has far fewer settlements than a counter can count
+pub few_settlements : (s : State) → IsSound s → settlements s.history < 2 ^ 64 - 1
+few_settlements s sound =
+    omega (arith, count_by-le-length (λ (event : Event). not (is_claim event)) s.history, sound.events, sound.within_budget, sound.problem.most)
+
+-- taken offers are one settlement more
+pub done_adds_one : (s t : State) (worker id : ℕ) (offers : Neighbourhood) (answer : Settled) → answer ≡ Done → AnswersSettle s worker id offers answer t → settlements t.history ≡ settlements s.history + 1
+done_adds_one s t worker id offers Done same is =
+    ap (λ (u : State). settlements u.history) is.after
+    ∙ ap settlements (settled_history s worker id is.entry offers.offers)
+    ∙ count_more (λ (event : Event). not (is_claim event)) s.history (Settle worker id)
+done_adds_one s t worker id offers Late same is = cc
+done_adds_one s t worker id offers (Stranger asked kept) same is = cc
+
+-- and any other answer changes nothing
+pub unless_done : (s t : State) (worker id : ℕ) (offers : Neighbourhood) (answer : Settled) → answer ≢ Done → AnswersSettle s worker id offers answer t → t ≡ s
+unless_done s t worker id offers Done other is = absurd (other refl)
+unless_done s t worker id offers Late other is = is.1
+unless_done s t worker id offers (Stranger asked kept) other is = is.unchanged
+
+-- what is over stays over
+pub over_after : (s t : State) (worker id : ℕ) (offers : Neighbourhood) (answer : Settled) → AnswersSettle s worker id offers answer t → s.end ≢ None → t.end ≢ None
+over_after s t worker id offers answer is over = subst (λ (u : State). u.end ≢ None) (sym (settle_when_over s t worker id offers answer over is)) over
+
+-- the seat counts one more where the offers were taken
+pub counts_done : (s t : State) (worker id : ℕ) (offers : Neighbourhood) (answer : Settled) (before after : ℕ) → answer ≡ Done → after ≡ before + 1 → AnswersSettle s worker id offers answer t → Counts s worker id offers t before after
+counts_done s t worker id offers Done before after same more is = record { answer = Done; answers = is; counts = more }
+counts_done s t worker id offers Late before after same more is = cc
+counts_done s t worker id offers (Stranger asked kept) before after same more is = cc
+
+-- and else nothing happened
+pub counts_none : (s t : State) (worker id : ℕ) (offers : Neighbourhood) (answer : Settled) (made : ℕ) → answer ≢ Done → AnswersSettle s worker id offers answer t → Counts s worker id offers t made made
+counts_none s t worker id offers Done made other is = absurd (other refl)
+counts_none s t worker id offers Late made other is = record { answer = Late; answers = is; counts = omega arith }
+counts_none s t worker id offers (Stranger asked kept) made other is = record { answer = Stranger asked kept; answers = is; counts = omega arith }

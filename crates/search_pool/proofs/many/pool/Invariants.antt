@@ -1,0 +1,7 @@
+use Rattle.search_pool.proofs.many.pool.Given as goal
+
+abbrev pub ghosts-run_workers-L-Ledger : goal.ghosts-run_workers-L-Ledger
+ghosts-run_workers-L-Ledger g a = record { name = a.made_blank.name; parts = a.made_blank.parts }
+
+abbrev pub ghosts-run_workers-M-Ledger : goal.ghosts-run_workers-M-Ledger
+ghosts-run_workers-M-Ledger g a = record { name = a.end_blank.name; parts = a.end_blank.parts }

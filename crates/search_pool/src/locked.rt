@@ -1,0 +1,204 @@
+//! What lies under the lock of a shared book.
+ghost use Rattle.std.specs.Prelude.{◌≡◌, ◌≢◌, ◌<◌, ◌≤◌, ◌+◌, [], None, true, vec_len};
+ghost use Rattle.search_pool.specs.Finding.{settlements};
+ghost use Rattle.search_pool.specs.Holding.{IsHolding};
+ghost use Rattle.search_pool.specs.Seats.{SeatState, all_made, how_many_saw_end};
+ghost use Rattle.search_pool.specs.Task.{AllowsOffers, Hands, Counts};
+
+use crate::holding::OneCall;
+use crate::seat::Seat;
+use grid_canon::LeastForm;
+use next_moves::Offers;
+use search_book::{Book, Claim, Settled};
+use std::sync::ledger::{Book as Tally, Ledger, Share};
+
+/// An entry that a worker has claimed, with all that its offers need: its diagram, and the cap of the book.
+#[derive(Drop)]
+pub struct Task {
+    pub id: u32,
+    pub form: LeastForm,
+    pub cap: u8,
+}
+
+/// The answer to a worker that asks for a task.
+#[derive(Drop)]
+pub enum Handed {
+    Work(Task),
+    Later,
+    Over,
+}
+
+/// Whom a settlement wakes.
+#[derive(Clone, Copy, Debug, PartialEq, Eq)]
+pub enum Waking {
+    /// So many of those that wait.
+    Count(u32),
+    /// All of them: the book is over.
+    All,
+}
+
+/// The book, the totals of its two ledgers, what is left of their parts beside the seats, which is nothing, and how many
+/// workers wait for a task. The total of the ledger of settlements is the number of settlements in the history of the
+/// book, and that of the ledger of ends is above 0 only where the book is over.
+#[derive(Drop)]
+pub struct Locked<L: Ledger, M: Ledger> {
+    book: Book,
+    made_ledger: Tally<L>,
+    end_ledger: Tally<M>,
+    made_share: Share<L>,
+    end_share: Share<M>,
+    waiting: u32,
+    ghost made_share_is_empty: { (made_share.parts ≡ 0) × (made_share.amount ≡ 0) },
+    ghost end_share_is_empty: { (end_share.parts ≡ 0) × (end_share.amount ≡ 0) },
+    ghost sums: { made_ledger.total ≡ settlements book.history },
+    ghost ended: { 0 < end_ledger.total → book.end ≢ None },
+}
+
+impl<L: Ledger, M: Ledger> Locked<L, M> {
+    /// A book at its beginning, with two ledgers in which nothing is counted, and all of whose parts the seats hold.
+    pub fn new(
+        book: Book,
+        made_ledger: Tally<L>,
+        end_ledger: Tally<M>,
+        made_share: Share<L>,
+        end_share: Share<M>,
+    ) -> Locked<L, M>
+        requires fresh { book.history ≡ [] }
+        requires made_ledger { made_ledger.total ≡ 0 }
+        requires end_ledger { end_ledger.total ≡ 0 }
+        requires made_share { (made_share.parts ≡ 0) × (made_share.amount ≡ 0) }
+        requires end_share { (end_share.parts ≡ 0) × (end_share.amount ≡ 0) }
+    {
+        Locked {
+            book,
+            made_ledger,
+            end_ledger,
+            made_share,
+            end_share,
+            waiting: 0,
+        }
+    }
+
+    /// One claim of the book, the one call of its holding. The seat notes the end, and a worker that finds nothing is
+    /// counted as waiting.
+    #[tactic(auto, using(crate::proofs::Holdings::claim_holds))]
+    pub fn claim(&mut self, _call: OneCall, seat: &mut Seat<L, M>) -> Handed
+        ensures book { IsHolding seat.old.worker self.old.book self.new.book }
+        ensures handed { Hands self.old.book seat.old.worker result self.new.book }
+        ensures work { (task : Task) → result ≡ Handed.Work task → AllowsOffers task }
+        ensures over { result ≡ Handed.Over → seat.new.saw_end ≡ true }
+        ensures worker { seat.new.worker ≡ seat.old.worker }
+        ensures made { seat.new.made ≡ seat.old.made }
+    {
+        let Locked {
+            book,
+            made_ledger: _,
+            end_ledger,
+            made_share: _,
+            end_share: _,
+            waiting,
+        } = self;
+        let cap = book.problem().cap;
+        match book.claim(seat.worker()) {
+            Claim::Work(ticket) => Handed::Work(Task {
+                id: ticket.id,
+                form: ticket.form,
+                cap,
+            }),
+            Claim::Later => {
+                *waiting = waiting.saturating_add(1);
+                Handed::Later
+            }
+            Claim::Over(_) => {
+                seat.note_end(end_ledger);
+                Handed::Over
+            }
+        }
+    }
+
+    /// A worker that waited does so no more. No call of the book.
+    pub fn woken(&mut self) {
+        self.waiting = self.waiting.saturating_sub(1);
+    }
+
+    /// One settlement of the book, the one call of its holding, counted by the seat where the offers were taken. Answers
+    /// whom it wakes: for each entry that was admitted one of those that wait, and all where the book is over.
+    pub fn settle(
+        &mut self,
+        _call: OneCall,
+        seat: &mut Seat<L, M>,
+        id: u32,
+        offers: &Offers,
+    ) -> Waking
+        ensures book { IsHolding seat.old.worker self.old.book self.new.book }
+        ensures counts { Counts self.old.book seat.old.worker id offers.now self.new.book seat.old.made seat.new.made }
+        ensures worker { seat.new.worker ≡ seat.old.worker }
+        ensures made { seat.old.made ≤ seat.new.made }
+        ensures saw_end { seat.new.saw_end ≡ seat.old.saw_end }
+    {
+        let Locked {
+            book,
+            made_ledger,
+            end_ledger: _,
+            made_share: _,
+            end_share: _,
+            waiting,
+        } = self;
+        let before = book.len();
+        settle_counted(book, made_ledger, seat, id, offers);
+        if book.end().is_some() {
+            Waking::All
+        } else {
+            Waking::Count(book.len().saturating_sub(before).min(*waiting))
+        }
+    }
+
+    /// The book, with all its seats given back: the number is what their workers made.
+    pub fn close(self, seats: Vec<Seat<L, M>>) -> (Book, u64)
+        requires all_made_shares { vec_len seats ≡ L.parts }
+        requires all_end_shares { vec_len seats ≡ M.parts }
+        ensures made { result.1 ≡ all_made seats.items }
+        ensures settled { result.1 ≡ settlements result.0.history }
+        ensures over { 0 < how_many_saw_end seats.items → result.0.end ≢ None }
+    {
+        let Locked {
+            book,
+            mut made_ledger,
+            mut end_ledger,
+            mut made_share,
+            mut end_share,
+            waiting: _,
+        } = self;
+        for seat in seats {
+            seat.give_back(&mut made_share, &mut end_share);
+        }
+        made_ledger.audit(&mut made_share);
+        end_ledger.audit(&mut end_share);
+        let settled = book.settles();
+        (book, settled)
+    }
+}
+
+/// One settlement of the book, which the seat and the ledger of settlements count where the offers were taken.
+#[tactic(auto, using(crate::proofs::Holdings::settle_holds))]
+fn settle_counted<L: Ledger, M: Ledger>(
+    book: &mut Book,
+    made_ledger: &mut Tally<L>,
+    seat: &mut Seat<L, M>,
+    id: u32,
+    offers: &Offers,
+)
+    requires { made_ledger.old.total ≡ settlements book.old.history }
+    ensures book { IsHolding seat.old.worker book.old book.new }
+    ensures counts { Counts book.old seat.old.worker id offers.now book.new seat.old.made seat.new.made }
+    ensures sums { made_ledger.new.total ≡ settlements book.new.history }
+    ensures over { book.old.end ≢ None → book.new.end ≢ None }
+    ensures worker { seat.new.worker ≡ seat.old.worker }
+    ensures made { seat.old.made ≤ seat.new.made }
+    ensures saw_end { seat.new.saw_end ≡ seat.old.saw_end }
+{
+    let _problem = book.problem();
+    if book.settle(seat.worker(), id, offers) == Settled::Done {
+        seat.count(made_ledger);
+    }
+}

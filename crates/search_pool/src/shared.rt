@@ -1,0 +1,142 @@
+//! A book that many workers share.
+ghost use Rattle.std.specs.Prelude.{◌≡◌, ◌≢◌, ◌<◌, ◌≤◌, ◌+◌, [], None, true, vec_len, IfOk, IfSome, IfNone};
+ghost use Rattle.search_pool.specs.declared.many.TheConstants.{MAX_WORKERS};
+ghost use Rattle.search_pool.specs.Finding.{settlements};
+ghost use Rattle.search_pool.specs.Seats.{SeatState, fresh_seats, all_made, how_many_saw_end};
+ghost use Rattle.search_pool.specs.Task.{AllowsOffers};
+
+use crate::gate::Gate;
+use crate::holding::{hold, hold_again};
+use crate::locked::{Handed, Locked, Task, Waking};
+use crate::seat::Seat;
+use frontier_core::OutOfMemory;
+use next_moves::Offers;
+use search_book::Book;
+use std::alloc::Global;
+use std::sync::ledger::{Blank, Ledger};
+use std::sync::{Condvar, Mutex, Wait};
+
+/// A book under a lock, for workers in threads of their own. Whenever the lock is free the book is sound and replays its
+/// own history. Each claim and each settlement under the lock makes at most one event, by clause. That a holding of the
+/// lock makes one such call is how the code is written: each call uses up a right of which a holding comes with one, and
+/// `src/holding.rt` alone makes it. Offers are found without the lock. Two ledgers tie the book to its seats: one counts
+/// settlements, and the other the workers that saw the end.
+#[derive(Drop)]
+pub struct SharedBook<L: Ledger, M: Ledger> {
+    lock: Mutex<Locked<L, M>>,
+    changed: Condvar,
+}
+
+impl<L: Ledger, M: Ledger> SharedBook<L, M> {
+    /// A book to share, whose history is still empty, with one seat for each of 1 to `MAX_WORKERS` workers, by their
+    /// numbers from 0. The two blanks are of the ledger of settlements and of that of ends, which have as many parts as
+    /// there are workers. On want of memory, which is the one error, the book is dropped.
+    pub fn new(
+        alloc: Global,
+        book: Book,
+        workers: u32,
+        made_blank: Blank,
+        end_blank: Blank,
+    ) -> Result<(SharedBook<L, M>, Vec<Seat<L, M>>), OutOfMemory>
+        requires fresh { book.history ≡ [] }
+        requires some { 1 ≤ workers }
+        requires most { workers ≤ MAX_WORKERS }
+        requires made_blank { (made_blank.name ≡ L.name) × (made_blank.parts ≡ L.parts) × (L.parts ≡ workers) }
+        requires end_blank { (end_blank.name ≡ M.name) × (end_blank.parts ≡ M.parts) × (M.parts ≡ workers) }
+        ensures seats { IfOk result (λ shared. shared.1.items ≡ fresh_seats workers) }
+    {
+        let (made_ledger, mut made_share) = made_blank.open::<L>();
+        let (end_ledger, mut end_share) = end_blank.open::<M>();
+        let mut seats = Vec::with_capacity(alloc, workers as usize)?;
+        for worker in 0..workers {
+            seats.push_reserved(Seat::fresh(
+                worker,
+                made_share.split_off(1, 0),
+                end_share.split_off(1, 0),
+            ));
+        }
+        let shared = SharedBook {
+            lock: Mutex::new(Locked::new(book, made_ledger, end_ledger, made_share, end_share)),
+            changed: Condvar::new(),
+        };
+        Ok((shared, seats))
+    }
+
+    /// Works at the book until its end is seen: claims the next entry, passes the gate, finds the offers and settles the
+    /// entry with them, again and again. Where each entry is claimed and the book is not over it waits for others. Each
+    /// settlement that it makes is counted in its seat. What is promised holds where it returns. As the code is written it
+    /// takes no memory: of all that it calls only the index of the book has an allocator, with room for the whole budget.
+    pub fn work<R: Wait, G: Gate>(&self, rt: &R, seat: &mut Seat<L, M>, gate: &G)
+        ensures worker { seat.new.worker ≡ seat.old.worker }
+        ensures made { seat.old.made ≤ seat.new.made }
+        ensures saw_end { seat.new.saw_end ≡ true }
+    {
+        let Some(task) = self.next(rt, seat) else {
+            return;
+        };
+        gate.pass(seat.worker(), task.id);
+        let mut offers = Offers::of(&task.form, task.cap);
+        let mut id = task.id;
+        for _ in rt.forever() {
+            self.settle(rt, seat, id, &offers);
+            let Some(task) = self.next(rt, seat) else {
+                return;
+            };
+            gate.pass(seat.worker(), task.id);
+            offers.renew(&task.form, task.cap);
+            id = task.id;
+        }
+        unreachable!()
+    }
+
+    /// The worker's next task; None where it saw the end. Where there is none yet it goes to wait out of the holding in
+    /// which it asked, so that no waking is lost, and asks again in the one in which it wakes.
+    fn next<R: Wait>(&self, rt: &R, seat: &mut Seat<L, M>) -> Option<Task>
+        ensures some { IfSome result (λ task. AllowsOffers task) }
+        ensures none { IfNone result (seat.new.saw_end ≡ true) }
+        ensures worker { seat.new.worker ≡ seat.old.worker }
+        ensures made { seat.new.made ≡ seat.old.made }
+    {
+        let (mut guard, mut call) = hold(rt, &self.lock);
+        for _ in rt.forever() {
+            match guard.claim(call, seat) {
+                Handed::Work(task) => return Some(task),
+                Handed::Over => return None,
+                Handed::Later => (guard, call) = hold_again(rt, &self.changed, guard),
+            }
+        }
+        unreachable!()
+    }
+
+    /// Settles an entry, and wakes others behind the lock.
+    fn settle<R: Wait>(&self, rt: &R, seat: &mut Seat<L, M>, id: u32, offers: &Offers)
+        ensures worker { seat.new.worker ≡ seat.old.worker }
+        ensures made { seat.old.made ≤ seat.new.made }
+    {
+        let (mut guard, call) = hold(rt, &self.lock);
+        let waking = guard.settle(call, seat, id, offers);
+        drop(guard);
+        match waking {
+            Waking::All => self.changed.notify_all(),
+            Waking::Count(count) => {
+                for _ in 0..count {
+                    self.changed.notify_one();
+                }
+            }
+        }
+    }
+
+    /// Takes the book back, with all its seats: as many as its ledgers have parts, of which each seat holds one. The
+    /// number is what their workers made, and the book has as many settlements. Where one of them saw the end the book
+    /// is over.
+    pub fn close(self, seats: Vec<Seat<L, M>>) -> (Book, u64)
+        requires all_made_shares { vec_len seats ≡ L.parts }
+        requires all_end_shares { vec_len seats ≡ M.parts }
+        ensures made { result.1 ≡ all_made seats.items }
+        ensures settled { result.1 ≡ settlements result.0.history }
+        ensures over { 0 < how_many_saw_end seats.items → result.0.end ≢ None }
+    {
+        let SharedBook { lock, changed: _ } = self;
+        lock.into_inner().close(seats)
+    }
+}
