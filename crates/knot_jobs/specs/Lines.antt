@@ -16,6 +16,7 @@ fault_tokens fault.Touching = codes "touching" ∷ []
 fault_tokens fault.Interleaved = codes "interleaved" ∷ []
 fault_tokens (fault.Block marks) = codes "block" ∷ decimal marks ∷ []
 fault_tokens fault.Full = codes "full" ∷ []
+fault_tokens fault.Apart = codes "apart" ∷ []
 
 -- the first move that is not legal, by its place
 abbrev pub step_tokens : ℕ → MoveFault → List (List ℕ)

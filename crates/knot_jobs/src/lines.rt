@@ -20,6 +20,7 @@ fn push_fault(out: &mut Vec<u8>, fault: MoveFault) -> Result<(), AllocError>
         MoveFault::Interleaved => out.extend_from_slice(b" interleaved"),
         MoveFault::Block { marks } => push_spaced(out, b" block ", u64::from(marks)),
         MoveFault::Full => out.extend_from_slice(b" full"),
+        MoveFault::Apart => out.extend_from_slice(b" apart"),
     }
 }
 

@@ -4,7 +4,7 @@ use Rattle.std.specs.List.{AllByRecursion, filter, find}
 use Rattle.arrayvec.specs.ArrayVec.{ArrayVec}
 use Rattle.grid_core.specs.Diagram.{Diagram, size}
 use Rattle.grid_moves.specs.declared.step.Move.{Move}
-use Rattle.grid_moves.specs.declared.step.Move.TheVariants.{ShiftColumns, ShiftRows, ExchangeColumns, ExchangeRows, Stabilise, Destabilise}
+use Rattle.grid_moves.specs.declared.step.Move.TheVariants.{ShiftColumns, ShiftRows, ExchangeColumns, ExchangeRows, SlideColumns, SlideRows, Stabilise, Destabilise}
 use Rattle.grid_moves.specs.Step.{Step}
 use Rattle.grid_moves.specs.Joining.{Joins}
 use Rattle.quandle_core.specs.Quandle.{Table}
@@ -32,6 +32,8 @@ move_text d e (ShiftColumns k) step = let most = step.marks.most in let fits = s
 move_text d e (ShiftRows k) step = let most = step.marks.most in let fits = step.before.most in omega (arith, most, fits)
 move_text d e (ExchangeColumns c) step = let most = step.marks.inside in let fits = step.before.most in omega (arith, most, fits)
 move_text d e (ExchangeRows r) step = let most = step.marks.inside in let fits = step.before.most in omega (arith, most, fits)
+move_text d e (SlideColumns c) step = let most = step.marks.inside in let fits = step.before.most in omega (arith, most, fits)
+move_text d e (SlideRows r) step = let most = step.marks.inside in let fits = step.before.most in omega (arith, most, fits)
 move_text d e (Stabilise c kind corner) step = let most = step.marks.1.1.marked.inside in let fits = step.before.most in omega (arith, most, fits)
 move_text d e (Destabilise c r) step =
     let columns = step.marks.columns in

@@ -134,7 +134,7 @@ fn certificates_are_ruled_on(rt: HostRuntime) -> Result<(), Fail> {
 /// Moves made and colours carried, colourings and fixed points listed.
 #[test]
 fn other_jobs_give_the_worked_answers(rt: HostRuntime) -> Result<(), Fail> {
-    let rows: [Row; 15] = [
+    let rows: [Row; 17] = [
         (
             "knot code",
             b"x 4 3 2 1 0\no 2 1 0 4 3\n",
@@ -158,6 +158,18 @@ fn other_jobs_give_the_worked_answers(rt: HostRuntime) -> Result<(), Fail> {
             b"x 4 3 2 1 0\no 2 1 0 4 3\nmoves 1\nexchange columns 0\n",
             Status::Rejected,
             b"rejected step 0 interleaved\n",
+        ),
+        (
+            "knot replay",
+            b"x 4 3 2 1 0\no 2 1 0 4 3\nmoves 1\nslide rows 0\n",
+            Status::Rejected,
+            b"rejected step 0 apart\n",
+        ),
+        (
+            "knot replay",
+            b"x 1 0 2\no 0 2 1\nmoves 1\nslide columns 0\n",
+            Status::Done,
+            b"x 0 1 2\no 2 0 1\n",
         ),
         (
             "knot replay",

@@ -31,6 +31,8 @@ fn moves_of(alloc: Global, size: u8) -> Result<Vec<Move>, OutOfMemory> {
     for place in 0..size {
         keep(&mut moves, Move::ExchangeColumns(place))?;
         keep(&mut moves, Move::ExchangeRows(place))?;
+        keep(&mut moves, Move::SlideColumns(place))?;
+        keep(&mut moves, Move::SlideRows(place))?;
         add_destabilisations(&mut moves, place, size)?;
         if size < GREATEST {
             add_stabilisations(&mut moves, place, Kind::Cross)?;
