@@ -1,0 +1,9 @@
+pub mod Component
+pub mod Linking
+pub mod Intersections
+pub use Rattle.grid_core.specs.Diagram
+pub use Rattle.grid_core.specs.Span
+pub use Rattle.grid_core.specs.Parts
+pub use Rattle.grid_core.specs.Crossing
+pub use Rattle.grid_moves.specs.Step
+pub use Rattle.grid_moves.specs.Joining

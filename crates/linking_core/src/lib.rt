@@ -1,0 +1,12 @@
+//! Components and linking numbers of links, read off their grid diagrams.
+//! Each legal move, of every kind, keeps the number of components and the list of linking numbers, so equivalent diagrams have equal lists.
+#![tactic(auto)]
+
+mod components;
+pub mod laws;
+mod linking_numbers;
+#[cfg(test)]
+mod tests;
+
+pub use components::component;
+pub use linking_numbers::linking;
