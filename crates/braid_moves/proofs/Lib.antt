@@ -1,0 +1,8 @@
+pub mod Relations
+pub mod Same
+pub mod Turned
+pub mod Steps
+pub mod Listings
+pub mod Ruled
+mod WorkedRows
+mod FaultKinds

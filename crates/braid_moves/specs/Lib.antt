@@ -1,0 +1,9 @@
+pub mod Step
+pub mod Fault
+pub mod Carried
+pub mod Ruling
+pub use Rattle.quandle_core.specs.Quandle
+pub use Rattle.quandle_core.specs.Bijection
+pub use Rattle.braid_core.specs.Braid
+pub use Rattle.braid_core.specs.Action
+pub use Rattle.braid_core.specs.FixedPoints

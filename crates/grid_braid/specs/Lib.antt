@@ -1,0 +1,13 @@
+pub mod Strands
+pub mod Word
+pub mod Feet
+pub mod Sweep
+pub mod Columns
+pub use Rattle.grid_core.specs.Diagram
+pub use Rattle.grid_core.specs.Parts
+pub use Rattle.quandle_core.specs.Quandle
+pub use Rattle.quandle_core.specs.Bijection
+pub use Rattle.colour_rows.specs.Colouring
+pub use Rattle.braid_core.specs.Braid
+pub use Rattle.braid_core.specs.Action
+pub use Rattle.braid_core.specs.FixedPoints
