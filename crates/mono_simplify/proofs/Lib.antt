@@ -1,0 +1,11 @@
+pub mod Monotonic
+pub mod Moved
+pub mod Keys
+pub mod Listed
+pub mod Complete
+pub mod Lookups
+pub mod Explored
+pub mod Ways
+pub mod Simpler
+pub mod Once
+mod WorkedRows

@@ -1,0 +1,20 @@
+use Rattle.std.proofs.Common.{◌≡◌, ◌<◌, ◌≤◌, length, slice_get, Some, true}
+use Rattle.std.specs.List.{Contains}
+use Rattle.grid_core.specs.Diagram.{Diagram, size}
+use Rattle.grid_canon.specs.declared.packed.Packed.{Packed}
+use Rattle.next_moves.specs.Offers.{Leads}
+use Rattle.mono_simplify.specs.Listing.{IsKeyOf}
+use Rattle.mono_simplify.specs.Simplified.{is_monotonic, AreMonotonic}
+use Rattle.mono_simplify.specs.Ways.{keys_in}
+use Rattle.mono_simplify.proofs.Ways.{Trails}
+use Rattle.mono_simplify.proofs.way.way_to.Given as goal
+
+abbrev pub invariant-loop-here : goal.invariant-loop-here
+invariant-loop-here l =
+    (l.here < length l.class)
+    × Contains l.back.items l.fn.last.step
+    × ((key : Packed) (member to : Diagram) → slice_get (keys_in l.class) l.place ≡ Some key → IsKeyOf key member → size member ≡ size l.grid → Leads member l.fn.last to → size to ≤ size l.grid → Trails l.grid l.class l.here l.back.items to)
+    × (is_monotonic l.fn.last.step ≡ true → AreMonotonic l.back.items)
+
+abbrev pub decreases-loop-here : goal.decreases-loop-here
+decreases-loop-here l = l.here

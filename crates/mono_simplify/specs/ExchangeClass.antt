@@ -1,0 +1,34 @@
+-- What shifts and exchanges reach: diagrams of one size (Cromwell 1995, Dynnikov 2006). Slides are passed over.
+use Rattle.std.specs.Prelude.{◌≡◌, ◌||◌, ℕ, List, Bool, true, None}
+use Rattle.std.specs.List.{All}
+use Rattle.grid_core.specs.Diagram.{Diagram}
+use Rattle.grid_moves.specs.declared.step.Move.{Move}
+use Rattle.grid_moves.specs.declared.step.Move.TheVariants.{Destabilise}
+use Rattle.grid_moves.specs.MoveFault.{first_fault}
+use Rattle.grid_moves.specs.Joining.{Joins}
+use Rattle.grid_canon.specs.Canonical.{IsCanonicalForm}
+use Rattle.next_moves.specs.Neighbours.{is_shift}
+use Rattle.next_moves.specs.Tries.{is_exchange}
+
+abbrev pub is_shift_or_exchange : Move → Bool
+is_shift_or_exchange move = is_shift move || is_exchange move
+
+-- some list of shifts and exchanges joins d to e
+abbrev pub JoinedByExchanges : Diagram → Diagram → Type 0
+JoinedByExchanges d e = (moves : List Move) × (All (λ move. is_shift_or_exchange move ≡ true) moves × Joins d moves e)
+
+-- f is in the class of d: the canonical form of a diagram that shifts and exchanges reach from d
+pub record IsInClass (d f : Diagram) : Type 0 where
+  pub reached : Diagram
+  pub joined : JoinedByExchanges d reached
+  pub form : IsCanonicalForm reached f
+
+-- some destabilisation is legal on d
+pub record MayDestabilise (d : Diagram) : Type 0 where
+  pub column : ℕ
+  pub row : ℕ
+  pub legal : first_fault d (Destabilise column row) ≡ None
+
+-- no diagram that shifts and exchanges reach from d has a legal destabilisation
+abbrev pub IsIrreducible : Diagram → Type 0
+IsIrreducible d = (e : Diagram) → JoinedByExchanges d e → MayDestabilise e → ⊥

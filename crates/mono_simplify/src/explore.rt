@@ -1,0 +1,161 @@
+//! One class, listed up to a budget, or up to its first destabilisation.
+ghost use Rattle.std.specs.Prelude.{◌≡◌, ◌≤◌, ◌+◌, true, false, length, take, nat_lt, slice_get, Some, IfOk, IfSome, IfNone};
+ghost use Rattle.std.specs.List.{All, Contains};
+ghost use Rattle.grid_core.specs.Diagram.{Diagram};
+ghost use Rattle.next_moves.specs.Tries.{is_exchange};
+ghost use Rattle.next_moves.specs.Offers.{exchanges_among};
+ghost use Rattle.mono_simplify.specs.Listing.{IsKeyOf, IsExchangeList, with_keys, NoTranslateDestabilises};
+ghost use Rattle.mono_simplify.specs.Simplified.{is_destabilisation};
+ghost use Rattle.mono_simplify.specs.Ways.{keys_in, Extends, IsExplored, IsExploredTo};
+
+use crate::class::{Class, Origin};
+use crate::way::way_to;
+use grid_canon::{LeastForm, Packed, canonical_key, unpack};
+use grid_core::Grid;
+use grid_moves::Move;
+use knot_ports::OutOfMemory;
+use next_moves::{Offer, Offers};
+use std::alloc::Global;
+
+/// What a class showed.
+#[derive(Drop)]
+pub enum Explored {
+    /// A smaller diagram, and the moves that lead there.
+    Smaller { grid: Grid, moves: Vec<Move> },
+    /// The whole class: at most as many members as the budget, and no destabilisation is legal in it.
+    Whole,
+    /// The listing has more members than the budget, and no destabilisation is legal on any translate of so many first ones.
+    More,
+}
+
+/// Lists the class of a grid until a destabilisation is offered, or all members, at most as many as the budget, have had their turn.
+pub fn explore(alloc: Global, grid: &Grid, budget: u32) -> Result<Explored, OutOfMemory>
+    requires { 1 ≤ budget }
+    ensures { IfOk result (λ e. IsExploredTo grid.now budget e) }
+{
+    let size = grid.size();
+    let root = canonical_key(grid);
+    let mut class = Class::of(alloc, root.key)?;
+    let mut over = false;
+    let mut place = 0;
+    while place < class.len() {
+        let form = form_of(class.key_at(place));
+        let offers = Offers::of(&form, size);
+        if let Some(offer) = first_destabilisation(offers.offers()) {
+            let moves = way_to(alloc, grid, &class, place, offer.link)?;
+            return Ok(Explored::Smaller {
+                grid: grid_of(offer.key),
+                moves,
+            });
+        }
+        over = turn(&mut class, place as u32, offers.offers(), budget, over)?;
+        place += 1;
+    }
+    if over {
+        Ok(Explored::More)
+    } else {
+        Ok(Explored::Whole)
+    }
+}
+
+/// The grid that a key names.
+fn grid_of(key: Packed) -> Grid
+    requires { (d : Diagram) × IsKeyOf key d }
+    ensures { (d : Diagram) → IsKeyOf key d → result ≡ d }
+{
+    match unpack(key) {
+        Some(grid) => grid,
+        None => unreachable!(),
+    }
+}
+
+/// The canonical grid that a key names, as its own form.
+fn form_of(key: Packed) -> LeastForm
+    requires { (d : Diagram) × IsKeyOf key d }
+    ensures { (d : Diagram) → IsKeyOf key d → result.grid ≡ d }
+{
+    LeastForm {
+        grid: grid_of(key),
+        columns: 0,
+        rows: 0,
+    }
+}
+
+/// The first of these offers that destabilises.
+fn first_destabilisation(offers: &[Offer]) -> Option<Offer>
+    ensures some { IfSome result (λ o. Contains offers.now o × (is_destabilisation o.link.step ≡ true)) }
+    ensures none { IfNone result (All (λ o. is_destabilisation o.link.step ≡ false) offers.now) }
+{
+    for offer in offers {
+        if let Move::Destabilise { .. } = offer.link.step {
+            return Some(*offer);
+        }
+    }
+    None
+}
+
+/// The turn of the member at a place, with the exchanges among its offers: once the listing has more members than the budget, nothing is added.
+/// Whether it has more.
+fn turn(
+    class: &mut Class,
+    place: u32,
+    offers: &[Offer],
+    budget: u32,
+    over: bool,
+) -> Result<bool, OutOfMemory>
+    requires few { length class.old ≤ budget }
+    ensures listed { IfOk result (λ after. (d : Diagram) (key : Packed) (member : Diagram)
+        → IsExplored d budget place (keys_in class.old) over
+        → slice_get (keys_in class.old) place ≡ Some key
+        → IsKeyOf key member
+        → IsExchangeList member (exchanges_among offers.now)
+        → NoTranslateDestabilises key
+        → IsExplored d budget (place + 1) (keys_in class.new) after) }
+    ensures ways { IfOk result (λ _. Extends place (exchanges_among offers.now) class.old class.new) }
+    ensures few { IfOk result (λ _. length class.new ≤ budget) }
+{
+    if over {
+        return Ok(true);
+    }
+    let after = admit_all(class, place, offers, budget)?;
+    Ok(after)
+}
+
+/// Puts the keys of the exchanges among these offers, made at the member of a place, to the end of the class, those that are not in it
+/// yet, unless there would be more members than the budget. Whether there would be.
+fn admit_all(
+    class: &mut Class,
+    place: u32,
+    offers: &[Offer],
+    budget: u32,
+) -> Result<bool, OutOfMemory>
+    requires { length class.old ≤ budget }
+    ensures keys { IfOk result (λ _. keys_in class.new ≡ take budget (with_keys (keys_in class.old) (exchanges_among offers.now))) }
+    ensures over { IfOk result (λ over. over ≡ nat_lt budget (length (with_keys (keys_in class.old) (exchanges_among offers.now)))) }
+    ensures ways { IfOk result (λ _. Extends place (exchanges_among offers.now) class.old class.new) }
+{
+    for offer in offers {
+        if !is_exchange(offer.link.step) {
+            continue;
+        }
+        if class.holds(offer.key) {
+            continue;
+        }
+        if class.len() == budget as usize {
+            return Ok(true);
+        }
+        let origin = Origin {
+            parent: place,
+            link: offer.link,
+        };
+        class.admit(offer.key, origin)?;
+    }
+    Ok(false)
+}
+
+/// Whether a move is an exchange.
+fn is_exchange(step: Move) -> bool
+    ensures { result ≡ is_exchange step }
+{
+    matches!(step, Move::ExchangeColumns(_) | Move::ExchangeRows(_))
+}

@@ -1,0 +1,93 @@
+//! The moves that lead to a member, and on by one link more.
+ghost use Rattle.std.specs.Prelude.{◌≡◌, ◌<◌, ◌≤◌, ◌++◌, length, reverse, slice_get, Some, true, IfOk};
+ghost use Rattle.std.specs.List.{Contains};
+ghost use Rattle.grid_core.specs.Diagram.{Diagram, size};
+ghost use Rattle.grid_moves.specs.Joining.{JoinsWithin};
+ghost use Rattle.grid_canon.specs.declared.packed.Packed.{Packed};
+ghost use Rattle.grid_canon.specs.Shifts.{column_shift, row_shift, shift_moves};
+ghost use Rattle.next_moves.specs.Links.{link_moves};
+ghost use Rattle.next_moves.specs.Offers.{Leads};
+ghost use Rattle.mono_simplify.specs.Listing.{IsKeyOf};
+ghost use Rattle.mono_simplify.specs.Simplified.{is_monotonic, AreMonotonic};
+ghost use Rattle.mono_simplify.specs.Ways.{keys_in, AreWays};
+
+use crate::class::Class;
+use grid_canon::canonical;
+use grid_core::Grid;
+use grid_moves::Move;
+use knot_ports::OutOfMemory;
+use next_moves::Link;
+use std::alloc::Global;
+
+/// Puts the shift of columns at the end, where it is not by 0.
+fn push_columns(list: &mut Vec<Move>, columns: u8) -> Result<(), OutOfMemory>
+    ensures { IfOk result (λ _. list.new.items ≡ list.old.items ++ column_shift columns) }
+{
+    if columns > 0 {
+        list.push(Move::ShiftColumns(columns))?;
+    }
+    Ok(())
+}
+
+/// Puts the shift of rows at the end, where it is not by 0.
+fn push_rows(list: &mut Vec<Move>, rows: u8) -> Result<(), OutOfMemory>
+    ensures { IfOk result (λ _. list.new.items ≡ list.old.items ++ row_shift rows) }
+{
+    if rows > 0 {
+        list.push(Move::ShiftRows(rows))?;
+    }
+    Ok(())
+}
+
+/// Puts the two shifts at the end, the last one first.
+fn push_shifts_back(list: &mut Vec<Move>, columns: u8, rows: u8) -> Result<(), OutOfMemory>
+    ensures { IfOk result (λ _. list.new.items ≡ list.old.items ++ reverse (shift_moves columns rows)) }
+{
+    push_rows(list, rows)?;
+    push_columns(list, columns)
+}
+
+/// Puts the moves of a link at the end, the last one first.
+fn push_link_back(list: &mut Vec<Move>, link: Link) -> Result<(), OutOfMemory>
+    ensures { IfOk result (λ _. list.new.items ≡ list.old.items ++ reverse (link_moves link)) }
+{
+    push_shifts_back(list, link.after.0, link.after.1)?;
+    list.push(link.step)?;
+    push_shifts_back(list, link.before.0, link.before.1)
+}
+
+/// The moves that lead from a grid to the member of its class at a place, and from there by the last link to another diagram, which
+/// is not larger.
+pub fn way_to(
+    alloc: Global,
+    grid: &Grid,
+    class: &Class,
+    place: usize,
+    last: Link,
+) -> Result<Vec<Move>, OutOfMemory>
+    requires place { place < length class.now }
+    requires ways { AreWays grid.now class.now }
+    ensures last { IfOk result (λ moves. Contains moves.items last.step) }
+    ensures kept { IfOk result (λ moves. is_monotonic last.step ≡ true → AreMonotonic moves.items) }
+    ensures joined { IfOk result (λ moves. (key : Packed) (member to : Diagram)
+        → slice_get (keys_in class.now) place ≡ Some key
+        → IsKeyOf key member
+        → size member ≡ size grid.now
+        → Leads member last to
+        → size to ≤ size grid.now
+        → JoinsWithin (size grid.now) grid.now moves.items to) }
+{
+    let _size = grid.size();
+    let mut back = Vec::new(alloc);
+    push_link_back(&mut back, last)?;
+    let mut here = place;
+    while here > 0 {
+        let origin = class.origin_at(here);
+        push_link_back(&mut back, origin.link)?;
+        here = origin.parent as usize;
+    }
+    let form = canonical(grid);
+    push_shifts_back(&mut back, form.columns, form.rows)?;
+    back.reverse();
+    Ok(back)
+}
