@@ -1,0 +1,104 @@
+//! The search from end to end.
+ghost use Rattle.std.specs.Prelude.{◌≡◌, ◌<◌, IfOk, IfSome, IfNone, IsSome};
+ghost use Rattle.std.specs.List.{Contains};
+ghost use Rattle.grid_core.specs.Diagram.{size};
+ghost use Rattle.grid_moves.specs.Joining.{Joins};
+ghost use Rattle.grid_canon.specs.Translate.{translate, translates};
+
+use crate::seeker::seek;
+use crate::shifts::{push_shifts, shifts_to};
+use crate::shortening::shortened;
+use crate::spelling::spelled;
+use grid_core::Grid;
+use grid_moves::{Move, apply_all};
+use knot_ports::OutOfMemory;
+use std::alloc::Global;
+
+/// What bounds a search, and the seed of its random words.
+#[derive(Clone, Copy, Debug, PartialEq, Eq)]
+pub struct Bounds {
+    /// The seed: for the same diagrams, with the same bounds, the same list is found again.
+    pub seed: u64,
+    /// How many steps the walks make before they stop; the start of an excursion is a step, and so is each of its moves. Two excursions,
+    /// one of each side, may pass it, since they are ended first.
+    pub steps: u64,
+    /// How many forms the table of the walks holds at most. Two excursions, one of each side, add at most `2 * 512 * MAX_SIZE`. Where there
+    /// might not be room for so many more, the table is emptied, and both walks begin anew with the random words that follow. With less
+    /// room than for these and the two first forms they do so before every two excursions, and the table may pass the room.
+    /// The graph that shortens what the walks find has a bound of its own.
+    pub room: usize,
+}
+
+/// A list of moves that joins the first diagram to the second, or None where the search meets its bounds first; or want of memory.
+///
+/// Translates are joined by their shifts, within any bounds. Else the list is sought at random, and need not be the shortest.
+/// None says nothing of the diagrams but that they aren't translates of each other.
+pub fn find_joining(
+    alloc: Global,
+    first: &Grid,
+    second: &Grid,
+    bounds: Bounds,
+) -> Result<Option<Vec<Move>>, OutOfMemory>
+    ensures joins { IfOk result (λ found. IfSome found (λ moves. Joins first.now moves.items second.now)) }
+    ensures translates { IfOk result (λ found. Contains (translates first.now) second.now → IsSome found) }
+{
+    match shifts_to(first, second) {
+        Some((columns, rows)) => {
+            Ok(Some(joined_by_shifts(alloc, first, second, columns, rows)?))
+        }
+        None => sought(alloc, first, second, bounds),
+    }
+}
+
+/// The shifts that lead from the first diagram to the second, as moves.
+fn joined_by_shifts(
+    alloc: Global,
+    first: &Grid,
+    second: &Grid,
+    columns: u8,
+    rows: u8,
+) -> Result<Vec<Move>, OutOfMemory>
+    requires columns { columns < size first.now }
+    requires rows { rows < size first.now }
+    requires translate { translate first.now columns rows ≡ second.now }
+    ensures { IfOk result (λ moves. Joins first.now moves.items second.now) }
+{
+    let _size = first.size();
+    let mut moves = Vec::new(alloc);
+    push_shifts(&mut moves, columns, rows)?;
+    Ok(moves)
+}
+
+/// A list of moves that is found by two walks.
+fn sought(
+    alloc: Global,
+    first: &Grid,
+    second: &Grid,
+    bounds: Bounds,
+) -> Result<Option<Vec<Move>>, OutOfMemory>
+    ensures { IfOk result (λ found. IfSome found (λ moves. Joins first.now moves.items second.now)) }
+{
+    let Some(path) = seek(alloc, first, second, bounds)? else {
+        return Ok(None);
+    };
+    let path = shortened(alloc, path, bounds.seed)?;
+    let Some(moves) = spelled(alloc, first, second, path.as_slice())? else {
+        return Ok(None);
+    };
+    Ok(if_joining(first, second, moves))
+}
+
+/// The moves where they join the first diagram to the second, else None.
+fn if_joining(first: &Grid, second: &Grid, moves: Vec<Move>) -> Option<Vec<Move>>
+    ensures some { IfSome result (λ list. (list ≡ moves) × Joins first.now list.items second.now) }
+    ensures none { IfNone result (Joins first.now moves.items second.now → ⊥) }
+{
+    match apply_all(first, moves.as_slice()) {
+        Ok(last) => if last.same_as(second) {
+            Some(moves)
+        } else {
+            None
+        },
+        Err(_) => None,
+    }
+}
