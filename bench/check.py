@@ -24,7 +24,7 @@ def cycles(size):
     yield "shifts and exchanges", grid, loop_of(steps)
     yield "stabilised and back", room, resizing(room)
     mixed = loop_of(walk(room, 100, size)[0]) + resizing(room)
-    yield "all six kinds", room, mixed
+    yield "all kinds but slides", room, mixed
 
 
 def text(grid, lines, count):

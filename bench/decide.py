@@ -2,7 +2,7 @@
 """Times the search of `knot decide`, and counts instructions an entry and memory.
 
     python3 bench/decide.py                  seconds, and entries a second
-    python3 bench/decide.py --instructions   also instructions an entry, counted by callgrind (of runs of up to two seconds,
+    python3 bench/decide.py --instructions   also instructions an entry, counted by callgrind (of runs of up to half a second,
                                              since it takes some fifty times as long), and the bytes taken, by massif
 """
 import os
@@ -26,7 +26,7 @@ def rows():
         yield "two trefoils", TREFOILS, spare, 20_000, 5
     for budget in (2_500, 5_000, 10_000, 20_000):
         yield "two trefoils", TREFOILS, 3, budget, 5
-    for budget in (40_000, 80_000):
+    for budget in (100_000, 500_000):
         yield "two trefoils", TREFOILS, 3, budget, 2
     yield "six crossings and the unknot", SIX_CROSSINGS, 1, 20_000, 5
 
@@ -56,7 +56,7 @@ def time_all(path, with_instructions):
         entries = admitted(written)
         line = f"{name:30} {spare:5} {budget:7} {entries or '':7} {seconds:8.4f} " + (f"{entries / seconds:9.0f}" if entries else " " * 9)
         if with_instructions:
-            count = instructions("decide", path, *words) if seconds < 2 else None
+            count = instructions("decide", path, *words) if seconds < 0.5 else None
             line += f" {count or '':13} " + (f"{count / entries:9.0f}" if count and entries else " " * 9)
         print(f"{line}  {written.splitlines()[0]}", flush=True)
 
