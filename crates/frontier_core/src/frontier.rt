@@ -5,9 +5,9 @@ ghost use Rattle.frontier_core.specs.Held.{IsHeld, empty, pushed, first_of_least
 ghost use Rattle.frontier_core.specs.Order.{SizedId, sized, IsOrderOf, PopsLeast};
 ghost use Rattle.frontier_core.specs.declared.sizes.TheConstants.{SIZES};
 
-use crate::OutOfMemory;
 use crate::queue::Queue;
 use crate::sizes::{SIZES, kept_size, least_size, with_size};
+use memory_core::OutOfMemory;
 use std::alloc::Global;
 use std::marker::Model;
 

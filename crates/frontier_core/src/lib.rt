@@ -4,7 +4,6 @@
 
 mod frontier;
 mod laws;
-mod memory;
 mod queue;
 mod sizes;
 #[cfg(test)]
@@ -12,5 +11,5 @@ mod tests;
 
 pub use frontier::Frontier;
 pub use laws::{comes_out_once, same_size_in_order};
-pub use memory::OutOfMemory;
+pub use memory_core::OutOfMemory;
 pub use sizes::SIZES;

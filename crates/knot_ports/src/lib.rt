@@ -13,8 +13,9 @@ mod sink;
 mod source;
 mod standard;
 
-pub use failure::{Failed, OutOfMemory};
+pub use failure::Failed;
 pub use give::give_all;
+pub use memory_core::OutOfMemory;
 pub use memory_sink::MemSink;
 pub use memory_source::MemSource;
 pub use quiet::{QuietSink, QuietSource};

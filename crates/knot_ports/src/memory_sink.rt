@@ -5,8 +5,9 @@ ghost use Rattle.knot_ports.specs.Faults.{Rose};
 ghost use Rattle.knot_ports.specs.Memory.{MemorySink, FailsAt, after_pass, after_failure, no_calls, amount_taken};
 
 use crate::calls::Calls;
-use crate::failure::{Failed, OutOfMemory};
+use crate::failure::Failed;
 use crate::sink::Sink;
+use memory_core::OutOfMemory;
 use std::alloc::Global;
 use std::marker::Model;
 
