@@ -40,7 +40,9 @@ cond_none true c e = absurd (let no : ◌≡◌ {A = Option ℕ} (Some c) None =
 pub none_lowest : (test : ℕ → Bool) (n : ℕ) → lowest test n ≡ None → (k : ℕ) → k < n → test k ≡ false
 none_lowest test n e k lt =
     let size = length-range_with_len 0 n in
-    let past : length (range_with_len 0 n) ≤ position_or_len test (range_with_len 0 n) = ltb-false (position_or_len test (range_with_len 0 n)) (length (range_with_len 0 n)) (cond_none (nat_lt (position_or_len test (range_with_len 0 n)) (length (range_with_len 0 n))) (position_or_len test (range_with_len 0 n)) e) in
+    let past : length (range_with_len 0 n) ≤ position_or_len test (range_with_len 0 n) =
+    ltb-false (position_or_len test (range_with_len 0 n)) (length (range_with_len 0 n))
+    (cond_none (nat_lt (position_or_len test (range_with_len 0 n)) (length (range_with_len 0 n))) (position_or_len test (range_with_len 0 n)) e) in
     sym (ap test (get_or-range_with_len 0 n k 0 lt ∙ zero-add k)) ∙ fails_before_first test (range_with_len 0 n) k 0 (omega (arith, size, past, lt))
 
 pub either_false : (a b : Bool) → (a || b) ≡ false → (a ≡ false) × (b ≡ false)
@@ -54,28 +56,36 @@ both_false a b ea eb = ap₂ (λ s t. s || t) ea eb
 earlier : (rows : List ℕ) (b c : ℕ) → c < length rows → is_repeated rows c ≡ false → b < c → get_or rows b 0 ≢ get_or rows c 0
 earlier rows b c lt none low e =
     let at : get_or (take c rows) b 0 ≡ get_or rows b 0 = get_or-take c rows b 0 low in
-    let found = list_any_at (λ r. r == get_or rows c 0) (take c rows) b 0 (omega (arith, length-take c rows, low, lt)) (eq-eqb (get_or (take c rows) b 0) (get_or rows c 0) (at ∙ e)) in
+    let found =
+    list_any_at (λ r. r == get_or rows c 0) (take c rows) b 0 (omega (arith, length-take c rows, low, lt))
+    (eq-eqb (get_or (take c rows) b 0) (get_or rows c 0) (at ∙ e)) in
     absurd (let no : ◌≡◌ {A = Bool} true false = sym found ∙ none in cc)
 
 not_earlier : (rows : List ℕ) (c : ℕ) → c < length rows → ((b : ℕ) → b < c → get_or rows b 0 ≢ get_or rows c 0) → is_repeated rows c ≡ false
 not_earlier rows c lt apart =
     list_any_none (λ r. r == get_or rows c 0) (take c rows) (λ k d low.
     let within : k < c = omega (arith, length-take c rows, low) in
-    ne_eqb (get_or (take c rows) k d) (get_or rows c 0) (λ e. apart k within (sym (get_or-take c rows k d within ∙ get_or_default rows k d 0 (omega (arith, within, lt))) ∙ e)))
+    ne_eqb (get_or (take c rows) k d) (get_or rows c 0)
+    (λ e. apart k within (sym (get_or-take c rows k d within ∙ get_or_default rows k d 0 (omega (arith, within, lt))) ∙ e)))
 
 -- what the tests let through is a grid
-pub accepted : (x o : List ℕ) → 2 ≤ length x → length x ≤ MAX_SIZE → length o ≡ length x → lowest (λ c. is_outside x o c) (length x) ≡ None → lowest (λ c. is_repeated x c || is_repeated o c) (length x) ≡ None → lowest (λ c. slice_index x c == slice_index o c) (length x) ≡ None → IsGrid (record { x = x; o = o })
+pub accepted : (x o : List ℕ) → 2 ≤ length x → length x ≤ MAX_SIZE → length o ≡ length x → lowest (λ c. is_outside x o c) (length x) ≡ None
+    → lowest (λ c. is_repeated x c || is_repeated o c) (length x) ≡ None → lowest (λ c. slice_index x c == slice_index o c) (length x) ≡ None
+    → IsGrid (record { x = x; o = o })
 accepted x o least most same outside repeated cell =
     let out : (c : ℕ) → c < length x → is_outside x o c ≡ false = none_lowest (λ c. is_outside x o c) (length x) outside in
-    let once : (c : ℕ) → c < length x → (is_repeated x c || is_repeated o c) ≡ false = none_lowest (λ c. is_repeated x c || is_repeated o c) (length x) repeated in
+    let once : (c : ℕ) → c < length x → (is_repeated x c || is_repeated o c) ≡ false =
+    none_lowest (λ c. is_repeated x c || is_repeated o c) (length x) repeated in
     let two : (c : ℕ) → c < length x → (slice_index x c == slice_index o c) ≡ false = none_lowest (λ c. slice_index x c == slice_index o c) (length x) cell in
-    grid_from_rows (record { x = x; o = o }) least most same (λ kind c lt. below kind c lt (out c lt)) (λ kind b c hb hc e. apart kind b c hb hc e (once b hb) (once c hc)) (λ c lt. eqb-false (slice_index x c) (slice_index o c) (two c lt))
+    grid_from_rows (record { x = x; o = o }) least most same (λ kind c lt. below kind c lt (out c lt))
+    (λ kind b c hb hc e. apart kind b c hb hc e (once b hb) (once c hc)) (λ c lt. eqb-false (slice_index x c) (slice_index o c) (two c lt))
   where
     below : (kind : Kind) (c : ℕ) → c < length x → is_outside x o c ≡ false → row_of kind (record { x = x; o = o }) c < length x
     below Cross c lt e = leb-false (length x) (slice_index x c) (either_false (nat_le (length x) (slice_index x c)) (nat_le (length x) (slice_index o c)) e).0
     below Ring c lt e = leb-false (length x) (slice_index o c) (either_false (nat_le (length x) (slice_index x c)) (nat_le (length x) (slice_index o c)) e).1
 
-    apart_in : (rows : List ℕ) (b c : ℕ) → b < length rows → c < length rows → get_or rows b 0 ≡ get_or rows c 0 → is_repeated rows b ≡ false → is_repeated rows c ≡ false → b ≡ c
+    apart_in : (rows : List ℕ) (b c : ℕ) → b < length rows → c < length rows → get_or rows b 0 ≡ get_or rows c 0 → is_repeated rows b ≡ false
+        → is_repeated rows c ≡ false → b ≡ c
     apart_in rows b c hb hc e nb nc = elim (cases_order b c) [
       | inl is ↦ is
       | inr other ↦ elim other [
@@ -84,9 +94,13 @@ accepted x o least most same outside repeated cell =
       ]
     ]
 
-    apart : (kind : Kind) (b c : ℕ) → b < length x → c < length x → row_of kind (record { x = x; o = o }) b ≡ row_of kind (record { x = x; o = o }) c → (is_repeated x b || is_repeated o b) ≡ false → (is_repeated x c || is_repeated o c) ≡ false → b ≡ c
-    apart Cross b c hb hc e nb nc = apart_in x b c hb hc e (either_false (is_repeated x b) (is_repeated o b) nb).0 (either_false (is_repeated x c) (is_repeated o c) nc).0
-    apart Ring b c hb hc e nb nc = apart_in o b c (omega (arith, same, hb)) (omega (arith, same, hc)) e (either_false (is_repeated x b) (is_repeated o b) nb).1 (either_false (is_repeated x c) (is_repeated o c) nc).1
+    apart : (kind : Kind) (b c : ℕ) → b < length x → c < length x → row_of kind (record { x = x; o = o }) b ≡ row_of kind (record { x = x; o = o }) c
+        → (is_repeated x b || is_repeated o b) ≡ false → (is_repeated x c || is_repeated o c) ≡ false → b ≡ c
+    apart Cross b c hb hc e nb nc =
+        apart_in x b c hb hc e (either_false (is_repeated x b) (is_repeated o b) nb).0 (either_false (is_repeated x c) (is_repeated o c) nc).0
+    apart Ring b c hb hc e nb nc =
+        apart_in o b c (omega (arith, same, hb)) (omega (arith, same, hc)) e (either_false (is_repeated x b) (is_repeated o b) nb).1
+        (either_false (is_repeated x c) (is_repeated o c) nc).1
 
 cond_passed : (b : Bool) (f : GridFault) (y : Option GridFault) → cond b (Some f) y ≡ None → (b ≡ false) × (y ≡ None)
 cond_passed false f y e = (refl, e)
@@ -122,10 +136,17 @@ faultless d grid =
     let n : ℕ = size d in
     cond_false (not (nat_le 2 n && nat_le n MAX_SIZE)) (Some Size) _ (ap₂ (λ a b. not (a && b)) (le-leb 2 n grid.least) (le-leb n MAX_SIZE grid.most))
     ∙ cond_false (not (length d.o == n)) (Some Length) _ (ap (λ b. not b) (eq-eqb (length d.o) n grid.same))
-    ∙ ap (λ p. or_next p (λ c. Range c) (or_next (lowest (λ c. is_repeated d.x c || is_repeated d.o c) n) (λ c. Repeat c) (or_next (lowest (λ c. slice_index d.x c == slice_index d.o c) n) (λ c. Same c) None)))
-    (lowest_none (λ c. is_outside d.x d.o c) n (λ c lt. both_false (nat_le n (slice_index d.x c)) (nat_le n (slice_index d.o c)) (lt-leb n (slice_index d.x c) (row_below d grid Cross c lt)) (lt-leb n (slice_index d.o c) (row_below d grid Ring c lt))))
+    ∙ ap (λ p. or_next p (λ c. Range c)
+    (or_next (lowest (λ c. is_repeated d.x c || is_repeated d.o c) n) (λ c. Repeat c)
+    (or_next (lowest (λ c. slice_index d.x c == slice_index d.o c) n) (λ c. Same c) None)))
+    (lowest_none (λ c. is_outside d.x d.o c) n
+    (λ c lt. both_false (nat_le n (slice_index d.x c)) (nat_le n (slice_index d.o c)) (lt-leb n (slice_index d.x c) (row_below d grid Cross c lt))
+    (lt-leb n (slice_index d.o c) (row_below d grid Ring c lt))))
     ∙ ap (λ p. or_next p (λ c. Repeat c) (or_next (lowest (λ c. slice_index d.x c == slice_index d.o c) n) (λ c. Same c) None))
-    (lowest_none (λ c. is_repeated d.x c || is_repeated d.o c) n (λ c lt. both_false (is_repeated d.x c) (is_repeated d.o c) (not_earlier d.x c lt (λ b low e. absurd (omega (arith, low, row_once d grid Cross b c (omega arith) lt e)))) (not_earlier d.o c (omega (arith, grid.same, lt)) (λ b low e. absurd (omega (arith, low, row_once d grid Ring b c (omega arith) lt e))))))
+    (lowest_none (λ c. is_repeated d.x c || is_repeated d.o c) n
+    (λ c lt. both_false (is_repeated d.x c) (is_repeated d.o c)
+    (not_earlier d.x c lt (λ b low e. absurd (omega (arith, low, row_once d grid Cross b c (omega arith) lt e))))
+    (not_earlier d.o c (omega (arith, grid.same, lt)) (λ b low e. absurd (omega (arith, low, row_once d grid Ring b c (omega arith) lt e))))))
     ∙ ap (λ p. or_next p (λ c. Same c) None)
     (lowest_none (λ c. slice_index d.x c == slice_index d.o c) n (λ c lt. ne_eqb (slice_index d.x c) (slice_index d.o c) (no_cell_twice d grid c lt)))
   where

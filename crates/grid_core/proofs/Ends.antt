@@ -25,12 +25,16 @@ abbrev pub high : Diagram → ℕ → ℕ
 high d c = (column_span d c).high
 
 low_by : (a b : ℕ) (t : Bool) → nat_lt a b ≡ t → (span a b).low ≡ min a b
-low_by a b true e = ap (λ (s : Bool). (cond {A = Span} s (record { low = a; high = b }) (record { low = b; high = a })).low) e ∙ (let lt = ltb-true a b e in omega arith)
-low_by a b false e = ap (λ (s : Bool). (cond {A = Span} s (record { low = a; high = b }) (record { low = b; high = a })).low) e ∙ (let le = ltb-false a b e in omega arith)
+low_by a b true e =
+    ap (λ (s : Bool). (cond {A = Span} s (record { low = a; high = b }) (record { low = b; high = a })).low) e ∙ (let lt = ltb-true a b e in omega arith)
+low_by a b false e =
+    ap (λ (s : Bool). (cond {A = Span} s (record { low = a; high = b }) (record { low = b; high = a })).low) e ∙ (let le = ltb-false a b e in omega arith)
 
 high_by : (a b : ℕ) (t : Bool) → nat_lt a b ≡ t → (span a b).high ≡ max a b
-high_by a b true e = ap (λ (s : Bool). (cond {A = Span} s (record { low = a; high = b }) (record { low = b; high = a })).high) e ∙ (let lt = ltb-true a b e in omega arith)
-high_by a b false e = ap (λ (s : Bool). (cond {A = Span} s (record { low = a; high = b }) (record { low = b; high = a })).high) e ∙ (let le = ltb-false a b e in omega arith)
+high_by a b true e =
+    ap (λ (s : Bool). (cond {A = Span} s (record { low = a; high = b }) (record { low = b; high = a })).high) e ∙ (let lt = ltb-true a b e in omega arith)
+high_by a b false e =
+    ap (λ (s : Bool). (cond {A = Span} s (record { low = a; high = b }) (record { low = b; high = a })).high) e ∙ (let le = ltb-false a b e in omega arith)
 
 -- the ends of an interval are the lesser and the greater
 pub span_low : (a b : ℕ) → (span a b).low ≡ min a b
@@ -111,7 +115,8 @@ has_ends d grid r lt =
 -- no column covers the highest row
 pub highest : (d : Diagram) (c : ℕ) → IsGrid d → covers d c (size d - 1) ≡ false
 highest d c grid =
-    and_right (nat_lt (low d c) (size d - 1)) (nat_lt (size d - 1) (high d c)) (le-ltb (size d - 1) (high d c) (of_high (λ r. r ≤ size d - 1) (row_of Cross d c) (row_of Ring d c) (most Cross) (most Ring)))
+    and_right (nat_lt (low d c) (size d - 1)) (nat_lt (size d - 1) (high d c))
+    (le-ltb (size d - 1) (high d c) (of_high (λ r. r ≤ size d - 1) (row_of Cross d c) (row_of Ring d c) (most Cross) (most Ring)))
   where
     most : (kind : Kind) → row_of kind d c ≤ size d - 1
     most kind = elim (cases_lt c (size d)) [

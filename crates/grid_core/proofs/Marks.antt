@@ -50,13 +50,17 @@ no_cell_twice d grid c lt e =
     grid.apart c (0, 0) (omega (arith, lt, zip_length d.x d.o grid.same)) (ap (λ (p : ℕ × ℕ). p.0) at ∙ e ∙ sym (ap (λ (p : ℕ × ℕ). p.1) at))
 
 -- a grid, from what is known of each column
-pub grid_from_rows : (d : Diagram) → 2 ≤ size d → size d ≤ MAX_SIZE → length d.o ≡ length d.x → ((kind : Kind) (c : ℕ) → c < size d → row_of kind d c < size d) → ((kind : Kind) (b c : ℕ) → b < size d → c < size d → row_of kind d b ≡ row_of kind d c → b ≡ c) → ((c : ℕ) → c < size d → row_of Cross d c ≢ row_of Ring d c) → IsGrid d
+pub grid_from_rows : (d : Diagram) → 2 ≤ size d → size d ≤ MAX_SIZE → length d.o ≡ length d.x → ((kind : Kind) (c : ℕ) → c < size d → row_of kind d c < size d)
+    → ((kind : Kind) (b c : ℕ) → b < size d → c < size d → row_of kind d b ≡ row_of kind d c → b ≡ c)
+    → ((c : ℕ) → c < size d → row_of Cross d c ≢ row_of Ring d c) → IsGrid d
 grid_from_rows d least most same below one free = record {
   least = least;
   most = most;
   same = same;
   crosses = each_from_apart (size d) d.x refl (λ k p lt. omega (arith, below Cross k lt, get_or_default d.x k p 0 lt)) (λ i j hi hj e. one Cross i j hi hj e);
-  rings = each_from_apart (size d) d.o same (λ k p lt. omega (arith, below Ring k (omega (arith, lt, same)), get_or_default d.o k p 0 lt)) (λ i j hi hj e. one Ring i j (omega (arith, hi, same)) (omega (arith, hj, same)) e);
+  rings =
+      each_from_apart (size d) d.o same (λ k p lt. omega (arith, below Ring k (omega (arith, lt, same)), get_or_default d.o k p 0 lt))
+      (λ i j hi hj e. one Ring i j (omega (arith, hi, same)) (omega (arith, hj, same)) e);
   apart = λ k p lt e.
       let within : k < size d = omega (arith, lt, zip_length d.x d.o same) in
       let at = zip_at d.x d.o k p same within in
@@ -75,7 +79,8 @@ pub column_is : (d : Diagram) → IsGrid d → (kind : Kind) (c r : ℕ) → Has
 column_is d grid kind c r mark =
     let n = rows_length d kind grid in
     position_or_len_is (λ s. s == r) (rows_of kind d) c 0 (omega (arith, n, mark.inside))
-    (λ k lt. ne_eqb (row_of kind d k) r (λ e. absurd (omega (arith, lt, row_once d grid kind k c (omega (arith, lt, mark.inside)) mark.inside (e ∙ sym mark.row)))))
+    (λ k lt. ne_eqb (row_of kind d k) r
+    (λ e. absurd (omega (arith, lt, row_once d grid kind k c (omega (arith, lt, mark.inside)) mark.inside (e ∙ sym mark.row)))))
     (λ lt. eq-eqb (row_of kind d c) r mark.row)
 
 -- each row has a mark of each kind, in a column of the grid
@@ -87,13 +92,15 @@ column_mark d grid kind r lt =
 
 pub column_found : (d : Diagram) → IsGrid d → (kind : Kind) (r : ℕ) → r < size d → position (λ s. s == r) (rows_of kind d) ≡ Some (column_of kind d r)
 column_found d grid kind r lt =
-    ap (λ b. cond b (Some (column_of kind d r)) None) (lt-ltb (column_of kind d r) (length (rows_of kind d)) (omega (arith, rows_length d kind grid, (column_mark d grid kind r lt).inside)))
+    ap (λ b. cond b (Some (column_of kind d r)) None)
+    (lt-ltb (column_of kind d r) (length (rows_of kind d)) (omega (arith, rows_length d kind grid, (column_mark d grid kind r lt).inside)))
 
 pub rows_fit : (d : Diagram) (kind : Kind) → IsGrid d → length (rows_of kind d) ≤ MAX_SIZE
 rows_fit d kind grid = omega (arith, rows_length d kind grid, grid.most)
 
 -- a grid is the set of its marks
-pub same_marks : (d e : Diagram) → IsGrid d → IsGrid e → ((kind : Kind) (c r : ℕ) → HasMark d kind c r → HasMark e kind c r) → ((kind : Kind) (c r : ℕ) → HasMark e kind c r → HasMark d kind c r) → d ≡ e
+pub same_marks : (d e : Diagram) → IsGrid d → IsGrid e → ((kind : Kind) (c r : ℕ) → HasMark d kind c r → HasMark e kind c r)
+    → ((kind : Kind) (c r : ℕ) → HasMark e kind c r → HasMark d kind c r) → d ≡ e
 same_marks d e gd ge there back =
     same_diagram d e gd ge (one_size (cases_order (size d) (size e))) (λ kind c lt. sym (there kind c (row_of kind d c) (mark_at d kind c lt)).row)
   where

@@ -1,5 +1,5 @@
 -- The four corners of a block of two columns and two rows, by their column and their row in the block.
-use Rattle.std.specs.Prelude.{ℕ}
+use Rattle.std.specs.Prelude.{ℕ, List, [], ◌∷◌}
 use Rattle.grid_core.specs.declared.mark.Corner.{Corner}
 use Rattle.grid_core.specs.declared.mark.Corner.TheVariants.{LowLeft, LowRight, HighLeft, HighRight}
 
@@ -16,3 +16,7 @@ corner_row LowLeft = 0
 corner_row LowRight = 0
 corner_row HighLeft = 1
 corner_row HighRight = 1
+
+-- all four in order: the lower ones first, and of two the left one
+abbrev pub corners : List Corner
+corners = LowLeft ∷ LowRight ∷ HighLeft ∷ HighRight ∷ []

@@ -75,16 +75,16 @@ fn is_repeated_in(x: &[u8], o: &[u8], c: u8) -> bool
     requires same { length o.now ≡ length x.now }
     ensures { result ≡ (is_repeated x.now c || is_repeated o.now c) }
 {
-    is_repeated(x, c) || is_repeated(o, c)
+    is_repeated(x, c as usize) || is_repeated(o, c as usize)
 }
 
 /// Whether the row of a column stands in an earlier column.
-fn is_repeated(rows: &[u8], c: u8) -> bool
+pub fn is_repeated(rows: &[u8], c: usize) -> bool
     requires { c < length rows.now }
     ensures { result ≡ is_repeated rows.now c }
 {
-    let (front, _) = rows.split_at(c as usize);
-    has_row(front, rows[c as usize])
+    let (front, _) = rows.split_at(c);
+    has_row(front, rows[c])
 }
 
 /// Whether a row is in the list.

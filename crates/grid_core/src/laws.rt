@@ -1,6 +1,8 @@
 //! Laws of grids, over the definitions alone.
 ghost use Rattle.std.specs.Prelude.{◌≡◌, ◌<◌, ◌↔◌, None, ℕ, List, IsTrue, pos, negsuc, not, if◌then◌else◌};
 ghost use Rattle.grid_core.specs.Diagram.{Diagram, IsGrid, IsGridByMarks, HasMark, size, row_of, other};
+ghost use Rattle.grid_core.specs.declared.mark.TheConstants.Corner.{ALL};
+ghost use Rattle.grid_core.specs.Corners.{corners};
 ghost use Rattle.grid_core.specs.Span.{IsBetween};
 ghost use Rattle.grid_core.specs.Parts.{column_of, covers, is_up, is_rightward, is_bottom};
 ghost use Rattle.grid_core.specs.Crossing.{crosses, column_direction, row_direction, turned_left, sign, is_positive};
@@ -39,6 +41,11 @@ pub fn a_grid_is_the_set_of_its_marks()
         → ((kind : Kind) (c r : ℕ) → HasMark d kind c r → HasMark e kind c r)
         → ((kind : Kind) (c r : ℕ) → HasMark e kind c r → HasMark d kind c r)
         → d ≡ e }
+{}
+
+/// The constant of all corners is the list of the definitions.
+pub fn all_corners_stand_in_order()
+    ensures { ALL ≡ corners }
 {}
 
 /// A column covers the rows strictly between its two marks, whichever of the two is the lower.

@@ -13,7 +13,7 @@ mod span;
 #[cfg(test)]
 mod tests;
 
-pub use fault::GridFault;
+pub use fault::{GridFault, is_repeated};
 pub use grid::{Grid, MAX_SIZE, Rows};
 pub use items::Items;
 pub use mark::{Corner, Kind};

@@ -33,6 +33,14 @@ pub enum Corner {
 }
 
 impl Corner {
+    /// The four corners, in the order in which moves are listed.
+    pub const ALL: [Corner; 4] = [
+        Corner::LowLeft,
+        Corner::LowRight,
+        Corner::HighLeft,
+        Corner::HighRight,
+    ];
+
     /// The corner's column in the block: 0 on the left, 1 on the right.
     pub fn column(self) -> u8
         ensures { result ≡ corner_column self }

@@ -1,5 +1,5 @@
 //! Grids and their readers on worked examples.
-use crate::{Grid, GridFault, Items, MAX_SIZE, Span};
+use crate::{Corner, Grid, GridFault, Items, MAX_SIZE, Span};
 use std::alloc::Global;
 use std::process::Abort;
 use std::test::Fail;
@@ -165,6 +165,15 @@ fn intervals_touch_at_one_end_or_at_both(rt: HostRuntime) -> Result<(), Fail> {
         let second = Span::between(low, high);
         assert_eq!(rt; first.touches(second), once);
         assert_eq!(rt; first.touches_twice(second), twice);
+    }
+    Ok(())
+}
+
+#[test]
+fn each_corner_has_its_place_in_the_list(rt: HostRuntime) -> Result<(), Fail> {
+    for (place, corner) in Corner::ALL.iter().enumerate() {
+        let read = 2 * usize::from(corner.row()) + usize::from(corner.column());
+        assert_eq!(rt; read, place);
     }
     Ok(())
 }

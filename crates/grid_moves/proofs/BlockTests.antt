@@ -33,7 +33,12 @@ module _ (c r : ℕ) (kind : Kind) (corner : Corner) (d : Diagram) (grid : IsGri
   rest_out : is_block_row r (row_of (other kind) d (c + 1 - corner_column corner)) ≡ false
   rest_out =
       lies_out r (corner_row corner) (row_of (other kind) d (c + 1 - corner_column corner)) (above_small corner)
-      (λ e. absurd (omega (arith, right_small corner, row_once d grid (other kind) (c + 1 - corner_column corner) (c + corner_column corner) (omega (arith, inside)) (omega (arith, right_small corner, inside)) (e ∙ sym block.at_corner))))
+      (λ e. absurd (omega (
+        arith,
+        right_small corner,
+        row_once d grid (other kind) (c + 1 - corner_column corner) (c + corner_column corner) (omega (arith, inside))
+            (omega (arith, right_small corner, inside)) (e ∙ sym block.at_corner),
+      )))
       block.empty
 
 -- the tests of the four marks: X and O of the left column, X and O of the right one
@@ -46,7 +51,8 @@ record Tests (d : Diagram) (c r : ℕ) (xa oa xb ob : Bool) : Type 0 where
 at : (d : Diagram) (r : ℕ) (k : Kind) (m n : ℕ) (b : Bool) → m ≡ n → is_block_row r (row_of k d m) ≡ b → is_block_row r (row_of k d n) ≡ b
 at d r k m n b e is = ap (λ (z : ℕ). is_block_row r (row_of k d z)) (sym e) ∙ is
 
-tests_left : (c r : ℕ) (kind : Kind) (corner : Corner) (d : Diagram) → IsGrid d → c + 1 < size d → IsBlock c r kind corner d → corner_column corner ≡ 0 → Tests d c r true true (elim kind [ Cross ↦ true | Ring ↦ false ]) (elim kind [ Cross ↦ false | Ring ↦ true ])
+tests_left : (c r : ℕ) (kind : Kind) (corner : Corner) (d : Diagram) → IsGrid d → c + 1 < size d → IsBlock c r kind corner d → corner_column corner ≡ 0
+    → Tests d c r true true (elim kind [ Cross ↦ true | Ring ↦ false ]) (elim kind [ Cross ↦ false | Ring ↦ true ])
 tests_left c r Cross corner d grid inside block left = record {
   cross_left = at d r Cross (c + corner_column corner) c true (omega (arith, left)) (column_in c r Cross corner d grid inside block);
   ring_left = at d r Ring (c + corner_column corner) c true (omega (arith, left)) (corner_in c r Cross corner d grid inside block);
@@ -60,7 +66,8 @@ tests_left c r Ring corner d grid inside block left = record {
   ring_right = at d r Ring (c + 1 - corner_column corner) (c + 1) true (omega (arith, left)) (row_in c r Ring corner d grid inside block);
 }
 
-tests_right : (c r : ℕ) (kind : Kind) (corner : Corner) (d : Diagram) → IsGrid d → c + 1 < size d → IsBlock c r kind corner d → corner_column corner ≡ 1 → Tests d c r (elim kind [ Cross ↦ true | Ring ↦ false ]) (elim kind [ Cross ↦ false | Ring ↦ true ]) true true
+tests_right : (c r : ℕ) (kind : Kind) (corner : Corner) (d : Diagram) → IsGrid d → c + 1 < size d → IsBlock c r kind corner d → corner_column corner ≡ 1
+    → Tests d c r (elim kind [ Cross ↦ true | Ring ↦ false ]) (elim kind [ Cross ↦ false | Ring ↦ true ]) true true
 tests_right c r Cross corner d grid inside block right = record {
   cross_left = at d r Cross (c + 1 - corner_column corner) c true (omega (arith, right)) (row_in c r Cross corner d grid inside block);
   ring_left = at d r Ring (c + 1 - corner_column corner) c false (omega (arith, right)) (rest_out c r Cross corner d grid inside block);
@@ -78,10 +85,13 @@ tests_right c r Ring corner d grid inside block right = record {
 count : Bool → Bool → Bool → Bool → ℕ
 count xa oa xb ob = 0 + cond xa 1 0 + cond oa 1 0 + cond xb 1 0 + cond ob 1 0
 
-three_of : (d : Diagram) (c r : ℕ) (xa oa xb ob : Bool) → Tests d c r xa oa xb ob → 0 + cond xa 1 0 + cond oa 1 0 + cond xb 1 0 + cond ob 1 0 ≡ 3 → marks_in_block d c r ≡ 3
+three_of : (d : Diagram) (c r : ℕ) (xa oa xb ob : Bool) → Tests d c r xa oa xb ob → 0 + cond xa 1 0 + cond oa 1 0 + cond xb 1 0 + cond ob 1 0 ≡ 3
+    → marks_in_block d c r ≡ 3
 three_of d c r xa oa xb ob t e =
-    ap (λ b. 0 + cond b 1 0 + cond (is_block_row r (row_of Ring d c)) 1 0 + cond (is_block_row r (row_of Cross d (c + 1))) 1 0 + cond (is_block_row r (row_of Ring d (c + 1))) 1 0) t.cross_left
-    ∙ ap (λ b. 0 + cond xa 1 0 + cond b 1 0 + cond (is_block_row r (row_of Cross d (c + 1))) 1 0 + cond (is_block_row r (row_of Ring d (c + 1))) 1 0) t.ring_left
+    ap (λ b. 0 + cond b 1 0 + cond (is_block_row r (row_of Ring d c)) 1 0 + cond (is_block_row r (row_of Cross d (c + 1))) 1 0 + cond
+    (is_block_row r (row_of Ring d (c + 1))) 1 0) t.cross_left
+    ∙ ap (λ b. 0 + cond xa 1 0 + cond b 1 0 + cond (is_block_row r (row_of Cross d (c + 1))) 1 0 + cond
+    (is_block_row r (row_of Ring d (c + 1))) 1 0) t.ring_left
     ∙ ap (λ b. 0 + cond xa 1 0 + cond oa 1 0 + cond b 1 0 + cond (is_block_row r (row_of Ring d (c + 1))) 1 0) t.cross_right
     ∙ ap (λ b. 0 + cond xa 1 0 + cond oa 1 0 + cond xb 1 0 + cond b 1 0) t.ring_right
     ∙ e
@@ -111,7 +121,8 @@ record Shape (d : Diagram) (c r : ℕ) (kind : Kind) (right : Bool) : Type 0 whe
   kind_is : block_kind d c r ≡ kind
   side_is : corner_is_right d c r ≡ right
 
-shape_left : (c r : ℕ) (kind : Kind) (corner : Corner) (d : Diagram) → IsGrid d → c + 1 < size d → IsBlock c r kind corner d → corner_column corner ≡ 0 → Shape d c r kind false
+shape_left : (c r : ℕ) (kind : Kind) (corner : Corner) (d : Diagram) → IsGrid d → c + 1 < size d → IsBlock c r kind corner d → corner_column corner ≡ 0
+    → Shape d c r kind false
 shape_left c r Cross corner d grid inside block left =
     let t = tests_left c r Cross corner d grid inside block left in
     record { kind_is = kind_of d c r true true true false t; side_is = right_is d c r true true true false t }
@@ -119,7 +130,8 @@ shape_left c r Ring corner d grid inside block left =
     let t = tests_left c r Ring corner d grid inside block left in
     record { kind_is = kind_of d c r true true false true t; side_is = right_is d c r true true false true t }
 
-shape_right : (c r : ℕ) (kind : Kind) (corner : Corner) (d : Diagram) → IsGrid d → c + 1 < size d → IsBlock c r kind corner d → corner_column corner ≡ 1 → Shape d c r kind true
+shape_right : (c r : ℕ) (kind : Kind) (corner : Corner) (d : Diagram) → IsGrid d → c + 1 < size d → IsBlock c r kind corner d → corner_column corner ≡ 1
+    → Shape d c r kind true
 shape_right c r Cross corner d grid inside block right =
     let t = tests_right c r Cross corner d grid inside block right in
     record { kind_is = kind_of d c r true false true true t; side_is = right_is d c r true false true true t }
@@ -128,7 +140,8 @@ shape_right c r Ring corner d grid inside block right =
     record { kind_is = kind_of d c r false true true true t; side_is = right_is d c r false true true true t }
 
 -- the corner, from the side and from the row of the mark of the kind beside it
-corner_by : (d : Diagram) (c r : ℕ) (kind : Kind) (right above : Bool) → Shape d c r kind right → (row_of kind d (cond right (c + 1) c) == r) ≡ above → block_corner d c r ≡ corner_on right above
+corner_by : (d : Diagram) (c r : ℕ) (kind : Kind) (right above : Bool) → Shape d c r kind right → (row_of kind d (cond right (c + 1) c) == r) ≡ above
+    → block_corner d c r ≡ corner_on right above
 corner_by d c r kind right above shape is =
     ap₂ (λ k (s : Bool). corner_on s (row_of k d (cond s (c + 1) c) == r)) shape.kind_is shape.side_is ∙ ap (λ b. corner_on right b) is
 
@@ -144,8 +157,13 @@ block_kind_is c r kind corner d grid inside block = elim (cases_eq (corner_colum
   | inr ne ↦ (shape_right c r kind corner d grid inside block (omega (arith, ne, right_small corner))).kind_is
 ]
 
-pub block_corner_is : (c r : ℕ) (kind : Kind) (corner : Corner) (d : Diagram) → IsGrid d → c + 1 < size d → IsBlock c r kind corner d → block_corner d c r ≡ corner
-block_corner_is c r kind LowLeft d grid inside block = corner_by d c r kind false false (shape_left c r kind LowLeft d grid inside block refl) (low c r (c + 0) c kind d 0 (omega arith) block.in_its_column refl)
-block_corner_is c r kind LowRight d grid inside block = corner_by d c r kind true false (shape_right c r kind LowRight d grid inside block refl) (low c r (c + 1) (c + 1) kind d 0 refl block.in_its_column refl)
-block_corner_is c r kind HighLeft d grid inside block = corner_by d c r kind false true (shape_left c r kind HighLeft d grid inside block refl) (high c r (c + 0) c kind d 1 (omega arith) block.in_its_column refl)
-block_corner_is c r kind HighRight d grid inside block = corner_by d c r kind true true (shape_right c r kind HighRight d grid inside block refl) (high c r (c + 1) (c + 1) kind d 1 refl block.in_its_column refl)
+pub block_corner_is : (c r : ℕ) (kind : Kind) (corner : Corner) (d : Diagram) → IsGrid d → c + 1 < size d → IsBlock c r kind corner d
+    → block_corner d c r ≡ corner
+block_corner_is c r kind LowLeft d grid inside block =
+    corner_by d c r kind false false (shape_left c r kind LowLeft d grid inside block refl) (low c r (c + 0) c kind d 0 (omega arith) block.in_its_column refl)
+block_corner_is c r kind LowRight d grid inside block =
+    corner_by d c r kind true false (shape_right c r kind LowRight d grid inside block refl) (low c r (c + 1) (c + 1) kind d 0 refl block.in_its_column refl)
+block_corner_is c r kind HighLeft d grid inside block =
+    corner_by d c r kind false true (shape_left c r kind HighLeft d grid inside block refl) (high c r (c + 0) c kind d 1 (omega arith) block.in_its_column refl)
+block_corner_is c r kind HighRight d grid inside block =
+    corner_by d c r kind true true (shape_right c r kind HighRight d grid inside block refl) (high c r (c + 1) (c + 1) kind d 1 refl block.in_its_column refl)

@@ -82,11 +82,13 @@ rows_exchanged-renumbered r d grid = record {
 
 pub columns_exchanged-grid : (c : ℕ) (d : Diagram) → IsGrid d → c + 1 < size d → IsGrid (columns_exchanged c d)
 columns_exchanged-grid c d grid inside =
-    renumbered_grid (exchanged c) unchanged d (columns_exchanged c d) (exchanged-permutes c (size d) inside) (unchanged-permutes (size d)) grid (omega (arith, length-swap d.x c (c + 1), length-swap d.o c (c + 1), grid.same)) (columns_exchanged-renumbered c d grid inside)
+    renumbered_grid (exchanged c) unchanged d (columns_exchanged c d) (exchanged-permutes c (size d) inside) (unchanged-permutes (size d)) grid
+    (omega (arith, length-swap d.x c (c + 1), length-swap d.o c (c + 1), grid.same)) (columns_exchanged-renumbered c d grid inside)
 
 pub rows_exchanged-grid : (r : ℕ) (d : Diagram) → IsGrid d → r + 1 < size d → IsGrid (rows_exchanged r d)
 rows_exchanged-grid r d grid inside =
-    renumbered_grid unchanged (exchanged r) d (rows_exchanged r d) (unchanged-permutes (size d)) (exchanged-permutes r (size d) inside) grid (omega (arith, length-map d.x (exchanged r), length-map d.o (exchanged r), grid.same)) (rows_exchanged-renumbered r d grid)
+    renumbered_grid unchanged (exchanged r) d (rows_exchanged r d) (unchanged-permutes (size d)) (exchanged-permutes r (size d) inside) grid
+    (omega (arith, length-map d.x (exchanged r), length-map d.o (exchanged r), grid.same)) (rows_exchanged-renumbered r d grid)
 
 may_exchange_by : (a b : Bool) → cond a (Some Touching) (cond b None (Some Interleaved)) ≡ None → (a ≡ false) × (b ≡ true)
 may_exchange_by true b e = absurd (let no : ◌≡◌ {A = Option MoveFault} (Some Touching) None = e in cc)
@@ -98,7 +100,8 @@ exchange_allowed s t e =
     let both = may_exchange_by (share_an_end s t) (are_disjoint s t || are_nested s t) e in
     record { different = both.0; placed = both.1 }
 
-pub columns_exchanged-step : (c : ℕ) (d : Diagram) → IsGrid d → c + 1 < size d → exchange_fault (column_span d c) (column_span d (c + 1)) ≡ None → Step d (ExchangeColumns c) (columns_exchanged c d)
+pub columns_exchanged-step : (c : ℕ) (d : Diagram) → IsGrid d → c + 1 < size d → exchange_fault (column_span d c) (column_span d (c + 1)) ≡ None
+    → Step d (ExchangeColumns c) (columns_exchanged c d)
 columns_exchanged-step c d grid inside free = record {
   before = grid;
   after = columns_exchanged-grid c d grid inside;
@@ -109,7 +112,8 @@ columns_exchanged-step c d grid inside free = record {
   };
 }
 
-pub rows_exchanged-step : (r : ℕ) (d : Diagram) → IsGrid d → r + 1 < size d → exchange_fault (ends d r) (ends d (r + 1)) ≡ None → Step d (ExchangeRows r) (rows_exchanged r d)
+pub rows_exchanged-step : (r : ℕ) (d : Diagram) → IsGrid d → r + 1 < size d → exchange_fault (ends d r) (ends d (r + 1)) ≡ None
+    → Step d (ExchangeRows r) (rows_exchanged r d)
 rows_exchanged-step r d grid inside free = record {
   before = grid;
   after = rows_exchanged-grid r d grid inside;

@@ -11,7 +11,8 @@ pub joins_push : (moves : List Move) (move : Move) (d e f : Diagram) → Joins d
 joins_push [] move d e f same step = (f, (subst (λ z. Step z move f) (sym same) step, refl))
 joins_push (first ∷ moves) move d e f joined step = (joined.0, (joined.1.0, joins_push moves move joined.0 e f joined.1.1 step))
 
-pub joins_more : (moves : List Move) (k : ℕ) (z : Move) (d e f : Diagram) → k < length moves → Joins d (take k moves) e → Step e (get_or moves k z) f → Joins d (take (k + 1) moves) f
+pub joins_more : (moves : List Move) (k : ℕ) (z : Move) (d e f : Diagram) → k < length moves → Joins d (take k moves) e → Step e (get_or moves k z) f
+    → Joins d (take (k + 1) moves) f
 joins_more moves k z d e f lt joined step = rw (take_more moves k z lt) (joins_push (take k moves) (get_or moves k z) d e f joined step)
 
 -- one list after another

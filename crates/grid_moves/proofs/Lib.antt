@@ -17,5 +17,6 @@ pub mod Equivalence
 pub mod Within
 pub mod Stopped
 pub mod OneStabilisation
+pub mod TurnedBack
 mod WorkedMoves
 pub mod WorkedRows

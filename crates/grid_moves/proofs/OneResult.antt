@@ -20,7 +20,7 @@ use Rattle.grid_moves.specs.Exchange.{exchanged, MayExchange}
 use Rattle.grid_moves.specs.Slide.{MaySlide}
 use Rattle.grid_moves.specs.Stabilisation.{Stabilises}
 use Rattle.grid_moves.specs.Destabilisation.{Destabilises, marks_in_block}
-use Rattle.grid_moves.specs.BlockMarks.{column_in_new_row}
+use Rattle.grid_moves.specs.DoubleRows.{column_in_new_row}
 use Rattle.grid_moves.specs.Step.{Step, Moves}
 use Rattle.grid_moves.specs.MoveFault.{first_fault, shift_fault, exchange_fault, slide_fault, block_fault}
 use Rattle.grid_moves.proofs.Renumbering.{unchanged-permutes, renumbered_once}
@@ -34,20 +34,23 @@ use Rattle.grid_moves.proofs.Blocks.{block_made, double_row_is, column_in_double
 use Rattle.grid_moves.proofs.Destabilised.{destabilised, destabilised-step}
 use Rattle.grid_core.proofs.Accepted.{both_true, true_both}
 
-stabilised_once : (c : ℕ) (kind : Kind) (corner : Corner) (r s : ℕ) (d e f : Diagram) → IsGrid d → IsGrid e → IsGrid f → Stabilises c kind corner r d e → Stabilises c kind corner s d f → e ≡ f
+stabilised_once : (c : ℕ) (kind : Kind) (corner : Corner) (r s : ℕ) (d e f : Diagram) → IsGrid d → IsGrid e → IsGrid f → Stabilises c kind corner r d e
+    → Stabilises c kind corner s d f → e ≡ f
 stabilised_once c kind corner r s d e f grid ge gf one two =
     let same : r ≡ s = sym one.marked.row ∙ two.marked.row in
     let we = widened_from_stabilises c kind corner r d e grid one in
     let wf = widened_from_stabilises c kind corner s d f grid two in
     widened_once (column_in_new_row c kind corner) (r + corner_row corner) d e f
     (λ k. omega (arith, column_in_new_row-le c kind corner k (size d) one.marked.inside, one.larger)) ge gf we
-    (widened_along (column_in_new_row c kind corner) (column_in_new_row c kind corner) (s + corner_row corner) (r + corner_row corner) d f (λ k. refl) (ap (λ (z : ℕ). z + corner_row corner) (sym same)) wf)
+    (widened_along (column_in_new_row c kind corner) (column_in_new_row c kind corner) (s + corner_row corner) (r + corner_row corner) d f (λ k. refl)
+    (ap (λ (z : ℕ). z + corner_row corner) (sym same)) wf)
 
 destabilised_once : (c r : ℕ) (d e f : Diagram) → IsGrid e → IsGrid f → Destabilises c r d e → Destabilises c r d f → e ≡ f
 destabilised_once c r d e f ge gf one two =
     let be = block_made c r one.kind one.corner e d ge one.undone in
     let bf = block_made c r two.kind two.corner f d gf two.undone in
-    narrowed_once (column_in_new_row c one.kind one.corner) (column_in_new_row c two.kind two.corner) (r + corner_row one.corner) (r + corner_row two.corner) e f d
+    narrowed_once (column_in_new_row c one.kind one.corner) (column_in_new_row c two.kind two.corner) (r + corner_row one.corner)
+    (r + corner_row two.corner) e f d
     (λ k. sym (column_in_double_row_is c r one.kind one.corner d be k) ∙ column_in_double_row_is c r two.kind two.corner d bf k)
     (sym (double_row_is c r one.kind one.corner d be) ∙ double_row_is c r two.kind two.corner d bf)
     ge gf
@@ -55,11 +58,14 @@ destabilised_once c r d e f ge gf one two =
     (widened_from_stabilises c two.kind two.corner r f d gf two.undone)
 
 moves_once : (move : Move) (d e f : Diagram) → IsGrid d → IsGrid e → IsGrid f → Moves move d e → Moves move d f → e ≡ f
-moves_once (ShiftColumns k) d e f g ge gf a b = renumbered_once (shifted (size d) k) unchanged d e f (shifted-permutes (size d) k a.least a.most) ge gf a.renumbered b.renumbered
+moves_once (ShiftColumns k) d e f g ge gf a b =
+    renumbered_once (shifted (size d) k) unchanged d e f (shifted-permutes (size d) k a.least a.most) ge gf a.renumbered b.renumbered
 moves_once (ShiftRows k) d e f g ge gf a b = renumbered_once unchanged (shifted (size d) k) d e f (unchanged-permutes (size d)) ge gf a.renumbered b.renumbered
-moves_once (ExchangeColumns c) d e f g ge gf a b = renumbered_once (exchanged c) unchanged d e f (exchanged-permutes c (size d) a.inside) ge gf a.renumbered b.renumbered
+moves_once (ExchangeColumns c) d e f g ge gf a b =
+    renumbered_once (exchanged c) unchanged d e f (exchanged-permutes c (size d) a.inside) ge gf a.renumbered b.renumbered
 moves_once (ExchangeRows r) d e f g ge gf a b = renumbered_once unchanged (exchanged r) d e f (unchanged-permutes (size d)) ge gf a.renumbered b.renumbered
-moves_once (SlideColumns c) d e f g ge gf a b = renumbered_once (exchanged c) unchanged d e f (exchanged-permutes c (size d) a.inside) ge gf a.renumbered b.renumbered
+moves_once (SlideColumns c) d e f g ge gf a b =
+    renumbered_once (exchanged c) unchanged d e f (exchanged-permutes c (size d) a.inside) ge gf a.renumbered b.renumbered
 moves_once (SlideRows r) d e f g ge gf a b = renumbered_once unchanged (exchanged r) d e f (unchanged-permutes (size d)) ge gf a.renumbered b.renumbered
 moves_once (Stabilise c kind corner) d e f g ge gf a b = stabilised_once c kind corner a.1.0 b.1.0 d e f g ge gf a.1.1 b.1.1
 moves_once (Destabilise c r) d e f g ge gf a b = destabilised_once c r d e f ge gf a b
@@ -78,22 +84,36 @@ shift_legal : (n k : ℕ) → 0 < k → k < n → shift_fault n k ≡ None
 shift_legal n k least most = cond_true (nat_lt 0 k && nat_lt k n) None (Some Range) (true_both (nat_lt 0 k) (nat_lt k n) (lt-ltb 0 k least) (lt-ltb k n most))
 
 exchange_legal : (s t : Span) → MayExchange s t → exchange_fault s t ≡ None
-exchange_legal s t free = cond_false (share_an_end s t) (Some Touching) (cond (are_disjoint s t || are_nested s t) None (Some Interleaved)) free.different ∙ cond_true (are_disjoint s t || are_nested s t) None (Some Interleaved) free.placed
+exchange_legal s t free =
+    cond_false (share_an_end s t) (Some Touching) (cond (are_disjoint s t || are_nested s t) None (Some Interleaved)) free.different
+    ∙ cond_true (are_disjoint s t || are_nested s t) None (Some Interleaved) free.placed
 
 slide_legal : (s t : Span) → MaySlide s t → slide_fault s t ≡ None
-slide_legal s t free = cond_false (share_both_ends s t) (Some Touching) (cond (share_an_end s t) None (Some Apart)) free.not_both ∙ cond_true (share_an_end s t) None (Some Apart) free.shared
+slide_legal s t free =
+    cond_false (share_both_ends s t) (Some Touching) (cond (share_an_end s t) None (Some Apart)) free.not_both
+    ∙ cond_true (share_an_end s t) None (Some Apart) free.shared
 
 moves_legal : (move : Move) (d e : Diagram) → Moves move d e → first_fault d move ≡ None
 moves_legal (ShiftColumns k) d e a = shift_legal (size d) k a.least a.most
 moves_legal (ShiftRows k) d e a = shift_legal (size d) k a.least a.most
-moves_legal (ExchangeColumns c) d e a = cond_true (nat_lt (c + 1) (size d)) (exchange_fault (column_span d c) (column_span d (c + 1))) (Some Range) (lt-ltb (c + 1) (size d) a.inside) ∙ exchange_legal (column_span d c) (column_span d (c + 1)) a.may_exchange
-moves_legal (ExchangeRows r) d e a = cond_true (nat_lt (r + 1) (size d)) (exchange_fault (ends d r) (ends d (r + 1))) (Some Range) (lt-ltb (r + 1) (size d) a.inside) ∙ exchange_legal (ends d r) (ends d (r + 1)) a.may_exchange
-moves_legal (SlideColumns c) d e a = cond_true (nat_lt (c + 1) (size d)) (slide_fault (column_span d c) (column_span d (c + 1))) (Some Range) (lt-ltb (c + 1) (size d) a.inside) ∙ slide_legal (column_span d c) (column_span d (c + 1)) a.may_slide
-moves_legal (SlideRows r) d e a = cond_true (nat_lt (r + 1) (size d)) (slide_fault (ends d r) (ends d (r + 1))) (Some Range) (lt-ltb (r + 1) (size d) a.inside) ∙ slide_legal (ends d r) (ends d (r + 1)) a.may_slide
+moves_legal (ExchangeColumns c) d e a =
+    cond_true (nat_lt (c + 1) (size d)) (exchange_fault (column_span d c) (column_span d (c + 1))) (Some Range) (lt-ltb (c + 1) (size d) a.inside)
+    ∙ exchange_legal (column_span d c) (column_span d (c + 1)) a.may_exchange
+moves_legal (ExchangeRows r) d e a =
+    cond_true (nat_lt (r + 1) (size d)) (exchange_fault (ends d r) (ends d (r + 1))) (Some Range) (lt-ltb (r + 1) (size d) a.inside)
+    ∙ exchange_legal (ends d r) (ends d (r + 1)) a.may_exchange
+moves_legal (SlideColumns c) d e a =
+    cond_true (nat_lt (c + 1) (size d)) (slide_fault (column_span d c) (column_span d (c + 1))) (Some Range) (lt-ltb (c + 1) (size d) a.inside)
+    ∙ slide_legal (column_span d c) (column_span d (c + 1)) a.may_slide
+moves_legal (SlideRows r) d e a =
+    cond_true (nat_lt (r + 1) (size d)) (slide_fault (ends d r) (ends d (r + 1))) (Some Range) (lt-ltb (r + 1) (size d) a.inside)
+    ∙ slide_legal (ends d r) (ends d (r + 1)) a.may_slide
 moves_legal (Stabilise c kind corner) d e a =
-    cond_true (nat_lt c (size d)) (cond (nat_lt (size d) MAX_SIZE) None (Some Full)) (Some Range) (lt-ltb c (size d) a.1.1.marked.inside) ∙ cond_true (nat_lt (size d) MAX_SIZE) None (Some Full) (lt-ltb (size d) MAX_SIZE a.0)
+    cond_true (nat_lt c (size d)) (cond (nat_lt (size d) MAX_SIZE) None (Some Full)) (Some Range) (lt-ltb c (size d) a.1.1.marked.inside)
+    ∙ cond_true (nat_lt (size d) MAX_SIZE) None (Some Full) (lt-ltb (size d) MAX_SIZE a.0)
 moves_legal (Destabilise c r) d e a =
-    cond_true (nat_lt (c + 1) (size d) && nat_lt (r + 1) (size d)) (block_fault (marks_in_block d c r)) (Some Range) (true_both (nat_lt (c + 1) (size d)) (nat_lt (r + 1) (size d)) (lt-ltb (c + 1) (size d) a.columns) (lt-ltb (r + 1) (size d) a.rows))
+    cond_true (nat_lt (c + 1) (size d) && nat_lt (r + 1) (size d)) (block_fault (marks_in_block d c r)) (Some Range)
+    (true_both (nat_lt (c + 1) (size d)) (nat_lt (r + 1) (size d)) (lt-ltb (c + 1) (size d) a.columns) (lt-ltb (r + 1) (size d) a.rows))
     ∙ cond_true (marks_in_block d c r == 3) None (Some (Block (marks_in_block d c r))) (eq-eqb (marks_in_block d c r) 3 a.three)
 
 pub step_legal : (d : Diagram) (move : Move) (e : Diagram) → Step d move e → first_fault d move ≡ None
@@ -152,6 +172,7 @@ pub step_moved : (d : Diagram) (move : Move) (e : Diagram) → Step d move e →
 step_moved d move e step = step_once d move e (moved move d) step (moved_step d move step.before (step_legal d move e step))
 
 -- who answers the result of each step or the fault answers each step
-pub answers_each : (d : Diagram) (move : Move) (answer : Result Diagram MoveFault) → result_err answer ≡ first_fault d move → IfOk answer (λ f. Step d move f) → (e : Diagram) → Step d move e → answer ≡ Ok e
+pub answers_each : (d : Diagram) (move : Move) (answer : Result Diagram MoveFault) → result_err answer ≡ first_fault d move → IfOk answer (λ f. Step d move f)
+    → (e : Diagram) → Step d move e → answer ≡ Ok e
 answers_each d move (Ok f) fault moved e step = ap (λ z. Ok z) (step_once d move f e moved step)
 answers_each d move (Err f) fault moved e step = absurd (let no : ◌≡◌ {A = Option MoveFault} (Some f) None = fault ∙ step_legal d move e step in cc)

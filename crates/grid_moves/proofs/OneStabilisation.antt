@@ -12,7 +12,8 @@ use Rattle.grid_moves.proofs.BlockTests.{block_kind_is, block_corner_is}
 use Rattle.grid_moves.proofs.OneResult.{step_once}
 use Rattle.grid_moves.proofs.Undone.{stabilise_back, destabilise_back}
 
-pub undone_by : (c r : ℕ) (d e : Diagram) → Step d (Destabilise c r) e → (kind : Kind) × ((corner : Corner) × (Step e (Stabilise c kind corner) d × (row_of kind e c ≡ r)))
+pub undone_by : (c r : ℕ) (d e : Diagram) → Step d (Destabilise c r) e
+    → (kind : Kind) × ((corner : Corner) × (Step e (Stabilise c kind corner) d × (row_of kind e c ≡ r)))
 undone_by c r d e step =
     let back = destabilise_back c r d e step in
     let m = step.marks in
@@ -22,7 +23,8 @@ undone_by c r d e step =
 pub undoes : (c r : ℕ) (d e : Diagram) (kind : Kind) (corner : Corner) → Step e (Stabilise c kind corner) d → row_of kind e c ≡ r → Step d (Destabilise c r) e
 undoes c r d e kind corner step row = subst (λ (z : ℕ). Step d (Destabilise c z) e) row (stabilise_back c kind corner e d step)
 
-shape_of : (c r : ℕ) (d e : Diagram) (kind : Kind) (corner : Corner) → Step e (Stabilise c kind corner) d → row_of kind e c ≡ r → (block_kind d c r ≡ kind) × (block_corner d c r ≡ corner)
+shape_of : (c r : ℕ) (d e : Diagram) (kind : Kind) (corner : Corner) → Step e (Stabilise c kind corner) d → row_of kind e c ≡ r
+    → (block_kind d c r ≡ kind) × (block_corner d c r ≡ corner)
 shape_of c r d e kind corner step row =
     let s : ℕ = step.marks.1.0 in
     let stab : Stabilises c kind corner s e d = step.marks.1.1 in
@@ -31,7 +33,8 @@ shape_of c r d e kind corner step row =
     let inside : c + 1 < size d = omega (arith, stab.larger, stab.marked.inside) in
     (block_kind_is c r kind corner d step.after inside block, block_corner_is c r kind corner d step.after inside block)
 
-pub one_stabilisation : (c r : ℕ) (d e f : Diagram) (kind kind' : Kind) (corner corner' : Corner) → Step e (Stabilise c kind corner) d → row_of kind e c ≡ r → Step f (Stabilise c kind' corner') d → row_of kind' f c ≡ r → (e ≡ f) × (kind ≡ kind') × (corner ≡ corner')
+pub one_stabilisation : (c r : ℕ) (d e f : Diagram) (kind kind' : Kind) (corner corner' : Corner) → Step e (Stabilise c kind corner) d → row_of kind e c ≡ r
+    → Step f (Stabilise c kind' corner') d → row_of kind' f c ≡ r → (e ≡ f) × (kind ≡ kind') × (corner ≡ corner')
 one_stabilisation c r d e f kind kind' corner corner' one row two row' =
     let a = shape_of c r d e kind corner one row in
     let b = shape_of c r d f kind' corner' two row' in

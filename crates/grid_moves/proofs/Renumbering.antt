@@ -20,27 +20,33 @@ unchanged-permutes n = record {
 }
 
 -- the row of a mark of e, from the column of d that it came from
-pub renumbered_row : (new_column new_row : ℕ → ℕ) (d e : Diagram) → Renumbered new_column new_row d e → (kind : Kind) (b : ℕ) → b < size d → row_of kind e (new_column b) ≡ new_row (row_of kind d b)
+pub renumbered_row : (new_column new_row : ℕ → ℕ) (d e : Diagram) → Renumbered new_column new_row d e → (kind : Kind) (b : ℕ) → b < size d
+    → row_of kind e (new_column b) ≡ new_row (row_of kind d b)
 renumbered_row new_column new_row d e renumbered kind b lt = (renumbered.marks kind b (row_of kind d b) (mark_at d kind b lt)).row
 
 -- the marks before, and where each goes, leave one diagram after
-pub renumbered_once : (new_column new_row : ℕ → ℕ) (d e f : Diagram) → Permutes (size d) new_column → IsGrid e → IsGrid f → Renumbered new_column new_row d e → Renumbered new_column new_row d f → e ≡ f
+pub renumbered_once : (new_column new_row : ℕ → ℕ) (d e f : Diagram) → Permutes (size d) new_column → IsGrid e → IsGrid f → Renumbered new_column new_row d e
+    → Renumbered new_column new_row d f → e ≡ f
 renumbered_once new_column new_row d e f turn ge gf ce cf =
     same_diagram e f ge gf (ce.same_size ∙ sym cf.same_size)
     (λ kind c lt.
     let from = turn.onto c (omega (arith, lt, ce.same_size)) in
-    let one : row_of kind e c ≡ new_row (row_of kind d from.0) = sym (ap (λ (z : ℕ). row_of kind e z) from.2) ∙ renumbered_row new_column new_row d e ce kind from.0 from.1 in
-    let two : row_of kind f c ≡ new_row (row_of kind d from.0) = sym (ap (λ (z : ℕ). row_of kind f z) from.2) ∙ renumbered_row new_column new_row d f cf kind from.0 from.1 in
+    let one : row_of kind e c ≡ new_row (row_of kind d from.0) =
+    sym (ap (λ (z : ℕ). row_of kind e z) from.2) ∙ renumbered_row new_column new_row d e ce kind from.0 from.1 in
+    let two : row_of kind f c ≡ new_row (row_of kind d from.0) =
+    sym (ap (λ (z : ℕ). row_of kind f z) from.2) ∙ renumbered_row new_column new_row d f cf kind from.0 from.1 in
     one ∙ sym two)
 
 -- the column of d from which a column of e came
-came_from : (new_column new_row : ℕ → ℕ) (d e : Diagram) → Permutes (size d) new_column → Renumbered new_column new_row d e → (c : ℕ) → c < size e → (b : ℕ) × (b < size d) × (new_column b ≡ c) × ((kind : Kind) → row_of kind e c ≡ new_row (row_of kind d b))
+came_from : (new_column new_row : ℕ → ℕ) (d e : Diagram) → Permutes (size d) new_column → Renumbered new_column new_row d e → (c : ℕ) → c < size e
+    → (b : ℕ) × (b < size d) × (new_column b ≡ c) × ((kind : Kind) → row_of kind e c ≡ new_row (row_of kind d b))
 came_from new_column new_row d e turn renumbered c lt =
     let from = turn.onto c (omega (arith, lt, renumbered.same_size)) in
     (from.0, from.1, from.2, λ kind. sym (ap (λ (z : ℕ). row_of kind e z) from.2) ∙ renumbered_row new_column new_row d e renumbered kind from.0 from.1)
 
 -- a grid unchanged a grid
-pub renumbered_grid : (new_column new_row : ℕ → ℕ) (d e : Diagram) → Permutes (size d) new_column → Permutes (size d) new_row → IsGrid d → length e.o ≡ length e.x → Renumbered new_column new_row d e → IsGrid e
+pub renumbered_grid : (new_column new_row : ℕ → ℕ) (d e : Diagram) → Permutes (size d) new_column → Permutes (size d) new_row → IsGrid d
+    → length e.o ≡ length e.x → Renumbered new_column new_row d e → IsGrid e
 renumbered_grid new_column new_row d e turn lift grid same renumbered =
     let n : size e ≡ size d = renumbered.same_size in
     grid_from_rows e (omega (arith, n, grid.least)) (omega (arith, n, grid.most)) same
@@ -51,14 +57,20 @@ renumbered_grid new_column new_row d e turn lift grid same renumbered =
     (λ kind b c hb hc e'.
     let fb = came_from new_column new_row d e turn renumbered b hb in
     let fc = came_from new_column new_row d e turn renumbered c hc in
-    let rows : row_of kind d fb.0 ≡ row_of kind d fc.0 = lift.same (row_of kind d fb.0) (row_of kind d fc.0) (row_below d grid kind fb.0 fb.1) (row_below d grid kind fc.0 fc.1) (sym (fb.3 kind) ∙ e' ∙ fc.3 kind) in
+    let rows : row_of kind d fb.0 ≡ row_of kind d fc.0 =
+    lift.same (row_of kind d fb.0) (row_of kind d fc.0) (row_below d grid kind fb.0 fb.1) (row_below d grid kind fc.0 fc.1)
+    (sym (fb.3 kind) ∙ e' ∙ fc.3 kind) in
     sym fb.2 ∙ ap new_column (row_once d grid kind fb.0 fc.0 fb.1 fc.1 rows) ∙ fc.2)
     (λ c lt e'.
     let from = came_from new_column new_row d e turn renumbered c lt in
-    no_cell_twice d grid from.0 from.1 (lift.same (row_of Cross d from.0) (row_of Ring d from.0) (row_below d grid Cross from.0 from.1) (row_below d grid Ring from.0 from.1) (sym (from.3 Cross) ∙ e' ∙ from.3 Ring)))
+    no_cell_twice d grid from.0 from.1
+    (lift.same (row_of Cross d from.0) (row_of Ring d from.0) (row_below d grid Cross from.0 from.1) (row_below d grid Ring from.0 from.1)
+    (sym (from.3 Cross) ∙ e' ∙ from.3 Ring)))
 
 -- and the way back
-pub renumbered_back : (new_column new_row new_column' new_row' : ℕ → ℕ) (d e : Diagram) → Permutes (size d) new_column → IsGrid d → ((c : ℕ) → c < size d → new_column' (new_column c) ≡ c) → ((r : ℕ) → r < size d → new_row' (new_row r) ≡ r) → Renumbered new_column new_row d e → Renumbered new_column' new_row' e d
+pub renumbered_back : (new_column new_row new_column' new_row' : ℕ → ℕ) (d e : Diagram) → Permutes (size d) new_column → IsGrid d
+    → ((c : ℕ) → c < size d → new_column' (new_column c) ≡ c) → ((r : ℕ) → r < size d → new_row' (new_row r) ≡ r) → Renumbered new_column new_row d e
+    → Renumbered new_column' new_row' e d
 renumbered_back new_column new_row new_column' new_row' d e turn grid left low renumbered = record {
   same_size = sym renumbered.same_size;
   marks = λ kind c r mark.

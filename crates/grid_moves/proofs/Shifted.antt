@@ -37,7 +37,9 @@ shifted_round n k c least most lt = elim (cases_lt c k) [
 
 pub shifted-permutes : (n k : ℕ) → 0 < k → k < n → Permutes n (shifted n k)
 shifted-permutes n k least most =
-    let back : (c : ℕ) → c < n → shifted n k (shifted n (n - k) c) ≡ c = λ c lt. ap (λ (z : ℕ). shifted n z (shifted n (n - k) c)) (let e : k ≡ n - (n - k) = omega arith in e) ∙ shifted_round n (n - k) c (omega arith) (omega arith) lt in
+    let back : (c : ℕ) → c < n → shifted n k (shifted n (n - k) c) ≡ c =
+    λ c lt. ap (λ (z : ℕ). shifted n z (shifted n (n - k) c)) (let e : k ≡ n - (n - k) = omega arith in e)
+    ∙ shifted_round n (n - k) c (omega arith) (omega arith) lt in
     record {
       below = λ c lt. shifted_below n k c most lt;
       same = λ b c hb hc e. sym (shifted_round n k b least most hb) ∙ ap (λ (z : ℕ). shifted n (n - k) z) e ∙ shifted_round n k c least most hc;
@@ -99,11 +101,14 @@ rows_shifted-renumbered k d grid = record {
 
 pub columns_shifted-grid : (k : ℕ) (d : Diagram) → IsGrid d → 0 < k → k < size d → IsGrid (columns_shifted k d)
 columns_shifted-grid k d grid least most =
-    renumbered_grid (shifted (size d) k) unchanged d (columns_shifted k d) (shifted-permutes (size d) k least most) (unchanged-permutes (size d)) grid (omega (arith, length_rotated k d.x (omega arith), length_rotated k d.o (omega (arith, grid.same)), grid.same)) (columns_shifted-renumbered k d grid most)
+    renumbered_grid (shifted (size d) k) unchanged d (columns_shifted k d) (shifted-permutes (size d) k least most) (unchanged-permutes (size d)) grid
+    (omega (arith, length_rotated k d.x (omega arith), length_rotated k d.o (omega (arith, grid.same)), grid.same))
+    (columns_shifted-renumbered k d grid most)
 
 pub rows_shifted-grid : (k : ℕ) (d : Diagram) → IsGrid d → 0 < k → k < size d → IsGrid (rows_shifted k d)
 rows_shifted-grid k d grid least most =
-    renumbered_grid unchanged (shifted (size d) k) d (rows_shifted k d) (unchanged-permutes (size d)) (shifted-permutes (size d) k least most) grid (omega (arith, length-map d.x (shifted (size d) k), length-map d.o (shifted (size d) k), grid.same)) (rows_shifted-renumbered k d grid)
+    renumbered_grid unchanged (shifted (size d) k) d (rows_shifted k d) (unchanged-permutes (size d)) (shifted-permutes (size d) k least most) grid
+    (omega (arith, length-map d.x (shifted (size d) k), length-map d.o (shifted (size d) k), grid.same)) (rows_shifted-renumbered k d grid)
 
 pub columns_shifted-step : (k : ℕ) (d : Diagram) → IsGrid d → 0 < k → k < size d → Step d (ShiftColumns k) (columns_shifted k d)
 columns_shifted-step k d grid least most = record {

@@ -23,7 +23,8 @@ slide_allowed s t e =
     record { shared = both.1; not_both = both.0 }
 
 -- the diagrams are those of an exchange
-pub columns_slid-step : (c : ℕ) (d : Diagram) → IsGrid d → c + 1 < size d → slide_fault (column_span d c) (column_span d (c + 1)) ≡ None → Step d (SlideColumns c) (columns_exchanged c d)
+pub columns_slid-step : (c : ℕ) (d : Diagram) → IsGrid d → c + 1 < size d → slide_fault (column_span d c) (column_span d (c + 1)) ≡ None
+    → Step d (SlideColumns c) (columns_exchanged c d)
 columns_slid-step c d grid inside free = record {
   before = grid;
   after = columns_exchanged-grid c d grid inside;
@@ -34,7 +35,8 @@ columns_slid-step c d grid inside free = record {
   };
 }
 
-pub rows_slid-step : (r : ℕ) (d : Diagram) → IsGrid d → r + 1 < size d → slide_fault (ends d r) (ends d (r + 1)) ≡ None → Step d (SlideRows r) (rows_exchanged r d)
+pub rows_slid-step : (r : ℕ) (d : Diagram) → IsGrid d → r + 1 < size d → slide_fault (ends d r) (ends d (r + 1)) ≡ None
+    → Step d (SlideRows r) (rows_exchanged r d)
 rows_slid-step r d grid inside free = record {
   before = grid;
   after = rows_exchanged-grid r d grid inside;

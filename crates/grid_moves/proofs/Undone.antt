@@ -30,7 +30,9 @@ pub shift_columns_back : (k : ℕ) (d e : Diagram) → Step d (ShiftColumns k) e
 shift_columns_back k d e step =
     let m = step.marks in
     let n : size d ≡ size e = sym m.renumbered.same_size in
-    let back = renumbered_back (shifted (size d) k) unchanged (shifted (size d) (size d - k)) unchanged d e (shifted-permutes (size d) k m.least m.most) step.before (λ c lt. shifted_round (size d) k c m.least m.most lt) (λ r lt. refl) m.renumbered in
+    let back =
+    renumbered_back (shifted (size d) k) unchanged (shifted (size d) (size d - k)) unchanged d e (shifted-permutes (size d) k m.least m.most) step.before
+    (λ c lt. shifted_round (size d) k c m.least m.most lt) (λ r lt. refl) m.renumbered in
     record {
       before = step.after;
       after = step.before;
@@ -45,7 +47,9 @@ pub shift_rows_back : (k : ℕ) (d e : Diagram) → Step d (ShiftRows k) e → S
 shift_rows_back k d e step =
     let m = step.marks in
     let n : size d ≡ size e = sym m.renumbered.same_size in
-    let back = renumbered_back unchanged (shifted (size d) k) unchanged (shifted (size d) (size d - k)) d e (unchanged-permutes (size d)) step.before (λ c lt. refl) (λ r lt. shifted_round (size d) k r m.least m.most lt) m.renumbered in
+    let back =
+    renumbered_back unchanged (shifted (size d) k) unchanged (shifted (size d) (size d - k)) d e (unchanged-permutes (size d)) step.before (λ c lt. refl)
+    (λ r lt. shifted_round (size d) k r m.least m.most lt) m.renumbered in
     record {
       before = step.after;
       after = step.before;
@@ -60,7 +64,8 @@ shift_rows_back k d e step =
 share_turned : (a b c d : ℕ) → ((a == c) || (a == d) || (b == c) || (b == d)) ≡ false → ((c == a) || (c == b) || (d == a) || (d == b)) ≡ false
 share_turned a b c d e = grind (arith, nat_tests)
 
-placed_turned : (a b c d : ℕ) → ((nat_lt b c || nat_lt d a) || ((nat_lt a c && nat_lt d b) || (nat_lt c a && nat_lt b d))) ≡ true → ((nat_lt d a || nat_lt b c) || ((nat_lt c a && nat_lt b d) || (nat_lt a c && nat_lt d b))) ≡ true
+placed_turned : (a b c d : ℕ) → ((nat_lt b c || nat_lt d a) || ((nat_lt a c && nat_lt d b) || (nat_lt c a && nat_lt b d))) ≡ true
+    → ((nat_lt d a || nat_lt b c) || ((nat_lt c a && nat_lt b d) || (nat_lt a c && nat_lt d b))) ≡ true
 placed_turned a b c d e = grind (arith, nat_tests)
 
 exchange_turned : (s t : Span) → MayExchange s t → MayExchange t s
@@ -76,15 +81,18 @@ exchanged_next : (c : ℕ) → exchanged c (c + 1) ≡ c
 exchanged_next c = grind (arith, nat_tests)
 
 -- two columns (or two rows) have traded their marks
-columns_traded : (c : ℕ) (d e : Diagram) → c + 1 < size d → Renumbered (exchanged c) unchanged d e → (column_span e c ≡ column_span d (c + 1)) × (column_span e (c + 1) ≡ column_span d c)
+columns_traded : (c : ℕ) (d e : Diagram) → c + 1 < size d → Renumbered (exchanged c) unchanged d e
+    → (column_span e c ≡ column_span d (c + 1)) × (column_span e (c + 1) ≡ column_span d c)
 columns_traded c d e inside renumbered =
-    let row : (kind : Kind) (b f : ℕ) → b < size d → exchanged c b ≡ f → row_of kind e f ≡ row_of kind d b = λ kind b f lt is. ap (λ (z : ℕ). row_of kind e z) (sym is) ∙ (renumbered.marks kind b (row_of kind d b) (mark_at d kind b lt)).row in
+    let row : (kind : Kind) (b f : ℕ) → b < size d → exchanged c b ≡ f → row_of kind e f ≡ row_of kind d b =
+    λ kind b f lt is. ap (λ (z : ℕ). row_of kind e z) (sym is) ∙ (renumbered.marks kind b (row_of kind d b) (mark_at d kind b lt)).row in
     let first : c < size d = omega arith in (
       ap₂ (λ (a b : ℕ). span a b) (row Cross (c + 1) c inside (exchanged_next c)) (row Ring (c + 1) c inside (exchanged_next c)),
       ap₂ (λ (a b : ℕ). span a b) (row Cross c (c + 1) first (exchanged_at c)) (row Ring c (c + 1) first (exchanged_at c)),
     )
 
-rows_traded : (r : ℕ) (d e : Diagram) → IsGrid d → IsGrid e → r + 1 < size d → Renumbered unchanged (exchanged r) d e → (ends e r ≡ ends d (r + 1)) × (ends e (r + 1) ≡ ends d r)
+rows_traded : (r : ℕ) (d e : Diagram) → IsGrid d → IsGrid e → r + 1 < size d → Renumbered unchanged (exchanged r) d e
+    → (ends e r ≡ ends d (r + 1)) × (ends e (r + 1) ≡ ends d r)
 rows_traded r d e grid grid' inside renumbered =
     let first : r < size d = omega arith in
     let column : (kind : Kind) (s f : ℕ) → s < size d → exchanged r s ≡ f → column_of kind e f ≡ column_of kind d s =
@@ -105,8 +113,12 @@ exchange_columns_back c d e step =
       after = step.before;
       marks = record {
         inside = omega (arith, m.renumbered.same_size, inside);
-        may_exchange = subst (λ s. MayExchange s (column_span e (c + 1))) (sym traded.0) (subst (λ s. MayExchange (column_span d (c + 1)) s) (sym traded.1) (exchange_turned (column_span d c) (column_span d (c + 1)) m.may_exchange));
-        renumbered = renumbered_back (exchanged c) unchanged (exchanged c) unchanged d e (exchanged-permutes c (size d) inside) step.before (λ b lt. exchanged-twice c b) (λ r lt. refl) m.renumbered;
+        may_exchange =
+            subst (λ s. MayExchange s (column_span e (c + 1))) (sym traded.0)
+            (subst (λ s. MayExchange (column_span d (c + 1)) s) (sym traded.1) (exchange_turned (column_span d c) (column_span d (c + 1)) m.may_exchange));
+        renumbered =
+            renumbered_back (exchanged c) unchanged (exchanged c) unchanged d e (exchanged-permutes c (size d) inside) step.before (λ b lt. exchanged-twice c b)
+            (λ r lt. refl) m.renumbered;
       };
     }
 
@@ -120,8 +132,12 @@ exchange_rows_back r d e step =
       after = step.before;
       marks = record {
         inside = omega (arith, m.renumbered.same_size, inside);
-        may_exchange = subst (λ s. MayExchange s (ends e (r + 1))) (sym traded.0) (subst (λ s. MayExchange (ends d (r + 1)) s) (sym traded.1) (exchange_turned (ends d r) (ends d (r + 1)) m.may_exchange));
-        renumbered = renumbered_back unchanged (exchanged r) unchanged (exchanged r) d e (unchanged-permutes (size d)) step.before (λ c lt. refl) (λ s lt. exchanged-twice r s) m.renumbered;
+        may_exchange =
+            subst (λ s. MayExchange s (ends e (r + 1))) (sym traded.0)
+            (subst (λ s. MayExchange (ends d (r + 1)) s) (sym traded.1) (exchange_turned (ends d r) (ends d (r + 1)) m.may_exchange));
+        renumbered =
+            renumbered_back unchanged (exchanged r) unchanged (exchanged r) d e (unchanged-permutes (size d)) step.before (λ c lt. refl)
+            (λ s lt. exchanged-twice r s) m.renumbered;
       };
     }
 
@@ -148,8 +164,12 @@ slide_columns_back c d e step =
       after = step.before;
       marks = record {
         inside = omega (arith, m.renumbered.same_size, inside);
-        may_slide = subst (λ s. MaySlide s (column_span e (c + 1))) (sym traded.0) (subst (λ s. MaySlide (column_span d (c + 1)) s) (sym traded.1) (slide_turned (column_span d c) (column_span d (c + 1)) m.may_slide));
-        renumbered = renumbered_back (exchanged c) unchanged (exchanged c) unchanged d e (exchanged-permutes c (size d) inside) step.before (λ b lt. exchanged-twice c b) (λ r lt. refl) m.renumbered;
+        may_slide =
+            subst (λ s. MaySlide s (column_span e (c + 1))) (sym traded.0)
+            (subst (λ s. MaySlide (column_span d (c + 1)) s) (sym traded.1) (slide_turned (column_span d c) (column_span d (c + 1)) m.may_slide));
+        renumbered =
+            renumbered_back (exchanged c) unchanged (exchanged c) unchanged d e (exchanged-permutes c (size d) inside) step.before (λ b lt. exchanged-twice c b)
+            (λ r lt. refl) m.renumbered;
       };
     }
 
@@ -163,8 +183,12 @@ slide_rows_back r d e step =
       after = step.before;
       marks = record {
         inside = omega (arith, m.renumbered.same_size, inside);
-        may_slide = subst (λ s. MaySlide s (ends e (r + 1))) (sym traded.0) (subst (λ s. MaySlide (ends d (r + 1)) s) (sym traded.1) (slide_turned (ends d r) (ends d (r + 1)) m.may_slide));
-        renumbered = renumbered_back unchanged (exchanged r) unchanged (exchanged r) d e (unchanged-permutes (size d)) step.before (λ c lt. refl) (λ s lt. exchanged-twice r s) m.renumbered;
+        may_slide =
+            subst (λ s. MaySlide s (ends e (r + 1))) (sym traded.0)
+            (subst (λ s. MaySlide (ends d (r + 1)) s) (sym traded.1) (slide_turned (ends d r) (ends d (r + 1)) m.may_slide));
+        renumbered =
+            renumbered_back unchanged (exchanged r) unchanged (exchanged r) d e (unchanged-permutes (size d)) step.before (λ c lt. refl)
+            (λ s lt. exchanged-twice r s) m.renumbered;
       };
     }
 

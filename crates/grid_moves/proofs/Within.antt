@@ -17,7 +17,8 @@ pub within_joins : (cap : ℕ) (moves : List Move) (d e : Diagram) → JoinsWith
 within_joins cap [] d e joined = joined.1
 within_joins cap (move ∷ moves) d e joined = (joined.1.0, (joined.1.1.0, within_joins cap moves joined.1.0 e joined.1.1.1))
 
-pub within_append : (cap : ℕ) (front back : List Move) (d e f : Diagram) → JoinsWithin cap d front e → JoinsWithin cap e back f → JoinsWithin cap d (front ++ back) f
+pub within_append : (cap : ℕ) (front back : List Move) (d e f : Diagram) → JoinsWithin cap d front e → JoinsWithin cap e back f
+    → JoinsWithin cap d (front ++ back) f
 within_append cap [] back d e f one two = subst (λ z. JoinsWithin cap z back f) (sym one.1) two
 within_append cap (move ∷ front) back d e f one two = (one.0, (one.1.0, (one.1.1.0, within_append cap front back one.1.0 e f one.1.1.1 two)))
 

@@ -34,7 +34,8 @@ destabilised_unknot : moved (Destabilise 0 0) (moved (Stabilise 0 Cross LowLeft)
 destabilised_unknot = refl
 
 -- two nested columns trade places
-nested_columns : moved (ExchangeColumns 0) (record { x = 0 ∷ 1 ∷ 2 ∷ 3 ∷ []; o = 3 ∷ 2 ∷ 0 ∷ 1 ∷ [] }) ≡ record { x = 1 ∷ 0 ∷ 2 ∷ 3 ∷ []; o = 2 ∷ 3 ∷ 0 ∷ 1 ∷ [] }
+nested_columns : moved (ExchangeColumns 0)
+    (record { x = 0 ∷ 1 ∷ 2 ∷ 3 ∷ []; o = 3 ∷ 2 ∷ 0 ∷ 1 ∷ [] }) ≡ record { x = 1 ∷ 0 ∷ 2 ∷ 3 ∷ []; o = 2 ∷ 3 ∷ 0 ∷ 1 ∷ [] }
 nested_columns = refl
 
 -- two columns that share one row, and two rows that share one column
@@ -79,4 +80,6 @@ abbrev undisguising : List Move
 undisguising = Destabilise 2 2 ∷ Destabilise 1 1 ∷ Destabilise 0 0 ∷ []
 
 undisguising_joins : Joins disguised undisguising unknot
-undisguising_joins = joins_computed undisguising disguised (accepted disguised.x disguised.o (omega arith) (omega arith) refl refl refl refl) (more refl (more refl (more refl none)))
+undisguising_joins =
+    joins_computed undisguising disguised (accepted disguised.x disguised.o (omega arith) (omega arith) refl refl refl refl)
+    (more refl (more refl (more refl none)))

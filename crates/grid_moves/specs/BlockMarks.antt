@@ -1,18 +1,10 @@
--- What is read off the marks of a block of two columns and two rows.
-use Rattle.std.specs.Prelude.{◌+◌, ◌-◌, ◌==◌, ◌&&◌, ◌||◌, ℕ, Bool, not, if◌then◌else◌}
+-- What the inverse of a destabilisation reads off the marks of a block of two columns and two rows.
+use Rattle.std.specs.Prelude.{◌+◌, ◌==◌, ◌&&◌, ◌||◌, ℕ, Bool, not, if◌then◌else◌}
 use Rattle.grid_core.specs.declared.mark.Kind.{Kind}
 use Rattle.grid_core.specs.declared.mark.Kind.TheVariants.{Cross, Ring}
 use Rattle.grid_core.specs.declared.mark.Corner.{Corner}
 use Rattle.grid_core.specs.declared.mark.Corner.TheVariants.{LowLeft, LowRight, HighLeft, HighRight}
 use Rattle.grid_core.specs.Diagram.{Diagram, row_of}
-use Rattle.grid_core.specs.Corners.{corner_column}
-
--- when the mark of the first kind in column c is stabilised, the column of the last kind's mark in the new row
-abbrev pub column_in_new_row : ℕ → Kind → Corner → Kind → ℕ
-column_in_new_row c Cross corner Cross = c + 1 - corner_column corner
-column_in_new_row c Cross corner Ring = c + corner_column corner
-column_in_new_row c Ring corner Cross = c + corner_column corner
-column_in_new_row c Ring corner Ring = c + 1 - corner_column corner
 
 -- row s is one of the block's rows, r and r + 1
 abbrev pub is_block_row : ℕ → ℕ → Bool
@@ -35,12 +27,3 @@ corner_on right above =
 abbrev pub block_corner : Diagram → ℕ → ℕ → Corner
 block_corner d c r =
     corner_on (corner_is_right d c r) (row_of (block_kind d c r) d (if corner_is_right d c r then c + 1 else c) == r)
-
--- of a block of three marks in columns c and c + 1, the row of two of them
-abbrev pub double_row : Diagram → ℕ → ℕ
-double_row d c = if row_of Cross d c == row_of Ring d (c + 1) then row_of Cross d c else row_of Ring d c
-
--- and the column of the mark of this kind in that row
-abbrev pub column_in_double_row : Diagram → ℕ → Kind → ℕ
-column_in_double_row d c Cross = if row_of Cross d c == row_of Ring d (c + 1) then c else c + 1
-column_in_double_row d c Ring = if row_of Cross d c == row_of Ring d (c + 1) then c + 1 else c

@@ -7,11 +7,15 @@ pub mod Stabilisation
 pub mod Widening
 pub mod Destabilisation
 pub mod BlockMarks
+pub mod DoubleRows
 pub mod Inverse
 pub mod Step
 pub mod MoveFault
 pub mod Joining
+pub mod Undoing
+pub mod MoveLists
 pub use Rattle.grid_core.specs.Diagram
 pub use Rattle.grid_core.specs.Span
 pub use Rattle.grid_core.specs.Corners
 pub use Rattle.grid_core.specs.Parts
+pub use Rattle.grid_core.specs.Places

@@ -3,7 +3,7 @@ use Rattle.std.specs.Prelude.{map}
 use Rattle.std.specs.List.{insert}
 use Rattle.grid_core.specs.Diagram.{Diagram}
 use Rattle.grid_core.specs.Places.{lifted}
-use Rattle.grid_moves.specs.declared.stabilise.Widening.{Widening}
+use Rattle.grid_moves.specs.declared.stabilisation.Widening.{Widening}
 
 -- the rows at or above the new one, and of each kind the columns at or behind its new one, get the next number
 abbrev pub widened : Widening → Diagram → Diagram

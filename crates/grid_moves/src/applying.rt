@@ -7,11 +7,11 @@ ghost use Rattle.grid_moves.specs.Step.{Step};
 ghost use Rattle.grid_moves.specs.Joining.{Joins, StopsAt};
 ghost use Rattle.grid_moves.specs.MoveFault.{first_fault};
 
-use crate::destabilise::{block_corner, block_kind, destabilise};
+use crate::destabilisation::{block_corner, block_kind, destabilise};
 use crate::exchange::{exchange_columns, exchange_rows};
 use crate::shift::{shift_columns, shift_rows};
 use crate::slide::{slide_columns, slide_rows};
-use crate::stabilise::stabilise;
+use crate::stabilisation::stabilise;
 use crate::step::{Move, MoveFault};
 use grid_core::Grid;
 

@@ -5,10 +5,11 @@ ghost use Rattle.grid_core.specs.Parts.{column_span, column_of, ends};
 ghost use Rattle.grid_moves.specs.Different.{how_many_different};
 ghost use Rattle.grid_moves.specs.Exchange.{MayExchange};
 ghost use Rattle.grid_moves.specs.Inverse.{inverse_of};
-ghost use Rattle.grid_moves.specs.Joining.{Joins, StopsAt, Equivalent, WithinCap};
+ghost use Rattle.grid_moves.specs.Joining.{Joins, JoinsWithin, StopsAt, Equivalent, WithinCap};
 ghost use Rattle.grid_moves.specs.MoveFault.{first_fault};
 ghost use Rattle.grid_moves.specs.Slide.{MaySlide};
 ghost use Rattle.grid_moves.specs.Step.{Step};
+ghost use Rattle.grid_moves.specs.Undoing.{Undone};
 
 use crate::step::{Move, MoveFault};
 use grid_core::{Corner, Kind, Span};
@@ -103,6 +104,16 @@ pub fn an_empty_list_joins_a_diagram_to_itself()
 pub fn joining_composes()
     ensures { (front back : List Move) (d e : Diagram)
         → Joins d (front ++ back) e ↔ ((f : Diagram) × (Joins d front f × Joins f back e)) }
+{}
+
+/// What undoes a list of moves leads back, and within the same cap.
+pub fn an_undone_list_leads_back()
+    ensures there { (moves back : List Move) (d e : Diagram) → Undone d moves e back → Joins d moves e }
+    ensures back { (moves back : List Move) (d e : Diagram) → Undone d moves e back → Joins e back d }
+    ensures within { (cap : ℕ) (moves back : List Move) (d e : Diagram)
+        → Undone d moves e back
+        → JoinsWithin cap d moves e
+        → JoinsWithin cap e back d }
 {}
 
 /// A list of moves leads from a grid to at most one diagram, which is a grid.

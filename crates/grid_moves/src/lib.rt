@@ -3,16 +3,18 @@
 #![tactic(auto)]
 
 mod applying;
-mod destabilise;
+mod destabilisation;
 mod exchange;
 pub mod laws;
 mod shift;
 mod slide;
-mod stabilise;
+mod stabilisation;
 mod step;
 #[cfg(test)]
 mod tests;
+mod undoing;
 
 pub use applying::{apply, apply_all, inverse};
-pub use stabilise::{Widening, widening_of};
+pub use stabilisation::{Widening, widening_of};
 pub use step::{Move, MoveFault};
+pub use undoing::push_undone;

@@ -1,18 +1,12 @@
 //! Moves on worked examples, and every move on every grid of two to four columns.
 ghost use Rattle.std.specs.Prelude.{◌<◌, ◌≤◌};
 
-use crate::{Move, MoveFault, apply, apply_all, inverse};
+use crate::{Move, MoveFault, apply, apply_all, inverse, push_undone};
 use grid_core::{Corner, Grid, Kind, MAX_SIZE};
+use std::alloc::Global;
 use std::test::Fail;
 
 const KINDS: [Kind; 2] = [Kind::Cross, Kind::Ring];
-
-const CORNERS: [Corner; 4] = [
-    Corner::LowLeft,
-    Corner::LowRight,
-    Corner::HighLeft,
-    Corner::HighRight,
-];
 
 /// For each line of a small grid (a column or a row), where it has a mark.
 type Lines = [[bool; 4]; 4];
@@ -200,22 +194,26 @@ fn the_right_trefoil_goes_to_its_reverse_and_back(rt: HostRuntime) -> Result<(),
     let (x, o) = ([4, 3, 2, 1, 0], [2, 1, 0, 4, 3]);
     let (to_x, to_o) = ([4, 3, 2, 1, 0], [1, 0, 4, 3, 2]);
     assert!(rt; leads(&x, &o, &moves, &to_x, &to_o));
-    let Ok(mut here) = Grid::new(&x, &o) else {
+    let Ok(grid) = Grid::new(&x, &o) else {
         return Err(Fail::from("no grid"));
     };
-    let mut back = Vec::new(rt.alloc());
-    for step in moves {
-        match apply(&here, step) {
-            Ok(next) => {
-                back.push(inverse(&here, step))?;
-                here = next;
-            }
-            Err(fault) => return Err(Fail::from(fault)),
-        }
-    }
-    back.reverse();
-    assert!(rt; leads(&to_x, &to_o, back.as_slice(), &x, &o));
+    assert!(rt; are_undone(rt.alloc(), &grid, &moves)?);
     Ok(())
+}
+
+/// Whether what undoes the moves leads back to the grid.
+fn are_undone(alloc: Global, grid: &Grid, moves: &[Move]) -> Result<bool, Fail> {
+    match apply_all(grid, moves) {
+        Ok(end) => {
+            let mut back = Vec::new(alloc);
+            push_undone(alloc, &mut back, grid, moves)?;
+            match apply_all(&end, back.as_slice()) {
+                Ok(home) => Ok(home.same_as(grid)),
+                Err(stop) => Err(Fail::from(stop)),
+            }
+        }
+        Err(stop) => Err(Fail::from(stop)),
+    }
 }
 
 #[test]
@@ -302,7 +300,7 @@ fn try_moves(grid: &Grid, n: u8, lines: &(Lines, Lines)) -> Result<(), Fail>
 /// Compares the eight stabilisations in a column with the plain definition.
 fn try_stabilisations(grid: &Grid, column: u8, legal: bool) -> Result<(), Fail> {
     for kind in KINDS {
-        for corner in CORNERS {
+        for corner in Corner::ALL {
             let step = Move::Stabilise {
                 column,
                 kind,

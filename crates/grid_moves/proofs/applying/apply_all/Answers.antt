@@ -8,7 +8,9 @@ use Rattle.grid_moves.proofs.Stopped.{leads_only, stops_only}
 use Rattle.grid_moves.proofs.applying.apply_all.Goals as goal
 
 pub loop-place-preserved : goal.loop-place-preserved
-loop-place-preserved c = joins_more c.args.steps.now c.loop-place.place (ShiftColumns 0) c.args.grid.now c.loop-place.here c.in-Ok.next (omega arith) c.loop-place.invariant c.in-Ok.ensures.moved
+loop-place-preserved c =
+    joins_more c.args.steps.now c.loop-place.place (ShiftColumns 0) c.args.grid.now c.loop-place.here c.in-Ok.next
+    (omega arith) c.loop-place.invariant c.in-Ok.ensures.moved
 
 pub returns-clause-complete : goal.returns-clause-complete
 returns-clause-complete c =

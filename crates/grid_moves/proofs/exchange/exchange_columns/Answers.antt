@@ -8,4 +8,6 @@ of_rows-requires c =
 
 pub returns-clause-moved : goal.returns-clause-moved
 returns-clause-moved c =
-    rw (c.of_rows.ensures, c.swapped_columns.ensures, c.swapped_columns-2.ensures) (columns_exchanged-step c.args.c c.args.grid.now c.size.ensures.grid (omega arith) (rw (← c.column_span.ensures, ← c.column_span-2.ensures) (sym c.in_ok-exchange_fault.ensures)))
+    rw (c.of_rows.ensures, c.swapped_columns.ensures, c.swapped_columns-2.ensures)
+    (columns_exchanged-step c.args.c c.args.grid.now c.size.ensures.grid (omega arith)
+    (rw (← c.column_span.ensures, ← c.column_span-2.ensures) (sym c.in_ok-exchange_fault.ensures)))

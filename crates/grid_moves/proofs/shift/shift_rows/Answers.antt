@@ -8,4 +8,5 @@ of_rows-requires c =
 
 pub returns-clause-moved : goal.returns-clause-moved
 returns-clause-moved c =
-    rw (c.of_rows.ensures, c.shifted_rows.ensures, c.shifted_rows-2.ensures) (rows_shifted-step c.args.k c.args.grid.now c.size.ensures.grid (omega arith) (omega arith))
+    rw (c.of_rows.ensures, c.shifted_rows.ensures, c.shifted_rows-2.ensures)
+    (rows_shifted-step c.args.k c.args.grid.now c.size.ensures.grid (omega arith) (omega arith))

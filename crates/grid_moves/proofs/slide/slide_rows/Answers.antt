@@ -9,4 +9,6 @@ of_rows-requires c =
 
 pub returns-clause-moved : goal.returns-clause-moved
 returns-clause-moved c =
-    rw (c.of_rows.ensures, c.exchanged_rows.ensures, c.exchanged_rows-2.ensures) (rows_slid-step c.args.r c.args.grid.now c.size.ensures.grid (omega arith) (rw (← c.row_span.ensures.span, ← c.row_span-2.ensures.span) (sym c.in_ok-slide_fault.ensures)))
+    rw (c.of_rows.ensures, c.exchanged_rows.ensures, c.exchanged_rows-2.ensures)
+    (rows_slid-step c.args.r c.args.grid.now c.size.ensures.grid (omega arith)
+    (rw (← c.row_span.ensures.span, ← c.row_span-2.ensures.span) (sym c.in_ok-slide_fault.ensures)))

@@ -6,7 +6,8 @@ ghost use Rattle.grid_core.specs.declared.grid.TheConstants.{MAX_SIZE};
 ghost use Rattle.grid_core.specs.Diagram.{size, rows_of};
 ghost use Rattle.grid_core.specs.Places.{lowered};
 ghost use Rattle.grid_moves.specs.Destabilisation.{marks_in_block};
-ghost use Rattle.grid_moves.specs.BlockMarks.{is_block_row, block_kind, corner_is_right, corner_on, block_corner, double_row, column_in_double_row};
+ghost use Rattle.grid_moves.specs.BlockMarks.{is_block_row, block_kind, corner_is_right, corner_on, block_corner};
+ghost use Rattle.grid_moves.specs.DoubleRows.{double_row, column_in_double_row};
 ghost use Rattle.grid_moves.specs.Step.{Step};
 ghost use Rattle.grid_moves.specs.MoveFault.{first_fault};
 

@@ -5,7 +5,7 @@ ghost use Rattle.std.specs.Result.{result_err};
 ghost use Rattle.grid_core.specs.declared.grid.TheConstants.{MAX_SIZE};
 ghost use Rattle.grid_core.specs.Diagram.{size, rows_of};
 ghost use Rattle.grid_core.specs.Places.{lifted};
-ghost use Rattle.grid_moves.specs.BlockMarks.{column_in_new_row};
+ghost use Rattle.grid_moves.specs.DoubleRows.{column_in_new_row};
 ghost use Rattle.grid_moves.specs.Step.{Step};
 ghost use Rattle.grid_moves.specs.Widening.{widened};
 ghost use Rattle.grid_moves.specs.MoveFault.{first_fault};

@@ -1,0 +1,50 @@
+//! Lists of moves, undone.
+ghost use Rattle.std.specs.Prelude.{◌≡◌, ◌++◌, List, reverse, IfOk};
+ghost use Rattle.grid_core.specs.Diagram.{Diagram};
+ghost use Rattle.grid_moves.specs.Joining.{Joins};
+ghost use Rattle.grid_moves.specs.Undoing.{Undone};
+
+use crate::applying::{apply, inverse};
+use crate::step::Move;
+use grid_core::Grid;
+use std::alloc::{AllocError, Global};
+
+/// Puts at the end what undoes moves that can be made from a grid: their inverses, from the last move to the first.
+pub fn push_undone(
+    alloc: Global,
+    list: &mut Vec<Move>,
+    grid: &Grid,
+    moves: &[Move],
+) -> Result<(), AllocError>
+    requires { (e : Diagram) × Joins grid.now moves.now e }
+    ensures { IfOk result (λ _. (e : Diagram)
+        → Joins grid.now moves.now e
+        → (back : List Move)
+        × (Undone grid.now moves.now e back × (list.new.items ≡ list.old.items ++ back))) }
+{
+    let mut inverses = inverses(alloc, grid, moves)?;
+    while let Some(step) = inverses.pop() {
+        list.push(step)?;
+    }
+    Ok(())
+}
+
+/// The inverses of moves that can be made from a grid, from the first move to the last.
+fn inverses(alloc: Global, grid: &Grid, moves: &[Move]) -> Result<Vec<Move>, AllocError>
+    requires { (e : Diagram) × Joins grid.now moves.now e }
+    ensures { IfOk result
+        (λ list. (e : Diagram) → Joins grid.now moves.now e → Undone grid.now moves.now e (reverse list.items)) }
+{
+    let mut list = Vec::new(alloc);
+    let mut here = grid.copy();
+    for step in moves {
+        match apply(&here, *step) {
+            Ok(next) => {
+                list.push(inverse(&here, *step))?;
+                here = next;
+            }
+            Err(_) => unreachable!(),
+        }
+    }
+    Ok(list)
+}
