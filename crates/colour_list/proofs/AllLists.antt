@@ -1,12 +1,13 @@
 -- The list of all lists of n numbers below q has each of them once, in order.
-use Rattle.std.proofs.Common.{◌≡◌, ◌<◌, ◌≤◌, ◌+◌, ◌==◌, ◌∙◌, ◌&&◌, ℕ, zero, suc, List, [], ◌∷◌, Bool, true, false, length, map, get_or, refl, sym, ap, arith}
-use Rattle.std.specs.List.{range_with_len, flat_map, All}
+use Rattle.std.proofs.Common.{◌≡◌, ◌<◌, ◌≤◌, ◌+◌, ◌==◌, ◌∙◌, ◌&&◌, inl, ℕ, zero, suc, List, [], ◌∷◌, Bool, true, false, length, map, get_or, refl, sym, ap, arith}
+use Rattle.std.specs.List.{range_with_len, flat_map, All, AllPairs}
 use Rattle.std.proofs.lemmas.Bool.{ne_eqb, eqb-true, eqb-false, eq-eqb}
-use Rattle.std.proofs.lemmas.List.Elements.{All-head, All-tail, All-nil, All-append, All-map, All-weaker}
+use Rattle.std.proofs.lemmas.List.Elements.{All-head, All-tail, All-nil, All-append, All-map}
 use Rattle.colour_list.specs.Listing.{all_lists}
 use Rattle.colour_list.proofs.Counts.{count-map, count_agree, count_no, count-append}
 use Rattle.colour_list.specs.Listing.{is_same, times}
-use Rattle.colour_list.proofs.Order.{before, before_more, Ascends, Ascends-append, Ascends-heads}
+use Rattle.quandle_core.specs.Colours.{ComesBefore}
+use Rattle.colour_list.proofs.Order.{pairs_append, pairs_heads}
 
 -- each of k heads from a on before each list
 abbrev heads : ℕ → ℕ → List (List ℕ) → List (List ℕ)
@@ -22,7 +23,8 @@ other_head a b rest xs apart =
     count-map (is_same (b ∷ rest)) (λ ys. a ∷ ys) xs
     ∙ count_no (λ ys. is_same (b ∷ rest) (a ∷ ys)) (λ ys. ap (λ t. t && is_same rest ys) (ne_eqb b a apart)) xs
 
-heads_step : (a k b : ℕ) (rest : List ℕ) (xs : List (List ℕ)) → times (b ∷ rest) (heads a (suc k) xs) ≡ times (b ∷ rest) (map (λ ys. a ∷ ys) xs) + times (b ∷ rest) (heads (a + 1) k xs)
+heads_step : (a k b : ℕ) (rest : List ℕ) (xs : List (List ℕ))
+    → times (b ∷ rest) (heads a (suc k) xs) ≡ times (b ∷ rest) (map (λ ys. a ∷ ys) xs) + times (b ∷ rest) (heads (a + 1) k xs)
 heads_step a k b rest xs = count-append (is_same (b ∷ rest)) (map (λ ys. a ∷ ys) xs) (heads (a + 1) k xs)
 
 heads_below : (a k b : ℕ) (rest : List ℕ) (xs : List (List ℕ)) → b < a → times (b ∷ rest) (heads a k xs) ≡ 0
@@ -33,7 +35,8 @@ heads_below a (suc k) b rest xs lt =
     let more = heads_below (a + 1) k b rest xs (omega arith) in
     omega arith
 
-once_step : (a k b : ℕ) (rest : List ℕ) (xs : List (List ℕ)) → a ≤ b → (a + 1 ≤ b → times (b ∷ rest) (heads (a + 1) k xs) ≡ times rest xs) → (t : Bool) → (a == b) ≡ t → times (b ∷ rest) (heads a (suc k) xs) ≡ times rest xs
+once_step : (a k b : ℕ) (rest : List ℕ) (xs : List (List ℕ)) → a ≤ b → (a + 1 ≤ b → times (b ∷ rest) (heads (a + 1) k xs) ≡ times rest xs) → (t : Bool)
+    → (a == b) ≡ t → times (b ∷ rest) (heads a (suc k) xs) ≡ times rest xs
 once_step a k b rest xs le more true e =
     let same = eqb-true a b e in
     let step = heads_step a k b rest xs in
@@ -60,21 +63,20 @@ all_once q (suc n) (b ∷ rest) long below =
     heads_once 0 q b rest (all_lists q n) (omega arith) (omega (arith, All-head (λ y. y < q) b rest below))
     ∙ all_once q n rest (omega (arith, long)) (All-tail (λ y. y < q) b rest below)
 
-later : (a b k : ℕ) (xs : List (List ℕ)) → a < b → All (λ y. (x : List ℕ) → before y (a ∷ x) ≡ false) (heads b k xs)
-later a b zero xs lt = All-nil (λ y. (x : List ℕ) → before y (a ∷ x) ≡ false)
-later a b (suc k) xs lt =
-    All-append (λ y. (x : List ℕ) → before y (a ∷ x) ≡ false) (map (λ ys. b ∷ ys) xs) (heads (b + 1) k xs)
-    (All-map (λ y. (x : List ℕ) → before y (a ∷ x) ≡ false) (λ ys. b ∷ ys) xs (λ i d at x. before_more b a _ x lt))
-    (later a (b + 1) k xs (omega arith))
+later : (a b k : ℕ) (xs : List (List ℕ)) (x : List ℕ) → a < b → All (ComesBefore (a ∷ x)) (heads b k xs)
+later a b zero xs x lt = All-nil (ComesBefore (a ∷ x))
+later a b (suc k) xs x lt =
+    All-append (ComesBefore (a ∷ x)) (map (λ ys. b ∷ ys) xs) (heads (b + 1) k xs)
+    (All-map (ComesBefore (a ∷ x)) (λ ys. b ∷ ys) xs (λ i d at. inl lt))
+    (later a (b + 1) k xs x (omega arith))
 
-heads_ascend : (a k : ℕ) (xs : List (List ℕ)) → Ascends xs → Ascends (heads a k xs)
-heads_ascend a zero xs up = tt
+heads_ascend : (a k : ℕ) (xs : List (List ℕ)) → AllPairs ComesBefore xs → AllPairs ComesBefore (heads a k xs)
+heads_ascend a zero xs up = λ i j d lt within. absurd (omega (arith, within))
 heads_ascend a (suc k) xs up =
-    Ascends-append (map (λ ys. a ∷ ys) xs) (heads (a + 1) k xs) (Ascends-heads a xs up) (heads_ascend (a + 1) k xs up)
-    (All-map (λ x. All (λ y. before y x ≡ false) (heads (a + 1) k xs)) (λ ys. a ∷ ys) xs
-    (λ i d at. All-weaker (λ y. (x : List ℕ) → before y (a ∷ x) ≡ false) (λ y. before y (a ∷ get_or xs i d) ≡ false) (λ y h. h (get_or xs i d)) (heads (a + 1) k xs) (later a (a + 1) k xs (omega arith))))
+    pairs_append ComesBefore (map (λ ys. a ∷ ys) xs) (heads (a + 1) k xs) (pairs_heads a xs up) (heads_ascend (a + 1) k xs up)
+    (All-map (λ x. All (ComesBefore x) (heads (a + 1) k xs)) (λ ys. a ∷ ys) xs (λ i d at. later a (a + 1) k xs (get_or xs i d) (omega arith)))
 
 -- the list is in lexicographic order
-pub all_ascend : (q n : ℕ) → Ascends (all_lists q n)
-all_ascend q zero = (All-nil (λ y. before y [] ≡ false), tt)
+pub all_ascend : (q n : ℕ) → AllPairs ComesBefore (all_lists q n)
+all_ascend q zero = λ i j d lt within. absurd (omega (arith, lt, within))
 all_ascend q (suc n) = heads_ascend 0 q (all_lists q n) (all_ascend q n)

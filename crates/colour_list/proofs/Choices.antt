@@ -71,10 +71,12 @@ at_least_one : (q n : ℕ) (b : Bool) → 1 ≤ q → n ≤ n * cond b q 1
 at_least_one q n true some = le-mul_of_pos_right n some
 at_least_one q n false some = omega arith
 
-row_length_by : (t : Table) (d : Diagram) → IsQuandle t → IsGrid d → (r : ℕ) → r < size d → (level : List (List ℕ)) → All (AreColours MAX_SIZE t.order) level → (a b : Bool) → (low d (left d r) == r) ≡ a → (low d (right d r) == r) ≡ b → length (row_step t d r level) ≤ length level * choices t d r
+row_length_by : (t : Table) (d : Diagram) → IsQuandle t → IsGrid d → (r : ℕ) → r < size d → (level : List (List ℕ)) → All (AreColours MAX_SIZE t.order) level
+    → (a b : Bool) → (low d (left d r) == r) ≡ a → (low d (right d r) == r) ≡ b → length (row_step t d r level) ≤ length level * choices t d r
 row_length_by t d q grid r lt level colours true true is_left is_right =
     let wide = flat_map (spread t.order (left d r)) level in
-    let step = ap length (both_begin t d q grid r lt level colours is_left is_right) ∙ (length-map wide (λ f. set f (right d r) (walk t d f r)) ∙ length_spread t.order (left d r) level) in
+    let step = ap length (both_begin t d q grid r lt level colours is_left is_right)
+    ∙ (length-map wide (λ f. set f (right d r) (walk t d f r)) ∙ length_spread t.order (left d r) level) in
     let here : length level * choices t d r ≡ length level * t.order = ap (λ (b : Bool). length level * cond b t.order 1) (bottom_here d r is_left is_right) in
     omega arith
 row_length_by t d q grid r lt level colours true false is_left is_right =
@@ -138,13 +140,15 @@ most_colourings t d q grid =
     let level = swept t d (size d) in
     let l = swept_level t d q grid (size d) (omega arith) in
     let cut = map (take (size d)) level in
-    let most = fewer cut (colourings t d) (listed_most t d) (λ f some. let once = cut_once t d grid (omega (arith, q.least)) level l f (listed t d f some) in omega arith) in
+    let most = fewer cut (colourings t d) (listed_most t d) (λ f some. let once = cut_once t d grid (omega (arith, q.least)) level l f (listed t d f some) in
+    omega arith) in
     let same : length cut ≡ length level = length-map level (take (size d)) in
     let bound : length level ≤ t.order ^ bottoms d = swept_length t d q grid (size d) (omega arith) in
     omega arith
 
 -- so has the complete list, where the quandle fits
-pub most_listed : (t : Table) (d : Diagram) → IsQuandle t → IsGrid d → fits t d ≡ true → (list : List (ArrayVec ℕ)) → lists_of list ≡ colourings t d → length list ≤ MAX_COLOURINGS
+pub most_listed : (t : Table) (d : Diagram) → IsQuandle t → IsGrid d → fits t d ≡ true → (list : List (ArrayVec ℕ)) → lists_of list ≡ colourings t d
+    → length list ≤ MAX_COLOURINGS
 most_listed t d q grid fitting list complete =
     let within = leb-true (t.order ^ bottoms d) MAX_COLOURINGS fitting in
     let most = most_colourings t d q grid in

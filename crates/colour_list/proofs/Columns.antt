@@ -35,9 +35,11 @@ miss q c f g empty apart =
     λ a. differ g (set f c a) (λ same. apart (ap (λ h. set h c 0) same ∙ (set-set f c a 0 ∙ (ap (set f c) (sym empty) ∙ set-get_or f c 0)))) in
     count-map (is_same g) (set f c) (range_with_len 0 q) ∙ count_no (λ a. is_same g (set f c a)) none (range_with_len 0 q)
 
-spread_times : (q c : ℕ) (f g : List ℕ) → c < length g → get_or g c 0 < q → get_or f c 0 ≡ 0 → (t : Bool) → is_same (set g c 0) f ≡ t → times g (spread q c f) ≡ cond (is_same (set g c 0) f) 1 0
+spread_times : (q c : ℕ) (f g : List ℕ) → c < length g → get_or g c 0 < q → get_or f c 0 ≡ 0 → (t : Bool) → is_same (set g c 0) f ≡ t
+    → times g (spread q c f) ≡ cond (is_same (set g c 0) f) 1 0
 spread_times q c f g at lt empty true e = hit q c f g at lt (true_same (set g c 0) f e) ∙ sym (ap (λ t. cond t 1 0) e)
-spread_times q c f g at lt empty false e = miss q c f g empty (λ same. both_ways (is_same (set g c 0) f) e (same_true (set g c 0) f same)) ∙ sym (ap (λ t. cond t 1 0) e)
+spread_times q c f g at lt empty false e =
+    miss q c f g empty (λ same. both_ways (is_same (set g c 0) f) e (same_true (set g c 0) f same)) ∙ sym (ap (λ t. cond t 1 0) e)
 
 -- column c was blank, and is the one that is blank no more
 pub record Opens (c : ℕ) (IsBlank IsLater : ℕ → Type 0) : Type 0 where
@@ -49,7 +51,8 @@ pub record Opens (c : ℕ) (IsBlank IsLater : ℕ → Type 0) : Type 0 where
 abbrev pub Ignores : ℕ → ℕ → (List ℕ → Type 0) → Type 0
 Ignores n c IsMet = (g : List ℕ) (a : ℕ) → length g ≡ n → IsMet g → IsMet (set g c a)
 
-filled : (n q c : ℕ) (IsBlank IsLater : ℕ → Type 0) (IsMet : List ℕ → Type 0) → Opens c IsBlank IsLater → Ignores n c IsMet → (f : List ℕ) (a : ℕ) → a < q → Meets n q IsBlank IsMet f → Meets n q IsLater IsMet (set f c a)
+filled : (n q c : ℕ) (IsBlank IsLater : ℕ → Type 0) (IsMet : List ℕ → Type 0) → Opens c IsBlank IsLater → Ignores n c IsMet → (f : List ℕ) (a : ℕ) → a < q
+    → Meets n q IsBlank IsMet f → Meets n q IsLater IsMet (set f c a)
 filled n q c IsBlank IsLater IsMet opens ignores f a lt m = record {
   long = length-set f c a ∙ m.long;
   below = All-set (λ y. y < q) f c a lt m.below;
@@ -57,7 +60,8 @@ filled n q c IsBlank IsLater IsMet opens ignores f a lt m = record {
   met = ignores f a m.long m.met;
 }
 
-cleared : (n q c : ℕ) (IsBlank IsLater : ℕ → Type 0) (IsMet : List ℕ → Type 0) → 0 < q → c < n → Opens c IsBlank IsLater → Ignores n c IsMet → (g : List ℕ) → Meets n q IsLater IsMet g → Meets n q IsBlank IsMet (set g c 0)
+cleared : (n q c : ℕ) (IsBlank IsLater : ℕ → Type 0) (IsMet : List ℕ → Type 0) → 0 < q → c < n → Opens c IsBlank IsLater → Ignores n c IsMet → (g : List ℕ)
+    → Meets n q IsLater IsMet g → Meets n q IsBlank IsMet (set g c 0)
 cleared n q c IsBlank IsLater IsMet some at opens ignores g m = record {
   long = length-set g c 0 ∙ m.long;
   below = All-set (λ y. y < q) g c 0 some m.below;
@@ -69,20 +73,25 @@ cleared n q c IsBlank IsLater IsMet some at opens ignores g m = record {
 }
 
 -- a blank column takes each colour
-pub open_level : (n q c : ℕ) (IsBlank IsLater : ℕ → Type 0) (IsMet : List ℕ → Type 0) (level : List (List ℕ)) → 0 < q → c < n → Opens c IsBlank IsLater → Ignores n c IsMet → IsLevel n q IsBlank IsMet level → IsLevel n q IsLater IsMet (flat_map (spread q c) level)
+pub open_level : (n q c : ℕ) (IsBlank IsLater : ℕ → Type 0) (IsMet : List ℕ → Type 0) (level : List (List ℕ)) → 0 < q → c < n → Opens c IsBlank IsLater
+    → Ignores n c IsMet → IsLevel n q IsBlank IsMet level → IsLevel n q IsLater IsMet (flat_map (spread q c) level)
 open_level n q c IsBlank IsLater IsMet level some at opens ignores l = record {
   sound = All-flat_map (spread q c) (Meets n q IsBlank IsMet) (Meets n q IsLater IsMet)
-      (λ f m. All-map (Meets n q IsLater IsMet) (set f c) (range_with_len 0 q) (λ k d lt. filled n q c IsBlank IsLater IsMet opens ignores f _ (range_all q k d lt) m))
+      (λ f m. All-map (Meets n q IsLater IsMet) (set f c) (range_with_len 0 q)
+      (λ k d lt. filled n q c IsBlank IsLater IsMet opens ignores f _ (range_all q k d lt) m))
       level l.sound;
   once = λ g m.
       times_flat_map (spread q c) (Meets n q IsBlank IsMet) g (set g c 0)
-      (λ f h. spread_times q c f g (omega (arith, m.long)) (All-get_or (λ y. y < q) g c 0 (omega (arith, m.long)) m.below) (h.blank c at opens.was) (is_same (set g c 0) f) refl)
+      (λ f h. spread_times q c f g (omega (arith, m.long)) (All-get_or (λ y. y < q) g c 0 (omega (arith, m.long)) m.below) (h.blank c at opens.was)
+      (is_same (set g c 0) f) refl)
       level l.sound
       ∙ l.once (set g c 0) (cleared n q c IsBlank IsLater IsMet some at opens ignores g m);
 }
 
 -- a further condition takes those that meet it
-pub read_level : (n q : ℕ) (IsBlank : ℕ → Type 0) (IsMet IsNext : List ℕ → Type 0) (p : List ℕ → Bool) (level : List (List ℕ)) → ((g : List ℕ) → IsMet g → p g ≡ true → IsNext g) → ((g : List ℕ) → IsNext g → IsMet g × (p g ≡ true)) → IsLevel n q IsBlank IsMet level → IsLevel n q IsBlank IsNext (filter p level)
+pub read_level : (n q : ℕ) (IsBlank : ℕ → Type 0) (IsMet IsNext : List ℕ → Type 0) (p : List ℕ → Bool) (level : List (List ℕ))
+    → ((g : List ℕ) → IsMet g → p g ≡ true → IsNext g) → ((g : List ℕ) → IsNext g → IsMet g × (p g ≡ true)) → IsLevel n q IsBlank IsMet level
+    → IsLevel n q IsBlank IsNext (filter p level)
 read_level n q IsBlank IsMet IsNext p level into from l = record {
   sound = λ k d lt.
       let m = All-filter p (Meets n q IsBlank IsMet) level l.sound k d lt in

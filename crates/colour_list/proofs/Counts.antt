@@ -17,7 +17,8 @@ count-map p h (x ∷ xs) = count-cons p (h x) (map h xs) ∙ (ap (λ n. cond (p 
 
 pub count_agree : {X : Type 0} (p q : X → Bool) → ((x : X) → p x ≡ q x) → (xs : List X) → count_by p xs ≡ count_by q xs
 count_agree p q agree [] = refl
-count_agree p q agree (x ∷ xs) = count-cons p x xs ∙ (ap (λ b. cond b 1 0 + count_by p xs) (agree x) ∙ (ap (λ n. cond (q x) 1 0 + n) (count_agree p q agree xs) ∙ sym (count-cons q x xs)))
+count_agree p q agree (x ∷ xs) =
+    count-cons p x xs ∙ (ap (λ b. cond b 1 0 + count_by p xs) (agree x) ∙ (ap (λ n. cond (q x) 1 0 + n) (count_agree p q agree xs) ∙ sym (count-cons q x xs)))
 
 pub count_agree_on : {X : Type 0} (p q : X → Bool) (xs : List X) → All (λ x. p x ≡ q x) xs → count_by p xs ≡ count_by q xs
 count_agree_on p q [] agree = refl
@@ -38,7 +39,8 @@ range_below b a (suc n) lt =
     let rest = range_below b (a + 1) n (omega arith) in
     count-cons (λ y. b == y) a (range_with_len (a + 1) n) ∙ (ap (λ t. cond t 1 0 + count_by (λ y. b == y) (range_with_len (a + 1) n)) other ∙ omega arith)
 
-range_step : (b a n : ℕ) → a ≤ b → (a + 1 ≤ b → count_by (λ y. b == y) (range_with_len (a + 1) n) ≡ 1) → (t : Bool) → (b == a) ≡ t → count_by (λ y. b == y) (range_with_len a (suc n)) ≡ 1
+range_step : (b a n : ℕ) → a ≤ b → (a + 1 ≤ b → count_by (λ y. b == y) (range_with_len (a + 1) n) ≡ 1) → (t : Bool) → (b == a) ≡ t
+    → count_by (λ y. b == y) (range_with_len a (suc n)) ≡ 1
 range_step b a n le more true e =
     let same = eqb-true b a e in
     let rest = range_below b (a + 1) n (omega arith) in

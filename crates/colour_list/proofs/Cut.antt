@@ -1,7 +1,7 @@
 -- The level behind the highest row, cut to the columns of the diagram and sorted, is the complete list.
 use Rattle.std.proofs.Common.{◌≡◌, ◌<◌, ◌≤◌, ◌+◌, ◌-◌, ◌++◌, ◌∙◌, inl, inr, ℕ, List, Bool, true, false, cond, length, get_or, map, take, replicate, refl, sym, ap, arith}
 use Rattle.std.specs.Prelude.{IsPermutation}
-use Rattle.std.specs.List.{All}
+use Rattle.std.specs.List.{All, AllPairs}
 use Rattle.std.proofs.lemmas.Bool.{both_ways, eqb-true, eq-eqb, cases_lt}
 use Rattle.std.proofs.lemmas.List.{length-replicate, length-append, length-take, get_or-replicate, get_or-take, get_or_append_left, get_or-append-add, take-append-le, take_all}
 use Rattle.std.proofs.lemmas.Grind.{same_number_lists}
@@ -21,7 +21,9 @@ use Rattle.colour_list.specs.Listing.{all_lists, colourings, is_same, times}
 use Rattle.colour_list.specs.Level.{Meets, IsUnbegun, RowsClose, IsLevelAt}
 use Rattle.colour_list.proofs.Counts.{count-map, count_agree_on}
 use Rattle.colour_list.proofs.Times.{same_true, true_same, differ, times_filter}
-use Rattle.colour_list.proofs.Order.{Ascends, Ascends-filter, same_ordered, came}
+use Rattle.quandle_core.specs.Colours.{ComesBefore}
+use Rattle.std.proofs.lemmas.List.Kept.{AllPairs-filter}
+use Rattle.colour_list.proofs.Order.{Ascends, ascends_from_pairs, same_ordered, came}
 use Rattle.colour_list.proofs.AllLists.{all_once, all_ascend}
 
 -- the list with 0 in each column up to n
@@ -87,7 +89,8 @@ padded_ends t d grid some f c =
     let long = c.colours_are.0 in
     let most = grid.most in record {
       long = length_padded MAX_SIZE f (omega arith);
-      below = All-append (λ y. y < t.order) f (replicate (MAX_SIZE - length f) 0) c.colours_are.1 (All-replicate (λ y. y < t.order) (MAX_SIZE - length f) 0 some);
+      below =
+          All-append (λ y. y < t.order) f (replicate (MAX_SIZE - length f) 0) c.colours_are.1 (All-replicate (λ y. y < t.order) (MAX_SIZE - length f) 0 some);
       blank = λ k lt blank. elim (cases_lt k (size d)) [
         | inl inside ↦ let le : size d ≤ low d k = blank inside in let less = begun d grid k inside in absurd (omega arith)
         | inr behind ↦ padded_rest MAX_SIZE f k (omega arith) lt
@@ -98,7 +101,8 @@ padded_ends t d grid some f c =
     }
 
 -- each colouring stands once in the level that is cut
-pub cut_once : (t : Table) (d : Diagram) → IsGrid d → 0 < t.order → (level : List (List ℕ)) → IsLevelAt t d (size d) level → (f : List ℕ) → IsColouring t d f → times f (map (take (size d)) level) ≡ 1
+pub cut_once : (t : Table) (d : Diagram) → IsGrid d → 0 < t.order → (level : List (List ℕ)) → IsLevelAt t d (size d) level → (f : List ℕ) → IsColouring t d f
+    → times f (map (take (size d)) level) ≡ 1
 cut_once t d grid some level l f c =
     let most = grid.most in
     let long = c.colours_are.0 in
@@ -123,16 +127,23 @@ listed_only t d = filter_passes (is_colouring t d) (all_lists t.order (size d))
 none : (n : ℕ) → (0 < n → ⊥) → n ≡ 0
 none n no_more = omega (arith, no_more)
 
-as_often : (t : Table) (d : Diagram) (xs : List (List ℕ)) → ((f : List ℕ) → IsColouring t d f → times f xs ≡ 1) → All (IsColouring t d) xs → (f : List ℕ) → (b : Bool) → is_colouring t d f ≡ b → times f xs ≡ times f (colourings t d)
+as_often : (t : Table) (d : Diagram) (xs : List (List ℕ)) → ((f : List ℕ) → IsColouring t d f → times f xs ≡ 1) → All (IsColouring t d) xs → (f : List ℕ)
+    → (b : Bool) → is_colouring t d f ≡ b → times f xs ≡ times f (colourings t d)
 as_often t d xs once only f true e = let c = coloured t d f e in once f c ∙ sym (listed_once t d f c)
 as_often t d xs once only f false e =
     none (times f xs) (λ some. both_ways (is_colouring t d f) e (colouring t d f (came (IsColouring t d) f xs only some)))
-    ∙ sym (none (times f (colourings t d)) (λ some. both_ways (is_colouring t d f) e (came (λ h. is_colouring t d h ≡ true) f (colourings t d) (listed_only t d) some)))
+    ∙ sym (none (times f (colourings t d))
+    (λ some. both_ways (is_colouring t d f) e (came (λ h. is_colouring t d h ≡ true) f (colourings t d) (listed_only t d) some)))
+
+-- each colouring comes before all later ones
+pub listed_in_order : (t : Table) (d : Diagram) → AllPairs ComesBefore (colourings t d)
+listed_in_order t d = AllPairs-filter ComesBefore (is_colouring t d) (all_lists t.order (size d)) (all_ascend t.order (size d))
 
 -- the level behind the highest row, cut and put in order, is the complete list
-pub level_is_list : (t : Table) (d : Diagram) → IsGrid d → 0 < t.order → (level xs : List (List ℕ)) → IsLevelAt t d (size d) level → IsPermutation (map (take (size d)) level) xs → Ascends xs → xs ≡ colourings t d
+pub level_is_list : (t : Table) (d : Diagram) → IsGrid d → 0 < t.order → (level xs : List (List ℕ)) → IsLevelAt t d (size d) level
+    → IsPermutation (map (take (size d)) level) xs → Ascends xs → xs ≡ colourings t d
 level_is_list t d grid some level xs l moved up =
-    same_ordered xs (colourings t d) up (Ascends-filter (is_colouring t d) (all_lists t.order (size d)) (all_ascend t.order (size d)))
+    same_ordered xs (colourings t d) up (ascends_from_pairs (colourings t d) (listed_in_order t d))
     (λ f. as_often t d xs
     (λ f c. sum_by-IsPermutation (λ x. cond (is_same f x) 1 0) (map (take (size d)) level) xs moved ∙ cut_once t d grid some level l f c)
     (All-permutation (IsColouring t d) (map (take (size d)) level) xs moved

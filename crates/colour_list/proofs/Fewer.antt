@@ -25,7 +25,8 @@ others_once y xs once f = elim (cases_lt 0 (times f (others y xs))) [
   | inr none ↦ omega arith
 ]
 
-others_in : (y : List ℕ) (ys xs : List (List ℕ)) → ((f : List ℕ) → 0 < times f xs → 0 < times f (y ∷ ys)) → (f : List ℕ) → 0 < times f (others y xs) → 0 < times f ys
+others_in : (y : List ℕ) (ys xs : List (List ℕ)) → ((f : List ℕ) → 0 < times f xs → 0 < times f (y ∷ ys)) → (f : List ℕ) → 0 < times f (others y xs)
+    → 0 < times f ys
 others_in y ys xs into f some =
     let apart = not-true (is_same y f) (other_than y f xs some) in
     let there : times f (y ∷ ys) ≡ times f ys = times_there f y ys (differ f y (λ same. both_ways (is_same y f) apart (same_true y f (sym same)))) in

@@ -26,13 +26,16 @@ opened d q r c level = if low d c == r then flat_map (spread q c) level else lev
 abbrev pub row_step : Table → Diagram → ℕ → List (List ℕ) → List (List ℕ)
 row_step t d r level = filter (λ f. closes t d f r) (opened d t.order r (right d r) (opened d t.order r (left d r) level))
 
-same_blanks : (n q : ℕ) (IsBlank IsLater : ℕ → Type 0) (IsMet : List ℕ → Type 0) (level : List (List ℕ)) → ((c : ℕ) → c < n → IsLater c → IsBlank c) → ((c : ℕ) → c < n → IsBlank c → IsLater c) → IsLevel n q IsBlank IsMet level → IsLevel n q IsLater IsMet level
+same_blanks : (n q : ℕ) (IsBlank IsLater : ℕ → Type 0) (IsMet : List ℕ → Type 0) (level : List (List ℕ)) → ((c : ℕ) → c < n → IsLater c → IsBlank c)
+    → ((c : ℕ) → c < n → IsBlank c → IsLater c) → IsLevel n q IsBlank IsMet level → IsLevel n q IsLater IsMet level
 same_blanks n q IsBlank IsLater IsMet level was is l = record {
   sound = λ k d lt. let m = l.sound k d lt in record { long = m.long; below = m.below; blank = λ c at later. m.blank c at (was c at later); met = m.met };
   once = λ g m. l.once g (record { long = m.long; below = m.below; blank = λ c at blank. m.blank c at (is c at blank); met = m.met });
 }
 
-open_at : (d : Diagram) (n q r c : ℕ) (IsBlank : ℕ → Type 0) (IsMet : List ℕ → Type 0) (level : List (List ℕ)) → 0 < q → c < n → (low d c ≡ r → IsBlank c) → (IsBlank c → low d c ≡ r) → (low d c ≡ r → Ignores n c IsMet) → IsLevel n q IsBlank IsMet level → (t : Bool) → (low d c == r) ≡ t → IsLevel n q (λ x. IsBlank x × (x ≢ c)) IsMet (if t then flat_map (spread q c) level else level)
+open_at : (d : Diagram) (n q r c : ℕ) (IsBlank : ℕ → Type 0) (IsMet : List ℕ → Type 0) (level : List (List ℕ)) → 0 < q → c < n → (low d c ≡ r → IsBlank c)
+    → (IsBlank c → low d c ≡ r) → (low d c ≡ r → Ignores n c IsMet) → IsLevel n q IsBlank IsMet level → (t : Bool) → (low d c == r) ≡ t
+    → IsLevel n q (λ x. IsBlank x × (x ≢ c)) IsMet (if t then flat_map (spread q c) level else level)
 open_at d n q r c IsBlank IsMet level some at begins begun ignores l true e =
     let here = eqb-true (low d c) r e in
     open_level n q c IsBlank (λ x. IsBlank x × (x ≢ c)) IsMet level some at
@@ -53,7 +56,8 @@ more_rows t d r f closed here s lt = elim (cases_eq s r) [
 ]
 
 -- a row carries its level to the next row's
-pub row_level : (t : Table) (d : Diagram) → IsQuandle t → IsGrid d → (r : ℕ) → r < size d → (level : List (List ℕ)) → IsLevelAt t d r level → IsLevelAt t d (r + 1) (row_step t d r level)
+pub row_level : (t : Table) (d : Diagram) → IsQuandle t → IsGrid d → (r : ℕ) → r < size d → (level : List (List ℕ)) → IsLevelAt t d r level
+    → IsLevelAt t d (r + 1) (row_step t d r level)
 row_level t d quandle grid r lt level l =
     let n = MAX_SIZE in
     let ends = has_ends d grid r lt in
@@ -66,19 +70,27 @@ row_level t d quandle grid r lt level l =
     let in_left : left d r < MAX_SIZE = omega (arith, grid.most) in
     let in_right : right d r < MAX_SIZE = omega (arith, grid.most) in
     let one = open_at d n t.order r (left d r) (IsUnbegun d r) (RowsClose t d r) level some in_left
-    (λ e inside. omega arith) (λ b. let h : r ≤ low d (left d r) = b at_left in omega arith) (λ e. rows_ignore t d n grid r (left d r) lt e) l (low d (left d r) == r) refl in
+    (λ e inside. omega arith) (λ b. let h : r ≤ low d (left d r) = b at_left in omega arith) (λ e. rows_ignore t d n grid r (left d r) lt e) l
+    (low d (left d r) == r) refl in
     let two = open_at d n t.order r (right d r) (λ x. IsUnbegun d r x × (x ≢ left d r)) (RowsClose t d r) (opened d t.order r (left d r) level) some in_right
-    (λ e. (λ inside. omega arith, λ same. omega arith)) (λ b. let h : r ≤ low d (right d r) = b.0 at_right in omega arith) (λ e. rows_ignore t d n grid r (right d r) lt e) one (low d (right d r) == r) refl in
-    let three = same_blanks n t.order (λ x. (IsUnbegun d r x × (x ≢ left d r)) × (x ≢ right d r)) (IsUnbegun d (r + 1)) (RowsClose t d r) (opened d t.order r (right d r) (opened d t.order r (left d r) level))
+    (λ e. (λ inside. omega arith, λ same. omega arith)) (λ b. let h : r ≤ low d (right d r) = b.0 at_right in
+    omega arith) (λ e. rows_ignore t d n grid r (right d r) lt e) one (low d (right d r) == r) refl in
+    let three = same_blanks n t.order (λ x. (IsUnbegun d r x × (x ≢ left d r)) × (x ≢ right d r)) (IsUnbegun d (r + 1)) (RowsClose t d r)
+    (opened d t.order r (right d r) (opened d t.order r (left d r) level))
     (λ c at later. (
-      (λ inside. let h : r + 1 ≤ low d c = later inside in omega arith, λ same. let h = ap (low d) same in let k : r + 1 ≤ low d c = later (omega arith) in absurd (omega arith)),
+      (
+        λ inside. let h : r + 1 ≤ low d c = later inside in omega arith,
+        λ same. let h = ap (low d) same in let k : r + 1 ≤ low d c = later (omega arith) in
+            absurd (omega arith),
+      ),
       λ same. let h = ap (low d) same in let k : r + 1 ≤ low d c = later (omega arith) in absurd (omega arith),
     ))
     (λ c at b inside. elim (cases_eq (low d c) r) [
       | inl begins ↦ elim (ends.begun c inside begins) [ inl e ↦ absurd (b.0.1 e) | inr e ↦ absurd (b.1 e) ]
       | inr other ↦ let h : r ≤ low d c = b.0.0 inside in omega (arith, other)
     ]) two in
-    read_level n t.order (IsUnbegun d (r + 1)) (RowsClose t d r) (RowsClose t d (r + 1)) (λ f. closes t d f r) (opened d t.order r (right d r) (opened d t.order r (left d r) level))
+    read_level n t.order (IsUnbegun d (r + 1)) (RowsClose t d r) (RowsClose t d (r + 1)) (λ f. closes t d f r)
+    (opened d t.order r (right d r) (opened d t.order r (left d r) level))
     (λ f closed here. more_rows t d r f closed here) (λ f closed. (λ s below. closed s (omega arith), closed r (omega arith))) three
 
 -- before the lowest row every column is 0

@@ -11,14 +11,19 @@ abbrev unknot : Diagram
 unknot = record { x = 0 ∷ 1 ∷ []; o = 1 ∷ 0 ∷ [] }
 
 -- the counts of either trefoil
-right_counts : length (colourings (trivial 2) right_trefoil) ∷ length (colourings (dihedral 3) right_trefoil) ∷ length (colourings tetrahedral right_trefoil) ∷ length (colourings (dihedral 5) right_trefoil) ∷ length (colourings (dihedral 7) right_trefoil) ∷ [] ≡ 2 ∷ 9 ∷ 16 ∷ 5 ∷ 7 ∷ []
+right_counts : length (colourings (trivial 2) right_trefoil) ∷ length (colourings (dihedral 3) right_trefoil) ∷ length
+    (colourings tetrahedral right_trefoil) ∷ length (colourings (dihedral 5) right_trefoil) ∷ length (colourings (dihedral 7) right_trefoil) ∷ [] ≡ 2 ∷ 9 ∷ 16
+    ∷ 5 ∷ 7 ∷ []
 right_counts = refl
 
-left_counts : length (colourings (trivial 2) left_trefoil) ∷ length (colourings (dihedral 3) left_trefoil) ∷ length (colourings tetrahedral left_trefoil) ∷ length (colourings (dihedral 5) left_trefoil) ∷ length (colourings (dihedral 7) left_trefoil) ∷ [] ≡ 2 ∷ 9 ∷ 16 ∷ 5 ∷ 7 ∷ []
+left_counts : length (colourings (trivial 2) left_trefoil) ∷ length (colourings (dihedral 3) left_trefoil) ∷ length
+    (colourings tetrahedral left_trefoil) ∷ length (colourings (dihedral 5) left_trefoil) ∷ length (colourings (dihedral 7) left_trefoil) ∷ [] ≡ 2 ∷ 9 ∷ 16
+    ∷ 5 ∷ 7 ∷ []
 left_counts = refl
 
 -- dihedral 3 tells the right trefoil from the unknot
-nine : colourings (dihedral 3) right_trefoil ≡ (0 ∷ 0 ∷ 0 ∷ 0 ∷ 0 ∷ []) ∷ (0 ∷ 1 ∷ 2 ∷ 0 ∷ 2 ∷ []) ∷ (0 ∷ 2 ∷ 1 ∷ 0 ∷ 1 ∷ []) ∷ (1 ∷ 0 ∷ 2 ∷ 1 ∷ 2 ∷ []) ∷ (1 ∷ 1 ∷ 1 ∷ 1 ∷ 1 ∷ []) ∷ (1 ∷ 2 ∷ 0 ∷ 1 ∷ 0 ∷ []) ∷ (2 ∷ 0 ∷ 1 ∷ 2 ∷ 1 ∷ []) ∷ (2 ∷ 1 ∷ 0 ∷ 2 ∷ 0 ∷ []) ∷ (2 ∷ 2 ∷ 2 ∷ 2 ∷ 2 ∷ []) ∷ []
+nine : colourings (dihedral 3) right_trefoil ≡ (0 ∷ 0 ∷ 0 ∷ 0 ∷ 0 ∷ []) ∷ (0 ∷ 1 ∷ 2 ∷ 0 ∷ 2 ∷ []) ∷ (0 ∷ 2 ∷ 1 ∷ 0 ∷ 1 ∷ []) ∷ (1 ∷ 0 ∷ 2 ∷ 1 ∷ 2 ∷ [])
+    ∷ (1 ∷ 1 ∷ 1 ∷ 1 ∷ 1 ∷ []) ∷ (1 ∷ 2 ∷ 0 ∷ 1 ∷ 0 ∷ []) ∷ (2 ∷ 0 ∷ 1 ∷ 2 ∷ 1 ∷ []) ∷ (2 ∷ 1 ∷ 0 ∷ 2 ∷ 0 ∷ []) ∷ (2 ∷ 2 ∷ 2 ∷ 2 ∷ 2 ∷ []) ∷ []
 nine = refl
 
 three : colourings (dihedral 3) unknot ≡ (0 ∷ 0 ∷ []) ∷ (1 ∷ 1 ∷ []) ∷ (2 ∷ 2 ∷ []) ∷ []
@@ -51,8 +56,11 @@ figure_eight = record { x = 5 ∷ 3 ∷ 0 ∷ 1 ∷ 2 ∷ 4 ∷ 6 ∷ 7 ∷ 8 �
 abbrev braid_trefoil : Diagram
 braid_trefoil = record { x = 4 ∷ 3 ∷ 2 ∷ 0 ∷ 1 ∷ 5 ∷ 6 ∷ []; o = 6 ∷ 5 ∷ 4 ∷ 3 ∷ 2 ∷ 1 ∷ 0 ∷ [] }
 
-figure_eight_list : colourings (dihedral 3) figure_eight ≡ (0 ∷ 0 ∷ 0 ∷ 0 ∷ 0 ∷ 0 ∷ 0 ∷ 0 ∷ 0 ∷ 0 ∷ []) ∷ (1 ∷ 1 ∷ 1 ∷ 1 ∷ 1 ∷ 1 ∷ 1 ∷ 1 ∷ 1 ∷ 1 ∷ []) ∷ (2 ∷ 2 ∷ 2 ∷ 2 ∷ 2 ∷ 2 ∷ 2 ∷ 2 ∷ 2 ∷ 2 ∷ []) ∷ []
+figure_eight_list : colourings (dihedral 3) figure_eight ≡ (0 ∷ 0 ∷ 0 ∷ 0 ∷ 0 ∷ 0 ∷ 0 ∷ 0 ∷ 0 ∷ 0 ∷ []) ∷ (1 ∷ 1 ∷ 1 ∷ 1 ∷ 1 ∷ 1 ∷ 1 ∷ 1 ∷ 1 ∷ 1 ∷ [])
+    ∷ (2 ∷ 2 ∷ 2 ∷ 2 ∷ 2 ∷ 2 ∷ 2 ∷ 2 ∷ 2 ∷ 2 ∷ []) ∷ []
 figure_eight_list = refl
 
-braid_trefoil_list : colourings (dihedral 3) braid_trefoil ≡ (0 ∷ 0 ∷ 0 ∷ 0 ∷ 0 ∷ 0 ∷ 0 ∷ []) ∷ (0 ∷ 1 ∷ 2 ∷ 0 ∷ 1 ∷ 1 ∷ 0 ∷ []) ∷ (0 ∷ 2 ∷ 1 ∷ 0 ∷ 2 ∷ 2 ∷ 0 ∷ []) ∷ (1 ∷ 0 ∷ 2 ∷ 1 ∷ 0 ∷ 0 ∷ 1 ∷ []) ∷ (1 ∷ 1 ∷ 1 ∷ 1 ∷ 1 ∷ 1 ∷ 1 ∷ []) ∷ (1 ∷ 2 ∷ 0 ∷ 1 ∷ 2 ∷ 2 ∷ 1 ∷ []) ∷ (2 ∷ 0 ∷ 1 ∷ 2 ∷ 0 ∷ 0 ∷ 2 ∷ []) ∷ (2 ∷ 1 ∷ 0 ∷ 2 ∷ 1 ∷ 1 ∷ 2 ∷ []) ∷ (2 ∷ 2 ∷ 2 ∷ 2 ∷ 2 ∷ 2 ∷ 2 ∷ []) ∷ []
+braid_trefoil_list : colourings (dihedral 3) braid_trefoil ≡ (0 ∷ 0 ∷ 0 ∷ 0 ∷ 0 ∷ 0 ∷ 0 ∷ []) ∷ (0 ∷ 1 ∷ 2 ∷ 0 ∷ 1 ∷ 1 ∷ 0 ∷ [])
+    ∷ (0 ∷ 2 ∷ 1 ∷ 0 ∷ 2 ∷ 2 ∷ 0 ∷ []) ∷ (1 ∷ 0 ∷ 2 ∷ 1 ∷ 0 ∷ 0 ∷ 1 ∷ []) ∷ (1 ∷ 1 ∷ 1 ∷ 1 ∷ 1 ∷ 1 ∷ 1 ∷ []) ∷ (1 ∷ 2 ∷ 0 ∷ 1 ∷ 2 ∷ 2 ∷ 1 ∷ [])
+    ∷ (2 ∷ 0 ∷ 1 ∷ 2 ∷ 0 ∷ 0 ∷ 2 ∷ []) ∷ (2 ∷ 1 ∷ 0 ∷ 2 ∷ 1 ∷ 1 ∷ 2 ∷ []) ∷ (2 ∷ 2 ∷ 2 ∷ 2 ∷ 2 ∷ 2 ∷ 2 ∷ []) ∷ []
 braid_trefoil_list = refl

@@ -1,18 +1,16 @@
 //! The lists of colours that a sweep holds between two rows.
-ghost use Rattle.std.specs.Prelude.{◌≡◌, ◌<◌, ◌++◌, ◌==◌, length, map, filter, take, slice_index, slice_set, OnOk, IfOk, IfErr};
+ghost use Rattle.std.specs.Prelude.{◌≡◌, ◌<◌, ◌++◌, ◌==◌, length, map, filter, take, slice_index, slice_set, OnOk, IfOk};
 ghost use Rattle.std.specs.List.{All, flat_map};
 ghost use Rattle.grid_core.specs.declared.grid.TheConstants.{MAX_SIZE};
 ghost use Rattle.colour_rows.specs.Colouring.{AreColours};
 ghost use Rattle.colour_rows.specs.Equation.{walk_of};
-ghost use Rattle.colour_list.specs.declared.limits.ListFault.TheVariants as fault;
 ghost use Rattle.colour_list.specs.Listing.{lists_of};
 ghost use Rattle.colour_list.specs.Level.{with_right, with_left, with_both};
 
-use crate::limits::ListFault;
 use colour_rows::{Colouring, Row};
 use grid_core::MAX_SIZE;
 use quandle_core::Quandle;
-use std::alloc::{AllocFailed, Global};
+use std::alloc::{AllocError, AllocFailed, Global};
 
 /// A list of colours in the making, 0 in each column that no row so far has reached.
 pub(crate) type Colours = [u8; MAX_SIZE];
@@ -74,11 +72,10 @@ pub(crate) fn open_bottom(
     level: &[Colours],
     row: &Row,
     quandle: &Quandle,
-) -> Result<Vec<Colours>, ListFault>
+) -> Result<Vec<Colours>, AllocError>
     requires within { (row.now.left_end < row.now.right_end) × (row.now.right_end < MAX_SIZE) }
     requires colours { All (AreColours MAX_SIZE quandle.now.order) level.now }
     ensures lists { IfOk result (λ v. v.items ≡ flat_map (with_both quandle.now row.now) level.now) }
-    ensures memory { IfErr result (λ e. e ≡ fault.OutOfMemory) }
 {
     let choices = level.len().saturating_mul(quandle.order() as usize);
     let mut next = Vec::with_capacity(alloc, choices)?;
@@ -149,9 +146,8 @@ pub(crate) fn colourings_of(
     alloc: Global,
     level: &[Colours],
     size: u8,
-) -> Result<Vec<Colouring>, ListFault>
+) -> Result<Vec<Colouring>, AllocError>
     ensures lists { IfOk result (λ v. lists_of v.items ≡ map (take size) level.now) }
-    ensures memory { IfErr result (λ e. e ≡ fault.OutOfMemory) }
 {
     let mut list = Vec::with_capacity(alloc, level.len())?;
     for colours in level {

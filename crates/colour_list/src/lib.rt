@@ -10,5 +10,5 @@ mod limits;
 #[cfg(test)]
 mod tests;
 
-pub use complete::list;
+pub use complete::{list, list_fitting};
 pub use limits::{ListFault, MAX_COLOURINGS, fits};

@@ -10,7 +10,7 @@ use Rattle.grid_core.specs.Parts.{covers, is_up}
 use Rattle.grid_core.proofs.Ends.{left, right}
 use Rattle.colour_rows.proofs.Ranges.{range_longer}
 use Rattle.quandle_core.specs.Quandle.{Table}
-use Rattle.colour_rows.specs.declared.row.Pass.{Pass}
+use Rattle.colour_rows.specs.declared.equation.Pass.{Pass}
 use Rattle.colour_rows.specs.Walk.{passed, walk, passed_rightward, passed_leftward}
 use Rattle.colour_rows.proofs.Walks.{walk_back}
 use Rattle.colour_rows.specs.Equation.{equation, passes, walk_of, walk_back_of}
@@ -22,7 +22,8 @@ fold-map f h (x ∷ xs) a = fold-map f h xs (f a (h x))
 reverse-map : {A B : Type 0} (h : A → B) (xs : List A) → reverse (map h xs) ≡ map h (reverse xs)
 reverse-map h [] = refl
 reverse-map h (x ∷ xs) =
-    reverse-append (h x ∷ []) (map h xs) ∙ (ap (λ ys. ys ++ h x ∷ []) (reverse-map h xs) ∙ (sym (map-append h (reverse xs) (x ∷ [])) ∙ ap (map h) (sym (reverse-append (x ∷ []) xs))))
+    reverse-append (h x ∷ []) (map h xs)
+    ∙ (ap (λ ys. ys ++ h x ∷ []) (reverse-map h xs) ∙ (sym (map-append h (reverse xs) (x ∷ [])) ∙ ap (map h) (sym (reverse-append (x ∷ []) xs))))
 
 abbrev pass_of : Diagram → ℕ → Pass
 pass_of d c = record { column = c; up = is_up d c }
@@ -58,10 +59,14 @@ passes_below d r from to =
     let between : All (λ c. c < to) (range_with_len (from + 1) (to - from - 1)) =
     λ i e lt. let short : i < to - from - 1 = omega (arith, lt, length-range_with_len (from + 1) (to - from - 1)) in
     let is = get_or-range_with_len (from + 1) (to - from - 1) i e short in omega arith in
-    All-map (λ (p : Pass). p.column < to) (pass_of d) (filter (λ c. covers d c r) (range_with_len (from + 1) (to - from - 1))) (All-filter (λ c. covers d c r) (λ c. c < to) (range_with_len (from + 1) (to - from - 1)) between)
+    All-map (λ (p : Pass). p.column < to) (pass_of d) (filter (λ c. covers d c r) (range_with_len (from + 1) (to - from - 1)))
+    (All-filter (λ c. covers d c r) (λ c. c < to) (range_with_len (from + 1) (to - from - 1)) between)
 
 -- a step of the walk taken backwards: the list is read from its end
-pub back_step : (t : Table) (f : List ℕ) (ps list : List Pass) (i from x y : ℕ) (p : Pass) → list ≡ ps → i < length list → x ≡ fold (λ x (p : Pass). passed_leftward t p.up x (get_or f p.column 0)) from (take i (reverse ps)) → y ≡ passed_leftward t (get_or list (length list - 1 - i) p).up x (get_or f (get_or list (length list - 1 - i) p).column 0) → y ≡ fold (λ x (p : Pass). passed_leftward t p.up x (get_or f p.column 0)) from (take (i + 1) (reverse ps))
+pub back_step : (t : Table) (f : List ℕ) (ps list : List Pass) (i from x y : ℕ) (p : Pass) → list ≡ ps → i < length list
+    → x ≡ fold (λ x (p : Pass). passed_leftward t p.up x (get_or f p.column 0)) from (take i (reverse ps))
+    → y ≡ passed_leftward t (get_or list (length list - 1 - i) p).up x (get_or f (get_or list (length list - 1 - i) p).column 0)
+    → y ≡ fold (λ x (p : Pass). passed_leftward t p.up x (get_or f p.column 0)) from (take (i + 1) (reverse ps))
 back_step t f ps list i from x y d list_is lt x_is y_is =
     let p = get_or list (length list - 1 - i) d in
     let same_length = ap length list_is in
@@ -70,5 +75,6 @@ back_step t f ps list i from x y d list_is lt x_is y_is =
     let p_is : p ≡ get_or (reverse ps) i d = ap (λ (l : List Pass). get_or l (length l - 1 - i) d) list_is ∙ sym (get_or-reverse ps i d at) in
     y_is
     ∙ (ap (λ (z : ℕ). passed_leftward t p.up z (get_or f p.column 0)) x_is
-    ∙ (ap (λ (q : Pass). passed_leftward t q.up (fold (λ x (p : Pass). passed_leftward t p.up x (get_or f p.column 0)) from (take i (reverse ps))) (get_or f q.column 0)) p_is
+    ∙ (ap (λ (q : Pass). passed_leftward t q.up (fold (λ x (p : Pass). passed_leftward t p.up x (get_or f p.column 0)) from (take i (reverse ps)))
+    (get_or f q.column 0)) p_is
     ∙ sym (fold_more (λ x (p : Pass). passed_leftward t p.up x (get_or f p.column 0)) from (reverse ps) i d (omega arith))))

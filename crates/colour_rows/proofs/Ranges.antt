@@ -12,7 +12,8 @@ all_range p n each =
     (λ k d at. let lt : k < n = omega (arith, at, length-range_with_len 0 n) in ap p (get_or-range_with_len 0 n k d lt ∙ omega arith) ∙ each k lt)
 
 pub fails_range : (p : ℕ → Bool) (n k : ℕ) → k < n → p k ≡ false → list_all p (range_with_len 0 n) ≡ false
-fails_range p n k lt e = list_all_at p (range_with_len 0 n) k 0 (omega (arith, length-range_with_len 0 n)) (ap p (get_or-range_with_len 0 n k 0 lt ∙ omega arith) ∙ e)
+fails_range p n k lt e =
+    list_all_at p (range_with_len 0 n) k 0 (omega (arith, length-range_with_len 0 n)) (ap p (get_or-range_with_len 0 n k 0 lt ∙ omega arith) ∙ e)
 
 -- one number more
 pub range_longer : (a n : ℕ) → range_with_len a (n + 1) ≡ range_with_len a n ++ (a + n) ∷ []

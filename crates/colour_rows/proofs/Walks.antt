@@ -74,9 +74,15 @@ each_passed d r ordered = λ k p at.
     let between : All (λ c. (left d r < c) × (c < right d r)) (range_with_len (left d r + 1) (right d r - left d r - 1)) =
     λ i e lt. let short : i < right d r - left d r - 1 = omega (arith, lt, length-range_with_len (left d r + 1) (right d r - left d r - 1)) in
     let is = get_or-range_with_len (left d r + 1) (right d r - left d r - 1) i e short in (omega arith, omega arith) in
-    let place = All-filter (λ c. covers d c r) (λ c. (left d r < c) × (c < right d r)) (range_with_len (left d r + 1) (right d r - left d r - 1)) between k p at in
+    let place = All-filter (λ c. covers d c r) (λ c. (left d r < c) × (c < right d r))
+    (range_with_len (left d r + 1) (right d r - left d r - 1)) between k p at in
     let over = filter_passes (λ c. covers d c r) (range_with_len (left d r + 1) (right d r - left d r - 1)) k p at in
-    record { after = place.0; ahead = place.1; lower = ltb-true (low d (get_or (passed d r) k p)) r (and_parts (nat_lt (low d (get_or (passed d r) k p)) r) (nat_lt r (high d (get_or (passed d r) k p))) over).0 }
+    record {
+      after = place.0;
+      ahead = place.1;
+      lower =
+          ltb-true (low d (get_or (passed d r) k p)) r (and_parts (nat_lt (low d (get_or (passed d r) k p)) r) (nat_lt r (high d (get_or (passed d r) k p))) over).0;
+    }
 
 -- a change of a column that the walk does not read
 pub walk_apart : (t : Table) (d : Diagram) (f : List ℕ) (r c a : ℕ) → left d r ≢ c → All (λ k. k ≢ c) (passed d r) → walk t d (set f c a) r ≡ walk t d f r
@@ -88,7 +94,8 @@ walk_apart t d f r c a start apart =
     (get_or f (left d r) 0)
 
 -- lists with the same colours in the columns of the diagram have the same walks
-pub closes_agree : (t : Table) (d : Diagram) (f h : List ℕ) (r : ℕ) → HasEnds d r → ((c : ℕ) → c < size d → get_or f c 0 ≡ get_or h c 0) → closes t d f r ≡ closes t d h r
+pub closes_agree : (t : Table) (d : Diagram) (f h : List ℕ) (r : ℕ) → HasEnds d r → ((c : ℕ) → c < size d → get_or f c 0 ≡ get_or h c 0)
+    → closes t d f r ≡ closes t d h r
 closes_agree t d f h r ends same =
     let ordered = ends.ordered in
     let within = ends.within in
@@ -100,20 +107,25 @@ closes_agree t d f h r ends same =
     (get_or h (left d r) 0))
     ∙ ap (λ y. walk t d h r == y) (same (right d r) within))
 
-pub closes_apart : (t : Table) (d : Diagram) (f : List ℕ) (r c a : ℕ) → left d r ≢ c → right d r ≢ c → All (λ k. k ≢ c) (passed d r) → closes t d (set f c a) r ≡ closes t d f r
+pub closes_apart : (t : Table) (d : Diagram) (f : List ℕ) (r c a : ℕ) → left d r ≢ c → right d r ≢ c → All (λ k. k ≢ c) (passed d r)
+    → closes t d (set f c a) r ≡ closes t d f r
 closes_apart t d f r c a start end apart =
-    ap (λ w. w == get_or (set f c a) (right d r) 0) (walk_apart t d f r c a start apart) ∙ ap (λ y. walk t d f r == y) (get_or-set_other f c (right d r) a 0 end)
+    ap (λ w. w == get_or (set f c a) (right d r) 0) (walk_apart t d f r c a start apart)
+    ∙ ap (λ y. walk t d f r == y) (get_or-set_other f c (right d r) a 0 end)
 
 -- a column whose lower mark is not below row r isn't read by the rows below it
-pub closes_ignores : (t : Table) (d : Diagram) → (r s c : ℕ) → HasEnds d s → s < r → r ≤ low d c → (f : List ℕ) (a : ℕ) → closes t d (set f c a) s ≡ closes t d f s
+pub closes_ignores : (t : Table) (d : Diagram) → (r s c : ℕ) → HasEnds d s → s < r → r ≤ low d c → (f : List ℕ) (a : ℕ)
+    → closes t d (set f c a) s ≡ closes t d f s
 closes_ignores t d r s c ends below begins f a =
     closes_apart t d f s c a
     (λ e. let h = ap (low d) e in let l = ends.left_low in absurd (omega arith))
     (λ e. let h = ap (low d) e in let l = ends.right_low in absurd (omega arith))
-    (All-weaker (IsPassed d s) (λ k. k ≢ c) (λ k p e. let h = ap (low d) e in let l = p.lower in absurd (omega arith)) (passed d s) (each_passed d s ends.ordered))
+    (All-weaker (IsPassed d s) (λ k. k ≢ c) (λ k p e. let h = ap (low d) e in let l = p.lower in absurd (omega arith)) (passed d s)
+    (each_passed d s ends.ordered))
 
 -- the walk's equation, with the right end's colour still to be chosen
-pub closes_right : (t : Table) (d : Diagram) (f : List ℕ) (r b : ℕ) → HasEnds d r → right d r < length f → closes t d (set f (right d r) b) r ≡ (walk t d f r == b)
+pub closes_right : (t : Table) (d : Diagram) (f : List ℕ) (r b : ℕ) → HasEnds d r → right d r < length f
+    → closes t d (set f (right d r) b) r ≡ (walk t d f r == b)
 closes_right t d f r b ends at =
     ap (λ w. w == get_or (set f (right d r) b) (right d r) 0)
     (walk_apart t d f r (right d r) b (λ e. let l = ends.ordered in absurd (omega arith))
@@ -128,16 +140,19 @@ pub return_stays : (t : Table) → IsQuandle t → (up : Bool) (x y : ℕ) → x
 return_stays t q true x y at by_y = q.within x y at by_y
 return_stays t q false x y at by_y = q.back_within x y at by_y
 
-pub turn_return : (t : Table) → IsQuandle t → (up : Bool) (x y : ℕ) → x < t.order → y < t.order → (if up then over t (if up then back t x y else over t x y) y else back t (if up then back t x y else over t x y) y) ≡ x
+pub turn_return : (t : Table) → IsQuandle t → (up : Bool) (x y : ℕ) → x < t.order → y < t.order
+    → (if up then over t (if up then back t x y else over t x y) y else back t (if up then back t x y else over t x y) y) ≡ x
 turn_return t q true x y at by_y = q.over_back x y at by_y
 turn_return t q false x y at by_y = q.back_over x y at by_y
 
-return_turn : (t : Table) → IsQuandle t → (up : Bool) (x y : ℕ) → x < t.order → y < t.order → (if up then back t (if up then over t x y else back t x y) y else over t (if up then over t x y else back t x y) y) ≡ x
+return_turn : (t : Table) → IsQuandle t → (up : Bool) (x y : ℕ) → x < t.order → y < t.order
+    → (if up then back t (if up then over t x y else back t x y) y else over t (if up then over t x y else back t x y) y) ≡ x
 return_turn t q true x y at by_y = q.back_over x y at by_y
 return_turn t q false x y at by_y = q.over_back x y at by_y
 
 -- each column on the walk is undone
-undone : (t : Table) (d : Diagram) (f : List ℕ) (r : ℕ) → IsQuandle t → HasEnds d r → size d ≤ length f → All (λ y. y < t.order) f → All (Undoes (λ x. x < t.order) (under t d f) (past t d f)) (passed d r)
+undone : (t : Table) (d : Diagram) (f : List ℕ) (r : ℕ) → IsQuandle t → HasEnds d r → size d ≤ length f → All (λ y. y < t.order) f
+    → All (Undoes (λ x. x < t.order) (under t d f) (past t d f)) (passed d r)
 undone t d f r q ends long below =
     All-weaker (IsPassed d r) (Undoes (λ x. x < t.order) (under t d f) (past t d f))
     (λ k p.
@@ -151,24 +166,29 @@ undone t d f r q ends long below =
     (passed d r) (each_passed d r ends.ordered)
 
 -- a walk stays below the order, from the left and back from the right
-pub walk_stays : (t : Table) (d : Diagram) (f : List ℕ) (r : ℕ) → IsQuandle t → HasEnds d r → size d ≤ length f → All (λ y. y < t.order) f → walk t d f r < t.order
+pub walk_stays : (t : Table) (d : Diagram) (f : List ℕ) (r : ℕ) → IsQuandle t → HasEnds d r → size d ≤ length f → All (λ y. y < t.order) f
+    → walk t d f r < t.order
 walk_stays t d f r q ends long below =
     fold_keeps (under t d f) (λ x. x < t.order) (passed d r)
-    (All-weaker (Undoes (λ x. x < t.order) (under t d f) (past t d f)) (λ c. (x : ℕ) → x < t.order → under t d f x c < t.order) (λ c u. u.to) (passed d r) (undone t d f r q ends long below))
+    (All-weaker (Undoes (λ x. x < t.order) (under t d f) (past t d f)) (λ c. (x : ℕ) → x < t.order → under t d f x c < t.order) (λ c u. u.to) (passed d r)
+    (undone t d f r q ends long below))
     (get_or f (left d r) 0) (All-get_or (λ y. y < t.order) f (left d r) 0 (omega (arith, ends.ordered, ends.within, long)) below)
 
-pub walk_back_stays : (t : Table) (d : Diagram) (f : List ℕ) (r : ℕ) → IsQuandle t → HasEnds d r → size d ≤ length f → All (λ y. y < t.order) f → walk_back t d f r < t.order
+pub walk_back_stays : (t : Table) (d : Diagram) (f : List ℕ) (r : ℕ) → IsQuandle t → HasEnds d r → size d ≤ length f → All (λ y. y < t.order) f
+    → walk_back t d f r < t.order
 walk_back_stays t d f r q ends long below =
     undo_stays (λ x. x < t.order) (under t d f) (past t d f) (passed d r) (undone t d f r q ends long below)
     (get_or f (right d r) 0) (All-get_or (λ y. y < t.order) f (right d r) 0 (omega (arith, ends.within, long)) below)
 
 -- the walk of row r from colour a on
-walk_from : (t : Table) (d : Diagram) (f : List ℕ) (r a : ℕ) → HasEnds d r → left d r < length f → walk t d (set f (left d r) a) r ≡ fold (under t d f) a (passed d r)
+walk_from : (t : Table) (d : Diagram) (f : List ℕ) (r a : ℕ) → HasEnds d r → left d r < length f
+    → walk t d (set f (left d r) a) r ≡ fold (under t d f) a (passed d r)
 walk_from t d f r a ends at =
     ap (λ x. fold (under t d (set f (left d r) a)) x (passed d r)) (get_or-set_same f (left d r) a 0 at)
     ∙ fold_agree (under t d (set f (left d r) a)) (under t d f) (passed d r)
     (All-weaker (IsPassed d r) (λ k. (x : ℕ) → under t d (set f (left d r) a) x k ≡ under t d f x k)
-    (λ k p x. ap (λ y. if is_up d k then back t x y else over t x y) (get_or-set_other f (left d r) k a 0 (λ e. let l = p.after in absurd (omega arith)))) (passed d r) (each_passed d r ends.ordered))
+    (λ k p x. ap (λ y. if is_up d k then back t x y else over t x y) (get_or-set_other f (left d r) k a 0 (λ e. let l = p.after in absurd (omega arith))))
+    (passed d r) (each_passed d r ends.ordered))
     a
 
 -- two tests of which each follows from the other
@@ -177,7 +197,8 @@ tests_agree a b c d into from true e = e ∙ sym (eq-eqb c d (into (eqb-true a b
 tests_agree a b c d into from false e = e ∙ sym (ne_eqb c d (λ h. eqb-false a b e (from h)))
 
 -- the walk's equation, with the left end's colour still to be chosen
-pub closes_left : (t : Table) (d : Diagram) (f : List ℕ) (r a : ℕ) → IsQuandle t → HasEnds d r → size d ≤ length f → All (λ y. y < t.order) f → a < t.order → closes t d (set f (left d r) a) r ≡ (walk_back t d f r == a)
+pub closes_left : (t : Table) (d : Diagram) (f : List ℕ) (r a : ℕ) → IsQuandle t → HasEnds d r → size d ≤ length f → All (λ y. y < t.order) f → a < t.order
+    → closes t d (set f (left d r) a) r ≡ (walk_back t d f r == a)
 closes_left t d f r a q ends long below lt =
     let at : left d r < length f = omega (arith, ends.ordered, ends.within, long) in
     let goal_colour : get_or f (right d r) 0 < t.order = All-get_or (λ y. y < t.order) f (right d r) 0 (omega (arith, ends.within, long)) below in
@@ -187,5 +208,6 @@ closes_left t d f r a q ends long below lt =
     ∙ (ap (λ y. w == y) (get_or-set_other f (left d r) (right d r) a 0 (λ e. let l = ends.ordered in absurd (omega arith)))
     ∙ tests_agree w (get_or f (right d r) 0) (walk_back t d f r) a
     (λ e. ap (λ b. fold (past t d f) b (reverse (passed d r))) (sym e) ∙ undo_there (λ x. x < t.order) (under t d f) (past t d f) (passed d r) each a lt)
-    (λ e. ap (λ b. fold (under t d f) b (passed d r)) (sym e) ∙ undo_back (λ x. x < t.order) (under t d f) (past t d f) (passed d r) each (get_or f (right d r) 0) goal_colour)
+    (λ e. ap (λ b. fold (under t d f) b (passed d r)) (sym e) ∙ undo_back (λ x. x < t.order) (under t d f) (past t d f) (passed d r) each
+    (get_or f (right d r) 0) goal_colour)
     (w == get_or f (right d r) 0) refl)

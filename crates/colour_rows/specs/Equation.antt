@@ -5,7 +5,7 @@ use Rattle.grid_core.specs.Diagram.{Diagram}
 use Rattle.grid_core.specs.Parts.{covers, is_up, ends}
 use Rattle.quandle_core.specs.Quandle.{Table}
 use Rattle.colour_rows.specs.Walk.{passed_rightward, passed_leftward}
-use Rattle.colour_rows.specs.declared.row.Pass.{Pass}
+use Rattle.colour_rows.specs.declared.equation.Pass.{Pass}
 
 pub record Equation : Type 0 where
   pub left_end : ℕ

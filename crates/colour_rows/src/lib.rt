@@ -3,12 +3,12 @@
 #![tactic(auto)]
 
 mod colouring;
+mod equation;
 pub mod laws;
-mod passing;
-mod row;
 #[cfg(test)]
 mod tests;
+mod walking;
 
-pub use colouring::{Colouring, is_colouring, walk};
-pub use passing::{passed_leftward, passed_rightward};
-pub use row::{Pass, Row};
+pub use colouring::{Colouring, is_colouring};
+pub use equation::{Pass, Row};
+pub use walking::{passed_leftward, passed_rightward, walk};

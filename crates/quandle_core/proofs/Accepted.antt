@@ -20,10 +20,11 @@ all_within t none x y at by_y =
     (unless_none (nat_lt (over t x y) t.order) (Range x y)
     (first_none (λ y. range_case t x y) t.order y (first_none (λ x. first t.order (λ y. range_case t x y)) t.order x none at) by_y))
 
-all_idempotent : (t : Table) → idempotent_fault t ≡ None → (x : ℕ) → x < t.order → over t x x ≡ x
+pub all_idempotent : (t : Table) → idempotent_fault t ≡ None → (x : ℕ) → x < t.order → over t x x ≡ x
 all_idempotent t none x at = eqb-true (over t x x) x (unless_none (over t x x == x) (Idempotent x) (first_none (λ x. idempotent_case t x) t.order x none at))
 
-all_distributive : (t : Table) → distributive_fault t ≡ None → (x y z : ℕ) → x < t.order → y < t.order → z < t.order → over t (over t x y) z ≡ over t (over t x z) (over t y z)
+pub all_distributive : (t : Table) → distributive_fault t ≡ None → (x y z : ℕ) → x < t.order → y < t.order → z < t.order
+    → over t (over t x y) z ≡ over t (over t x z) (over t y z)
 all_distributive t none x y z at by_y by_z =
     eqb-true (over t (over t x y) z) (over t (over t x z) (over t y z))
     (unless_none (distributes t x y z) (Distributive x y z)
@@ -32,7 +33,7 @@ all_distributive t none x y z at by_y by_z =
     (first_none (λ x. first t.order (λ y. first t.order (λ z. distributive_case t x y z))) t.order x none at) by_y) by_z))
 
 -- no two of a column's entries are equal
-no_collision : (t : Table) → collision_fault t ≡ None → (x z y : ℕ) → x < z → z < t.order → y < t.order → over t x y ≡ over t z y → ⊥
+pub no_collision : (t : Table) → collision_fault t ≡ None → (x z y : ℕ) → x < z → z < t.order → y < t.order → over t x y ≡ over t z y → ⊥
 no_collision t none x z y less at by_y e =
     both_ways (collides t x z y)
     (not-true (collides t x z y)
@@ -60,7 +61,8 @@ any_below n q [] all e = absurd (false≢true e)
 any_below n q (x ∷ xs) all e = any_step n q x xs (All-head (λ y. y < n) x xs all) (any_below n q xs (All-tail (λ y. y < n) x xs all)) (eqb q x) refl e
 
 -- numbers below n under an injective map, with one number before them that the map does not reach
-unreached : (f : ℕ → ℕ) (n b : ℕ) → ((x y : ℕ) → x < n → y < n → f x ≡ f y → x ≡ y) → ((x : ℕ) → x < n → f x ≡ b → ⊥) → (i j : ℕ) (d : ℕ) → i < j → j < length (b ∷ map f (range_with_len 0 n)) → eqb (get_or (b ∷ map f (range_with_len 0 n)) i d) (get_or (b ∷ map f (range_with_len 0 n)) j d) ≡ false
+unreached : (f : ℕ → ℕ) (n b : ℕ) → ((x y : ℕ) → x < n → y < n → f x ≡ f y → x ≡ y) → ((x : ℕ) → x < n → f x ≡ b → ⊥) → (i j : ℕ) (d : ℕ) → i < j
+    → j < length (b ∷ map f (range_with_len 0 n)) → eqb (get_or (b ∷ map f (range_with_len 0 n)) i d) (get_or (b ∷ map f (range_with_len 0 n)) j d) ≡ false
 unreached f n b apart missed i zero d less lt = absurd (omega arith)
 unreached f n b apart missed zero (suc j) d less lt =
     let at : j < n = omega (arith, lt, length-map-range_with_len f 0 n) in
@@ -69,10 +71,12 @@ unreached f n b apart missed (suc i) (suc j) d less lt =
     let at : j < n = omega (arith, lt, length-map-range_with_len f 0 n) in
     let also : i < n = omega arith in
     ne_eqb (get_or (map f (range_with_len 0 n)) i d) (get_or (map f (range_with_len 0 n)) j d)
-    (λ e. let same = apart i j also at (sym (get_or-map-range_with_len f 0 n i i d also (omega arith)) ∙ (e ∙ get_or-map-range_with_len f 0 n j j d at (omega arith))) in absurd (omega arith))
+    (λ e. let same = apart i j also at (sym (get_or-map-range_with_len f 0 n i i d also (omega arith))
+    ∙ (e ∙ get_or-map-range_with_len f 0 n j j d at (omega arith))) in absurd (omega arith))
 
 -- a map of the numbers below n that takes no value twice reaches each of them
-pub reached : (f : ℕ → ℕ) (n b : ℕ) → ((x : ℕ) → x < n → f x < n) → ((x y : ℕ) → x < n → y < n → f x ≡ f y → x ≡ y) → b < n → position_or_len (λ z. f z == b) (range_with_len 0 n) < n
+pub reached : (f : ℕ → ℕ) (n b : ℕ) → ((x : ℕ) → x < n → f x < n) → ((x y : ℕ) → x < n → y < n → f x ≡ f y → x ≡ y) → b < n
+    → position_or_len (λ z. f z == b) (range_with_len 0 n) < n
 reached f n b stays apart lt = elim (cases_lt (position_or_len (λ z. f z == b) (range_with_len 0 n)) n) [
   | inl less ↦ less
   | inr le ↦
@@ -81,7 +85,8 @@ reached f n b stays apart lt = elim (cases_lt (position_or_len (λ z. f z == b) 
       (eq-eqb (f (get_or (range_with_len 0 n) x 0)) b (ap f (get_or-range_with_len 0 n x 0 at ∙ omega arith) ∙ e)) in
       let all : All (λ y. y < n) (b ∷ map f (range_with_len 0 n)) =
       All-cons (λ y. y < n) b (map f (range_with_len 0 n)) lt
-      (λ k d at. let within : k < n = omega (arith, at, length-map-range_with_len f 0 n) in omega (arith, get_or-map-range_with_len f 0 n k k d within (omega arith), stays k within)) in
+      (λ k d at. let within : k < n = omega (arith, at, length-map-range_with_len f 0 n) in
+      omega (arith, get_or-map-range_with_len f 0 n k k d within (omega arith), stays k within)) in
       let short = length-le_from_distinct_below (b ∷ map f (range_with_len 0 n)) n
       (IsDistinct-from_apart eqb (b ∷ map f (range_with_len 0 n)) (unreached f n b apart missed))
       (λ q e. any_below n q (b ∷ map f (range_with_len 0 n)) all e) in
@@ -93,7 +98,8 @@ over_back_is t x y lt =
     let b = back t x y in
     let here : get_or (range_with_len 0 t.order) b 0 ≡ b = get_or-range_with_len 0 t.order b 0 lt ∙ omega arith in
     ap (λ z. over t z y) (sym here)
-    ∙ eqb-true (over t (get_or (range_with_len 0 t.order) b 0) y) x (passes_at_first (λ z. over t z y == x) (range_with_len 0 t.order) 0 (omega (arith, length-range_with_len 0 t.order)))
+    ∙ eqb-true (over t (get_or (range_with_len 0 t.order) b 0) y) x
+    (passes_at_first (λ z. over t z y == x) (range_with_len 0 t.order) 0 (omega (arith, length-range_with_len 0 t.order)))
 
 -- a table that keeps below its order, with its first and third law, and with no two equal entries in a column
 pub quandle_from : (t : Table) → 1 ≤ t.order → t.order ≤ MAX_ORDER → length t.entries ≡ t.order * t.order
@@ -123,7 +129,8 @@ quandle_from t least most square within idempotent apart distributive =
 -- a table without a fault is a quandle
 pub quandle_from_none : (t : Table) → first_fault t ≡ None → IsQuandle t
 quandle_from_none t none =
-    let one = both_none (order_fault t) (or_else (length_fault t) (or_else (range_fault t) (or_else (idempotent_fault t) (or_else (collision_fault t) (distributive_fault t))))) none in
+    let one = both_none (order_fault t)
+    (or_else (length_fault t) (or_else (range_fault t) (or_else (idempotent_fault t) (or_else (collision_fault t) (distributive_fault t))))) none in
     let two = both_none (length_fault t) (or_else (range_fault t) (or_else (idempotent_fault t) (or_else (collision_fault t) (distributive_fault t)))) one.1 in
     let three = both_none (range_fault t) (or_else (idempotent_fault t) (or_else (collision_fault t) (distributive_fault t))) two.1 in
     let four = both_none (idempotent_fault t) (or_else (collision_fault t) (distributive_fault t)) three.1 in
@@ -137,7 +144,8 @@ quandle_from_none t none =
 pub apart_in_column : (t : Table) → IsQuandle t → (x z y : ℕ) → x < t.order → z < t.order → y < t.order → over t x y ≡ over t z y → x ≡ z
 apart_in_column t q x z y at also by_y e = sym (q.back_over x y at by_y) ∙ (ap (λ w. back t w y) e ∙ q.back_over z y also by_y)
 
-no_two : (t : Table) → IsQuandle t → (x z y : ℕ) → x < t.order → z < t.order → y < t.order → (b : Bool) → nat_lt x z ≡ b → (b && (over t x y == over t z y)) ≡ false
+no_two : (t : Table) → IsQuandle t → (x z y : ℕ) → x < t.order → z < t.order → y < t.order → (b : Bool) → nat_lt x z ≡ b
+    → (b && (over t x y == over t z y)) ≡ false
 no_two t q x z y at also by_y false is = refl
 no_two t q x z y at also by_y true is =
     ne_eqb (over t x y) (over t z y) (λ e. let same = apart_in_column t q x z y at also by_y e in let less = ltb-true x z is in absurd (omega arith))
@@ -145,10 +153,13 @@ no_two t q x z y at also by_y true is =
 -- a quandle has no fault
 pub none_from_quandle : (t : Table) → IsQuandle t → first_fault t ≡ None
 none_from_quandle t q =
-    none_else (order_fault t) _ (unless_true (nat_le 1 t.order && nat_le t.order MAX_ORDER) Order (and_from (nat_le 1 t.order) (nat_le t.order MAX_ORDER) (le-leb 1 t.order q.least) (le-leb t.order MAX_ORDER q.most)))
+    none_else (order_fault t) _ (unless_true (nat_le 1 t.order && nat_le t.order MAX_ORDER) Order
+    (and_from (nat_le 1 t.order) (nat_le t.order MAX_ORDER) (le-leb 1 t.order q.least) (le-leb t.order MAX_ORDER q.most)))
     (none_else (length_fault t) _ (unless_true (length t.entries == t.order * t.order) Length (eq-eqb (length t.entries) (t.order * t.order) q.square))
     (none_else (range_fault t) _
-    (first_all (λ x. first t.order (λ y. range_case t x y)) t.order (λ x at. first_all (λ y. range_case t x y) t.order (λ y by_y. unless_true (nat_lt (over t x y) t.order) (Range x y) (lt-ltb (over t x y) t.order (q.within x y at by_y)))))
+    (first_all (λ x. first t.order (λ y. range_case t x y)) t.order
+    (λ x at. first_all (λ y. range_case t x y) t.order
+    (λ y by_y. unless_true (nat_lt (over t x y) t.order) (Range x y) (lt-ltb (over t x y) t.order (q.within x y at by_y)))))
     (none_else (idempotent_fault t) _
     (first_all (λ x. idempotent_case t x) t.order (λ x at. unless_true (over t x x == x) (Idempotent x) (eq-eqb (over t x x) x (q.idempotent x at))))
     (none_else (collision_fault t) _
@@ -159,4 +170,5 @@ none_from_quandle t q =
     (first_all (λ x. first t.order (λ y. first t.order (λ z. distributive_case t x y z))) t.order
     (λ x at. first_all (λ y. first t.order (λ z. distributive_case t x y z)) t.order
     (λ y by_y. first_all (λ z. distributive_case t x y z) t.order
-    (λ z by_z. unless_true (distributes t x y z) (Distributive x y z) (eq-eqb (over t (over t x y) z) (over t (over t x z) (over t y z)) (q.distributive x y z at by_y by_z))))))))))
+    (λ z by_z. unless_true (distributes t x y z) (Distributive x y z)
+    (eq-eqb (over t (over t x y) z) (over t (over t x z) (over t y z)) (q.distributive x y z at by_y by_z))))))))))

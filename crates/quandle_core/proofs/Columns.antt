@@ -47,16 +47,20 @@ laid_out_more t q forward backward y x z by_y at z_is so_far =
         ]
       ];
       backs = λ j k lt also before. elim before [
-        | inl lower ↦ cell_apart backward y z k (over t j k) x (let w = q.within j k lt also in other_column y z k (over t j k) lower (omega arith)) ∙ so_far.backs j k lt also (inl lower)
+        | inl lower ↦ cell_apart backward y z k (over t j k) x (let w = q.within j k lt also in other_column y z k (over t j k) lower (omega arith))
+            ∙ so_far.backs j k lt also (inl lower)
         | inr here ↦ elim (cases_eq j x) [
           | inl same ↦
               let value : over t j k ≡ z = ap (λ i. over t i k) same ∙ (ap (λ i. over t x i) here.0 ∙ sym z_is) in
               ap (λ (i : ℕ). get_or (set backward (y * MAX_ORDER + z) x) i 0) (place k (over t j k) y z here.0 value)
-              ∙ (get_or-set_same backward (y * MAX_ORDER + z) x 0 (let w = q.within x y at by_y in inside backward y z so_far.as_long (omega arith) (omega arith)) ∙ sym same)
+              ∙ (get_or-set_same backward (y * MAX_ORDER + z) x 0 (let w = q.within x y at by_y in
+              inside backward y z so_far.as_long (omega arith) (omega arith)) ∙ sym same)
           | inr other ↦
               let less : j < x = omega (arith, here.1, other) in
-              let apart : over t j k ≢ z = λ e. other (sym (q.back_over j k lt also) ∙ (ap (λ w. back t w k) (e ∙ (z_is ∙ ap (λ i. over t x i) (sym here.0))) ∙ q.back_over x k at also)) in
-              cell_apart backward y z k (over t j k) x (λ e. let h = here.0 in absurd (omega (arith, e, apart, h))) ∙ so_far.backs j k lt also (inr (here.0, less))
+              let apart : over t j k ≢ z = λ e. other (sym (q.back_over j k lt also)
+              ∙ (ap (λ w. back t w k) (e ∙ (z_is ∙ ap (λ i. over t x i) (sym here.0))) ∙ q.back_over x k at also)) in
+              cell_apart backward y z k (over t j k) x (λ e. let h = here.0 in absurd (omega (arith, e, apart, h)))
+              ∙ so_far.backs j k lt also (inr (here.0, less))
         ]
       ];
     }
@@ -68,7 +72,8 @@ laid_out_more t q forward backward y x z by_y at z_is so_far =
     inside cells y x long by_y at = omega arith
 
 -- column y is whole
-pub laid_out_column : (t : Table) (forward backward : List ℕ) (y x : ℕ) → t.order ≤ x → IsLaidOut t forward backward y x → IsLaidOut t forward backward (y + 1) 0
+pub laid_out_column : (t : Table) (forward backward : List ℕ) (y x : ℕ) → t.order ≤ x → IsLaidOut t forward backward y x
+    → IsLaidOut t forward backward (y + 1) 0
 laid_out_column t forward backward y x le so_far = record {
   long = so_far.long;
   as_long = so_far.as_long;
@@ -83,9 +88,12 @@ laid_out_column t forward backward y x le so_far = record {
     ]
 
 -- all columns are whole
-pub laid_out_table : (t : Table) → IsQuandle t → (forward backward : List ℕ) (y : ℕ) → t.order ≤ y → IsLaidOut t forward backward y 0 → table_of t.order (cell forward) ≡ t
-laid_out_table t q forward backward y le all = table_is t.order (cell forward) t.entries q.square (λ j k lt also. sym (all.overs j k lt also (inl (omega arith))))
+pub laid_out_table : (t : Table) → IsQuandle t → (forward backward : List ℕ) (y : ℕ) → t.order ≤ y → IsLaidOut t forward backward y 0
+    → table_of t.order (cell forward) ≡ t
+laid_out_table t q forward backward y le all =
+    table_is t.order (cell forward) t.entries q.square (λ j k lt also. sym (all.overs j k lt also (inl (omega arith))))
 
-pub laid_out_back : (t : Table) → IsQuandle t → (forward backward : List ℕ) (y : ℕ) → t.order ≤ y → IsLaidOut t forward backward y 0 → (j k : ℕ) → j < t.order → k < t.order → cell backward j k ≡ back t j k
+pub laid_out_back : (t : Table) → IsQuandle t → (forward backward : List ℕ) (y : ℕ) → t.order ≤ y → IsLaidOut t forward backward y 0 → (j k : ℕ) → j < t.order
+    → k < t.order → cell backward j k ≡ back t j k
 laid_out_back t q forward backward y le all j k lt also =
     ap (λ (i : ℕ). cell backward i k) (sym (q.over_back j k lt also)) ∙ all.backs (back t j k) k (q.back_within j k lt also) also (inl (omega arith))

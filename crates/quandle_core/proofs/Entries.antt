@@ -22,14 +22,16 @@ above_zero zero k lt = absurd (omega arith)
 above_zero (suc n) k lt = omega arith
 
 -- a square list with the entries of an operation is its table
-pub entries_are : (n : ℕ) (f : ℕ → ℕ → ℕ) (list : List ℕ) → length list ≡ n * n → ((x y : ℕ) → x < n → y < n → get_or list (x * n + y) 0 ≡ f x y) → list ≡ (table_of n f).entries
+pub entries_are : (n : ℕ) (f : ℕ → ℕ → ℕ) (list : List ℕ) → length list ≡ n * n → ((x y : ℕ) → x < n → y < n → get_or list (x * n + y) 0 ≡ f x y)
+    → list ≡ (table_of n f).entries
 entries_are n f list square each =
     fill_by_all (λ k. f (k / n) (k % n)) list (n * n) 0 square
     (λ k lt.
     let some : 0 < n = above_zero n k lt in
     ap (λ (j : ℕ). get_or list j 0) (sym (div-add-mod' k n)) ∙ each (k / n) (k % n) ((div-lt_iff_lt-mul {k = n} some).1 lt) (mod_below k n some))
 
-pub table_is : (n : ℕ) (f : ℕ → ℕ → ℕ) (list : List ℕ) → length list ≡ n * n → ((x y : ℕ) → x < n → y < n → get_or list (x * n + y) 0 ≡ f x y) → table_of n f ≡ record { order = n; entries = list }
+pub table_is : (n : ℕ) (f : ℕ → ℕ → ℕ) (list : List ℕ) → length list ≡ n * n → ((x y : ℕ) → x < n → y < n → get_or list (x * n + y) 0 ≡ f x y)
+    → table_of n f ≡ record { order = n; entries = list }
 table_is n f list square each = ap (λ (es : List ℕ). let t : Table = record { order = n; entries = es } in t) (sym (entries_are n f list square each))
 
 -- two operations that agree below n have one table
@@ -37,6 +39,8 @@ pub same_table : (n : ℕ) (f g : ℕ → ℕ → ℕ) → ((x y : ℕ) → x < 
 same_table n f g same = table_is n f (table_of n g).entries (length_entries n g) (λ x y at within. entry n g x y at within ∙ sym (same x y at within))
 
 -- one entry more of a table
-pub entries_more : (f : ℕ → ℕ) (list longer : List ℕ) (k y : ℕ) → list ≡ map f (range_with_len 0 k) → longer ≡ list ++ y ∷ [] → y ≡ f k → longer ≡ map f (range_with_len 0 (k + 1))
+pub entries_more : (f : ℕ → ℕ) (list longer : List ℕ) (k y : ℕ) → list ≡ map f (range_with_len 0 k) → longer ≡ list ++ y ∷ [] → y ≡ f k
+    → longer ≡ map f (range_with_len 0 (k + 1))
 entries_more f list longer k y so_far is y_is =
-    is ∙ (ap (λ (xs : List ℕ). xs ++ y ∷ []) so_far ∙ (ap (λ (z : ℕ). map f (range_with_len 0 k) ++ z ∷ []) y_is ∙ sym (map-range_with_len_more f 0 k k (omega arith))))
+    is ∙ (ap (λ (xs : List ℕ). xs ++ y ∷ []) so_far
+    ∙ (ap (λ (z : ℕ). map f (range_with_len 0 k) ++ z ∷ []) y_is ∙ sym (map-range_with_len_more f 0 k k (omega arith))))

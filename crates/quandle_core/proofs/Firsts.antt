@@ -6,13 +6,15 @@ use Rattle.quandle_core.specs.Fault.{first_of, first, or_else, unless}
 
 range_longer : (a n m : ℕ) → m ≡ suc n → range_with_len a m ≡ range_with_len a n ++ (a + n) ∷ []
 range_longer a zero m e = ap (range_with_len a) e ∙ ap (λ (b : ℕ). b ∷ []) (omega arith)
-range_longer a (suc n) m e = ap (range_with_len a) e ∙ ap (λ (xs : List ℕ). a ∷ xs) (range_longer (a + 1) n (suc n) refl ∙ ap (λ (b : ℕ). range_with_len (a + 1) n ++ b ∷ []) (omega arith))
+range_longer a (suc n) m e =
+    ap (range_with_len a) e ∙ ap (λ (xs : List ℕ). a ∷ xs) (range_longer (a + 1) n (suc n) refl ∙ ap (λ (b : ℕ). range_with_len (a + 1) n ++ b ∷ [])
+    (omega arith))
 
 or_else_assoc : {A : Type 0} (a b c : Option A) → or_else (or_else a b) c ≡ or_else a (or_else b c)
 or_else_assoc (Some a) b c = refl
 or_else_assoc None b c = refl
 
-or_else_none : {A : Type 0} (a : Option A) → or_else a None ≡ a
+pub or_else_none : {A : Type 0} (a : Option A) → or_else a None ≡ a
 or_else_none (Some a) = refl
 or_else_none None = refl
 
@@ -64,12 +66,15 @@ both_none a b e = (none_left a b e, none_right a b e)
 -- where no case has an answer, none below has
 pub first_none : {A : Type 0} (at : ℕ → Option A) (n x : ℕ) → first n at ≡ None → x < n → at x ≡ None
 first_none at zero x e lt = absurd (omega arith)
-first_none at (suc n) x e lt = below at n x (both_none (first n at) (at n) (sym (first_step at n) ∙ (ap (λ k. first k at) (num n) ∙ e))) (λ less. first_none at n x (both_none (first n at) (at n) (sym (first_step at n) ∙ (ap (λ k. first k at) (num n) ∙ e))).0 less) (cases_lt x n) lt
+first_none at (suc n) x e lt =
+    below at n x (both_none (first n at) (at n) (sym (first_step at n) ∙ (ap (λ k. first k at) (num n) ∙ e)))
+    (λ less. first_none at n x (both_none (first n at) (at n) (sym (first_step at n) ∙ (ap (λ k. first k at) (num n) ∙ e))).0 less) (cases_lt x n) lt
   where
     num : (n : ℕ) → n + 1 ≡ suc n
     num n = omega arith
 
-    below : {A : Type 0} (at : ℕ → Option A) (n x : ℕ) → (first n at ≡ None) × (at n ≡ None) → (x < n → at x ≡ None) → (x < n) ⊎ (n ≤ x) → x < suc n → at x ≡ None
+    below : {A : Type 0} (at : ℕ → Option A) (n x : ℕ) → (first n at ≡ None) × (at n ≡ None) → (x < n → at x ≡ None) → (x < n) ⊎ (n ≤ x) → x < suc n
+        → at x ≡ None
     below at n x parts rest (inl less) lt = rest less
     below at n x parts rest (inr le) lt = ap at (omega arith) ∙ parts.1
 

@@ -56,7 +56,8 @@ image_in go [] c is = absurd is
 image_in go (d ∷ ds) c is = elim is [ inl e ↦ inl (ap go e) | inr h ↦ inr (image_in go ds c h) ]
 
 -- images of different lists differ
-images : (P Q : List ℕ → Type 0) (go : List ℕ → List ℕ) → IsBijection P Q go → (ds : List (List ℕ)) → ((c : List ℕ) → IsOneOf c ds → P c) → AreDistinct ds → AreDistinct (map go ds)
+images : (P Q : List ℕ → Type 0) (go : List ℕ → List ℕ) → IsBijection P Q go → (ds : List (List ℕ)) → ((c : List ℕ) → IsOneOf c ds → P c) → AreDistinct ds
+    → AreDistinct (map go ds)
 images P Q go b [] sound distinct = tt
 images P Q go b (d ∷ ds) sound distinct = (
   λ one.
@@ -66,7 +67,8 @@ images P Q go b (d ∷ ds) sound distinct = (
   images P Q go b ds (λ c one. sound c (inr one)) distinct.1,
 )
 
-pub equal_lengths : (P Q : List ℕ → Type 0) (go : List ℕ → List ℕ) → IsBijection P Q go → (cs ds : List (List ℕ)) → IsListing P cs → IsListing Q ds → length cs ≡ length ds
+pub equal_lengths : (P Q : List ℕ → Type 0) (go : List ℕ → List ℕ) → IsBijection P Q go → (cs ds : List (List ℕ)) → IsListing P cs → IsListing Q ds
+    → length cs ≡ length ds
 equal_lengths P Q go b cs ds first second =
     let one = fits (map go cs) ds (images P Q go b cs first.sound first.distinct) (λ y is.
     let from = image go cs y is in

@@ -14,7 +14,8 @@ use Rattle.quandle_core.proofs.Accepted.{quandle_from, quandle_from_none}
 
 -- a test of the numbers below n, case by case
 pub any_range : (p : ℕ → Bool) (n u : ℕ) → u < n → p u ≡ true → list_any p (range_with_len 0 n) ≡ true
-any_range p n u lt e = list_any_at p (range_with_len 0 n) u 0 (omega (arith, length-range_with_len 0 n)) (ap p (get_or-range_with_len 0 n u 0 lt ∙ omega arith) ∙ e)
+any_range p n u lt e =
+    list_any_at p (range_with_len 0 n) u 0 (omega (arith, length-range_with_len 0 n)) (ap p (get_or-range_with_len 0 n u 0 lt ∙ omega arith) ∙ e)
 
 pub none_range : (p : ℕ → Bool) (n : ℕ) → ((u : ℕ) → u < n → p u ≡ false) → list_any p (range_with_len 0 n) ≡ false
 none_range p n fails =
@@ -34,9 +35,11 @@ same_first n a b x one lt = ap (λ w. w % n) (omega arith) ∙ (times_one n (a +
 
 third : (n a b x y z : ℕ) → (a + b) % n ≡ 1 % n → (a * ((a * x + b * y) % n) + b * z) % n ≡ (a * ((a * x + b * z) % n) + b * ((a * y + b * z) % n)) % n
 third n a b x y z one =
-    plus_mod n (a * ((a * x + b * y) % n)) (b * z) (a * (a * x + b * y)) ((a + b) * (b * z)) (mul-mod_second a (a * x + b * y) n) (sym (times_one n (a + b) (b * z) one))
+    plus_mod n (a * ((a * x + b * y) % n)) (b * z) (a * (a * x + b * y)) ((a + b) * (b * z)) (mul-mod_second a (a * x + b * y) n)
+    (sym (times_one n (a + b) (b * z) one))
     ∙ (ap (λ w. w % n) (expand a b x y z)
-    ∙ sym (plus_mod n (a * ((a * x + b * z) % n)) (b * ((a * y + b * z) % n)) (a * (a * x + b * z)) (b * (a * y + b * z)) (mul-mod_second a (a * x + b * z) n) (mul-mod_second b (a * y + b * z) n)))
+    ∙ sym (plus_mod n (a * ((a * x + b * z) % n)) (b * ((a * y + b * z) % n)) (a * (a * x + b * z)) (b * (a * y + b * z)) (mul-mod_second a (a * x + b * z) n)
+    (mul-mod_second b (a * y + b * z) n)))
   where
     expand : (a b x y z : ℕ) → a * (a * x + b * y) + (a + b) * (b * z) ≡ a * (a * x + b * z) + b * (a * y + b * z)
     expand a b x y z = omega arith
@@ -45,7 +48,8 @@ third n a b x y z one =
 recovered : (n a b u x y : ℕ) → (a * u) % n ≡ 1 % n → x < n → (u * ((a * x + b * y) % n) + (n - 1) * (u * (b * y))) % n ≡ x
 recovered n a b u x y unit lt =
     plus_mod n (u * ((a * x + b * y) % n)) ((n - 1) * (u * (b * y))) (u * (a * x + b * y)) ((n - 1) * (u * (b * y))) (mul-mod_second u (a * x + b * y) n) refl
-    ∙ (ap (λ w. w % n) (gather a b u x y (n - 1) n (omega arith)) ∙ (add-mul-mod_self_left ((a * u) * x) n (u * (b * y)) ∙ (times_one n (a * u) x unit ∙ mod-eq_of_lt lt)))
+    ∙ (ap (λ w. w % n) (gather a b u x y (n - 1) n (omega arith))
+    ∙ (add-mul-mod_self_left ((a * u) * x) n (u * (b * y)) ∙ (times_one n (a * u) x unit ∙ mod-eq_of_lt lt)))
   where
     gather : (a b u x y m n : ℕ) → m + 1 ≡ n → u * (a * x + b * y) + m * (u * (b * y)) ≡ (a * u) * x + n * (u * (b * y))
     gather a b u x y m n e = let whole : (m + 1) * (u * (b * y)) ≡ n * (u * (b * y)) = ap (λ k. k * (u * (b * y))) e in omega arith
@@ -80,15 +84,19 @@ trivial_is n least most = subst IsQuandle (trivial_linear n) (trivial_laws n lea
 
 -- the dihedral tables
 pub dihedral_linear : (n : ℕ) → 1 ≤ n → linear n (n - 1) 2 ≡ dihedral n
-dihedral_linear n least = same_table n (λ x y. ((n - 1) * x + 2 * y) % n) (λ x y. (2 * y + (n - x)) % n) (λ x y lt also. turned n (n - 1) (n - x) x y (omega arith) (omega arith))
+dihedral_linear n least =
+    same_table n (λ x y. ((n - 1) * x + 2 * y) % n) (λ x y. (2 * y + (n - x)) % n) (λ x y lt also. turned n (n - 1) (n - x) x y (omega arith) (omega arith))
   where
     turned : (n m k x y : ℕ) → m + 1 ≡ n → k + x ≡ n → (m * x + 2 * y) % n ≡ (2 * y + k) % n
     turned n m k x y less rest =
         sym (add-mul-mod_self_left (m * x + 2 * y) n 1)
-        ∙ (ap (λ w. w % n) (let all : (m + 1) * x ≡ n * x = ap (λ s. s * x) less in let e : m * x + 2 * y + n * 1 ≡ 2 * y + k + n * x = omega arith in e) ∙ add-mul-mod_self_left (2 * y + k) n x)
+        ∙ (ap (λ w. w % n) (let all : (m + 1) * x ≡ n * x = ap (λ s. s * x) less in let e : m * x + 2 * y + n * 1 ≡ 2 * y + k + n * x = omega arith in e)
+        ∙ add-mul-mod_self_left (2 * y + k) n x)
 
 pub dihedral_laws : (n : ℕ) → 1 ≤ n → n ≤ MAX_ORDER → IsQuandle (linear n (n - 1) 2)
-dihedral_laws n least most = linear_is n (n - 1) 2 (n - 1) least most (ap (λ w. w % n) (let e : n - 1 + 2 ≡ n + 1 = omega arith in e) ∙ add-mod_left n 1) (squared n (n - 1) (omega arith))
+dihedral_laws n least most =
+    linear_is n (n - 1) 2 (n - 1) least most (ap (λ w. w % n) (let e : n - 1 + 2 ≡ n + 1 = omega arith in e) ∙ add-mod_left n 1)
+    (squared n (n - 1) (omega arith))
   where
     squared : (n m : ℕ) → m + 1 ≡ n → (m * m) % n ≡ 1 % n
     squared n m e =

@@ -1,13 +1,20 @@
 //! Laws of quandles, over the definitions alone.
-ghost use Rattle.std.specs.Prelude.{◌≡◌, ◌<◌, ◌≤◌, ◌↔◌, ℕ, None, true};
+ghost use Rattle.std.specs.Prelude.{◌≡◌, ◌<◌, ◌≤◌, ◌↔◌, ℕ, Some, None, true};
 ghost use Rattle.quandle_core.specs.Quandle.{Table, IsQuandle, over, back};
 ghost use Rattle.quandle_core.specs.Tables.{trivial, dihedral, alexander, tetrahedral, is_unit};
 ghost use Rattle.quandle_core.specs.Fault.{first_fault};
+ghost use Rattle.quandle_core.specs.Cases.{IsFirstFault};
+ghost use Rattle.quandle_core.specs.declared.fault.QuandleFault.{QuandleFault};
 ghost use Rattle.quandle_core.specs.declared.quandle.TheConstants.{MAX_ORDER};
 
 /// A table has no fault exactly where it is a quandle.
 pub fn no_fault_is_a_quandle()
     ensures { (t : Table) → (first_fault t ≡ None) ↔ IsQuandle t }
+{}
+
+/// The first fault is exactly the one whose case fails, where no earlier law fails and no lexicographically smaller case of its own law.
+pub fn the_first_fault_comes_first()
+    ensures { (t : Table) (fault : QuandleFault) → (first_fault t ≡ Some fault) ↔ IsFirstFault t fault }
 {}
 
 /// `x ◁ y` is the one z with `z ▷ y = x`.

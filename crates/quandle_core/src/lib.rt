@@ -2,10 +2,10 @@
 //! A table is accepted exactly where the three laws hold, and refused with the first law that fails and its first case.
 #![tactic(auto)]
 
-mod built_in;
 mod fault;
 pub mod laws;
 mod quandle;
+mod tables;
 #[cfg(test)]
 mod tests;
 

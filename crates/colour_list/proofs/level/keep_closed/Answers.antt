@@ -12,7 +12,8 @@ test t e f = walk_of t e f == get_or f e.right_end 0
 
 pub closes-requires-clause-colours : goal.closes-requires-clause-colours
 closes-requires-clause-colours c =
-    kept_all (AreColours MAX_SIZE c.args.quandle.now.order) (test c.args.quandle.now c.args.row.now) c.args.level.now.items c.loop-i.level.items c.loop-i.kept c.loop-i.i c.index.result.now
+    kept_all (AreColours MAX_SIZE c.args.quandle.now.order)
+    (test c.args.quandle.now c.args.row.now) c.args.level.now.items c.loop-i.level.items c.loop-i.kept c.loop-i.i c.index.result.now
     c.requires.colours c.loop-i.invariant (omega arith) c.index.ensures
 
 pub loop-i-preserved : goal.loop-i-preserved
@@ -21,10 +22,13 @@ loop-i-preserved c =
     elim c.if-closes.branch [
       | then-closes w ↦
           rw (w.level-is, w.kept-is)
-          (kept_next p c.args.level.now.items c.loop-i.level.items c.loop-i.kept c.loop-i.i c.index.result.now w.index-then-closes.result.now c.loop-i.invariant (omega arith) c.index.ensures
+          (kept_next p c.args.level.now.items c.loop-i.level.items c.loop-i.kept c.loop-i.i c.index.result.now w.index-then-closes.result.now c.loop-i.invariant
+          (omega arith) c.index.ensures
           (sym c.closes.ensures ∙ w.if-closes.true)
-          (read_again c.loop-i.level.items c.loop-i.i c.index.result.now w.index-then-closes.result.now (omega (arith, c.loop-i.invariant.long)) c.index.ensures w.index-then-closes.ensures))
+          (read_again c.loop-i.level.items c.loop-i.i c.index.result.now w.index-then-closes.result.now
+          (omega (arith, c.loop-i.invariant.long)) c.index.ensures w.index-then-closes.ensures))
       | else-closes w ↦
           rw (w.level-is, w.kept-is)
-          (left_next p c.args.level.now.items c.loop-i.level.items c.loop-i.kept c.loop-i.i c.index.result.now c.loop-i.invariant (omega arith) c.index.ensures (sym c.closes.ensures ∙ w.if-closes.false))
+          (left_next p c.args.level.now.items c.loop-i.level.items c.loop-i.kept c.loop-i.i c.index.result.now c.loop-i.invariant (omega arith) c.index.ensures
+          (sym c.closes.ensures ∙ w.if-closes.false))
     ]

@@ -13,7 +13,8 @@ rest_none : (c d e f : Option QuandleFault) → c ≡ None → d ≡ None → e 
 rest_none c d e f two three four five =
     ap (λ x. or_else x (or_else d (or_else e f))) two ∙ (ap (λ x. or_else x (or_else e f)) three ∙ (ap (λ x. or_else x f) four ∙ five))
 
-all_none : (a b c d e f : Option QuandleFault) → or_else a b ≡ None → c ≡ None → d ≡ None → e ≡ None → f ≡ None → or_else a (or_else b (or_else c (or_else d (or_else e f)))) ≡ None
+all_none : (a b c d e f : Option QuandleFault) → or_else a b ≡ None → c ≡ None → d ≡ None → e ≡ None → f ≡ None
+    → or_else a (or_else b (or_else c (or_else d (or_else e f)))) ≡ None
 all_none None None c d e f first two three four five = rest_none c d e f two three four five
 all_none None (Some b) c d e f first two three four five = absurd (cc)
 all_none (Some a) b c d e f first two three four five = absurd (cc)

@@ -4,7 +4,7 @@ ghost use Rattle.std.specs.List.{All};
 ghost use Rattle.grid_core.specs.Diagram.{size};
 ghost use Rattle.colour_rows.specs.Equation.{equation, passes, walk_of, walk_back_of};
 
-use crate::passing::{passed_leftward, passed_rightward};
+use crate::walking::{passed_leftward, passed_rightward};
 use arrayvec::ArrayVec;
 use grid_core::{Grid, MAX_SIZE};
 use quandle_core::Quandle;
@@ -33,7 +33,7 @@ impl Model for Row {
     ghost use Rattle.std.specs.Prelude.{◌<◌};
     ghost use Rattle.std.specs.List.{All};
     ghost use Rattle.colour_rows.specs.Equation.{Equation};
-    ghost use Rattle.colour_rows.specs.declared.row.Pass.{Pass};
+    ghost use Rattle.colour_rows.specs.declared.equation.Pass.{Pass};
 
     ghost Value = { Equation };
 

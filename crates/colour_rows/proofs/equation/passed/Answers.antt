@@ -1,10 +1,10 @@
 use Rattle.std.proofs.Common.{◌++◌, ◌∙◌, [], ◌∷◌, Bool, append-nil, cond, sym, ap, arith, List}
 use Rattle.grid_core.specs.Parts.{is_up}
-use Rattle.colour_rows.specs.declared.row.Pass.{Pass}
+use Rattle.colour_rows.specs.declared.equation.Pass.{Pass}
 use Rattle.colour_rows.specs.Equation.{passes}
 use Rattle.colour_rows.proofs.Equations.{passes_more}
-use Rattle.colour_rows.proofs.row.passed.Goals as goal
-use Rattle.colour_rows.proofs.row.passed.Goals.{then-covers, else-covers}
+use Rattle.colour_rows.proofs.equation.passed.Goals as goal
+use Rattle.colour_rows.proofs.equation.passed.Goals.{then-covers, else-covers}
 
 pub loop-column-preserved : goal.loop-column-preserved
 loop-column-preserved c =
