@@ -10,14 +10,16 @@ down_carries p acts false z y a = acts.third z y a
 down_carries p acts true z y a =
     let low : p false z (p false y (p true y a)) ≡ p false (p false z y) (p false z (p true y a)) = acts.third z y (p true y a) in
     let here : p false y (p true y a) ≡ a = acts.up_down y a in
-    let there : p true (p false z y) (p false (p false z y) (p false z (p true y a))) ≡ p false z (p true y a) = acts.down_up (p false z y) (p false z (p true y a)) in
+    let there : p true (p false z y) (p false (p false z y) (p false z (p true y a))) ≡ p false z (p true y a) =
+    acts.down_up (p false z y) (p false z (p true y a)) in
     cc
 
 -- the third law in each direction
 pub carried : (p : Bool → ℕ → ℕ → ℕ) → Acts p → (d e : Bool) (z y a : ℕ) → p d z (p e y a) ≡ p e (p d z y) (p d z a)
 carried p acts false e z y a = down_carries p acts e z y a
 carried p acts true e z y a =
-    let low : p false z (p e (p true z y) (p true z a)) ≡ p e (p false z (p true z y)) (p false z (p true z a)) = down_carries p acts e z (p true z y) (p true z a) in
+    let low : p false z (p e (p true z y) (p true z a)) ≡ p e (p false z (p true z y)) (p false z (p true z a)) =
+    down_carries p acts e z (p true z y) (p true z a) in
     let one : p false z (p true z y) ≡ y = acts.up_down z y in
     let two : p false z (p true z a) ≡ a = acts.up_down z a in
     let there : p true z (p false z (p e (p true z y) (p true z a))) ≡ p e (p true z y) (p true z a) = acts.down_up z (p e (p true z y) (p true z a)) in

@@ -7,7 +7,8 @@ use Rattle.quandle_core.specs.Bijection.{IsBijection}
 use Rattle.colour_laws.proofs.ColouredColumns.{IsColouringByColumns, AreInverse}
 use Rattle.colour_laws.proofs.Walks.{by_columns, from_columns}
 
-pub bijection_from : (t : Table) → IsQuandle t → (d e : Diagram) → IsGrid d → IsGrid e → (go come carry : List ℕ → List ℕ) → AreInverse (IsColouringByColumns t d) (IsColouringByColumns t e) go come
+pub bijection_from : (t : Table) → IsQuandle t → (d e : Diagram) → IsGrid d → IsGrid e → (go come carry : List ℕ → List ℕ)
+    → AreInverse (IsColouringByColumns t d) (IsColouringByColumns t e) go come
     → ((c : List ℕ) → IsColouringByColumns t d c → go c ≡ carry c) → IsBijection (IsColouring t d) (IsColouring t e) carry
 bijection_from t q d e grid grid' go come carry inverse same = record {
   into = λ c colouring.

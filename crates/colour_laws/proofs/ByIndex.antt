@@ -30,7 +30,8 @@ coloured_at i xs os ys = record { x = slice_index xs i; o = slice_index os i; y 
 abbrev pub columns_from : ℕ → List ℕ → List ℕ → List ℕ → List Column
 columns_from i xs os ys = columns (drop i xs) (drop i os) (drop i ys)
 
-pub columns_next : (i : ℕ) (xs os ys : List ℕ) → length os ≡ length xs → length ys ≡ length xs → i < length xs → columns_from i xs os ys ≡ coloured_at i xs os ys ∷ columns_from (suc i) xs os ys
+pub columns_next : (i : ℕ) (xs os ys : List ℕ) → length os ≡ length xs → length ys ≡ length xs → i < length xs
+    → columns_from i xs os ys ≡ coloured_at i xs os ys ∷ columns_from (suc i) xs os ys
 columns_next i xs os ys e f lt =
     ap (λ l. columns l (drop i os) (drop i ys)) (drop-cons xs i 0 lt)
     ∙ (ap (λ l. columns (slice_index xs i ∷ drop (suc i) xs) l (drop i ys)) (drop-cons os i 0 (omega (arith, e, lt)))

@@ -33,13 +33,15 @@ sunk_more n k x le lt = elim (cases_order x k) [
       dropped_other n ((x + (n - k)) % n) (λ e. omega (arith, e, is)) ∙ omega (arith, is) ∙ sym (sunk_high n (suc k) x (omega arith) lt)
 ]
 
-sunk_rows : (n k : ℕ) → suc k ≤ n → (xs : List ℕ) → All (λ r. r < n) xs → map (dropped n) (map (λ x. (x + (n - k)) % n) xs) ≡ map (λ x. (x + (n - suc k)) % n) xs
+sunk_rows : (n k : ℕ) → suc k ≤ n → (xs : List ℕ) → All (λ r. r < n) xs
+    → map (dropped n) (map (λ x. (x + (n - k)) % n) xs) ≡ map (λ x. (x + (n - suc k)) % n) xs
 sunk_rows n k le [] all = refl
 sunk_rows n k le (x ∷ xs) all = ap₂ (λ m l. m ∷ l) (sunk_more n k x le (all 0 0 (omega arith))) (sunk_rows n k le xs (λ j d lt. all (suc j) d (omega arith)))
 
 sunk_none : (n : ℕ) (xs : List ℕ) → All (λ r. r < n) xs → map (λ x. (x + (n - 0)) % n) xs ≡ xs
 sunk_none n [] all = refl
-sunk_none n (x ∷ xs) all = ap₂ (λ m l. m ∷ l) (sunk_high n 0 x (omega arith) (all 0 0 (omega arith)) ∙ omega arith) (sunk_none n xs (λ j d lt. all (suc j) d (omega arith)))
+sunk_none n (x ∷ xs) all =
+    ap₂ (λ m l. m ∷ l) (sunk_high n 0 x (omega arith) (all 0 0 (omega arith)) ∙ omega arith) (sunk_none n xs (λ j d lt. all (suc j) d (omega arith)))
 
 -- k shifts of rows by one are the shift by k: a mark in row x goes to row (x - k) mod n
 pub fallen_crosses : (g : Diagram) → IsGrid g → (k : ℕ) → k ≤ length g.x → (fallen k g).x ≡ map (λ x. (x + (length g.x - k)) % length g.x) g.x
@@ -67,7 +69,8 @@ mapped_at f (x ∷ xs) [] e same = absurd (omega (arith, e))
 mapped_at f (x ∷ xs) (y ∷ ys) e same = ap₂ (λ m l. m ∷ l) (same 0 (omega arith)) (mapped_at f xs ys (omega (arith, e)) (λ c lt. same (suc c) (omega arith)))
 
 -- two neighbours trade places, told at each index
-pub traded_at : (c : ℕ) (xs ys : List ℕ) → suc c < length ys → length xs ≡ length ys → slice_index xs c ≡ slice_index ys (suc c) → slice_index xs (suc c) ≡ slice_index ys c
+pub traded_at : (c : ℕ) (xs ys : List ℕ) → suc c < length ys → length xs ≡ length ys → slice_index xs c ≡ slice_index ys (suc c)
+    → slice_index xs (suc c) ≡ slice_index ys c
     → ((i : ℕ) → i < length ys → i ≢ c → i ≢ suc c → slice_index xs i ≡ slice_index ys i) → xs ≡ neighbours_traded c ys
 traded_at zero xs [] lt size one two others = absurd (omega (arith, lt))
 traded_at zero xs (y ∷ []) lt size one two others = absurd (omega (arith, lt))
@@ -80,7 +83,8 @@ traded_at (suc c) xs [] lt size one two others = absurd (omega (arith, lt))
 traded_at (suc c) [] (y ∷ ys) lt size one two others = absurd (omega (arith, size))
 traded_at (suc c) (x ∷ xs) (y ∷ ys) lt size one two others =
     ap₂ (λ a l. a ∷ l) (others 0 (omega arith) (λ e. omega arith) (λ e. omega arith))
-    (traded_at c xs ys (omega (arith, lt)) (omega (arith, size)) one two (λ i l n m. others (suc i) (omega arith) (λ e. n (omega arith)) (λ e. m (omega arith))))
+    (traded_at c xs ys (omega (arith, lt)) (omega (arith, size)) one two
+    (λ i l n m. others (suc i) (omega arith) (λ e. n (omega arith)) (λ e. m (omega arith))))
 
 -- the column of index c, without a colour
 abbrev pub column_at : ℕ → List ℕ → List ℕ → Column
@@ -88,7 +92,9 @@ column_at c xs os = record { x = slice_index xs c; o = slice_index os c; y = 0 }
 
 -- the rule of an exchange of columns, told at the indices
 pub tradable_at : (c : ℕ) (xs os : List ℕ) → suc c < length xs → length os ≡ length xs
-    → IsNested (column_at c xs os) (column_at (suc c) xs os) ⊎ (IsNested (column_at (suc c) xs os) (column_at c xs os) ⊎ IsDisjoint (column_at c xs os) (column_at (suc c) xs os)) → IsTradableAt c xs os
+    → IsNested (column_at c xs os) (column_at (suc c) xs os) ⊎ (IsNested (column_at (suc c) xs os) (column_at c xs os) ⊎ IsDisjoint (column_at c xs os)
+    (column_at (suc c) xs os))
+    → IsTradableAt c xs os
 tradable_at zero [] os lt size apart = absurd (omega (arith, lt))
 tradable_at zero (x ∷ []) os lt size apart = absurd (omega (arith, lt))
 tradable_at zero (x ∷ z ∷ xs) [] lt size apart = absurd (omega (arith, size))
@@ -127,7 +133,8 @@ mark_at mark r k (x ∷ xs) [] ys lt e f here other = absurd (omega (arith, e))
 mark_at mark r k (x ∷ xs) (o ∷ os) [] lt e f here other = absurd (omega (arith, f))
 mark_at true r zero (x ∷ xs) (o ∷ os) (y ∷ ys) lt e f here other = (here, other)
 mark_at false r zero (x ∷ xs) (o ∷ os) (y ∷ ys) lt e f here other = (here, other)
-mark_at mark r (suc k) (x ∷ xs) (o ∷ os) (y ∷ ys) lt e f here other = mark_at mark r k xs os ys (omega (arith, lt)) (omega (arith, e)) (omega (arith, f)) here other
+mark_at mark r (suc k) (x ∷ xs) (o ∷ os) (y ∷ ys) lt e f here other =
+    mark_at mark r k xs os ys (omega (arith, lt)) (omega (arith, e)) (omega (arith, f)) here other
 
 -- the marks of a stabilised grid, told at the indices; the first and the second column of the block
 abbrev pub block_first : Bool → Bool → Bool → ℕ → Column → Column
@@ -138,9 +145,11 @@ abbrev pub block_second : Bool → Bool → Bool → ℕ → Column → Column
 block_second mark true high r c = short mark high r c
 block_second mark false high r c = long mark high r c
 
-pub with_block_crosses_at : (mark right high : Bool) (r k : ℕ) (xs os ys hs : List ℕ) → k < length xs → length os ≡ length xs → length ys ≡ length xs → length hs ≡ suc (length xs)
+pub with_block_crosses_at : (mark right high : Bool) (r k : ℕ) (xs os ys hs : List ℕ) → k < length xs → length os ≡ length xs → length ys ≡ length xs
+    → length hs ≡ suc (length xs)
     → slice_index hs k ≡ (block_first mark right high r (column_at k xs os)).x → slice_index hs (suc k) ≡ (block_second mark right high r (column_at k xs os)).x
-    → ((i : ℕ) → i < k → slice_index hs i ≡ raised r high (slice_index xs i)) → ((i : ℕ) → k < i → i < length xs → slice_index hs (suc i) ≡ raised r high (slice_index xs i))
+    → ((i : ℕ) → i < k → slice_index hs i ≡ raised r high (slice_index xs i))
+    → ((i : ℕ) → k < i → i < length xs → slice_index hs (suc i) ≡ raised r high (slice_index xs i))
     → hs ≡ xs_of (with_block mark right high r k (columns xs os ys))
 with_block_crosses_at mark right high r k [] os ys hs lt e f size one two low high' = absurd (omega (arith, lt))
 with_block_crosses_at mark right high r k (x ∷ xs) [] ys hs lt e f size one two low high' = absurd (omega (arith, e))
@@ -159,11 +168,14 @@ with_block_crosses_at mark false high r zero (x ∷ xs) (o ∷ os) (y ∷ ys) (h
     ap₂ (λ a l. a ∷ l) one (ap₂ (λ a l. a ∷ l) two rest)
 with_block_crosses_at mark right high r (suc k) (x ∷ xs) (o ∷ os) (y ∷ ys) (h ∷ hs) lt e f size one two low high' =
     ap₂ (λ a l. a ∷ l) (low 0 (omega arith))
-    (with_block_crosses_at mark right high r k xs os ys hs (omega (arith, lt)) (omega (arith, e)) (omega (arith, f)) (omega (arith, size)) one two (λ i l. low (suc i) (omega arith)) (λ i l m. high' (suc i) (omega arith) (omega arith)))
+    (with_block_crosses_at mark right high r k xs os ys hs (omega (arith, lt)) (omega (arith, e)) (omega (arith, f)) (omega (arith, size)) one two
+    (λ i l. low (suc i) (omega arith)) (λ i l m. high' (suc i) (omega arith) (omega arith)))
 
-pub with_block_rings_at : (mark right high : Bool) (r k : ℕ) (xs os ys hs : List ℕ) → k < length xs → length os ≡ length xs → length ys ≡ length xs → length hs ≡ suc (length xs)
+pub with_block_rings_at : (mark right high : Bool) (r k : ℕ) (xs os ys hs : List ℕ) → k < length xs → length os ≡ length xs → length ys ≡ length xs
+    → length hs ≡ suc (length xs)
     → slice_index hs k ≡ (block_first mark right high r (column_at k xs os)).o → slice_index hs (suc k) ≡ (block_second mark right high r (column_at k xs os)).o
-    → ((i : ℕ) → i < k → slice_index hs i ≡ raised r high (slice_index os i)) → ((i : ℕ) → k < i → i < length xs → slice_index hs (suc i) ≡ raised r high (slice_index os i))
+    → ((i : ℕ) → i < k → slice_index hs i ≡ raised r high (slice_index os i))
+    → ((i : ℕ) → k < i → i < length xs → slice_index hs (suc i) ≡ raised r high (slice_index os i))
     → hs ≡ os_of (with_block mark right high r k (columns xs os ys))
 with_block_rings_at mark right high r k [] os ys hs lt e f size one two low high' = absurd (omega (arith, lt))
 with_block_rings_at mark right high r k (x ∷ xs) [] ys hs lt e f size one two low high' = absurd (omega (arith, e))
@@ -182,4 +194,5 @@ with_block_rings_at mark false high r zero (x ∷ xs) (o ∷ os) (y ∷ ys) (h �
     ap₂ (λ a l. a ∷ l) one (ap₂ (λ a l. a ∷ l) two rest)
 with_block_rings_at mark right high r (suc k) (x ∷ xs) (o ∷ os) (y ∷ ys) (h ∷ hs) lt e f size one two low high' =
     ap₂ (λ a l. a ∷ l) (low 0 (omega arith))
-    (with_block_rings_at mark right high r k xs os ys hs (omega (arith, lt)) (omega (arith, e)) (omega (arith, f)) (omega (arith, size)) one two (λ i l. low (suc i) (omega arith)) (λ i l m. high' (suc i) (omega arith) (omega arith)))
+    (with_block_rings_at mark right high r k xs os ys hs (omega (arith, lt)) (omega (arith, e)) (omega (arith, f)) (omega (arith, size)) one two
+    (λ i l. low (suc i) (omega arith)) (λ i l m. high' (suc i) (omega arith) (omega arith)))

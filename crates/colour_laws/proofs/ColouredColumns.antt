@@ -138,7 +138,8 @@ across r g = record { x = place r g.x; o = place r g.o; y = 0 }
 
 -- rows r and r + 1 are there, and the intervals between their ends are nested or disjoint
 abbrev pub AreRowsTradable : ℕ → Diagram → Type 0
-AreRowsTradable r g = (suc r < length g.x) × (IsNested (across r g) (across (suc r) g) ⊎ (IsNested (across (suc r) g) (across r g) ⊎ IsDisjoint (across r g) (across (suc r) g)))
+AreRowsTradable r g =
+    (suc r < length g.x) × (IsNested (across r g) (across (suc r) g) ⊎ (IsNested (across (suc r) g) (across r g) ⊎ IsDisjoint (across r g) (across (suc r) g)))
 
 -- item k twice
 abbrev pub doubled : ℕ → List ℕ → List ℕ

@@ -69,7 +69,8 @@ traded_place p (suc c) (x ∷ xs) (o ∷ os) (y ∷ ys) lt e f a b pair =
     rest more (suc i) at n m = more.others i (omega (arith, at)) (λ h. n (ap suc h)) (λ h. m (ap suc h))
 
 -- nested or not, by the table's test
-inside : (a b c d : ℕ) → ((c < a) × (c < b) × (a < d) × (b < d)) ⊎ ((d < a) × (d < b) × (a < c) × (b < c)) → (nat_lt (span c d).low (span a b).low && nat_lt (span a b).high (span c d).high) ≡ true
+inside : (a b c d : ℕ) → ((c < a) × (c < b) × (a < d) × (b < d)) ⊎ ((d < a) × (d < b) × (a < c) × (b < c))
+    → (nat_lt (span c d).low (span a b).low && nat_lt (span a b).high (span c d).high) ≡ true
 inside a b c d nested =
     let la = span_low a b in
     let ha = span_high a b in
@@ -80,22 +81,26 @@ inside a b c d nested =
     (lt-ltb (span a b).high (span c d).high (elim nested [ inl h ↦ omega (arith, h) | inr h ↦ omega (arith, h) ]))
 
 -- an outer column does not lie within the inner one
-around : (a b c d : ℕ) → ((a < c) × (a < d) × (c < b) × (d < b)) ⊎ ((b < c) × (b < d) × (c < a) × (d < a)) → (nat_lt (span c d).low (span a b).low && nat_lt (span a b).high (span c d).high) ≡ false
+around : (a b c d : ℕ) → ((a < c) × (a < d) × (c < b) × (d < b)) ⊎ ((b < c) × (b < d) × (c < a) × (d < a))
+    → (nat_lt (span c d).low (span a b).low && nat_lt (span a b).high (span c d).high) ≡ false
 around a b c d nested =
     let la = span_low a b in
     let lc = span_low c d in
     and_left (nat_lt (span c d).low (span a b).low) (nat_lt (span a b).high (span c d).high)
     (le-ltb (span c d).low (span a b).low (elim nested [ inl h ↦ omega (arith, h) | inr h ↦ omega (arith, h) ]))
 
-apart : (a b c d : ℕ) → ((a < c) × (a < d) × (b < c) × (b < d)) ⊎ ((c < a) × (c < b) × (d < a) × (d < b)) → (nat_lt (span c d).low (span a b).low && nat_lt (span a b).high (span c d).high) ≡ false
+apart : (a b c d : ℕ) → ((a < c) × (a < d) × (b < c) × (b < d)) ⊎ ((c < a) × (c < b) × (d < a) × (d < b))
+    → (nat_lt (span c d).low (span a b).low && nat_lt (span a b).high (span c d).high) ≡ false
 apart a b c d disjoint =
     let la = span_low a b in
     let ha = span_high a b in
     let lc = span_low c d in
     let hc = span_high c d in
     elim disjoint [
-      | inl h ↦ and_left (nat_lt (span c d).low (span a b).low) (nat_lt (span a b).high (span c d).high) (le-ltb (span c d).low (span a b).low (omega (arith, h)))
-      | inr h ↦ and_right (nat_lt (span c d).low (span a b).low) (nat_lt (span a b).high (span c d).high) (le-ltb (span a b).high (span c d).high (omega (arith, h)))
+      | inl h ↦ and_left (nat_lt (span c d).low (span a b).low) (nat_lt (span a b).high (span c d).high)
+          (le-ltb (span c d).low (span a b).low (omega (arith, h)))
+      | inr h ↦ and_right (nat_lt (span c d).low (span a b).low) (nat_lt (span a b).high (span c d).high)
+          (le-ltb (span a b).high (span c d).high (omega (arith, h)))
     ]
 
 -- on colours the actions are the table's operations
@@ -107,7 +112,8 @@ forth_same : (t : Table) (up : Bool) (a y : ℕ) → a < t.order → y < t.order
 forth_same t true a y la ly = act_inside t true a y la ly
 forth_same t false a y la ly = act_inside t false a y la ly
 
-pair_is : (t : Table) (d : Diagram) (f : List ℕ) (c : ℕ) → slice_index f c < t.order → slice_index f (c + 1) < t.order → AreFree (coloured_at c d.x d.o f) (coloured_at (c + 1) d.x d.o f) → (rest : List Column)
+pair_is : (t : Table) (d : Diagram) (f : List ℕ) (c : ℕ) → slice_index f c < t.order → slice_index f (c + 1) < t.order
+    → AreFree (coloured_at c d.x d.o f) (coloured_at (c + 1) d.x d.o f) → (rest : List Column)
     → ys_of (pair_traded (act t) (coloured_at c d.x d.o f) (coloured_at (c + 1) d.x d.o f) rest) ≡ gone_left t d f c ∷ gone_right t d f c ∷ ys_of rest
 pair_is t d f c la lb free rest =
     let u = coloured_at c d.x d.o f in
@@ -118,29 +124,36 @@ pair_is t d f c la lb free rest =
           let second : is_nested_in d c (c + 1) ≡ false = around u.x u.o v.x v.o nested in
           ap ys_of (pair_outer (act t) (coloured_at c d.x d.o f) (coloured_at (c + 1) d.x d.o f) rest nested)
           ∙ ap₂ (λ y z. y ∷ z ∷ ys_of rest)
-          (fro_same t (is_up d c) (slice_index f c) (slice_index f (c + 1)) la lb ∙ sym (cond-true (is_nested_in d (c + 1) c) (passed_leftward t (is_up d c) (slice_index f (c + 1)) (slice_index f c)) (slice_index f (c + 1)) first))
-          (sym (cond-false (is_nested_in d c (c + 1)) (passed_rightward t (is_up d (c + 1)) (slice_index f c) (slice_index f (c + 1))) (slice_index f c) second))
+          (fro_same t (is_up d c) (slice_index f c) (slice_index f (c + 1)) la lb
+          ∙ sym (cond-true (is_nested_in d (c + 1) c) (passed_leftward t (is_up d c) (slice_index f (c + 1)) (slice_index f c)) (slice_index f (c + 1)) first))
+          (sym (cond-false (is_nested_in d c (c + 1)) (passed_rightward t (is_up d (c + 1)) (slice_index f c) (slice_index f (c + 1)))
+          (slice_index f c) second))
       | inr (inl nested) ↦
           let first : is_nested_in d (c + 1) c ≡ false = around v.x v.o u.x u.o nested in
           let second : is_nested_in d c (c + 1) ≡ true = inside u.x u.o v.x v.o nested in
           ap ys_of (pair_inner (act t) (coloured_at c d.x d.o f) (coloured_at (c + 1) d.x d.o f) rest nested)
           ∙ ap₂ (λ y z. y ∷ z ∷ ys_of rest)
           (sym (cond-false (is_nested_in d (c + 1) c) (passed_leftward t (is_up d c) (slice_index f (c + 1)) (slice_index f c)) (slice_index f (c + 1)) first))
-          (forth_same t (is_up d (c + 1)) (slice_index f (c + 1)) (slice_index f c) lb la ∙ sym (cond-true (is_nested_in d c (c + 1)) (passed_rightward t (is_up d (c + 1)) (slice_index f c) (slice_index f (c + 1))) (slice_index f c) second))
+          (forth_same t (is_up d (c + 1)) (slice_index f (c + 1)) (slice_index f c) lb la
+          ∙ sym (cond-true (is_nested_in d c (c + 1)) (passed_rightward t (is_up d (c + 1)) (slice_index f c) (slice_index f (c + 1)))
+          (slice_index f c) second))
       | inr (inr disjoint) ↦
           let first : is_nested_in d (c + 1) c ≡ false = apart v.x v.o u.x u.o (elim disjoint [ inl h ↦ inr h | inr h ↦ inl h ]) in
           let second : is_nested_in d c (c + 1) ≡ false = apart u.x u.o v.x v.o disjoint in
           ap ys_of (pair_disjoint (act t) (coloured_at c d.x d.o f) (coloured_at (c + 1) d.x d.o f) rest disjoint)
           ∙ ap₂ (λ y z. y ∷ z ∷ ys_of rest)
           (sym (cond-false (is_nested_in d (c + 1) c) (passed_leftward t (is_up d c) (slice_index f (c + 1)) (slice_index f c)) (slice_index f (c + 1)) first))
-          (sym (cond-false (is_nested_in d c (c + 1)) (passed_rightward t (is_up d (c + 1)) (slice_index f c) (slice_index f (c + 1))) (slice_index f c) second))
+          (sym (cond-false (is_nested_in d c (c + 1)) (passed_rightward t (is_up d (c + 1)) (slice_index f c) (slice_index f (c + 1)))
+          (slice_index f c) second))
     ]
 
 -- the exchange, place by place
-pub exchanged_is : (t : Table) (d : Diagram) (c : ℕ) → c + 1 < size d → IsGrid d → AreFree (coloured_at c d.x d.o []) (coloured_at (c + 1) d.x d.o []) → (f : List ℕ) → IsColouringByColumns t d f → length (traded_colours t c d f) ≡ size d
+pub exchanged_is : (t : Table) (d : Diagram) (c : ℕ) → c + 1 < size d → IsGrid d → AreFree (coloured_at c d.x d.o []) (coloured_at (c + 1) d.x d.o [])
+    → (f : List ℕ) → IsColouringByColumns t d f → length (traded_colours t c d f) ≡ size d
     → traded_colours t c d f ≡ columns_exchanged t c d f
 exchanged_is t d c lt grid free f colouring long =
-    let colour : (i : ℕ) → i < size d → slice_index f i < t.order = λ i at. All-get_or (λ y. y < t.order) f i 0 (omega (arith, colouring.size, at)) colouring.below in
+    let colour : (i : ℕ) → i < size d → slice_index f i < t.order = λ i at. All-get_or (λ y. y < t.order) f i 0
+    (omega (arith, colouring.size, at)) colouring.below in
     let next : c + 1 ≡ suc c = add-one c in
     let free' : AreFree (coloured_at c d.x d.o f) (coloured_at (c + 1) d.x d.o f) = elim free [
       | inl h ↦ inl (elim h [ inl k ↦ inl k | inr k ↦ inr k ])
@@ -154,19 +167,23 @@ exchanged_is t d c lt grid free f colouring long =
     is_by_column (size d) (λ i. cond (i == c) (gone_left t d f c) (cond (i == c + 1) (gone_right t d f c) (slice_index f i))) (traded_colours t c d f)
     long
     (λ i at. elim (cases_eq i c) [
-      | inl e ↦ ap (slice_index (traded_colours t c d f)) e ∙ traded.left ∙ sym (cond-true (i == c) (gone_left t d f c) (cond (i == c + 1) (gone_right t d f c) (slice_index f i)) (eq-eqb i c e))
+      | inl e ↦ ap (slice_index (traded_colours t c d f)) e ∙ traded.left
+          ∙ sym (cond-true (i == c) (gone_left t d f c) (cond (i == c + 1) (gone_right t d f c) (slice_index f i)) (eq-eqb i c e))
       | inr n ↦ elim (cases_eq i (c + 1)) [
         | inl e ↦
             ap (slice_index (traded_colours t c d f)) (e ∙ next) ∙ traded.right
-            ∙ sym (cond-false (i == c) (gone_left t d f c) (cond (i == c + 1) (gone_right t d f c) (slice_index f i)) (ne_eqb i c n) ∙ cond-true (i == c + 1) (gone_right t d f c) (slice_index f i) (eq-eqb i (c + 1) e))
+            ∙ sym (cond-false (i == c) (gone_left t d f c) (cond (i == c + 1) (gone_right t d f c) (slice_index f i)) (ne_eqb i c n)
+            ∙ cond-true (i == c + 1) (gone_right t d f c) (slice_index f i) (eq-eqb i (c + 1) e))
         | inr m ↦
             traded.others i at n (λ e. m (e ∙ sym next))
-            ∙ sym (cond-false (i == c) (gone_left t d f c) (cond (i == c + 1) (gone_right t d f c) (slice_index f i)) (ne_eqb i c n) ∙ cond-false (i == c + 1) (gone_right t d f c) (slice_index f i) (ne_eqb i (c + 1) m))
+            ∙ sym (cond-false (i == c) (gone_left t d f c) (cond (i == c + 1) (gone_right t d f c) (slice_index f i)) (ne_eqb i c n)
+            ∙ cond-false (i == c + 1) (gone_right t d f c) (slice_index f i) (ne_eqb i (c + 1) m))
       ]
     ])
 
 -- a mark after the exchange
-pub moved_row : (c : ℕ) (d e : Diagram) → Renumbered (exchanged c) unchanged d e → (kind : Kind) (b k : ℕ) → b < size d → exchanged c b ≡ k → row_of kind e k ≡ row_of kind d b
+pub moved_row : (c : ℕ) (d e : Diagram) → Renumbered (exchanged c) unchanged d e → (kind : Kind) (b k : ℕ) → b < size d → exchanged c b ≡ k
+    → row_of kind e k ≡ row_of kind d b
 moved_row c d e renumbered kind b k lt is = ap (row_of kind e) (sym is) ∙ (renumbered.marks kind b (row_of kind d b) (mark_at d kind b lt)).row
 
 pub to_right : (c : ℕ) → exchanged c c ≡ suc c
@@ -179,7 +196,8 @@ pub stays : (c i : ℕ) → i ≢ c → i ≢ suc c → exchanged c i ≡ i
 stays c i n m = grind (arith, nat_tests, n, m)
 
 -- the lists of marks after two columns traded their numbers
-pub marks_traded : (c : ℕ) (d e : Diagram) → IsGrid d → IsGrid e → c + 1 < size d → Renumbered (exchanged c) unchanged d e → (e.x ≡ neighbours_traded c d.x) × (e.o ≡ neighbours_traded c d.o)
+pub marks_traded : (c : ℕ) (d e : Diagram) → IsGrid d → IsGrid e → c + 1 < size d → Renumbered (exchanged c) unchanged d e
+    → (e.x ≡ neighbours_traded c d.x) × (e.o ≡ neighbours_traded c d.o)
 marks_traded c d e grid grid' lt moved = (
   traded_at c e.x d.x (omega (arith, lt)) moved.same_size
       (moved_row c d e moved Cross (suc c) c (omega (arith, lt)) (to_left c)) (moved_row c d e moved Cross c (suc c) (omega (arith, lt)) (to_right c))
@@ -189,7 +207,8 @@ marks_traded c d e grid grid' lt moved = (
       (λ i at n m. moved_row c d e moved Ring i i (omega (arith, at, grid.same)) (stays c i n m)),
 )
 
-pub exchange_of_columns : (t : Table) → IsQuandle t → (d e : Diagram) (c : ℕ) → Step d (ExchangeColumns c) e → IsBijection (IsColouring t d) (IsColouring t e) (carried t d (ExchangeColumns c))
+pub exchange_of_columns : (t : Table) → IsQuandle t → (d e : Diagram) (c : ℕ) → Step d (ExchangeColumns c) e
+    → IsBijection (IsColouring t d) (IsColouring t e) (carried t d (ExchangeColumns c))
 exchange_of_columns t q d e c step =
     let grid = step.before in
     let grid' = step.after in
@@ -198,7 +217,8 @@ exchange_of_columns t q d e c step =
     let free : AreFree (coloured_at c d.x d.o []) (coloured_at (c + 1) d.x d.o []) =
     are_free (slice_index d.x c) (slice_index d.o c) (slice_index d.x (c + 1)) (slice_index d.o (c + 1)) 0 0 step.marks.may_exchange in
     let next : c + 1 ≡ suc c = add-one c in
-    let tradable : IsTradableAt c d.x d.o = tradable_at c d.x d.o (omega (arith, lt)) grid.same (subst (λ (k : ℕ). AreFree (column_at c d.x d.o) (column_at k d.x d.o)) next free) in
+    let tradable : IsTradableAt c d.x d.o = tradable_at c d.x d.o (omega (arith, lt)) grid.same
+    (subst (λ (k : ℕ). AreFree (column_at c d.x d.o) (column_at k d.x d.o)) next free) in
     let marks = marks_traded c d e grid grid' lt moved in
     let inverse = lists.columns_exchanged t q d e grid grid' c tradable marks.0 marks.1 in
     bijection_from t q d e grid grid' (traded_colours t c d) (traded_colours t c e) (carried t d (ExchangeColumns c)) inverse

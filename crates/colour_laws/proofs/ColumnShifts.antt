@@ -53,7 +53,8 @@ turned_coloured t q n k cs coloured =
 
 turned_below : (b k : ℕ) (cs : List Column) → All (λ y. y < b) (ys_of cs) → All (λ y. y < b) (ys_of (turned k cs))
 turned_below b k cs all =
-    subst (All (λ y. y < b)) (sym (turned_map (λ (c : Column). c.y) k cs)) (All-append (λ y. y < b) (drop k (ys_of cs)) (take k (ys_of cs)) (All-drop (λ y. y < b) k (ys_of cs) all) (All-take (λ y. y < b) k (ys_of cs) all))
+    subst (All (λ y. y < b)) (sym (turned_map (λ (c : Column). c.y) k cs))
+    (All-append (λ y. y < b) (drop k (ys_of cs)) (take k (ys_of cs)) (All-drop (λ y. y < b) k (ys_of cs) all) (All-take (λ y. y < b) k (ys_of cs) all))
 
 pub length_turned : {A : Type 0} (k : ℕ) (xs : List A) → length (turned k xs) ≡ length xs
 length_turned k xs = omega (arith, length-append (drop k xs) (take k xs), length-append (take k xs) (drop k xs), ap length (take-append-drop k xs))
@@ -88,7 +89,9 @@ columns_shifted t q g h grid grid' k le hx ho =
           let e : length ds - (length g.x - k) ≡ k = omega (arith, m, le) in
           subst (λ (j : ℕ). turned j (turned (length g.x - k) ds) ≡ ds) e (turned_back (length g.x - k) ds (omega (arith, m, le)));
     } in
-    bijection_same (IsColouringByColumns t g) (IsColouringByColumns t h) (λ c. ys_of (turned k (columns g.x g.o c))) (λ d. ys_of (turned (length g.x - k) (columns h.x h.o d))) (turned k) (turned (length g.x - k))
+    bijection_same (IsColouringByColumns t g) (IsColouringByColumns t h) (λ c. ys_of (turned k (columns g.x g.o c)))
+    (λ d. ys_of (turned (length g.x - k) (columns h.x h.o d))) (turned k) (turned (length g.x - k))
     (bijection_of t g h (turned k) (turned (length g.x - k)) grid grid' carried)
     (λ c colouring. turned_map (λ (l : Column). l.y) k (columns g.x g.o c) ∙ ap (turned k) (ys_of_columns g.x g.o c grid.same colouring.size))
-    (λ d colouring. turned_map (λ (l : Column). l.y) (length g.x - k) (columns h.x h.o d) ∙ ap (turned (length g.x - k)) (ys_of_columns h.x h.o d grid'.same colouring.size))
+    (λ d colouring. turned_map (λ (l : Column). l.y) (length g.x - k) (columns h.x h.o d)
+    ∙ ap (turned (length g.x - k)) (ys_of_columns h.x h.o d grid'.same colouring.size))

@@ -20,7 +20,8 @@ use Rattle.colour_laws.proofs.ColumnShifts.{bijection_same}
 use Rattle.colour_laws.proofs.Exchanges.{traded_marks_twice, length_traded}
 
 -- actions of one colour commute
-pub crossed_commute : (p : Bool → ℕ → ℕ → ℕ) → Acts p → (l m l' m' : Bool) (y a : ℕ) → crossed p l m y (crossed p l' m' y a) ≡ crossed p l' m' y (crossed p l m y a)
+pub crossed_commute : (p : Bool → ℕ → ℕ → ℕ) → Acts p → (l m l' m' : Bool) (y a : ℕ)
+    → crossed p l m y (crossed p l' m' y a) ≡ crossed p l' m' y (crossed p l m y a)
 crossed_commute p acts l m true true y a = refl
 crossed_commute p acts l m true false y a = crossed_carries p acts true l m y y a ∙ ap (λ z. p true z (crossed p l m y a)) (crossed_fixed p acts l m y)
 crossed_commute p acts l m false true y a = crossed_carries p acts false l m y y a ∙ ap (λ z. p false z (crossed p l m y a)) (crossed_fixed p acts l m y)
@@ -37,17 +38,23 @@ alike_equal p acts r u v rest e =
       | inl f ↦ elim (cases_Bool (ends r v)) [
         | inl g ↦ record {
           on = λ a. on_end p r r a u (v ∷ rest) f ∙ ap (λ y. a == y) e ∙ sym (on_end p r r a v (u ∷ rest) g);
-          row = row_end p r r u (v ∷ rest) f ∙ on_end p r r u.y v rest g ∙ ap₂ (λ y z. y == z) e (sym e) ∙ sym (row_end p r r v (u ∷ rest) g ∙ on_end p r r v.y u rest f);
+          row =
+              row_end p r r u (v ∷ rest) f ∙ on_end p r r u.y v rest g ∙ ap₂ (λ y z. y == z) e (sym e)
+              ∙ sym (row_end p r r v (u ∷ rest) g ∙ on_end p r r v.y u rest f);
         }
         | inr g ↦ record {
           on = λ a. on_end p r r a u (v ∷ rest) f ∙ sym (on_apart p r r a v (u ∷ rest) g ∙ on_end p r r (crosses p r v a) u rest f ∙ over v u (sym e) a);
-          row = row_end p r r u (v ∷ rest) f ∙ on_apart p r r u.y v rest g ∙ ap (λ b. on_at p r r b rest) (own v u (sym e)) ∙ sym (row_apart p r r v (u ∷ rest) g ∙ row_end p r r u rest f);
+          row =
+              row_end p r r u (v ∷ rest) f ∙ on_apart p r r u.y v rest g ∙ ap (λ b. on_at p r r b rest) (own v u (sym e))
+              ∙ sym (row_apart p r r v (u ∷ rest) g ∙ row_end p r r u rest f);
         }
       ]
       | inr f ↦ elim (cases_Bool (ends r v)) [
         | inl g ↦ record {
           on = λ a. on_apart p r r a u (v ∷ rest) f ∙ on_end p r r (crosses p r u a) v rest g ∙ over u v e a ∙ sym (on_end p r r a v (u ∷ rest) g);
-          row = row_apart p r r u (v ∷ rest) f ∙ row_end p r r v rest g ∙ ap (λ b. on_at p r r b rest) (sym (own u v e)) ∙ sym (row_end p r r v (u ∷ rest) g ∙ on_apart p r r v.y u rest f);
+          row =
+              row_apart p r r u (v ∷ rest) f ∙ row_end p r r v rest g ∙ ap (λ b. on_at p r r b rest) (sym (own u v e))
+              ∙ sym (row_end p r r v (u ∷ rest) g ∙ on_apart p r r v.y u rest f);
         }
         | inr g ↦ record {
           on = λ a. on_apart p r r a u (v ∷ rest) f ∙ on_apart p r r (crosses p r u a) v rest g
@@ -65,8 +72,20 @@ shared_marks : (r c : ℕ) (cs : List Column) → IsSharing r c cs → (0 < xs_i
 shared_marks r zero [] is = absurd is
 shared_marks r zero (u ∷ []) is = absurd is
 shared_marks r zero (u ∷ v ∷ rest) is = elim is [
-  | inl h ↦ (omega (arith, xs_here r u (v ∷ rest) h.0), elim (cases_eq u.o r) [ inl e ↦ omega (arith, os_here r u (v ∷ rest) e) | inr n ↦ omega (arith, os_not_here r u (v ∷ rest) n, os_here r v rest h.1) ])
-  | inr h ↦ (elim (cases_eq u.x r) [ inl e ↦ omega (arith, xs_here r u (v ∷ rest) e) | inr n ↦ omega (arith, xs_not_here r u (v ∷ rest) n, xs_here r v rest h.1) ], omega (arith, os_here r u (v ∷ rest) h.0))
+  | inl h ↦ (
+    omega (arith, xs_here r u (v ∷ rest) h.0),
+    elim (cases_eq u.o r) [
+      | inl e ↦ omega (arith, os_here r u (v ∷ rest) e)
+      | inr n ↦ omega (arith, os_not_here r u (v ∷ rest) n, os_here r v rest h.1)
+    ],
+  )
+  | inr h ↦ (
+    elim (cases_eq u.x r) [
+      | inl e ↦ omega (arith, xs_here r u (v ∷ rest) e)
+      | inr n ↦ omega (arith, xs_not_here r u (v ∷ rest) n, xs_here r v rest h.1)
+    ],
+    omega (arith, os_here r u (v ∷ rest) h.0),
+  )
 ]
 shared_marks r (suc c) [] is = absurd is
 shared_marks r (suc c) (u ∷ rest) is =
@@ -90,9 +109,11 @@ shared_colour p r (suc c) (u ∷ rest) is row ex eo =
     let more = shared_marks r c rest is in
     let n : u.x ≢ r = λ e. omega (arith, xs_here r u rest e, more.0) in
     let m : u.o ≢ r = λ e. omega (arith, os_here r u rest e, more.1) in
-    ap (λ l. u.y ∷ l) (shared_colour p r c rest is (sym (row_apart p r r u rest (ends_apart r u n m)) ∙ row) (sym (xs_not_here r u rest n) ∙ ex) (sym (os_not_here r u rest m) ∙ eo))
+    ap (λ l. u.y ∷ l) (shared_colour p r c rest is (sym (row_apart p r r u rest (ends_apart r u n m)) ∙ row) (sym (xs_not_here r u rest n) ∙ ex)
+    (sym (os_not_here r u rest m) ∙ eo))
 
-slid_walks : (p : Bool → ℕ → ℕ → ℕ) → Acts p → (front : List Column) (c : ℕ) (cs : List Column) → neighbours_traded c (ys_of cs) ≡ ys_of cs → (r : ℕ) → row_at p r r (front ++ neighbours_traded c cs) ≡ row_at p r r (front ++ cs)
+slid_walks : (p : Bool → ℕ → ℕ → ℕ) → Acts p → (front : List Column) (c : ℕ) (cs : List Column) → neighbours_traded c (ys_of cs) ≡ ys_of cs → (r : ℕ)
+    → row_at p r r (front ++ neighbours_traded c cs) ≡ row_at p r r (front ++ cs)
 slid_walks p acts front zero [] e r = refl
 slid_walks p acts front zero (u ∷ []) e r = refl
 slid_walks p acts front zero (u ∷ v ∷ rest) e r =
@@ -101,7 +122,8 @@ slid_walks p acts front zero (u ∷ v ∷ rest) e r =
 slid_walks p acts front (suc c) [] e r = refl
 slid_walks p acts front (suc c) (u ∷ cs) e r =
     let more : neighbours_traded c (ys_of cs) ≡ ys_of cs = cc in
-    ap (row_at p r r) (sym (append_assoc front (u ∷ []) (neighbours_traded c cs))) ∙ slid_walks p acts (front ++ u ∷ []) c cs more r ∙ ap (row_at p r r) (append_assoc front (u ∷ []) cs)
+    ap (row_at p r r) (sym (append_assoc front (u ∷ []) (neighbours_traded c cs))) ∙ slid_walks p acts (front ++ u ∷ []) c cs more r
+    ∙ ap (row_at p r r) (append_assoc front (u ∷ []) cs)
 
 -- marks and colours of traded columns
 pub traded_of : (f : Column → ℕ) (c : ℕ) (cs : List Column) → map f (neighbours_traded c cs) ≡ neighbours_traded c (map f cs)
@@ -148,17 +170,20 @@ all_traded b zero (y ∷ []) all = all
 all_traded b zero (y ∷ z ∷ ys) all =
     All-cons (λ m. m < b) z (y ∷ ys) (all 1 0 (omega arith)) (All-cons (λ m. m < b) y ys (all 0 0 (omega arith)) (λ k d lt. all (suc (suc k)) d (omega arith)))
 all_traded b (suc c) [] all = all
-all_traded b (suc c) (y ∷ ys) all = All-cons (λ m. m < b) y (neighbours_traded c ys) (all 0 0 (omega arith)) (all_traded b c ys (λ k d lt. all (suc k) d (omega arith)))
+all_traded b (suc c) (y ∷ ys) all =
+    All-cons (λ m. m < b) y (neighbours_traded c ys) (all 0 0 (omega arith)) (all_traded b c ys (λ k d lt. all (suc k) d (omega arith)))
 
 -- in a colouring of a grid whose columns c and c + 1 share a row, these have one colour
-pub kept_colours : (t : Table) (g : Diagram) → IsGrid g → (r c : ℕ) → r < length g.x → IsSharing r c (bare g) → (cs : List Column) → IsMarked g cs → IsColoured (act t) (length g.x) cs
+pub kept_colours : (t : Table) (g : Diagram) → IsGrid g → (r c : ℕ) → r < length g.x → IsSharing r c (bare g) → (cs : List Column) → IsMarked g cs
+    → IsColoured (act t) (length g.x) cs
     → neighbours_traded c (ys_of cs) ≡ ys_of cs
 kept_colours t g grid r c lt sharing cs marked coloured =
     let blank : IsMarked g (bare g) = marked_columns g (map (λ m. 0) g.x) grid (length-map g.x (λ m. 0)) in
     shared_colour (act t) r c cs (same_sharing r c (bare g) cs (blank.crosses ∙ sym marked.crosses) (blank.rings ∙ sym marked.rings) sharing)
     (sym (row_walk (act t) r cs) ∙ coloured.walks r lt) (coloured.crosses r lt) (coloured.rings r lt)
 
-pub kept_list : (t : Table) (g : Diagram) → IsGrid g → (r c : ℕ) → r < length g.x → IsSharing r c (bare g) → (f : List ℕ) → IsColouringByColumns t g f → neighbours_traded c f ≡ f
+pub kept_list : (t : Table) (g : Diagram) → IsGrid g → (r c : ℕ) → r < length g.x → IsSharing r c (bare g) → (f : List ℕ) → IsColouringByColumns t g f
+    → neighbours_traded c f ≡ f
 kept_list t g grid r c lt sharing f colouring =
     let marked : IsMarked g (columns g.x g.o f) = marked_columns g f grid colouring.size in
     subst (λ (ys : List ℕ). neighbours_traded c ys ≡ ys) (ys_of_columns g.x g.o f grid.same colouring.size)
@@ -171,11 +196,13 @@ one_of_two zero (y ∷ z ∷ ys) lt e = cc
 one_of_two (suc c) [] lt e = absurd (omega arith)
 one_of_two (suc c) (y ∷ ys) lt e = one_of_two c ys (omega (arith, lt)) (cc)
 
-pub one_colour : (t : Table) (g : Diagram) → IsGrid g → (r c : ℕ) → r < length g.x → IsSharing r c (bare g) → (f : List ℕ) → IsColouringByColumns t g f → suc c < length g.x → slice_index f c ≡ slice_index f (suc c)
+pub one_colour : (t : Table) (g : Diagram) → IsGrid g → (r c : ℕ) → r < length g.x → IsSharing r c (bare g) → (f : List ℕ) → IsColouringByColumns t g f
+    → suc c < length g.x → slice_index f c ≡ slice_index f (suc c)
 one_colour t g grid r c lt sharing f colouring inside = one_of_two c f (omega (arith, inside, colouring.size)) (kept_list t g grid r c lt sharing f colouring)
 
 -- a slide of columns: every column of the list keeps its colour
-pub columns_slid : (t : Table) → IsQuandle t → (g h : Diagram) → IsGrid g → IsGrid h → (r c : ℕ) → r < length g.x → IsSharing r c (bare g) → h.x ≡ neighbours_traded c g.x → h.o ≡ neighbours_traded c g.o
+pub columns_slid : (t : Table) → IsQuandle t → (g h : Diagram) → IsGrid g → IsGrid h → (r c : ℕ) → r < length g.x → IsSharing r c (bare g)
+    → h.x ≡ neighbours_traded c g.x → h.o ≡ neighbours_traded c g.o
     → AreInverse (IsColouringByColumns t g) (IsColouringByColumns t h) (λ c. c) (λ d. d)
 columns_slid t q g h grid grid' r c lt sharing hx ho =
     let acts = act_acts t q in
@@ -183,7 +210,8 @@ columns_slid t q g h grid grid' r c lt sharing hx ho =
     let gx : neighbours_traded c h.x ≡ g.x = ap (neighbours_traded c) hx ∙ traded_marks_twice c g.x in
     let go : neighbours_traded c h.o ≡ g.o = ap (neighbours_traded c) ho ∙ traded_marks_twice c g.o in
     let blank : IsMarked g (bare g) = marked_columns g (map (λ m. 0) g.x) grid (length-map g.x (λ m. 0)) in
-    let here : (cs : List Column) → IsMarked g cs → IsSharing r c cs = λ cs marked. same_sharing r c (bare g) cs (blank.crosses ∙ sym marked.crosses) (blank.rings ∙ sym marked.rings) sharing in
+    let here : (cs : List Column) → IsMarked g cs → IsSharing r c cs = λ cs marked. same_sharing r c (bare g) cs (blank.crosses ∙ sym marked.crosses)
+    (blank.rings ∙ sym marked.rings) sharing in
     let goes : (cs : List Column) → IsMarked g cs → IsMarked h (neighbours_traded c cs) = λ cs marked. record {
       crosses = traded_of (λ (l : Column). l.x) c cs ∙ ap (neighbours_traded c) marked.crosses ∙ sym hx;
       rings = traded_of (λ (l : Column). l.o) c cs ∙ ap (neighbours_traded c) marked.rings ∙ sym ho;
@@ -194,25 +222,33 @@ columns_slid t q g h grid grid' r c lt sharing hx ho =
     } in
     let there : (ds : List Column) → IsMarked h ds → IsSharing r c ds = λ ds marked.
     subst (IsSharing r c) (traded_columns_twice c ds) (sharing_again r c (neighbours_traded c ds) (here (neighbours_traded c ds) (comes ds marked))) in
-    let kept : (cs : List Column) → IsMarked g cs → IsColoured (act t) (length g.x) cs → neighbours_traded c (ys_of cs) ≡ ys_of cs = kept_colours t g grid r c lt sharing in
+    let kept : (cs : List Column) → IsMarked g cs → IsColoured (act t) (length g.x) cs → neighbours_traded c (ys_of cs) ≡ ys_of cs =
+    kept_colours t g grid r c lt sharing in
     let kept' : (ds : List Column) → IsMarked h ds → IsColoured (act t) (length h.x) ds → neighbours_traded c (ys_of ds) ≡ ys_of ds = λ ds marked coloured.
     let lt' : r < length h.x = omega (arith, lt, size) in
     shared_colour (act t) r c ds (there ds marked) (sym (row_walk (act t) r ds) ∙ coloured.walks r lt') (coloured.crosses r lt') (coloured.rings r lt') in
     let carried : IsCarried t g h (neighbours_traded c) (neighbours_traded c) = record {
       goes = goes;
       comes = comes;
-      walks = λ cs marked coloured s ls. row_walk (act t) s (neighbours_traded c cs) ∙ slid_walks (act t) acts [] c cs (kept cs marked coloured) s ∙ sym (row_walk (act t) s cs) ∙ coloured.walks s (omega (arith, ls, size));
-      walks_back = λ ds marked coloured s ls. row_walk (act t) s (neighbours_traded c ds) ∙ slid_walks (act t) acts [] c ds (kept' ds marked coloured) s ∙ sym (row_walk (act t) s ds) ∙ coloured.walks s (omega (arith, ls, size));
+      walks = λ cs marked coloured s ls. row_walk (act t) s (neighbours_traded c cs) ∙ slid_walks (act t) acts [] c cs (kept cs marked coloured) s
+          ∙ sym (row_walk (act t) s cs) ∙ coloured.walks s (omega (arith, ls, size));
+      walks_back = λ ds marked coloured s ls. row_walk (act t) s (neighbours_traded c ds) ∙ slid_walks (act t) acts [] c ds (kept' ds marked coloured) s
+          ∙ sym (row_walk (act t) s ds) ∙ coloured.walks s (omega (arith, ls, size));
       below = λ cs marked all. subst (All (λ y. y < t.order)) (sym (traded_of (λ (l : Column). l.y) c cs)) (all_traded t.order c (ys_of cs) all);
       below_back = λ ds marked all. subst (All (λ y. y < t.order)) (sym (traded_of (λ (l : Column). l.y) c ds)) (all_traded t.order c (ys_of ds) all);
       there = λ cs marked coloured. traded_columns_twice c cs;
       again = λ ds marked coloured. traded_columns_twice c ds;
     } in
-    bijection_same (IsColouringByColumns t g) (IsColouringByColumns t h) (λ c'. ys_of (neighbours_traded c (columns g.x g.o c'))) (λ d. ys_of (neighbours_traded c (columns h.x h.o d))) (λ c. c) (λ d. d)
+    bijection_same (IsColouringByColumns t g) (IsColouringByColumns t h) (λ c'. ys_of (neighbours_traded c (columns g.x g.o c')))
+    (λ d. ys_of (neighbours_traded c (columns h.x h.o d))) (λ c. c) (λ d. d)
     (bijection_of t g h (neighbours_traded c) (neighbours_traded c) grid grid' carried)
     (λ c' colouring.
     let marked : IsMarked g (columns g.x g.o c') = marked_columns g c' grid colouring.size in
-    traded_of (λ (l : Column). l.y) c (columns g.x g.o c') ∙ kept (columns g.x g.o c') marked (coloured_of (act t) g (columns g.x g.o c') grid marked colouring.walks) ∙ ys_of_columns g.x g.o c' grid.same colouring.size)
+    traded_of (λ (l : Column). l.y) c (columns g.x g.o c')
+    ∙ kept (columns g.x g.o c') marked (coloured_of (act t) g (columns g.x g.o c') grid marked colouring.walks)
+    ∙ ys_of_columns g.x g.o c' grid.same colouring.size)
     (λ d colouring.
     let marked : IsMarked h (columns h.x h.o d) = marked_columns h d grid' colouring.size in
-    traded_of (λ (l : Column). l.y) c (columns h.x h.o d) ∙ kept' (columns h.x h.o d) marked (coloured_of (act t) h (columns h.x h.o d) grid' marked colouring.walks) ∙ ys_of_columns h.x h.o d grid'.same colouring.size)
+    traded_of (λ (l : Column). l.y) c (columns h.x h.o d)
+    ∙ kept' (columns h.x h.o d) marked (coloured_of (act t) h (columns h.x h.o d) grid' marked colouring.walks)
+    ∙ ys_of_columns h.x h.o d grid'.same colouring.size)

@@ -14,7 +14,8 @@ use Rattle.colour_laws.proofs.Steps.{step_carries}
 
 pub moved_lengths : (t : Table) → IsQuandle t → (d e : Diagram) (move : Move) → Step d move e → length (colourings t d) ≡ length (colourings t e)
 moved_lengths t q d e move step =
-    equal_lengths (IsColouring t d) (IsColouring t e) (carried t d move) (step_carries t q d e move step) (colourings t d) (colourings t e) (listing t d) (listing t e)
+    equal_lengths (IsColouring t d) (IsColouring t e) (carried t d move) (step_carries t q d e move step) (colourings t d) (colourings t e) (listing t d)
+    (listing t e)
 
 pub joined_lengths : (t : Table) → IsQuandle t → (moves : List Move) (d e : Diagram) → Joins d moves e → length (colourings t d) ≡ length (colourings t e)
 joined_lengths t q [] d e joins = ap (λ f. length (colourings t f)) joins

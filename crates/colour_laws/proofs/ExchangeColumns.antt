@@ -52,10 +52,12 @@ crosses_over p d r c a over = ap₂ (λ l m. crossed p l m c.y a) over.below ove
 alike_idle : (p : Bool → ℕ → ℕ → ℕ) (r : ℕ) (u v : Column) (y : ℕ) (rest : List Column) → IsIdle r v → IsAlike p r r (u ∷ v ∷ rest) (recolour v y ∷ u ∷ rest)
 alike_idle p r u v y rest idle =
     let f : ends r v ≡ false = ends_apart r v idle.cross idle.ring in
-    let skip : (a : ℕ) → on_at p r r a (v ∷ rest) ≡ on_at p r r a rest = λ a. on_apart p r r a v rest f ∙ ap (λ b. on_at p r r b rest) (crossed_none p (nat_lt v.x r) (nat_lt v.o r) v.y a idle.same) in
+    let skip : (a : ℕ) → on_at p r r a (v ∷ rest) ≡ on_at p r r a rest = λ a. on_apart p r r a v rest f
+    ∙ ap (λ b. on_at p r r b rest) (crossed_none p (nat_lt v.x r) (nat_lt v.o r) v.y a idle.same) in
     record {
       on = λ a. ap (λ t. cond (ends r u) (a == u.y) t) (skip (crosses p r u a))
-          ∙ sym (on_apart p r r a (recolour v y) (u ∷ rest) f ∙ ap (λ b. on_at p r r b (u ∷ rest)) (crossed_none p (nat_lt v.x r) (nat_lt v.o r) y a idle.same));
+          ∙ sym (on_apart p r r a (recolour v y) (u ∷ rest) f
+          ∙ ap (λ b. on_at p r r b (u ∷ rest)) (crossed_none p (nat_lt v.x r) (nat_lt v.o r) y a idle.same));
       row = ap₂ (λ t s. cond (ends r u) t s) (skip u.y) (row_apart p r r v rest f) ∙ sym (row_apart p r r (recolour v y) (u ∷ rest) f);
     }
 
@@ -64,18 +66,21 @@ alike_over : (p : Bool → ℕ → ℕ → ℕ) → Acts p → (d : Bool) (r : �
     → IsAlike p r r (u ∷ v ∷ rest) (recolour v y ∷ u ∷ rest)
 alike_over p acts d r u v y rest over colour =
     let f : ends r u ≡ false = ends_apart r u over.cross over.ring in
-    let pass : (a : ℕ) (cs : List Column) → on_at p r r a (u ∷ cs) ≡ on_at p r r (p d u.y a) cs = λ a cs. on_apart p r r a u cs f ∙ ap (λ b. on_at p r r b cs) (crosses_over p d r u a over) in
+    let pass : (a : ℕ) (cs : List Column) → on_at p r r a (u ∷ cs) ≡ on_at p r r (p d u.y a) cs = λ a cs. on_apart p r r a u cs f
+    ∙ ap (λ b. on_at p r r b cs) (crosses_over p d r u a over) in
     elim (cases_Bool (ends r v)) [
       | inl e ↦ record {
         on = λ a. pass a (v ∷ rest) ∙ on_end p r r (p d u.y a) v rest e
-            ∙ eq_tests a y (p d u.y a) v.y (λ same. ap (p d u.y) same ∙ sym colour) (λ same. sym (undo p acts d u.y a) ∙ ap (p (not d) u.y) (same ∙ colour) ∙ undo p acts d u.y y)
+            ∙ eq_tests a y (p d u.y a) v.y (λ same. ap (p d u.y) same ∙ sym colour) (λ same. sym (undo p acts d u.y a) ∙ ap (p (not d) u.y) (same ∙ colour)
+            ∙ undo p acts d u.y y)
             ∙ sym (on_end p r r a (recolour v y) (u ∷ rest) e);
         row = row_apart p r r u (v ∷ rest) f ∙ row_end p r r v rest e ∙ ap (λ b. on_at p r r b rest) colour ∙ sym (pass y rest)
             ∙ sym (row_end p r r (recolour v y) (u ∷ rest) e);
       }
       | inr e ↦ record {
         on = λ a. pass a (v ∷ rest) ∙ on_apart p r r (p d u.y a) v rest e
-            ∙ ap (λ b. on_at p r r b rest) (ap (λ z. crossed p (nat_lt v.x r) (nat_lt v.o r) z (p d u.y a)) colour ∙ sym (crossed_carried p acts d (nat_lt v.x r) (nat_lt v.o r) u.y y a))
+            ∙ ap (λ b. on_at p r r b rest) (ap (λ z. crossed p (nat_lt v.x r) (nat_lt v.o r) z (p d u.y a)) colour
+            ∙ sym (crossed_carried p acts d (nat_lt v.x r) (nat_lt v.o r) u.y y a))
             ∙ sym (pass (crosses p r (recolour v y) a) rest) ∙ sym (on_apart p r r a (recolour v y) (u ∷ rest) e);
         row = row_apart p r r u (v ∷ rest) f ∙ row_apart p r r v rest e ∙ sym (row_apart p r r u rest f) ∙ sym (row_apart p r r (recolour v y) (u ∷ rest) e);
       }
@@ -165,7 +170,8 @@ nested_walks p acts front u v y rest nested colour r =
       | inl idle ↦ alike_idle p r u v y rest idle
       | inr over ↦ alike_over p acts (rises u) r u v y rest over colour
     ] in
-    row_walk p r (front ++ u ∷ v ∷ rest) ∙ (alike_behind p r r front (u ∷ v ∷ rest) (recolour v y ∷ u ∷ rest) alike).row ∙ sym (row_walk p r (front ++ recolour v y ∷ u ∷ rest))
+    row_walk p r (front ++ u ∷ v ∷ rest) ∙ (alike_behind p r r front (u ∷ v ∷ rest) (recolour v y ∷ u ∷ rest) alike).row
+    ∙ sym (row_walk p r (front ++ recolour v y ∷ u ∷ rest))
 
 -- disjoint columns
 pub disjoint_walks : (p : Bool → ℕ → ℕ → ℕ) → (front : List Column) (u v : Column) (rest : List Column) → IsDisjoint u v

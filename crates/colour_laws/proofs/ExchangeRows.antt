@@ -8,7 +8,8 @@ use Rattle.colour_laws.proofs.Level.{xs_here, xs_not_here, os_here, os_not_here,
 use Rattle.colour_laws.proofs.Relabel.{xs_relabel, os_relabel, row_relabel, eq_lower, eq_upper, eq_other, lt_lower, lt_upper, lt_other}
 
 -- the walk of a row hangs on the columns between its ends alone
-on_same : (p : Bool → ℕ → ℕ → ℕ) (h h' r : ℕ) (cs : List Column) (v v' : ℕ) → level p h (up_to r cs) v ≡ level p h' (up_to r cs) v' → on_at p h r v cs ≡ on_at p h' r v' cs
+on_same : (p : Bool → ℕ → ℕ → ℕ) (h h' r : ℕ) (cs : List Column) (v v' : ℕ) → level p h (up_to r cs) v ≡ level p h' (up_to r cs) v'
+    → on_at p h r v cs ≡ on_at p h' r v' cs
 on_same p h h' r [] v v' e = refl
 on_same p h h' r (c ∷ cs) v v' e = elim (cases_Bool (ends r c)) [
   | inl f ↦
@@ -21,7 +22,8 @@ on_same p h h' r (c ∷ cs) v v' e = elim (cases_Bool (ends r c)) [
       on_apart p h r v c cs f ∙ on_same p h h' r cs (crosses p h c v) (crosses p h' c v') e' ∙ sym (on_apart p h' r v' c cs f)
 ]
 
-pub row_same : (p : Bool → ℕ → ℕ → ℕ) (h h' r : ℕ) (cs : List Column) → ((v : ℕ) → level p h (between r cs) v ≡ level p h' (between r cs) v) → row_at p h r cs ≡ row_at p h' r cs
+pub row_same : (p : Bool → ℕ → ℕ → ℕ) (h h' r : ℕ) (cs : List Column) → ((v : ℕ) → level p h (between r cs) v ≡ level p h' (between r cs) v)
+    → row_at p h r cs ≡ row_at p h' r cs
 row_same p h h' r [] e = refl
 row_same p h h' r (c ∷ cs) e = elim (cases_Bool (ends r c)) [
   | inl f ↦
@@ -95,7 +97,8 @@ row_clear p h r (c ∷ cs) ex eo = elim (side r c) [
 ]
 
 -- row s, whose marks all stand left of the next mark in row r, has the same walk there
-on_within : (p : Bool → ℕ → ℕ → ℕ) (h r s a : ℕ) (cs : List Column) → on_at p h s a cs ≡ true → xs_in s cs ≡ xs_in s (up_to r cs) → os_in s cs ≡ os_in s (up_to r cs)
+on_within : (p : Bool → ℕ → ℕ → ℕ) (h r s a : ℕ) (cs : List Column) → on_at p h s a cs ≡ true → xs_in s cs ≡ xs_in s (up_to r cs)
+    → os_in s cs ≡ os_in s (up_to r cs)
     → on_at p h s a (up_to r cs) ≡ true
 on_within p h r s a [] on ex eo = on
 on_within p h r s a (c ∷ cs) on ex eo = elim (cases_Bool (ends r c)) [
@@ -117,7 +120,8 @@ on_within p h r s a (c ∷ cs) on ex eo = elim (cases_Bool (ends r c)) [
       ])
 ]
 
-row_within : (p : Bool → ℕ → ℕ → ℕ) (h r s : ℕ) (cs : List Column) → row_at p h s cs ≡ true → xs_in s cs ≡ xs_in s (up_to r cs) → os_in s cs ≡ os_in s (up_to r cs)
+row_within : (p : Bool → ℕ → ℕ → ℕ) (h r s : ℕ) (cs : List Column) → row_at p h s cs ≡ true → xs_in s cs ≡ xs_in s (up_to r cs)
+    → os_in s cs ≡ os_in s (up_to r cs)
     → row_at p h s (up_to r cs) ≡ true
 row_within p h r s [] row ex eo = row
 row_within p h r s (c ∷ cs) row ex eo = elim (cases_Bool (ends r c)) [
@@ -147,7 +151,8 @@ no_marks s c ex eo = elim (side s c) [
 ]
 
 -- row s, whose marks all stand between the ends of row r, has the same walk there
-pub row_between : (p : Bool → ℕ → ℕ → ℕ) (h r s : ℕ) (cs : List Column) → row_at p h s cs ≡ true → xs_in s cs ≡ xs_in s (between r cs) → os_in s cs ≡ os_in s (between r cs)
+pub row_between : (p : Bool → ℕ → ℕ → ℕ) (h r s : ℕ) (cs : List Column) → row_at p h s cs ≡ true → xs_in s cs ≡ xs_in s (between r cs)
+    → os_in s cs ≡ os_in s (between r cs)
     → row_at p h s (between r cs) ≡ true
 row_between p h r s [] row ex eo = row
 row_between p h r s (c ∷ cs) row ex eo = elim (cases_Bool (ends r c)) [
@@ -168,7 +173,8 @@ row_between p h r s (c ∷ cs) row ex eo = elim (cases_Bool (ends r c)) [
 ]
 
 -- a row passes another row whose ends stand both between its own ends or both outside
-pub level_between : (p : Bool → ℕ → ℕ → ℕ) → Acts p → (r s : ℕ) (cs : List Column) → row_at p s s cs ≡ true → xs_in s cs ≡ 1 → os_in s cs ≡ 1 → IsTogether r s cs
+pub level_between : (p : Bool → ℕ → ℕ → ℕ) → Acts p → (r s : ℕ) (cs : List Column) → row_at p s s cs ≡ true → xs_in s cs ≡ 1 → os_in s cs ≡ 1
+    → IsTogether r s cs
     → (v : ℕ) → level p (suc s) (between r cs) v ≡ level p s (between r cs) v
 level_between p acts r s cs row ex eo together v =
     let few = few_between r s cs in

@@ -25,7 +25,8 @@ use Rattle.colour_laws.proofs.Bijections.{bijection_from}
 abbrev pub AreFree : Column → Column → Type 0
 AreFree u v = IsNested u v ⊎ (IsNested v u ⊎ IsDisjoint u v)
 
-nested_spans : (a b c d : ℕ) → (span a b).low < (span c d).low → (span c d).high < (span a b).high → ((a < c) × (a < d) × (c < b) × (d < b)) ⊎ ((b < c) × (b < d) × (c < a) × (d < a))
+nested_spans : (a b c d : ℕ) → (span a b).low < (span c d).low → (span c d).high < (span a b).high
+    → ((a < c) × (a < d) × (c < b) × (d < b)) ⊎ ((b < c) × (b < d) × (c < a) × (d < a))
 nested_spans a b c d low high =
     let la = span_low a b in
     let ha = span_high a b in
@@ -53,14 +54,15 @@ are_free a b c d y z free =
             let h = disjoint_spans c d a b (ltb-true (span c d).high (span a b).low e) in
             inr (inr (inr (h.0, h.1, h.2, h.3)))
       ]
-      | inr nested ↦ elim (or_cases (nat_lt (span a b).low (span c d).low && nat_lt (span c d).high (span a b).high) (nat_lt (span c d).low (span a b).low && nat_lt (span a b).high (span c d).high) nested) [
-        | inl e ↦
-            let parts = and_parts (nat_lt (span a b).low (span c d).low) (nat_lt (span c d).high (span a b).high) e in
-            inl (nested_spans a b c d (ltb-true (span a b).low (span c d).low parts.0) (ltb-true (span c d).high (span a b).high parts.1))
-        | inr e ↦
-            let parts = and_parts (nat_lt (span c d).low (span a b).low) (nat_lt (span a b).high (span c d).high) e in
-            inr (inl (nested_spans c d a b (ltb-true (span c d).low (span a b).low parts.0) (ltb-true (span a b).high (span c d).high parts.1)))
-      ]
+      | inr nested ↦ elim (or_cases (nat_lt (span a b).low (span c d).low && nat_lt (span c d).high (span a b).high)
+          (nat_lt (span c d).low (span a b).low && nat_lt (span a b).high (span c d).high) nested) [
+            | inl e ↦
+                let parts = and_parts (nat_lt (span a b).low (span c d).low) (nat_lt (span c d).high (span a b).high) e in
+                inl (nested_spans a b c d (ltb-true (span a b).low (span c d).low parts.0) (ltb-true (span c d).high (span a b).high parts.1))
+            | inr e ↦
+                let parts = and_parts (nat_lt (span c d).low (span a b).low) (nat_lt (span a b).high (span c d).high) e in
+                inr (inl (nested_spans c d a b (ltb-true (span c d).low (span a b).low parts.0) (ltb-true (span a b).high (span c d).high parts.1)))
+          ]
     ]
 
 -- exchanges of rows
@@ -71,12 +73,14 @@ pub map_same : (f g : ℕ → ℕ) → ((x : ℕ) → f x ≡ g x) → (xs : Lis
 map_same f g same [] = refl
 map_same f g same (x ∷ xs) = ap₂ (λ y ys. y ∷ ys) (same x) (map_same f g same xs)
 
-pub exchange_of_rows : (t : Table) → IsQuandle t → (d e : Diagram) (r : ℕ) → Step d (ExchangeRows r) e → IsBijection (IsColouring t d) (IsColouring t e) (carried t d (ExchangeRows r))
+pub exchange_of_rows : (t : Table) → IsQuandle t → (d e : Diagram) (r : ℕ) → Step d (ExchangeRows r) e
+    → IsBijection (IsColouring t d) (IsColouring t e) (carried t d (ExchangeRows r))
 exchange_of_rows t q d e r step =
     let is = step_moved d (ExchangeRows r) e step in
     let tradable : AreRowsTradable r d = (
       omega (arith, step.marks.inside),
-      subst (λ (k : ℕ). AreFree (across r d) (across k d)) (add-one r) (are_free (column_of Cross d r) (column_of Ring d r) (column_of Cross d (r + 1)) (column_of Ring d (r + 1)) 0 0 step.marks.may_exchange),
+      subst (λ (k : ℕ). AreFree (across r d) (across k d)) (add-one r) (are_free (column_of Cross d r) (column_of Ring d r) (column_of Cross d (r + 1))
+          (column_of Ring d (r + 1)) 0 0 step.marks.may_exchange),
     ) in
     bijection_from t q d e step.before step.after (λ c. c) (λ c. c) (carried t d (ExchangeRows r))
     (rows_traded t q d e step.before step.after r tradable

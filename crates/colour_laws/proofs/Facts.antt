@@ -36,10 +36,12 @@ follow_same t q [] all x lx = (refl, lx)
 follow_same t q (link ∷ chain) all x lx =
     let la : link.1 < t.order = All-head (λ (column : Bool × ℕ). column.1 < t.order) link chain all in
     let step = forth_same t link.0 link.1 x la lx in
-    let rest = follow_same t q chain (All-tail (λ (column : Bool × ℕ). column.1 < t.order) link chain all) (passed_rightward t link.0 x link.1) (subst (λ (z : ℕ). z < t.order) (sym step) (act_below t q link.0 link.1 x lx)) in
+    let rest = follow_same t q chain (All-tail (λ (column : Bool × ℕ). column.1 < t.order) link chain all) (passed_rightward t link.0 x link.1)
+    (subst (λ (z : ℕ). z < t.order) (sym step) (act_below t q link.0 link.1 x lx)) in
     (rest.0 ∙ ap (lists.follow (act t) chain) step, rest.1)
 
-pub sliding : (t : Table) → IsQuandle t → (up : Bool) (chain : List (Bool × ℕ)) (a x : ℕ) → All (λ (column : Bool × ℕ). column.1 < t.order) chain → a < t.order → x < t.order
+pub sliding : (t : Table) → IsQuandle t → (up : Bool) (chain : List (Bool × ℕ)) (a x : ℕ) → All (λ (column : Bool × ℕ). column.1 < t.order) chain → a < t.order
+    → x < t.order
     → follow t chain (passed_rightward t up x a) ≡ passed_rightward t up (follow t chain x) (follow t chain a)
 sliding t q up chain a x all la lx =
     let step = forth_same t up a x la lx in
@@ -57,7 +59,8 @@ undone : (t : Table) → IsQuandle t → (up : Bool) (a x : ℕ) → a < t.order
 undone t q true a x la lx = q.over_back x a lx la
 undone t q false a x la lx = q.back_over x a lx la
 
-pub cancelling : (t : Table) → IsQuandle t → (up : Bool) (chain : List (Bool × ℕ)) (a x : ℕ) → All (λ (column : Bool × ℕ). column.1 < t.order) chain → a < t.order → x < t.order
+pub cancelling : (t : Table) → IsQuandle t → (up : Bool) (chain : List (Bool × ℕ)) (a x : ℕ) → All (λ (column : Bool × ℕ). column.1 < t.order) chain
+    → a < t.order → x < t.order
     → follow t ((up, a) ∷ chain ++ (not up, follow t chain a) ∷ []) x ≡ follow t chain x
 cancelling t q up chain a x all la lx =
     follow-append t chain ((not up, follow t chain a) ∷ []) (passed_rightward t up x a)
@@ -110,12 +113,15 @@ level_same t q d f has h (suc m) i a e la =
     let lt : i < length d.x = omega (arith, e) in
     let same = crossed_same t (slice_index d.x i) (slice_index d.o i) h (slice_index f i) a (colour_below t d f has i lt) la in
     ap (λ l. level (act t) h l a) (columns_next i d.x d.o f has.rings has.size lt)
-    ∙ level_same t q d f has h m (suc i) (crosses (act t) h (coloured_at i d.x d.o f) a) (omega (arith, e)) (crossed_below t q (nat_lt (slice_index d.x i) h) (nat_lt (slice_index d.o i) h) (slice_index f i) a la)
+    ∙ level_same t q d f has h m (suc i) (crosses (act t) h (coloured_at i d.x d.o f) a) (omega (arith, e))
+    (crossed_below t q (nat_lt (slice_index d.x i) h) (nat_lt (slice_index d.o i) h) (slice_index f i) a la)
     ∙ ap₂ (λ z j. fold (under t d f) z (filter (covers_height d h) (range_with_len j m))) same (let k : suc i ≡ i + 1 = omega arith in k)
     ∙ sym (chain_step t d f i a (filter (covers_height d h) (range_with_len (i + 1) m)) (covers_height d h i))
 
-pub level_fact : (t : Table) → IsQuandle t → (d : Diagram) → IsGrid d → (f : List ℕ) → IsColouring t d f → (h x : ℕ) → h ≤ size d → x < t.order → across_height t d f h x ≡ x
+pub level_fact : (t : Table) → IsQuandle t → (d : Diagram) → IsGrid d → (f : List ℕ) → IsColouring t d f → (h x : ℕ) → h ≤ size d → x < t.order
+    → across_height t d f h x ≡ x
 level_fact t q d grid f colouring h x le lx =
     let old = by_columns t q d grid f colouring in
     sym (level_same t q d f (record { rings = grid.same; size = old.size; below = old.below }) h (size d) 0 x (omega arith) lx)
-    ∙ level_holds (act t) (act_acts t q) (length d.x) (columns d.x d.o f) (coloured_of (act t) d (columns d.x d.o f) grid (marked_columns d f grid old.size) old.walks) h le x
+    ∙ level_holds (act t) (act_acts t q) (length d.x) (columns d.x d.o f)
+    (coloured_of (act t) d (columns d.x d.o f) grid (marked_columns d f grid old.size) old.walks) h le x

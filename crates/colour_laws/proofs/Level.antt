@@ -36,7 +36,8 @@ on_clear p h r a [] ex eo = refl
 on_clear p h r a (c ∷ cs) ex eo = elim (side r c) [
   | cross e ↦ absurd (omega (arith, xs_here r c cs e))
   | ring n e ↦ absurd (omega (arith, os_here r c cs e))
-  | apart n m ↦ on_apart p h r a c cs (ends_apart r c n m) ∙ on_clear p h r (crosses p h c a) cs (sym (xs_not_here r c cs n) ∙ ex) (sym (os_not_here r c cs m) ∙ eo)
+  | apart n m ↦ on_apart p h r a c cs (ends_apart r c n m) ∙ on_clear p h r (crosses p h c a) cs (sym (xs_not_here r c cs n) ∙ ex)
+      (sym (os_not_here r c cs m) ∙ eo)
 ]
 
 -- tests of a mark that is in row r, and of one that is not
@@ -155,7 +156,8 @@ passed p acts r (c ∷ cs) row ex eo v = elim (side r c) [
       ]
   | apart n m ↦
       ap (λ w. level p (suc r) cs w) (crosses_above p r c v n m)
-      ∙ passed p acts r cs (sym (row_apart p r r c cs (ends_apart r c n m)) ∙ row) (sym (xs_not_here r c cs n) ∙ ex) (sym (os_not_here r c cs m) ∙ eo) (crosses p r c v)
+      ∙ passed p acts r cs (sym (row_apart p r r c cs (ends_apart r c n m)) ∙ row) (sym (xs_not_here r c cs n) ∙ ex) (sym (os_not_here r c cs m) ∙ eo)
+      (crosses p r c v)
 ]
 
 pub level_none : (p : Bool → ℕ → ℕ → ℕ) (cs : List Column) (v : ℕ) → level p 0 cs v ≡ v

@@ -59,14 +59,16 @@ fronts ds a m = flat_map (λ a. map (λ rest. a ∷ rest) ds) (range_with_len a 
 fronts_in : (ds : List (List ℕ)) (a m h : ℕ) (c : List ℕ) → a ≤ h → h < a + m → IsOneOf c ds → IsOneOf (h ∷ c) (fronts ds a m)
 fronts_in ds a zero h c low high one = absurd (omega arith)
 fronts_in ds a (suc m) h c low high one = elim (cases_eq a h) [
-  | inl e ↦ one_left (h ∷ c) (map (λ rest. a ∷ rest) ds) (fronts ds (a + 1) m) (subst (λ (b : ℕ). IsOneOf (b ∷ c) (map (λ rest. a ∷ rest) ds)) e (front_in a c ds one))
+  | inl e ↦ one_left (h ∷ c) (map (λ rest. a ∷ rest) ds) (fronts ds (a + 1) m)
+      (subst (λ (b : ℕ). IsOneOf (b ∷ c) (map (λ rest. a ∷ rest) ds)) e (front_in a c ds one))
   | inr n ↦ one_right (h ∷ c) (map (λ rest. a ∷ rest) ds) (fronts ds (a + 1) m) (fronts_in ds (a + 1) m h c (above a h low n) (omega arith) one)
 ]
   where
     above : (a h : ℕ) → a ≤ h → a ≢ h → a + 1 ≤ h
     above a h low n = grind (arith, low, n)
 
-fronts_out : (ds : List (List ℕ)) (a m : ℕ) (c : List ℕ) → IsOneOf c (fronts ds a m) → (h : ℕ) × (d : List ℕ) × (a ≤ h) × (h < a + m) × IsOneOf d ds × (c ≡ h ∷ d)
+fronts_out : (ds : List (List ℕ)) (a m : ℕ) (c : List ℕ) → IsOneOf c (fronts ds a m)
+    → (h : ℕ) × (d : List ℕ) × (a ≤ h) × (h < a + m) × IsOneOf d ds × (c ≡ h ∷ d)
 fronts_out ds a zero c one = absurd one
 fronts_out ds a (suc m) c one = elim (one_either c (map (λ rest. a ∷ rest) ds) (fronts ds (a + 1) m) one) [
   | inl k ↦ let from = front_out a c ds k in (a, from.0, omega arith, omega arith, from.1, from.2)
@@ -75,7 +77,8 @@ fronts_out ds a (suc m) c one = elim (one_either c (map (λ rest. a ∷ rest) ds
 
 fronts_distinct : (ds : List (List ℕ)) (a m : ℕ) → AreDistinct ds → AreDistinct (fronts ds a m)
 fronts_distinct ds a zero distinct = tt
-fronts_distinct ds a (suc m) distinct = distinct_append (map (λ rest. a ∷ rest) ds) (fronts ds (a + 1) m) (front_distinct a ds distinct) (fronts_distinct ds (a + 1) m distinct) (λ c one two.
+fronts_distinct ds a (suc m) distinct =
+    distinct_append (map (λ rest. a ∷ rest) ds) (fronts ds (a + 1) m) (front_distinct a ds distinct) (fronts_distinct ds (a + 1) m distinct) (λ c one two.
     let first = front_out a c ds one in
     let second = fronts_out ds (a + 1) m c two in
     let is : a ∷ first.0 ≡ second.0 ∷ second.1 = sym first.2 ∙ second.5 in
@@ -98,8 +101,14 @@ all_distinct q (suc n) = fronts_distinct (all_lists q n) 0 q (all_distinct q n)
 pub kept_in : (test : List ℕ → Bool) (c : List ℕ) (ds : List (List ℕ)) → IsOneOf c ds → test c ≡ true → IsOneOf c (filter test ds)
 kept_in test c [] one yes' = absurd one
 kept_in test c (d ∷ ds) one yes' = elim (cases_Bool (test d)) [
-  | inl e ↦ subst (IsOneOf c) (sym (cond-true (test d) (d ∷ filter test ds) (filter test ds) e)) (elim one [ inl h ↦ inl h | inr h ↦ inr (kept_in test c ds h yes') ])
-  | inr e ↦ subst (IsOneOf c) (sym (cond-false (test d) (d ∷ filter test ds) (filter test ds) e)) (elim one [ inl h ↦ absurd (false≢true (sym e ∙ ap test (sym h) ∙ yes')) | inr h ↦ kept_in test c ds h yes' ])
+  | inl e ↦ subst (IsOneOf c) (sym (cond-true (test d) (d ∷ filter test ds) (filter test ds) e)) (elim one [
+    | inl h ↦ inl h
+    | inr h ↦ inr (kept_in test c ds h yes')
+  ])
+  | inr e ↦ subst (IsOneOf c) (sym (cond-false (test d) (d ∷ filter test ds) (filter test ds) e)) (elim one [
+    | inl h ↦ absurd (false≢true (sym e ∙ ap test (sym h) ∙ yes'))
+    | inr h ↦ kept_in test c ds h yes'
+  ])
 ]
 
 pub kept_out : (test : List ℕ → Bool) (c : List ℕ) (ds : List (List ℕ)) → IsOneOf c (filter test ds) → IsOneOf c ds × (test c ≡ true)
@@ -115,7 +124,8 @@ kept_out test c (d ∷ ds) one = elim (cases_Bool (test d)) [
 pub kept_distinct : (test : List ℕ → Bool) (ds : List (List ℕ)) → AreDistinct ds → AreDistinct (filter test ds)
 kept_distinct test [] distinct = tt
 kept_distinct test (d ∷ ds) distinct = elim (cases_Bool (test d)) [
-  | inl e ↦ subst AreDistinct (sym (cond-true (test d) (d ∷ filter test ds) (filter test ds) e)) (λ one. distinct.0 (kept_out test d ds one).0, kept_distinct test ds distinct.1)
+  | inl e ↦ subst AreDistinct (sym (cond-true (test d) (d ∷ filter test ds) (filter test ds) e))
+      (λ one. distinct.0 (kept_out test d ds one).0, kept_distinct test ds distinct.1)
   | inr e ↦ subst AreDistinct (sym (cond-false (test d) (d ∷ filter test ds) (filter test ds) e)) (kept_distinct test ds distinct.1)
 ]
 
@@ -125,5 +135,6 @@ listing t d = record {
   distinct = kept_distinct (is_colouring t d) (all_lists t.order (size d)) (all_distinct t.order (size d));
   sound = λ c one. coloured t d c (kept_out (is_colouring t d) c (all_lists t.order (size d)) one).1;
   complete = λ c colours.
-      kept_in (is_colouring t d) c (all_lists t.order (size d)) (all_complete t.order (size d) c colours.colours_are.0 colours.colours_are.1) (colouring t d c colours);
+      kept_in (is_colouring t d) c (all_lists t.order (size d)) (all_complete t.order (size d) c colours.colours_are.0 colours.colours_are.1)
+      (colouring t d c colours);
 }

@@ -81,7 +81,8 @@ once n r rows each lt =
     ∙ sym (count_sum r (range_with_len 0 n)) ∙ range_once r 0 n (omega arith) (omega arith)
 
 -- a grid's columns, with right walks
-pub coloured_of : (p : Bool → ℕ → ℕ → ℕ) (g : Diagram) (cs : List Column) → IsGrid g → IsMarked g cs → ((r : ℕ) → r < length g.x → walk p r cs ≡ true) → IsColoured p (length g.x) cs
+pub coloured_of : (p : Bool → ℕ → ℕ → ℕ) (g : Diagram) (cs : List Column) → IsGrid g → IsMarked g cs → ((r : ℕ) → r < length g.x → walk p r cs ≡ true)
+    → IsColoured p (length g.x) cs
 coloured_of p g cs grid marked walks = record {
   crosses = λ r lt. xs_count r cs ∙ ap (count_at r) marked.crosses ∙ once (length g.x) r g.x grid.crosses lt;
   rings = λ r lt. os_count r cs ∙ ap (count_at r) marked.rings ∙ once (length g.x) r g.o grid.rings lt;
@@ -117,7 +118,8 @@ forward t g h go grid goes walks below c colouring =
     let moved : IsMarked h (go (columns g.x g.o c)) = goes (columns g.x g.o c) marked in
     let coloured = coloured_of (act t) g (columns g.x g.o c) grid marked colouring.walks in
     record {
-      size = length-map (go (columns g.x g.o c)) (λ (l : Column). l.y) ∙ sym (length-map (go (columns g.x g.o c)) (λ (l : Column). l.x)) ∙ ap length moved.crosses;
+      size =
+          length-map (go (columns g.x g.o c)) (λ (l : Column). l.y) ∙ sym (length-map (go (columns g.x g.o c)) (λ (l : Column). l.x)) ∙ ap length moved.crosses;
       below = below (columns g.x g.o c) marked (subst (All (λ y. y < t.order)) (sym (ys_of_columns g.x g.o c grid.same colouring.size)) colouring.below);
       walks = λ r lt. ap (λ l. walk (act t) r l) (columns_marked h (go (columns g.x g.o c)) moved) ∙ walks (columns g.x g.o c) marked coloured r lt;
     }
@@ -142,7 +144,8 @@ bijection_of t g h go come grid grid' carried = record {
 -- a grid's marks are in its rows
 inside_of : (n : ℕ) (cs : List Column) → All (λ r. r < n) (xs_of cs) → All (λ r. r < n) (os_of cs) → IsInside n cs
 inside_of n [] ex eo = tt
-inside_of n (c ∷ cs) ex eo = (ex 0 0 (omega arith), eo 0 0 (omega arith), inside_of n cs (λ k d lt. ex (suc k) d (omega arith)) (λ k d lt. eo (suc k) d (omega arith)))
+inside_of n (c ∷ cs) ex eo =
+    (ex 0 0 (omega arith), eo 0 0 (omega arith), inside_of n cs (λ k d lt. ex (suc k) d (omega arith)) (λ k d lt. eo (suc k) d (omega arith)))
 
 pub inside : (g : Diagram) (cs : List Column) → IsGrid g → IsMarked g cs → IsInside (length g.x) cs
 inside g cs grid marked = inside_of (length g.x) cs

@@ -97,7 +97,8 @@ up_in f r s (c ∷ cs) one lt = elim (cases_Bool (ends r c)) [
       let is = up_to_apart r c cs e in
       rw is (elim (cases_eq (f c) s) [
         | inl h ↦ omega (arith, m_here f s c cs h, m_here f s c (up_to r cs) h, few_up f r s cs, one)
-        | inr h ↦ m_later f s c (up_to r cs) h ∙ up_in f r s cs (sym (m_later f s c cs h) ∙ one) (omega (arith, lt, first_later r c cs e, place_later s (f c) (map f cs) h))
+        | inr h ↦ m_later f s c (up_to r cs) h
+            ∙ up_in f r s cs (sym (m_later f s c cs h) ∙ one) (omega (arith, lt, first_later r c cs e, place_later s (f c) (map f cs) h))
       ])
 ]
 
@@ -115,7 +116,8 @@ up_out f r s (c ∷ cs) le = elim (cases_Bool (ends r c)) [
 ]
 
 -- a mark strictly between the ends of row r
-mid_in : (f : Column → ℕ) (r s : ℕ) (cs : List Column) → marks_in f s cs ≡ 1 → first_end r cs < place s (map f cs) → place s (map f cs) < second_end r cs → marks_in f s (between r cs) ≡ 1
+mid_in : (f : Column → ℕ) (r s : ℕ) (cs : List Column) → marks_in f s cs ≡ 1 → first_end r cs < place s (map f cs) → place s (map f cs) < second_end r cs
+    → marks_in f s (between r cs) ≡ 1
 mid_in f r s [] one low high = absurd (omega (arith, one))
 mid_in f r s (c ∷ cs) one low high = elim (cases_eq (f c) s) [
   | inl h ↦ absurd (omega (arith, low, place_here s (f c) (map f cs) h))
@@ -124,7 +126,8 @@ mid_in f r s (c ∷ cs) one low high = elim (cases_eq (f c) s) [
       let later = place_later s (f c) (map f cs) h in
       elim (cases_Bool (ends r c)) [
         | inl e ↦ let is = between_end r c cs e in rw is (up_in f r s cs one' (omega (arith, high, second_here r c cs e, later)))
-        | inr e ↦ let is = between_apart r c cs e in rw is (mid_in f r s cs one' (omega (arith, low, first_later r c cs e, later)) (omega (arith, high, second_later r c cs e, later)))
+        | inr e ↦ let is = between_apart r c cs e in
+            rw is (mid_in f r s cs one' (omega (arith, low, first_later r c cs e, later)) (omega (arith, high, second_later r c cs e, later)))
       ]
 ]
 
@@ -189,7 +192,9 @@ in_order r (c ∷ cs) = elim (cases_Bool (ends r c)) [
 
 -- one way round or the other
 abbrev AreEnds : ℕ → List Column → Type 0
-AreEnds r cs = ((first_end r cs ≡ place r (xs_of cs)) × (second_end r cs ≡ place r (os_of cs))) ⊎ ((first_end r cs ≡ place r (os_of cs)) × (second_end r cs ≡ place r (xs_of cs)))
+AreEnds r cs =
+    ((first_end r cs ≡ place r (xs_of cs)) × (second_end r cs ≡ place r (os_of cs)))
+    ⊎ ((first_end r cs ≡ place r (os_of cs)) × (second_end r cs ≡ place r (xs_of cs)))
 
 ends_of : (p : Bool → ℕ → ℕ → ℕ) (r : ℕ) (cs : List Column) → row_at p r r cs ≡ true → xs_in r cs ≡ 1 → os_in r cs ≡ 1 → AreEnds r cs
 ends_of p r [] row ex eo = absurd (false≢true row)
@@ -199,11 +204,17 @@ ends_of p r (c ∷ cs) row ex eo = elim (side r c) [
       let ex' : xs_in r cs ≡ 0 = omega (arith, xs_here r c cs e) in
       let on = sym (row_end p r r c cs is) ∙ row in
       let n : c.o ≢ r = λ f. false≢true (sym (on_clear p r r c.y cs ex' (omega (arith, os_here r c cs f))) ∙ on) in
-      inl (first_here r c cs is ∙ sym (place_here r c.x (xs_of cs) e), second_here r c cs is ∙ ap suc (first_ring r cs ex') ∙ sym (place_later r c.o (os_of cs) n))
+      inl (
+        first_here r c cs is ∙ sym (place_here r c.x (xs_of cs) e),
+        second_here r c cs is ∙ ap suc (first_ring r cs ex') ∙ sym (place_later r c.o (os_of cs) n),
+      )
   | ring n e ↦
       let is = ends_ring r c e in
       let eo' : os_in r cs ≡ 0 = omega (arith, os_here r c cs e) in
-      inr (first_here r c cs is ∙ sym (place_here r c.o (os_of cs) e), second_here r c cs is ∙ ap suc (first_cross r cs eo') ∙ sym (place_later r c.x (xs_of cs) n))
+      inr (
+        first_here r c cs is ∙ sym (place_here r c.o (os_of cs) e),
+        second_here r c cs is ∙ ap suc (first_cross r cs eo') ∙ sym (place_later r c.x (xs_of cs) n),
+      )
   | apart n m ↦
       let is = ends_apart r c n m in
       let rest = ends_of p r cs (sym (row_apart p r r c cs is) ∙ row) (sym (xs_not_here r c cs n) ∙ ex) (sym (os_not_here r c cs m) ∙ eo) in
@@ -216,7 +227,8 @@ ends_of p r (c ∷ cs) row ex eo = elim (side r c) [
 ]
 
 -- rows whose intervals are nested or disjoint are together
-pub together : (p : Bool → ℕ → ℕ → ℕ) (g : Diagram) (r s : ℕ) (cs : List Column) → IsMarked g cs → row_at p r r cs ≡ true → xs_in r cs ≡ 1 → os_in r cs ≡ 1 → xs_in s cs ≡ 1 → os_in s cs ≡ 1
+pub together : (p : Bool → ℕ → ℕ → ℕ) (g : Diagram) (r s : ℕ) (cs : List Column) → IsMarked g cs → row_at p r r cs ≡ true → xs_in r cs ≡ 1 → os_in r cs ≡ 1
+    → xs_in s cs ≡ 1 → os_in s cs ≡ 1
     → IsNested (across r g) (across s g) ⊎ (IsNested (across s g) (across r g) ⊎ IsDisjoint (across r g) (across s g)) → IsTogether r s cs
 together p g r s cs marked row ex eo ex' eo' tradable =
     let mx : marks_in (λ (c : Column). c.x) s cs ≡ 1 = sym (xs_are s cs) ∙ ex' in
@@ -226,7 +238,8 @@ together p g r s cs marked row ex eo ex' eo' tradable =
     let sx : place s (xs_of cs) ≡ place s g.x = ap (place s) marked.crosses in
     let so : place s (os_of cs) ≡ place s g.o = ap (place s) marked.rings in
     let f : Column → ℕ = λ c. c.x in
-    let both_in : first_end r cs < place s (xs_of cs) → place s (xs_of cs) < second_end r cs → first_end r cs < place s (os_of cs) → place s (os_of cs) < second_end r cs → IsTogether r s cs = λ a b c d.
+    let both_in : first_end r cs < place s (xs_of cs) → place s (xs_of cs) < second_end r cs → first_end r cs < place s (os_of cs)
+    → place s (os_of cs) < second_end r cs → IsTogether r s cs = λ a b c d.
     xs_are s (between r cs) ∙ mid_in (λ (c : Column). c.x) r s cs mx a b ∙ sym (os_are s (between r cs) ∙ mid_in (λ (c : Column). c.o) r s cs mo c d) in
     let x_out : (place s (xs_of cs) ≤ first_end r cs) ⊎ (second_end r cs ≤ place s (xs_of cs)) → xs_in s (between r cs) ≡ 0 = λ out.
     xs_are s (between r cs) ∙ elim out [ inl l ↦ mid_low (λ (c : Column). c.x) r s cs mx l | inr l ↦ mid_high (λ (c : Column). c.x) r s cs l ] in

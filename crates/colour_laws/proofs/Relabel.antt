@@ -113,13 +113,24 @@ pub lt_upper : (r x : ℕ) → x ≢ r → nat_lt (swapped r x) (suc r) ≡ nat_
 lt_upper r x n = elim (traded r x) [
   | lower e is ↦ absurd (n e)
   | upper e is ↦ lt_tests x (suc (suc r)) (swapped r x) (suc r) (λ f. omega arith) (λ f. omega arith)
-  | other u v is ↦ lt_tests x (suc (suc r)) (swapped r x) (suc r) (λ f. elim (cases_order x (suc r)) [ inl e ↦ absurd (v e) | inr (inl l) ↦ omega arith | inr (inr l) ↦ omega arith ]) (λ f. omega arith)
+  | other u v is ↦ lt_tests x (suc (suc r)) (swapped r x) (suc r) (λ f. elim (cases_order x (suc r)) [
+    | inl e ↦ absurd (v e)
+    | inr (inl l) ↦ omega arith
+    | inr (inr l) ↦ omega arith
+  ]) (λ f. omega arith)
 ]
 
 pub lt_other : (r s : ℕ) → s ≢ r → s ≢ suc r → (x : ℕ) → nat_lt (swapped r x) s ≡ nat_lt x s
 lt_other r s u v x = elim (traded r x) [
-  | lower e is ↦ lt_tests x s (swapped r x) s (λ f. elim (cases_eq s (suc r)) [ inl k ↦ absurd (v k) | inr k ↦ elim (cases_order s (suc r)) [ inl e' ↦ absurd (k e') | inr (inl l) ↦ omega arith | inr (inr l) ↦ omega arith ] ]) (λ f. omega arith)
-  | upper e is ↦ lt_tests x s (swapped r x) s (λ f. omega arith) (λ f. elim (cases_order s (suc r)) [ inl k ↦ absurd (v k) | inr (inl l) ↦ omega arith | inr (inr l) ↦ omega arith ])
+  | lower e is ↦ lt_tests x s (swapped r x) s (λ f. elim (cases_eq s (suc r)) [
+    | inl k ↦ absurd (v k)
+    | inr k ↦ elim (cases_order s (suc r)) [ inl e' ↦ absurd (k e') | inr (inl l) ↦ omega arith | inr (inr l) ↦ omega arith ]
+  ]) (λ f. omega arith)
+  | upper e is ↦ lt_tests x s (swapped r x) s (λ f. omega arith) (λ f. elim (cases_order s (suc r)) [
+    | inl k ↦ absurd (v k)
+    | inr (inl l) ↦ omega arith
+    | inr (inr l) ↦ omega arith
+  ])
   | other n m is ↦ lt_tests x s (swapped r x) s (λ f. omega arith) (λ f. omega arith)
 ]
 

@@ -21,10 +21,12 @@ pub record AreEnds (d : Diagram) (r : ℕ) : Type 0 where
   pub others : (i : ℕ) → i < size d → i ≢ (ends d r).low → i ≢ (ends d r).high → is_end d r i ≡ false
 
 end_cross : (d : Diagram) → IsGrid d → (r i : ℕ) → r < size d → i ≡ column_of Cross d r → is_end d r i ≡ true
-end_cross d grid r i lt e = or_left (slice_index d.x i == r) (slice_index d.o i == r) (eq-eqb (slice_index d.x i) r (ap (slice_index d.x) e ∙ (column_mark d grid Cross r lt).row))
+end_cross d grid r i lt e =
+    or_left (slice_index d.x i == r) (slice_index d.o i == r) (eq-eqb (slice_index d.x i) r (ap (slice_index d.x) e ∙ (column_mark d grid Cross r lt).row))
 
 end_ring : (d : Diagram) → IsGrid d → (r i : ℕ) → r < size d → i ≡ column_of Ring d r → is_end d r i ≡ true
-end_ring d grid r i lt e = or_right (slice_index d.x i == r) (slice_index d.o i == r) (eq-eqb (slice_index d.o i) r (ap (slice_index d.o) e ∙ (column_mark d grid Ring r lt).row))
+end_ring d grid r i lt e =
+    or_right (slice_index d.x i == r) (slice_index d.o i == r) (eq-eqb (slice_index d.o i) r (ap (slice_index d.o) e ∙ (column_mark d grid Ring r lt).row))
 
 end_either : (d : Diagram) → IsGrid d → (r i : ℕ) → r < size d → (i ≡ column_of Cross d r) ⊎ (i ≡ column_of Ring d r) → is_end d r i ≡ true
 end_either d grid r i lt either = elim either [ inl e ↦ end_cross d grid r i lt e | inr e ↦ end_ring d grid r i lt e ]
@@ -48,6 +50,8 @@ are_ends d grid r lt =
       left = end_either d grid r (ends d r).low lt (min_either cross ring (ends d r).low low);
       right = end_either d grid r (ends d r).high lt (max_either cross ring (ends d r).high high);
       others = λ i at left right. or_from (slice_index d.x i == r) (slice_index d.o i == r)
-          (ne_eqb (slice_index d.x i) r (λ e. let is = column_is d grid Cross i r (record { inside = at; row = e }) in absurd (omega (arith, is, low, high, left, right))))
-          (ne_eqb (slice_index d.o i) r (λ e. let is = column_is d grid Ring i r (record { inside = at; row = e }) in absurd (omega (arith, is, low, high, left, right))));
+          (ne_eqb (slice_index d.x i) r (λ e. let is = column_is d grid Cross i r (record { inside = at; row = e }) in
+          absurd (omega (arith, is, low, high, left, right))))
+          (ne_eqb (slice_index d.o i) r (λ e. let is = column_is d grid Ring i r (record { inside = at; row = e }) in
+          absurd (omega (arith, is, low, high, left, right))));
     }

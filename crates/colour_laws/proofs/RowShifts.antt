@@ -16,14 +16,17 @@ use Rattle.colour_laws.proofs.ShiftRows.{lowered_is, rows_lowered, rows_raised, 
 use Rattle.colour_laws.proofs.Marked.{IsCarried, bijection_of, ys_of_columns, xs_of_columns, os_of_columns, columns_marked, inside}
 use Rattle.colour_laws.proofs.ColumnShifts.{bijection_same, bijection_then}
 
-pub recoloured_end : (p : Bool → ℕ → ℕ → ℕ) (turn : Bool → Bool) (c : Column) (cs : List Column) → ends 0 c ≡ true → recoloured p turn (c ∷ cs) ≡ c ∷ recoloured_on p (turn (rises c)) c.y cs
+pub recoloured_end : (p : Bool → ℕ → ℕ → ℕ) (turn : Bool → Bool) (c : Column) (cs : List Column) → ends 0 c ≡ true
+    → recoloured p turn (c ∷ cs) ≡ c ∷ recoloured_on p (turn (rises c)) c.y cs
 recoloured_end p turn c cs e = ap (λ ds. c ∷ ds) (cond-true (ends 0 c) (recoloured_on p (turn (rises c)) c.y cs) (recoloured p turn cs) e)
 
-pub recoloured_apart : (p : Bool → ℕ → ℕ → ℕ) (turn : Bool → Bool) (c : Column) (cs : List Column) → ends 0 c ≡ false → recoloured p turn (c ∷ cs) ≡ c ∷ recoloured p turn cs
+pub recoloured_apart : (p : Bool → ℕ → ℕ → ℕ) (turn : Bool → Bool) (c : Column) (cs : List Column) → ends 0 c ≡ false
+    → recoloured p turn (c ∷ cs) ≡ c ∷ recoloured p turn cs
 recoloured_apart p turn c cs e = ap (λ ds. c ∷ ds) (cond-false (ends 0 c) (recoloured_on p (turn (rises c)) c.y cs) (recoloured p turn cs) e)
 
 -- the marks stay
-marks_on : (p : Bool → ℕ → ℕ → ℕ) (d : Bool) (a : ℕ) (cs : List Column) → (xs_of (recoloured_on p d a cs) ≡ xs_of cs) × (os_of (recoloured_on p d a cs) ≡ os_of cs)
+marks_on : (p : Bool → ℕ → ℕ → ℕ) (d : Bool) (a : ℕ) (cs : List Column)
+    → (xs_of (recoloured_on p d a cs) ≡ xs_of cs) × (os_of (recoloured_on p d a cs) ≡ os_of cs)
 marks_on p d a [] = (refl, refl)
 marks_on p d a (c ∷ cs) =
     let rest = marks_on p d a cs in
@@ -32,7 +35,8 @@ marks_on p d a (c ∷ cs) =
       | inr e ↦ (ap xs_of (recoloured_on_apart p d a c cs e) ∙ ap (λ l. c.x ∷ l) rest.0, ap os_of (recoloured_on_apart p d a c cs e) ∙ ap (λ l. c.o ∷ l) rest.1)
     ]
 
-pub marks_recoloured : (p : Bool → ℕ → ℕ → ℕ) (turn : Bool → Bool) (cs : List Column) → (xs_of (recoloured p turn cs) ≡ xs_of cs) × (os_of (recoloured p turn cs) ≡ os_of cs)
+pub marks_recoloured : (p : Bool → ℕ → ℕ → ℕ) (turn : Bool → Bool) (cs : List Column)
+    → (xs_of (recoloured p turn cs) ≡ xs_of cs) × (os_of (recoloured p turn cs) ≡ os_of cs)
 marks_recoloured p turn [] = (refl, refl)
 marks_recoloured p turn (c ∷ cs) =
     let rest = marks_recoloured p turn cs in
@@ -53,14 +57,17 @@ again_on p acts d a (c ∷ cs) = elim (cases_Bool (ends 0 c)) [
       ∙ ap₂ (λ y l. recolour c y ∷ l) (undo p acts d a c.y) (again_on p acts d a cs)
 ]
 
-pub recoloured_back : (p : Bool → ℕ → ℕ → ℕ) → Acts p → (turn back : Bool → Bool) → ((b : Bool) → back b ≡ not (turn b)) → (cs : List Column) → recoloured p back (recoloured p turn cs) ≡ cs
+pub recoloured_back : (p : Bool → ℕ → ℕ → ℕ) → Acts p → (turn back : Bool → Bool) → ((b : Bool) → back b ≡ not (turn b)) → (cs : List Column)
+    → recoloured p back (recoloured p turn cs) ≡ cs
 recoloured_back p acts turn back inverse [] = refl
 recoloured_back p acts turn back inverse (c ∷ cs) = elim (cases_Bool (ends 0 c)) [
   | inl e ↦
       ap (recoloured p back) (recoloured_end p turn c cs e) ∙ recoloured_end p back c (recoloured_on p (turn (rises c)) c.y cs) e
-      ∙ ap (λ d. c ∷ recoloured_on p d c.y (recoloured_on p (turn (rises c)) c.y cs)) (inverse (rises c)) ∙ ap (λ l. c ∷ l) (again_on p acts (turn (rises c)) c.y cs)
+      ∙ ap (λ d. c ∷ recoloured_on p d c.y (recoloured_on p (turn (rises c)) c.y cs)) (inverse (rises c))
+      ∙ ap (λ l. c ∷ l) (again_on p acts (turn (rises c)) c.y cs)
   | inr e ↦
-      ap (recoloured p back) (recoloured_apart p turn c cs e) ∙ recoloured_apart p back c (recoloured p turn cs) e ∙ ap (λ l. c ∷ l) (recoloured_back p acts turn back inverse cs)
+      ap (recoloured p back) (recoloured_apart p turn c cs e) ∙ recoloured_apart p back c (recoloured p turn cs) e
+      ∙ ap (λ l. c ∷ l) (recoloured_back p acts turn back inverse cs)
 ]
 
 -- colours stay colours
@@ -70,7 +77,8 @@ all_rest b y ys all = λ k d lt. all (suc k) d (omega arith)
 all_first : (b y : ℕ) (ys : List ℕ) → All (λ m. m < b) (y ∷ ys) → y < b
 all_first b y ys all = all 0 0 (omega arith)
 
-below_on : (t : Table) → IsQuandle t → (d : Bool) (a : ℕ) (cs : List Column) → All (λ m. m < t.order) (ys_of cs) → All (λ m. m < t.order) (ys_of (recoloured_on (act t) d a cs))
+below_on : (t : Table) → IsQuandle t → (d : Bool) (a : ℕ) (cs : List Column) → All (λ m. m < t.order) (ys_of cs)
+    → All (λ m. m < t.order) (ys_of (recoloured_on (act t) d a cs))
 below_on t q d a [] all = all
 below_on t q d a (c ∷ cs) all = elim (cases_Bool (ends 0 c)) [
   | inl e ↦ subst (λ (l : List Column). All (λ m. m < t.order) (ys_of l)) (sym (recoloured_on_end (act t) d a c cs e)) all
@@ -81,7 +89,8 @@ below_on t q d a (c ∷ cs) all = elim (cases_Bool (ends 0 c)) [
       (All-cons (λ m. m < t.order) (act t d a c.y) (ys_of (recoloured_on (act t) d a cs)) (act_below t q d a c.y first) rest)
 ]
 
-below_recoloured : (t : Table) → IsQuandle t → (turn : Bool → Bool) (cs : List Column) → All (λ m. m < t.order) (ys_of cs) → All (λ m. m < t.order) (ys_of (recoloured (act t) turn cs))
+below_recoloured : (t : Table) → IsQuandle t → (turn : Bool → Bool) (cs : List Column) → All (λ m. m < t.order) (ys_of cs)
+    → All (λ m. m < t.order) (ys_of (recoloured (act t) turn cs))
 below_recoloured t q turn [] all = all
 below_recoloured t q turn (c ∷ cs) all =
     let first = all_first t.order c.y (ys_of cs) all in
@@ -115,13 +124,18 @@ not_not true = refl
 not_not false = refl
 
 -- colours for the columns of a grid
-pub marked_with : (g h : Diagram) (ds : List Column) → IsGrid g → length h.x ≡ length g.x → IsMarked h ds → IsMarked g (columns g.x g.o (ys_of ds)) × (ys_of (columns g.x g.o (ys_of ds)) ≡ ys_of ds)
+pub marked_with : (g h : Diagram) (ds : List Column) → IsGrid g → length h.x ≡ length g.x → IsMarked h ds
+    → IsMarked g (columns g.x g.o (ys_of ds)) × (ys_of (columns g.x g.o (ys_of ds)) ≡ ys_of ds)
 marked_with g h ds grid size marked =
-    let n : length (ys_of ds) ≡ length g.x = length-map ds (λ (l : Column). l.y) ∙ sym (length-map ds (λ (l : Column). l.x)) ∙ ap length marked.crosses ∙ size in
-    (record { crosses = xs_of_columns g.x g.o (ys_of ds) grid.same n; rings = os_of_columns g.x g.o (ys_of ds) grid.same n }, ys_of_columns g.x g.o (ys_of ds) grid.same n)
+    let n : length (ys_of ds) ≡ length g.x = length-map ds (λ (l : Column). l.y) ∙ sym (length-map ds (λ (l : Column). l.x))
+    ∙ ap length marked.crosses ∙ size in (
+      record { crosses = xs_of_columns g.x g.o (ys_of ds) grid.same n; rings = os_of_columns g.x g.o (ys_of ds) grid.same n },
+      ys_of_columns g.x g.o (ys_of ds) grid.same n,
+    )
 
 -- the shift of the rows by one
-pub rows_shifted_once : (t : Table) → IsQuandle t → (g h : Diagram) → IsGrid g → IsGrid h → h.x ≡ map (dropped (length g.x)) g.x → h.o ≡ map (dropped (length g.x)) g.o
+pub rows_shifted_once : (t : Table) → IsQuandle t → (g h : Diagram) → IsGrid g → IsGrid h → h.x ≡ map (dropped (length g.x)) g.x
+    → h.o ≡ map (dropped (length g.x)) g.o
     → AreInverse (IsColouringByColumns t g) (IsColouringByColumns t h) (fallen_colours t g) (risen_colours t g)
 rows_shifted_once t q g h grid grid' hx ho =
     let acts = act_acts t q in
@@ -142,7 +156,8 @@ rows_shifted_once t q g h grid grid' hx ho =
       crosses = (marks_recoloured (act t) (λ up. up) (columns g.x g.o (ys_of ds))).0 ∙ with.0.crosses;
       rings = (marks_recoloured (act t) (λ up. up) (columns g.x g.o (ys_of ds))).1 ∙ with.0.rings;
     } in
-    let again : (ds : List Column) → IsMarked h ds → lowered (act t) (length g.x) (recoloured (act t) (λ up. up) (columns g.x g.o (ys_of ds))) ≡ ds = λ ds marked.
+    let again : (ds : List Column) → IsMarked h ds
+    → lowered (act t) (length g.x) (recoloured (act t) (λ up. up) (columns g.x g.o (ys_of ds))) ≡ ds = λ ds marked.
     let with = marked_with g h ds grid size marked in
     same_columns h (lowered (act t) (length g.x) (recoloured (act t) (λ up. up) (columns g.x g.o (ys_of ds)))) ds
     (goes (recoloured (act t) (λ up. up) (columns g.x g.o (ys_of ds))) (comes ds marked)) marked
@@ -160,14 +175,21 @@ rows_shifted_once t q g h grid grid' hx ho =
           (rows_raised (act t) acts (length g.x) (recoloured (act t) (λ up. up) (columns g.x g.o (ys_of ds))) some
           (inside g (recoloured (act t) (λ up. up) (columns g.x g.o (ys_of ds))) grid (comes ds marked)) coloured').walks r lt;
       below = λ cs marked all. subst (All (λ m. m < t.order)) (sym (ys cs)) (below_recoloured t q not cs all);
-      below_back = λ ds marked all. below_recoloured t q (λ up. up) (columns g.x g.o (ys_of ds)) (subst (All (λ m. m < t.order)) (sym (marked_with g h ds grid size marked).1) all);
+      below_back = λ ds marked all. below_recoloured t q (λ up. up) (columns g.x g.o (ys_of ds))
+          (subst (All (λ m. m < t.order)) (sym (marked_with g h ds grid size marked).1) all);
       there = λ cs marked coloured.
           ap (λ l. recoloured (act t) (λ up. up) (columns g.x g.o l)) (ys cs)
-          ∙ ap (recoloured (act t) (λ up. up)) (columns_marked g (recoloured (act t) not cs) (record { crosses = (marks_recoloured (act t) not cs).0 ∙ marked.crosses; rings = (marks_recoloured (act t) not cs).1 ∙ marked.rings }))
+          ∙ ap (recoloured (act t) (λ up. up))
+          (columns_marked g (recoloured (act t) not cs) (record {
+            crosses = (marks_recoloured (act t) not cs).0 ∙ marked.crosses;
+            rings =
+                (marks_recoloured (act t) not cs).1 ∙ marked.rings;
+          }))
           ∙ recoloured_back (act t) acts not (λ up. up) not_not cs;
       again = λ ds marked coloured. again ds marked;
     } in
-    bijection_same (IsColouringByColumns t g) (IsColouringByColumns t h) (λ c. ys_of (lowered (act t) (length g.x) (columns g.x g.o c))) (λ d. ys_of (recoloured (act t) (λ up. up) (columns g.x g.o (ys_of (columns h.x h.o d)))))
+    bijection_same (IsColouringByColumns t g) (IsColouringByColumns t h) (λ c. ys_of (lowered (act t) (length g.x) (columns g.x g.o c)))
+    (λ d. ys_of (recoloured (act t) (λ up. up) (columns g.x g.o (ys_of (columns h.x h.o d)))))
     (fallen_colours t g) (risen_colours t g)
     (bijection_of t g h go come grid grid' carried)
     (λ c colouring. ys (columns g.x g.o c))
@@ -182,7 +204,8 @@ pub rows_shifted : (t : Table) → IsQuandle t → (g : Diagram) (k : ℕ) → (
     → AreInverse (IsColouringByColumns t g) (IsColouringByColumns t (fallen k g)) (rows_carry t k g) (rows_return t k g)
 rows_shifted t q g zero grids = record { goes = λ c h. h; comes = λ d h. h; there = λ c h. refl; again = λ d h. refl }
 rows_shifted t q g (suc k) grids =
-    bijection_then (IsColouringByColumns t g) (IsColouringByColumns t (fallen k g)) (IsColouringByColumns t (fallen (suc k) g)) (rows_carry t k g) (rows_return t k g)
+    bijection_then (IsColouringByColumns t g) (IsColouringByColumns t (fallen k g)) (IsColouringByColumns t (fallen (suc k) g)) (rows_carry t k g)
+    (rows_return t k g)
     (fallen_colours t (fallen k g)) (risen_colours t (fallen k g))
     (rows_shifted t q g k (λ j le. grids j (omega arith)))
     (rows_shifted_once t q (fallen k g) (fallen (suc k) g) (grids k (omega arith)) (grids (suc k) (omega arith))

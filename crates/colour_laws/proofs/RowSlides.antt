@@ -25,14 +25,20 @@ marks r cs = xs_in r cs + os_in r cs
 
 pub marks_end : (r : ℕ) (c : Column) (cs : List Column) → ends r c ≡ true → suc (marks r cs) ≤ marks r (c ∷ cs)
 marks_end r c cs e = elim (side r c) [
-  | cross f ↦ elim (cases_eq c.o r) [ inl k ↦ omega (arith, xs_here r c cs f, os_here r c cs k) | inr k ↦ omega (arith, xs_here r c cs f, os_not_here r c cs k) ]
+  | cross f ↦ elim (cases_eq c.o r) [
+    | inl k ↦ omega (arith, xs_here r c cs f, os_here r c cs k)
+    | inr k ↦ omega (arith, xs_here r c cs f, os_not_here r c cs k)
+  ]
   | ring n f ↦ omega (arith, xs_not_here r c cs n, os_here r c cs f)
   | apart n m ↦ absurd (false≢true (sym (ends_apart r c n m) ∙ e))
 ]
 
 pub marks_rest : (r : ℕ) (c : Column) (cs : List Column) → marks r cs ≤ marks r (c ∷ cs)
 marks_rest r c cs = elim (side r c) [
-  | cross f ↦ elim (cases_eq c.o r) [ inl k ↦ omega (arith, xs_here r c cs f, os_here r c cs k) | inr k ↦ omega (arith, xs_here r c cs f, os_not_here r c cs k) ]
+  | cross f ↦ elim (cases_eq c.o r) [
+    | inl k ↦ omega (arith, xs_here r c cs f, os_here r c cs k)
+    | inr k ↦ omega (arith, xs_here r c cs f, os_not_here r c cs k)
+  ]
   | ring n f ↦ omega (arith, xs_not_here r c cs n, os_here r c cs f)
   | apart n m ↦ omega (arith, xs_not_here r c cs n, os_not_here r c cs m)
 ]
@@ -77,7 +83,8 @@ shared_on p r s (c ∷ cs) shared a = elim (cases_Bool (ends r c)) [
   | inl e ↦ on_end p (suc s) r a c cs e ∙ sym (on_end p s r a c cs e)
   | inr e ↦ elim (cases_Bool (ends s c)) [
     | inl f ↦ absurd (false≢true (sym e ∙ shared.0 f))
-    | inr f ↦ on_apart p (suc s) r a c cs e ∙ ap (λ b. on_at p (suc s) r b cs) (above_apart p s c a f) ∙ shared_on p r s cs shared.1 (crosses p s c a) ∙ sym (on_apart p s r a c cs e)
+    | inr f ↦ on_apart p (suc s) r a c cs e ∙ ap (λ b. on_at p (suc s) r b cs) (above_apart p s c a f) ∙ shared_on p r s cs shared.1 (crosses p s c a)
+        ∙ sym (on_apart p s r a c cs e)
   ]
 ]
 
@@ -95,25 +102,29 @@ crossed_tests p acts false true y a b = same_tests p acts false y a b
 crossed_tests p acts false false y a b = refl
 
 -- both rows began at the shared column: the other end of row s is passed in its own colour
-after_shared : (p : Bool → ℕ → ℕ → ℕ) → Acts p → (r s : ℕ) (cs : List Column) → marks s cs ≤ 1 → (a : ℕ) → on_at p s s a cs ≡ true → on_at p (suc s) r a cs ≡ on_at p s r a cs
+after_shared : (p : Bool → ℕ → ℕ → ℕ) → Acts p → (r s : ℕ) (cs : List Column) → marks s cs ≤ 1 → (a : ℕ) → on_at p s s a cs ≡ true
+    → on_at p (suc s) r a cs ≡ on_at p s r a cs
 after_shared p acts r s [] one a on = refl
 after_shared p acts r s (c ∷ cs) one a on = elim (cases_Bool (ends r c)) [
   | inl e ↦ on_end p (suc s) r a c cs e ∙ sym (on_end p s r a c cs e)
   | inr e ↦ elim (cases_Bool (ends s c)) [
     | inl f ↦
         let same : a ≡ c.y = eqb-true a c.y (sym (on_end p s s a c cs f) ∙ on) in
-        let up : crosses p (suc s) c a ≡ c.y = eqb-true (crosses p (suc s) c a) c.y (crossed_meets p acts (nat_lt c.x (suc s)) (nat_lt c.o (suc s)) c.y a ∙ eq-eqb a c.y same) in
+        let up : crosses p (suc s) c a ≡ c.y = eqb-true (crosses p (suc s) c a) c.y (crossed_meets p acts (nat_lt c.x (suc s)) (nat_lt c.o (suc s)) c.y a
+        ∙ eq-eqb a c.y same) in
         let low : crosses p s c a ≡ c.y = eqb-true (crosses p s c a) c.y (crossed_meets p acts (nat_lt c.x s) (nat_lt c.o s) c.y a ∙ eq-eqb a c.y same) in
         on_apart p (suc s) r a c cs e ∙ ap (λ b. on_at p (suc s) r b cs) (up ∙ sym low)
         ∙ shared_on p r s cs (shared_none r s cs (omega (arith, marks_end s c cs f, one))) (crosses p s c a) ∙ sym (on_apart p s r a c cs e)
     | inr f ↦
         on_apart p (suc s) r a c cs e ∙ ap (λ b. on_at p (suc s) r b cs) (above_apart p s c a f)
-        ∙ after_shared p acts r s cs (omega (arith, marks_rest s c cs, one)) (crosses p s c a) (sym (on_apart p s s a c cs f) ∙ on) ∙ sym (on_apart p s r a c cs e)
+        ∙ after_shared p acts r s cs (omega (arith, marks_rest s c cs, one)) (crosses p s c a) (sym (on_apart p s s a c cs f) ∙ on)
+        ∙ sym (on_apart p s r a c cs e)
   ]
 ]
 
 -- row r began, then row s, and both end at the shared column: there the two walks of row r meet the colour of row s alike
-after_both : (p : Bool → ℕ → ℕ → ℕ) → Acts p → (r s : ℕ) (cs : List Column) → marks r cs ≤ 1 → marks s cs ≤ 1 → HasBoth r s cs → (a a' b : ℕ) → on_at p s s b cs ≡ true → (a' == b) ≡ (a == b)
+after_both : (p : Bool → ℕ → ℕ → ℕ) → Acts p → (r s : ℕ) (cs : List Column) → marks r cs ≤ 1 → marks s cs ≤ 1 → HasBoth r s cs → (a a' b : ℕ)
+    → on_at p s s b cs ≡ true → (a' == b) ≡ (a == b)
     → on_at p (suc s) r a' cs ≡ on_at p s r a cs
 after_both p acts r s [] fr fs both a a' b on alike = absurd both
 after_both p acts r s (c ∷ cs) fr fs both a a' b on alike = elim (cases_Bool (ends r c)) [
@@ -132,7 +143,8 @@ after_both p acts r s (c ∷ cs) fr fs both a a' b on alike = elim (cases_Bool (
       | inl f ↦ absurd (omega (arith, marks_end s c cs f, fs, marks_both r s cs h))
       | inr f ↦
           on_apart p (suc s) r a' c cs e ∙ ap (λ d. on_at p (suc s) r d cs) (above_apart p s c a' f)
-          ∙ after_both p acts r s cs (omega (arith, marks_rest r c cs, fr)) (omega (arith, marks_rest s c cs, fs)) h (crosses p s c a) (crosses p s c a') (crosses p s c b)
+          ∙ after_both p acts r s cs (omega (arith, marks_rest r c cs, fr)) (omega (arith, marks_rest s c cs, fs)) h (crosses p s c a) (crosses p s c a')
+          (crosses p s c b)
           (sym (on_apart p s s b c cs f) ∙ on)
           (crossed_tests p acts (nat_lt c.x s) (nat_lt c.o s) c.y a' b ∙ alike ∙ sym (crossed_tests p acts (nat_lt c.x s) (nat_lt c.o s) c.y a b))
           ∙ sym (on_apart p s r a c cs e)
@@ -141,7 +153,8 @@ after_both p acts r s (c ∷ cs) fr fs both a a' b on alike = elim (cases_Bool (
 ]
 
 -- row r began at its own end
-after_own : (p : Bool → ℕ → ℕ → ℕ) → Acts p → (r s : ℕ) (cs : List Column) → marks r cs ≤ 1 → marks s cs ≤ 2 → HasBoth r s cs → (a : ℕ) → row_at p s s cs ≡ true → on_at p (suc s) r a cs ≡ on_at p s r a cs
+after_own : (p : Bool → ℕ → ℕ → ℕ) → Acts p → (r s : ℕ) (cs : List Column) → marks r cs ≤ 1 → marks s cs ≤ 2 → HasBoth r s cs → (a : ℕ) → row_at p s s cs ≡ true
+    → on_at p (suc s) r a cs ≡ on_at p s r a cs
 after_own p acts r s [] fr fs both a row = absurd both
 after_own p acts r s (c ∷ cs) fr fs both a row = elim (cases_Bool (ends r c)) [
   | inl e ↦ on_end p (suc s) r a c cs e ∙ sym (on_end p s r a c cs e)
@@ -150,35 +163,41 @@ after_own p acts r s (c ∷ cs) fr fs both a row = elim (cases_Bool (ends r c)) 
     | inr h ↦ elim (cases_Bool (ends s c)) [
       | inl f ↦
           on_apart p (suc s) r a c cs e
-          ∙ after_both p acts r s cs (omega (arith, marks_rest r c cs, fr)) (omega (arith, marks_end s c cs f, fs)) h (crosses p s c a) (crosses p (suc s) c a) c.y (sym (row_end p s s c cs f) ∙ row)
+          ∙ after_both p acts r s cs (omega (arith, marks_rest r c cs, fr)) (omega (arith, marks_end s c cs f, fs)) h (crosses p s c a)
+          (crosses p (suc s) c a) c.y (sym (row_end p s s c cs f) ∙ row)
           (crossed_meets p acts (nat_lt c.x (suc s)) (nat_lt c.o (suc s)) c.y a ∙ sym (crossed_meets p acts (nat_lt c.x s) (nat_lt c.o s) c.y a))
           ∙ sym (on_apart p s r a c cs e)
       | inr f ↦
           on_apart p (suc s) r a c cs e ∙ ap (λ d. on_at p (suc s) r d cs) (above_apart p s c a f)
-          ∙ after_own p acts r s cs (omega (arith, marks_rest r c cs, fr)) (omega (arith, marks_rest s c cs, fs)) h (crosses p s c a) (sym (row_apart p s s c cs f) ∙ row)
+          ∙ after_own p acts r s cs (omega (arith, marks_rest r c cs, fr)) (omega (arith, marks_rest s c cs, fs)) h (crosses p s c a)
+          (sym (row_apart p s s c cs f) ∙ row)
           ∙ sym (on_apart p s r a c cs e)
     ]
   ]
 ]
 
 -- a row passes a row that shares a column with it
-pub row_passes : (p : Bool → ℕ → ℕ → ℕ) → Acts p → (r s : ℕ) (cs : List Column) → marks r cs ≤ 2 → marks s cs ≤ 2 → HasBoth r s cs → row_at p s s cs ≡ true → row_at p (suc s) r cs ≡ row_at p s r cs
+pub row_passes : (p : Bool → ℕ → ℕ → ℕ) → Acts p → (r s : ℕ) (cs : List Column) → marks r cs ≤ 2 → marks s cs ≤ 2 → HasBoth r s cs → row_at p s s cs ≡ true
+    → row_at p (suc s) r cs ≡ row_at p s r cs
 row_passes p acts r s [] fr fs both row = refl
 row_passes p acts r s (c ∷ cs) fr fs both row = elim (cases_Bool (ends r c)) [
   | inl e ↦ elim (cases_Bool (ends s c)) [
     | inl f ↦
-        row_end p (suc s) r c cs e ∙ after_shared p acts r s cs (omega (arith, marks_end s c cs f, fs)) c.y (sym (row_end p s s c cs f) ∙ row) ∙ sym (row_end p s r c cs e)
+        row_end p (suc s) r c cs e ∙ after_shared p acts r s cs (omega (arith, marks_end s c cs f, fs)) c.y (sym (row_end p s s c cs f) ∙ row)
+        ∙ sym (row_end p s r c cs e)
     | inr f ↦ elim both [
       | inl h ↦ absurd (false≢true (sym f ∙ h.1))
       | inr h ↦
-          row_end p (suc s) r c cs e ∙ after_own p acts r s cs (omega (arith, marks_end r c cs e, fr)) (omega (arith, marks_rest s c cs, fs)) h c.y (sym (row_apart p s s c cs f) ∙ row) ∙ sym (row_end p s r c cs e)
+          row_end p (suc s) r c cs e ∙ after_own p acts r s cs (omega (arith, marks_end r c cs e, fr)) (omega (arith, marks_rest s c cs, fs)) h c.y
+          (sym (row_apart p s s c cs f) ∙ row) ∙ sym (row_end p s r c cs e)
     ]
   ]
   | inr e ↦ elim both [
     | inl h ↦ absurd (false≢true (sym e ∙ h.0))
     | inr h ↦ elim (cases_Bool (ends s c)) [
       | inl f ↦ row_apart p (suc s) r c cs e ∙ shared_row p r s cs (shared_one r s cs (omega (arith, marks_end s c cs f, fs)) h) ∙ sym (row_apart p s r c cs e)
-      | inr f ↦ row_apart p (suc s) r c cs e ∙ row_passes p acts r s cs (omega (arith, marks_rest r c cs, fr)) (omega (arith, marks_rest s c cs, fs)) h (sym (row_apart p s s c cs f) ∙ row) ∙ sym (row_apart p s r c cs e)
+      | inr f ↦ row_apart p (suc s) r c cs e ∙ row_passes p acts r s cs (omega (arith, marks_rest r c cs, fr)) (omega (arith, marks_rest s c cs, fs)) h
+          (sym (row_apart p s s c cs f) ∙ row) ∙ sym (row_apart p s r c cs e)
     ]
   ]
 ]
@@ -188,7 +207,8 @@ both_sym r s [] both = both
 both_sym r s (c ∷ cs) both = elim both [ inl h ↦ inl (h.1, h.0) | inr h ↦ inr (both_sym r s cs h) ]
 
 -- the walks after a slide of rows r and r + 1
-slid_rows : (p : Bool → ℕ → ℕ → ℕ) → Acts p → (n r : ℕ) (cs : List Column) → suc r < n → HasBoth r (suc r) cs → IsColoured p n cs → (s : ℕ) → s < n → walk p s (map (relabel (swapped r)) cs) ≡ true
+slid_rows : (p : Bool → ℕ → ℕ → ℕ) → Acts p → (n r : ℕ) (cs : List Column) → suc r < n → HasBoth r (suc r) cs → IsColoured p n cs → (s : ℕ) → s < n
+    → walk p s (map (relabel (swapped r)) cs) ≡ true
 slid_rows p acts n r cs inside both coloured s lt =
     let below : r < n = omega arith in
     let low : row_at p r r cs ≡ true = sym (row_walk p r cs) ∙ coloured.walks r below in
@@ -197,10 +217,12 @@ slid_rows p acts n r cs inside both coloured s lt =
     let ms : marks (suc r) cs ≤ 2 = omega (arith, coloured.crosses (suc r) inside, coloured.rings (suc r) inside) in
     row_walk p s (map (relabel (swapped r)) cs) ∙ elim (cases_eq s r) [
       | inl e ↦ subst (λ (u : ℕ). row_at p u u (map (relabel (swapped r)) cs) ≡ true) (sym e)
-          (row_relabel p (swapped r) r (suc r) r r (eq_lower r) (lt_lower r) cs ∙ sym (row_passes p acts (suc r) r cs ms mr (both_sym r (suc r) cs both) low) ∙ high)
+          (row_relabel p (swapped r) r (suc r) r r (eq_lower r) (lt_lower r) cs
+          ∙ sym (row_passes p acts (suc r) r cs ms mr (both_sym r (suc r) cs both) low) ∙ high)
       | inr u ↦ elim (cases_eq s (suc r)) [
         | inl e ↦ subst (λ (u : ℕ). row_at p u u (map (relabel (swapped r)) cs) ≡ true) (sym e)
-            (row_relabel p (swapped r) (suc (suc r)) r (suc r) (suc r) (eq_upper r) (lt_upper r) cs ∙ row_passes p acts r (suc r) cs mr ms both high ∙ row_above p r cs ∙ low)
+            (row_relabel p (swapped r) (suc (suc r)) r (suc r) (suc r) (eq_upper r) (lt_upper r) cs ∙ row_passes p acts r (suc r) cs mr ms both high
+            ∙ row_above p r cs ∙ low)
         | inr v ↦ row_relabel p (swapped r) s s s s (eq_other r s u v) (λ x n. lt_other r s u v x) cs ∙ sym (row_walk p s cs) ∙ coloured.walks s lt
       ]
     ]
@@ -225,7 +247,8 @@ same_both r s (c ∷ cs) (b ∷ bs) ex eo both =
     ]
 
 -- a slide of rows: every column keeps its colour
-pub rows_slid : (t : Table) → IsQuandle t → (g h : Diagram) → IsGrid g → IsGrid h → (r : ℕ) → suc r < length g.x → HasBoth r (suc r) (bare g) → h.x ≡ map (swapped r) g.x → h.o ≡ map (swapped r) g.o
+pub rows_slid : (t : Table) → IsQuandle t → (g h : Diagram) → IsGrid g → IsGrid h → (r : ℕ) → suc r < length g.x → HasBoth r (suc r) (bare g)
+    → h.x ≡ map (swapped r) g.x → h.o ≡ map (swapped r) g.o
     → AreInverse (IsColouringByColumns t g) (IsColouringByColumns t h) (λ c. c) (λ d. d)
 rows_slid t q g h grid grid' r lt both hx ho =
     let acts = act_acts t q in
@@ -233,22 +256,33 @@ rows_slid t q g h grid grid' r lt both hx ho =
     let gx : map (swapped r) h.x ≡ g.x = ap (map (swapped r)) hx ∙ map_twice r g.x in
     let go : map (swapped r) h.o ≡ g.o = ap (map (swapped r)) ho ∙ map_twice r g.o in
     let blank : IsMarked g (bare g) = marked_columns g (map (λ m. 0) g.x) grid (length-map g.x (λ m. 0)) in
-    let here : (cs : List Column) → IsMarked g cs → HasBoth r (suc r) cs = λ cs marked. same_both r (suc r) (bare g) cs (blank.crosses ∙ sym marked.crosses) (blank.rings ∙ sym marked.rings) both in
+    let here : (cs : List Column) → IsMarked g cs → HasBoth r (suc r) cs = λ cs marked. same_both r (suc r) (bare g) cs (blank.crosses ∙ sym marked.crosses)
+    (blank.rings ∙ sym marked.rings) both in
     let comes : (ds : List Column) → IsMarked h ds → IsMarked g (map (relabel (swapped r)) ds) = λ ds marked.
-    record { crosses = xs_of_relabel (swapped r) ds ∙ ap (map (swapped r)) marked.crosses ∙ gx; rings = os_of_relabel (swapped r) ds ∙ ap (map (swapped r)) marked.rings ∙ go } in
+    record {
+      crosses = xs_of_relabel (swapped r) ds ∙ ap (map (swapped r)) marked.crosses ∙ gx;
+      rings =
+          os_of_relabel (swapped r) ds ∙ ap (map (swapped r)) marked.rings ∙ go;
+    } in
     let there : (ds : List Column) → IsMarked h ds → HasBoth r (suc r) ds = λ ds marked.
     subst (HasBoth r (suc r)) (columns_twice r ds) (both_again r (map (relabel (swapped r)) ds) (here (map (relabel (swapped r)) ds) (comes ds marked))) in
     let carried : IsCarried t g h (map (relabel (swapped r))) (map (relabel (swapped r))) = record {
-      goes = λ cs marked. record { crosses = xs_of_relabel (swapped r) cs ∙ ap (map (swapped r)) marked.crosses ∙ sym hx; rings = os_of_relabel (swapped r) cs ∙ ap (map (swapped r)) marked.rings ∙ sym ho };
+      goes = λ cs marked. record {
+        crosses = xs_of_relabel (swapped r) cs ∙ ap (map (swapped r)) marked.crosses ∙ sym hx;
+        rings =
+            os_of_relabel (swapped r) cs ∙ ap (map (swapped r)) marked.rings ∙ sym ho;
+      };
       comes = comes;
       walks = λ cs marked coloured s ls. slid_rows (act t) acts (length g.x) r cs lt (here cs marked) coloured s (omega (arith, ls, size));
-      walks_back = λ ds marked coloured s ls. slid_rows (act t) acts (length h.x) r ds (omega (arith, lt, size)) (there ds marked) coloured s (omega (arith, ls, size));
+      walks_back = λ ds marked coloured s ls. slid_rows (act t) acts (length h.x) r ds (omega (arith, lt, size)) (there ds marked) coloured s
+          (omega (arith, ls, size));
       below = λ cs marked all. subst (All (λ y. y < t.order)) (sym (ys_of_relabel (swapped r) cs)) all;
       below_back = λ ds marked all. subst (All (λ y. y < t.order)) (sym (ys_of_relabel (swapped r) ds)) all;
       there = λ cs marked coloured. columns_twice r cs;
       again = λ ds marked coloured. columns_twice r ds;
     } in
-    bijection_same (IsColouringByColumns t g) (IsColouringByColumns t h) (λ c. ys_of (map (relabel (swapped r)) (columns g.x g.o c))) (λ d. ys_of (map (relabel (swapped r)) (columns h.x h.o d))) (λ c. c) (λ d. d)
+    bijection_same (IsColouringByColumns t g) (IsColouringByColumns t h) (λ c. ys_of (map (relabel (swapped r)) (columns g.x g.o c)))
+    (λ d. ys_of (map (relabel (swapped r)) (columns h.x h.o d))) (λ c. c) (λ d. d)
     (bijection_of t g h (map (relabel (swapped r))) (map (relabel (swapped r))) grid grid' carried)
     (λ c colouring. ys_of_relabel (swapped r) (columns g.x g.o c) ∙ ys_of_columns g.x g.o c grid.same colouring.size)
     (λ d colouring. ys_of_relabel (swapped r) (columns h.x h.o d) ∙ ys_of_columns h.x h.o d grid'.same colouring.size)

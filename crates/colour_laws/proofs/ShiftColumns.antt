@@ -35,7 +35,8 @@ to_last p r a (c ∷ cs) last ex eo e way = elim (side r c) [
 ]
 
 -- the left end goes to the right of all columns: what was the right end is now the left one
-turned_end : (p : Bool → ℕ → ℕ → ℕ) → Acts p → (r a : ℕ) (cs : List Column) (last : Column) → on_at p r r a cs ≡ true → xs_in r cs + os_in r cs ≤ 1 → ends r last ≡ true
+turned_end : (p : Bool → ℕ → ℕ → ℕ) → Acts p → (r a : ℕ) (cs : List Column) (last : Column) → on_at p r r a cs ≡ true → xs_in r cs + os_in r cs ≤ 1
+    → ends r last ≡ true
     → level p r cs a ≡ last.y → row_at p r r (cs ++ last ∷ []) ≡ true
 turned_end p acts r a [] last on few e way = absurd (false≢true on)
 turned_end p acts r a (c ∷ cs) last on few e way =
@@ -60,7 +61,8 @@ turned_end p acts r a (c ∷ cs) last on few e way =
     ]
 
 -- one column goes from the left end to the right end
-pub turned_row : (p : Bool → ℕ → ℕ → ℕ) → Acts p → (r : ℕ) (c : Column) (cs : List Column) → row_at p r r (c ∷ cs) ≡ true → xs_in r (c ∷ cs) ≡ 1 → os_in r (c ∷ cs) ≡ 1
+pub turned_row : (p : Bool → ℕ → ℕ → ℕ) → Acts p → (r : ℕ) (c : Column) (cs : List Column) → row_at p r r (c ∷ cs) ≡ true → xs_in r (c ∷ cs) ≡ 1
+    → os_in r (c ∷ cs) ≡ 1
     → level p r (c ∷ cs) c.y ≡ c.y → row_at p r r (cs ++ c ∷ []) ≡ true
 turned_row p acts r c cs row ex eo way =
     let at_end : ends r c ≡ true → xs_in r cs + os_in r cs ≤ 1 → row_at p r r (cs ++ c ∷ []) ≡ true = λ f few.
@@ -98,7 +100,8 @@ pub turned_once : (p : Bool → ℕ → ℕ → ℕ) → Acts p → (n : ℕ) (c
 turned_once p acts n c cs coloured = record {
   crosses = λ r lt. omega (arith, xs_append r cs (c ∷ []), xs_append r (c ∷ []) cs, coloured.crosses r lt);
   rings = λ r lt. omega (arith, os_append r cs (c ∷ []), os_append r (c ∷ []) cs, coloured.rings r lt);
-  walks = λ r lt. row_walk p r (cs ++ c ∷ []) ∙ turned_row p acts r c cs (sym (row_walk p r (c ∷ cs)) ∙ coloured.walks r lt) (coloured.crosses r lt) (coloured.rings r lt)
+  walks = λ r lt. row_walk p r (cs ++ c ∷ []) ∙ turned_row p acts r c cs (sym (row_walk p r (c ∷ cs)) ∙ coloured.walks r lt) (coloured.crosses r lt)
+      (coloured.rings r lt)
       (level_holds p acts n (c ∷ cs) coloured r (omega arith) c.y);
 }
 

@@ -158,7 +158,8 @@ mid_on p acts n s lt d a (c ∷ cs) low ex eo v = elim (cases_Bool (ends 0 c)) [
       cond-true (ends 0 c) (map (relabel (dropped n)) (c ∷ cs)) (recolour (relabel (dropped n) c) (p d a c.y) ∷ lowered_on p n d a cs) e in
       let same : a ≡ c.y = eqb-true a c.y (sym (on_end p 0 0 a c cs e) ∙ low) in
       let parts = flipped_right p acts n s lt d c cs e ex eo (p d a v) in
-      let meets : (p d a v == c.y) ≡ (v == c.y) = ap (λ y. p d a v == y) (sym (acts.fixed d c.y) ∙ ap (λ b. p d b c.y) (sym same)) ∙ same_tests p acts d a v c.y in
+      let meets : (p d a v == c.y) ≡ (v == c.y) = ap (λ y. p d a v == y) (sym (acts.fixed d c.y) ∙ ap (λ b. p d b c.y) (sym same))
+      ∙ same_tests p acts d a v c.y in
       let crossed_back : crosses p s (relabel (dropped n) c) (p d a v) ≡ crosses p (suc s) c v =
       parts.0 ∙ ap (λ b. p (not d) c.y (crosses p (suc s) c (p d b v))) same
       ∙ ap (p (not d) c.y) (crossed_carries p acts d (nat_lt c.x (suc s)) (nat_lt c.o (suc s)) c.y c.y v
@@ -180,26 +181,33 @@ mid_on p acts n s lt d a (c ∷ cs) low ex eo v = elim (cases_Bool (ends 0 c)) [
             crosses_dropped p n s c (p d a c.y) (p d a v) u w ∙ sym (crossed_carried p acts d (nat_lt c.x (suc s)) (nat_lt c.o (suc s)) a c.y v) in
             let rest = mid_on p acts n s lt d a cs low' (sym (xs_not_here 0 c cs u) ∙ ex) (sym (os_not_here 0 c cs w) ∙ eo) (crosses p (suc s) c v) in
             ap (on_at p s s (p d a v)) is
-            ∙ ap₂ (λ t k. cond t k (on_at p s s (crosses p s (recolour (relabel (dropped n) c) (p d a c.y)) (p d a v)) (lowered_on p n d a cs))) (ends_dropped n s lt c) (same_tests p acts d a v c.y)
+            ∙ ap₂ (λ t k. cond t k (on_at p s s (crosses p s (recolour (relabel (dropped n) c) (p d a c.y)) (p d a v)) (lowered_on p n d a cs)))
+            (ends_dropped n s lt c) (same_tests p acts d a v c.y)
             ∙ ap (λ k. cond (ends (suc s) c) (v == c.y) k) (ap (λ b. on_at p s s b (lowered_on p n d a cs)) step ∙ rest)
       ]
 ]
 
-pub lowered_on_end : (p : Bool → ℕ → ℕ → ℕ) (n : ℕ) (d : Bool) (a : ℕ) (c : Column) (cs : List Column) → ends 0 c ≡ true → lowered_on p n d a (c ∷ cs) ≡ map (relabel (dropped n)) (c ∷ cs)
-lowered_on_end p n d a c cs e = cond-true (ends 0 c) (map (relabel (dropped n)) (c ∷ cs)) (recolour (relabel (dropped n) c) (p d a c.y) ∷ lowered_on p n d a cs) e
+pub lowered_on_end : (p : Bool → ℕ → ℕ → ℕ) (n : ℕ) (d : Bool) (a : ℕ) (c : Column) (cs : List Column) → ends 0 c ≡ true
+    → lowered_on p n d a (c ∷ cs) ≡ map (relabel (dropped n)) (c ∷ cs)
+lowered_on_end p n d a c cs e =
+    cond-true (ends 0 c) (map (relabel (dropped n)) (c ∷ cs)) (recolour (relabel (dropped n) c) (p d a c.y) ∷ lowered_on p n d a cs) e
 
 pub lowered_on_apart : (p : Bool → ℕ → ℕ → ℕ) (n : ℕ) (d : Bool) (a : ℕ) (c : Column) (cs : List Column) → ends 0 c ≡ false
     → lowered_on p n d a (c ∷ cs) ≡ recolour (relabel (dropped n) c) (p d a c.y) ∷ lowered_on p n d a cs
-lowered_on_apart p n d a c cs e = cond-false (ends 0 c) (map (relabel (dropped n)) (c ∷ cs)) (recolour (relabel (dropped n) c) (p d a c.y) ∷ lowered_on p n d a cs) e
+lowered_on_apart p n d a c cs e =
+    cond-false (ends 0 c) (map (relabel (dropped n)) (c ∷ cs)) (recolour (relabel (dropped n) c) (p d a c.y) ∷ lowered_on p n d a cs) e
 
-pub lowered_end : (p : Bool → ℕ → ℕ → ℕ) (n : ℕ) (c : Column) (cs : List Column) → ends 0 c ≡ true → lowered p n (c ∷ cs) ≡ relabel (dropped n) c ∷ lowered_on p n (not (rises c)) c.y cs
+pub lowered_end : (p : Bool → ℕ → ℕ → ℕ) (n : ℕ) (c : Column) (cs : List Column) → ends 0 c ≡ true
+    → lowered p n (c ∷ cs) ≡ relabel (dropped n) c ∷ lowered_on p n (not (rises c)) c.y cs
 lowered_end p n c cs e = ap (λ ds. relabel (dropped n) c ∷ ds) (cond-true (ends 0 c) (lowered_on p n (not (rises c)) c.y cs) (lowered p n cs) e)
 
-pub lowered_apart : (p : Bool → ℕ → ℕ → ℕ) (n : ℕ) (c : Column) (cs : List Column) → ends 0 c ≡ false → lowered p n (c ∷ cs) ≡ relabel (dropped n) c ∷ lowered p n cs
+pub lowered_apart : (p : Bool → ℕ → ℕ → ℕ) (n : ℕ) (c : Column) (cs : List Column) → ends 0 c ≡ false
+    → lowered p n (c ∷ cs) ≡ relabel (dropped n) c ∷ lowered p n cs
 lowered_apart p n c cs e = ap (λ ds. relabel (dropped n) c ∷ ds) (cond-false (ends 0 c) (lowered_on p n (not (rises c)) c.y cs) (lowered p n cs) e)
 
 -- one more column in front of rows that have the same walks
-pub row_front : (p : Bool → ℕ → ℕ → ℕ) (h r h' r' : ℕ) (c c' : Column) (cs cs' : List Column) → ends r' c' ≡ ends r c → on_at p h' r' c'.y cs' ≡ on_at p h r c.y cs → row_at p h' r' cs' ≡ row_at p h r cs
+pub row_front : (p : Bool → ℕ → ℕ → ℕ) (h r h' r' : ℕ) (c c' : Column) (cs cs' : List Column) → ends r' c' ≡ ends r c
+    → on_at p h' r' c'.y cs' ≡ on_at p h r c.y cs → row_at p h' r' cs' ≡ row_at p h r cs
     → row_at p h' r' (c' ∷ cs') ≡ row_at p h r (c ∷ cs)
 row_front p h r h' r' c c' cs cs' e f g = ap₂ (λ t k. cond t k (row_at p h' r' cs')) e f ∙ ap (λ k. cond (ends r c) (on_at p h r c.y cs) k) g
 
@@ -243,12 +251,26 @@ left_end p acts n s lt c cs e on ex eo = elim (side 0 c) [
   | cross f ↦
       let ex' : xs_in 0 cs ≡ 0 = omega (arith, xs_here 0 c cs f) in
       let u : c.o ≢ 0 = λ g. false≢true (sym (on_clear p 0 0 c.y cs ex' (omega (arith, os_here 0 c cs g))) ∙ on) in
-      let up : rises c ≡ true = elim (cases_order c.o 0) [ inl g ↦ absurd (u g) | inr (inl l) ↦ absurd (omega arith) | inr (inr l) ↦ lt-ltb c.x c.o (omega arith) ] in
-      let found : IsLeft p n s c cs false = record { acted = λ v. flipped_cross p acts n s lt c v f u; crosses = ex'; rings = sym (os_not_here 0 c cs u) ∙ eo } in
+      let up : rises c ≡ true = elim (cases_order c.o 0) [
+        | inl g ↦ absurd (u g)
+        | inr (inl l) ↦ absurd (omega arith)
+        | inr (inr l) ↦ lt-ltb c.x c.o (omega arith)
+      ] in
+      let found : IsLeft p n s c cs false = record {
+        acted = λ v. flipped_cross p acts n s lt c v f u;
+        crosses = ex';
+        rings =
+            sym (os_not_here 0 c cs u) ∙ eo;
+      } in
       subst (λ (t : Bool). IsLeft p n s c cs (not t)) (sym up) found
   | ring u f ↦
       let down : rises c ≡ false = le-ltb c.x c.o (omega arith) in
-      let found : IsLeft p n s c cs true = record { acted = λ v. flipped_ring p acts n s lt c v f u; crosses = sym (xs_not_here 0 c cs u) ∙ ex; rings = omega (arith, os_here 0 c cs f) } in
+      let found : IsLeft p n s c cs true = record {
+        acted = λ v. flipped_ring p acts n s lt c v f u;
+        crosses = sym (xs_not_here 0 c cs u) ∙ ex;
+        rings =
+            omega (arith, os_here 0 c cs f);
+      } in
       subst (λ (t : Bool). IsLeft p n s c cs (not t)) (sym down) found
   | apart u w ↦ absurd (false≢true (sym (ends_apart 0 c u w) ∙ e))
 ]
@@ -263,7 +285,8 @@ whole_on p acts n s lt (c ∷ cs) low ex eo v = elim (cases_Bool (ends 0 c)) [
       let left = left_end p acts n s lt c cs e on ex eo in
       ap (on_at p s s v) (lowered_end p n c cs e)
       ∙ on_front p (suc s) (suc s) s s v v c (relabel (dropped n) c) cs (lowered_on p n (not (rises c)) c.y cs) (ends_dropped n s lt c) refl
-      (ap (λ b. on_at p s s b (lowered_on p n (not (rises c)) c.y cs)) (left.acted v) ∙ mid_on p acts n s lt (not (rises c)) c.y cs on left.crosses left.rings (crosses p (suc s) c v))
+      (ap (λ b. on_at p s s b (lowered_on p n (not (rises c)) c.y cs)) (left.acted v) ∙ mid_on p acts n s lt (not (rises c)) c.y cs on left.crosses left.rings
+      (crosses p (suc s) c v))
   | inr e ↦ elim (side 0 c) [
     | cross f ↦ absurd (false≢true (sym e ∙ ends_cross 0 c f))
     | ring u f ↦ absurd (false≢true (sym e ∙ ends_ring 0 c f))
@@ -286,7 +309,8 @@ whole_row p acts n s lt (c ∷ cs) low ex eo = elim (cases_Bool (ends 0 c)) [
       let d = not (rises c) in
       ap (row_at p s s) (lowered_end p n c cs e)
       ∙ row_front p (suc s) (suc s) s s c (relabel (dropped n) c) cs (lowered_on p n (not (rises c)) c.y cs) (ends_dropped n s lt c)
-      (ap (λ b. on_at p s s b (lowered_on p n (not (rises c)) c.y cs)) (sym (acts.fixed (not (rises c)) c.y)) ∙ mid_on p acts n s lt (not (rises c)) c.y cs on left.crosses left.rings c.y)
+      (ap (λ b. on_at p s s b (lowered_on p n (not (rises c)) c.y cs)) (sym (acts.fixed (not (rises c)) c.y))
+      ∙ mid_on p acts n s lt (not (rises c)) c.y cs on left.crosses left.rings c.y)
       (mid_row p acts n s lt (not (rises c)) c.y cs on left.crosses left.rings)
   | inr e ↦ elim (side 0 c) [
     | cross f ↦ absurd (false≢true (sym e ∙ ends_cross 0 c f))
@@ -302,18 +326,28 @@ whole_row p acts n s lt (c ∷ cs) low ex eo = elim (cases_Bool (ends 0 c)) [
 ]
 
 -- a column without a mark in the lowest row is below the new top row
-crosses_top : (p : Bool → ℕ → ℕ → ℕ) (n : ℕ) (c : Column) (y a : ℕ) → c.x ≢ 0 → c.o ≢ 0 → c.x < n → c.o < n → crosses p (n - 1) (recolour (relabel (dropped n) c) y) a ≡ a
+crosses_top : (p : Bool → ℕ → ℕ → ℕ) (n : ℕ) (c : Column) (y a : ℕ) → c.x ≢ 0 → c.o ≢ 0 → c.x < n → c.o < n
+    → crosses p (n - 1) (recolour (relabel (dropped n) c) y) a ≡ a
 crosses_top p n c y a u w lx lo =
     let ix = dropped_other n c.x u in
     let io = dropped_other n c.o w in
-    let e : nat_lt (dropped n c.x) (n - 1) ≡ true = elim (cases_order c.x 0) [ inl g ↦ absurd (u g) | inr (inl l) ↦ absurd (omega arith) | inr (inr l) ↦ lt-ltb (dropped n c.x) (n - 1) (omega arith) ] in
-    let f : nat_lt (dropped n c.o) (n - 1) ≡ true = elim (cases_order c.o 0) [ inl g ↦ absurd (w g) | inr (inl l) ↦ absurd (omega arith) | inr (inr l) ↦ lt-ltb (dropped n c.o) (n - 1) (omega arith) ] in
+    let e : nat_lt (dropped n c.x) (n - 1) ≡ true = elim (cases_order c.x 0) [
+      | inl g ↦ absurd (u g)
+      | inr (inl l) ↦ absurd (omega arith)
+      | inr (inr l) ↦ lt-ltb (dropped n c.x) (n - 1) (omega arith)
+    ] in
+    let f : nat_lt (dropped n c.o) (n - 1) ≡ true = elim (cases_order c.o 0) [
+      | inl g ↦ absurd (w g)
+      | inr (inl l) ↦ absurd (omega arith)
+      | inr (inr l) ↦ lt-ltb (dropped n c.o) (n - 1) (omega arith)
+    ] in
     ap₂ (λ l m. crossed p l m y a) e f
 
 pub ends_top : (n : ℕ) (c : Column) → c.x < n → c.o < n → ends (n - 1) (relabel (dropped n) c) ≡ ends 0 c
 ends_top n c lx lo = ap₂ (λ a b. a || b) (eq_dropped_top n c.x lx) (eq_dropped_top n c.o lo)
 
-top_on : (p : Bool → ℕ → ℕ → ℕ) (n : ℕ) (d : Bool) (a v : ℕ) (cs : List Column) → IsInside n cs → on_at p (n - 1) (n - 1) v (lowered_on p n d a cs) ≡ on_at p 0 0 v cs
+top_on : (p : Bool → ℕ → ℕ → ℕ) (n : ℕ) (d : Bool) (a v : ℕ) (cs : List Column) → IsInside n cs
+    → on_at p (n - 1) (n - 1) v (lowered_on p n d a cs) ≡ on_at p 0 0 v cs
 top_on p n d a v [] inside = refl
 top_on p n d a v (c ∷ cs) inside = elim (cases_Bool (ends 0 c)) [
   | inl e ↦
@@ -345,10 +379,12 @@ top_row p n (c ∷ cs) inside = elim (cases_Bool (ends 0 c)) [
       ∙ top_row p n cs inside.2 ∙ sym (row_apart p 0 0 c cs e)
 ]
 
-lowered_on_is : (p : Bool → ℕ → ℕ → ℕ) (n : ℕ) (d : Bool) (a : ℕ) (cs : List Column) → lowered_on p n d a cs ≡ map (relabel (dropped n)) (recoloured_on p d a cs)
+lowered_on_is : (p : Bool → ℕ → ℕ → ℕ) (n : ℕ) (d : Bool) (a : ℕ) (cs : List Column)
+    → lowered_on p n d a cs ≡ map (relabel (dropped n)) (recoloured_on p d a cs)
 lowered_on_is p n d a [] = refl
 lowered_on_is p n d a (c ∷ cs) = elim (cases_Bool (ends 0 c)) [
-  | inl e ↦ lowered_on_end p n d a c cs e ∙ ap (map (relabel (dropped n))) (sym (cond-true (ends 0 c) (c ∷ cs) (recolour c (p d a c.y) ∷ recoloured_on p d a cs) e))
+  | inl e ↦ lowered_on_end p n d a c cs e
+      ∙ ap (map (relabel (dropped n))) (sym (cond-true (ends 0 c) (c ∷ cs) (recolour c (p d a c.y) ∷ recoloured_on p d a cs) e))
   | inr e ↦
       lowered_on_apart p n d a c cs e ∙ ap (λ ds. recolour (relabel (dropped n) c) (p d a c.y) ∷ ds) (lowered_on_is p n d a cs)
       ∙ ap (map (relabel (dropped n))) (sym (cond-false (ends 0 c) (c ∷ cs) (recolour c (p d a c.y) ∷ recoloured_on p d a cs) e))
@@ -369,11 +405,13 @@ lowered_is p n (c ∷ cs) = elim (cases_Bool (ends 0 c)) [
 pub recoloured_on_end : (p : Bool → ℕ → ℕ → ℕ) (d : Bool) (a : ℕ) (c : Column) (cs : List Column) → ends 0 c ≡ true → recoloured_on p d a (c ∷ cs) ≡ c ∷ cs
 recoloured_on_end p d a c cs e = cond-true (ends 0 c) (c ∷ cs) (recolour c (p d a c.y) ∷ recoloured_on p d a cs) e
 
-pub recoloured_on_apart : (p : Bool → ℕ → ℕ → ℕ) (d : Bool) (a : ℕ) (c : Column) (cs : List Column) → ends 0 c ≡ false → recoloured_on p d a (c ∷ cs) ≡ recolour c (p d a c.y) ∷ recoloured_on p d a cs
+pub recoloured_on_apart : (p : Bool → ℕ → ℕ → ℕ) (d : Bool) (a : ℕ) (c : Column) (cs : List Column) → ends 0 c ≡ false
+    → recoloured_on p d a (c ∷ cs) ≡ recolour c (p d a c.y) ∷ recoloured_on p d a cs
 recoloured_on_apart p d a c cs e = cond-false (ends 0 c) (c ∷ cs) (recolour c (p d a c.y) ∷ recoloured_on p d a cs) e
 
 -- the marks stay
-xs_recoloured_on : (p : Bool → ℕ → ℕ → ℕ) (d : Bool) (a r : ℕ) (cs : List Column) → (xs_in r (recoloured_on p d a cs) ≡ xs_in r cs) × (os_in r (recoloured_on p d a cs) ≡ os_in r cs)
+xs_recoloured_on : (p : Bool → ℕ → ℕ → ℕ) (d : Bool) (a r : ℕ) (cs : List Column)
+    → (xs_in r (recoloured_on p d a cs) ≡ xs_in r cs) × (os_in r (recoloured_on p d a cs) ≡ os_in r cs)
 xs_recoloured_on p d a r [] = (refl, refl)
 xs_recoloured_on p d a r (c ∷ cs) =
     let rest = xs_recoloured_on p d a r cs in
@@ -385,7 +423,8 @@ xs_recoloured_on p d a r (c ∷ cs) =
       )
     ]
 
-xs_recoloured : (p : Bool → ℕ → ℕ → ℕ) (turn : Bool → Bool) (r : ℕ) (cs : List Column) → (xs_in r (recoloured p turn cs) ≡ xs_in r cs) × (os_in r (recoloured p turn cs) ≡ os_in r cs)
+xs_recoloured : (p : Bool → ℕ → ℕ → ℕ) (turn : Bool → Bool) (r : ℕ) (cs : List Column)
+    → (xs_in r (recoloured p turn cs) ≡ xs_in r cs) × (os_in r (recoloured p turn cs) ≡ os_in r cs)
 xs_recoloured p turn r [] = (refl, refl)
 xs_recoloured p turn r (c ∷ cs) =
     let rest = xs_recoloured p turn r cs in
@@ -400,7 +439,8 @@ xs_recoloured p turn r (c ∷ cs) =
     ]
 
 -- marks in the new top row
-marks_top : (n : ℕ) (cs : List Column) → IsInside n cs → (xs_in (n - 1) (map (relabel (dropped n)) cs) ≡ xs_in 0 cs) × (os_in (n - 1) (map (relabel (dropped n)) cs) ≡ os_in 0 cs)
+marks_top : (n : ℕ) (cs : List Column) → IsInside n cs
+    → (xs_in (n - 1) (map (relabel (dropped n)) cs) ≡ xs_in 0 cs) × (os_in (n - 1) (map (relabel (dropped n)) cs) ≡ os_in 0 cs)
 marks_top n [] inside = (refl, refl)
 marks_top n (c ∷ cs) inside =
     let rest = marks_top n cs inside.2 in
@@ -419,22 +459,28 @@ inside_recoloured p n turn (c ∷ cs) inside = (
   inside.0,
   inside.1,
   elim (cases_Bool (ends 0 c)) [
-    | inl e ↦ subst (IsInside n) (sym (cond-true (ends 0 c) (recoloured_on p (turn (rises c)) c.y cs) (recoloured p turn cs) e)) (inside_recoloured_on p n (turn (rises c)) c.y cs inside.2)
-    | inr e ↦ subst (IsInside n) (sym (cond-false (ends 0 c) (recoloured_on p (turn (rises c)) c.y cs) (recoloured p turn cs) e)) (inside_recoloured p n turn cs inside.2)
+    | inl e ↦ subst (IsInside n) (sym (cond-true (ends 0 c) (recoloured_on p (turn (rises c)) c.y cs) (recoloured p turn cs) e))
+        (inside_recoloured_on p n (turn (rises c)) c.y cs inside.2)
+    | inr e ↦ subst (IsInside n) (sym (cond-false (ends 0 c) (recoloured_on p (turn (rises c)) c.y cs) (recoloured p turn cs) e))
+        (inside_recoloured p n turn cs inside.2)
   ],
 )
 
 -- marks of the shifted grid
-pub marks_lowered : (p : Bool → ℕ → ℕ → ℕ) (n s : ℕ) (cs : List Column) → suc s < n → (xs_in s (lowered p n cs) ≡ xs_in (suc s) cs) × (os_in s (lowered p n cs) ≡ os_in (suc s) cs)
+pub marks_lowered : (p : Bool → ℕ → ℕ → ℕ) (n s : ℕ) (cs : List Column) → suc s < n
+    → (xs_in s (lowered p n cs) ≡ xs_in (suc s) cs) × (os_in s (lowered p n cs) ≡ os_in (suc s) cs)
 marks_lowered p n s cs lt = (
   ap (xs_in s) (lowered_is p n cs) ∙ xs_relabel (dropped n) (suc s) s (eq_dropped n s lt) (recoloured p not cs) ∙ (xs_recoloured p not (suc s) cs).0,
   ap (os_in s) (lowered_is p n cs) ∙ os_relabel (dropped n) (suc s) s (eq_dropped n s lt) (recoloured p not cs) ∙ (xs_recoloured p not (suc s) cs).1,
 )
 
-pub marks_lowered_top : (p : Bool → ℕ → ℕ → ℕ) (n : ℕ) (cs : List Column) → IsInside n cs → (xs_in (n - 1) (lowered p n cs) ≡ xs_in 0 cs) × (os_in (n - 1) (lowered p n cs) ≡ os_in 0 cs)
+pub marks_lowered_top : (p : Bool → ℕ → ℕ → ℕ) (n : ℕ) (cs : List Column) → IsInside n cs
+    → (xs_in (n - 1) (lowered p n cs) ≡ xs_in 0 cs) × (os_in (n - 1) (lowered p n cs) ≡ os_in 0 cs)
 marks_lowered_top p n cs inside =
-    let top = marks_top n (recoloured p not cs) (inside_recoloured p n not cs inside) in
-    (ap (xs_in (n - 1)) (lowered_is p n cs) ∙ top.0 ∙ (xs_recoloured p not 0 cs).0, ap (os_in (n - 1)) (lowered_is p n cs) ∙ top.1 ∙ (xs_recoloured p not 0 cs).1)
+    let top = marks_top n (recoloured p not cs) (inside_recoloured p n not cs inside) in (
+      ap (xs_in (n - 1)) (lowered_is p n cs) ∙ top.0 ∙ (xs_recoloured p not 0 cs).0,
+      ap (os_in (n - 1)) (lowered_is p n cs) ∙ top.1 ∙ (xs_recoloured p not 0 cs).1,
+    )
 
 -- a row of the new grid is the top one or an old one that went down
 last_row : (n s : ℕ) → s < n → (suc s < n) ⊎ (s ≡ n - 1)
@@ -472,6 +518,7 @@ rows_raised p acts n cs some inside coloured =
       rings = elim [ zero ↦ λ lt. eo | suc s ↦ λ lt. sym (marks_lowered p n s cs lt).1 ∙ coloured.rings s (omega arith) ];
       walks = elim [
         | zero ↦ λ lt. row_walk p 0 cs ∙ low
-        | suc s ↦ λ lt. row_walk p (suc s) cs ∙ sym (whole_row p acts n s lt cs low ex eo) ∙ sym (row_walk p s (lowered p n cs)) ∙ coloured.walks s (omega arith)
+        | suc s ↦ λ lt. row_walk p (suc s) cs ∙ sym (whole_row p acts n s lt cs low ex eo) ∙ sym (row_walk p s (lowered p n cs))
+            ∙ coloured.walks s (omega arith)
       ];
     }

@@ -25,7 +25,8 @@ turned_place k c i le lt = elim (cases_lt i (length c - k)) [
       get_or_append_left (drop k c) (take k c) 0 i (omega (arith, length-drop k c)) ∙ get_or-drop k c i 0
       ∙ ap (slice_index c) (let e : k + i ≡ i + k = omega arith in e ∙ sym (mod-eq_of_lt (let s : i + k < length c = omega arith in s)))
   | inr g ↦
-      let turn : (i + k) % length c ≡ i - (length c - k) = ap (λ m. m % length c) (let e : i + k ≡ 1 * length c + (i - (length c - k)) = omega arith in e) ∙ mod-mul-add 1 (length c) (i - (length c - k)) (omega arith) in
+      let turn : (i + k) % length c ≡ i - (length c - k) = ap (λ m. m % length c) (let e : i + k ≡ 1 * length c + (i - (length c - k)) = omega arith in e)
+      ∙ mod-mul-add 1 (length c) (i - (length c - k)) (omega arith) in
       get_or-append_right (drop k c) (take k c) (length c - k) i 0 (length-drop k c) g ∙ get_or-take k c (i - (length c - k)) 0 (omega arith)
       ∙ ap (slice_index c) (sym turn)
 ]
@@ -35,7 +36,8 @@ turned_is k d c le e =
     is_by_column (size d) (λ i. slice_index c ((i + k) % size d)) (turned k c) (lists.length_turned k c ∙ e)
     (λ i lt. turned_place k c i (omega (arith, e)) (omega (arith, e)) ∙ ap (λ m. slice_index c ((i + k) % m)) e)
 
-pub shift_of_columns : (t : Table) → IsQuandle t → (d e : Diagram) (k : ℕ) → Step d (ShiftColumns k) e → IsBijection (IsColouring t d) (IsColouring t e) (carried t d (ShiftColumns k))
+pub shift_of_columns : (t : Table) → IsQuandle t → (d e : Diagram) (k : ℕ) → Step d (ShiftColumns k) e
+    → IsBijection (IsColouring t d) (IsColouring t e) (carried t d (ShiftColumns k))
 shift_of_columns t q d e k step =
     let is = step_moved d (ShiftColumns k) e step in
     let most = step.marks.most in

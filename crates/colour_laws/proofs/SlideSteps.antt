@@ -40,7 +40,9 @@ shared_end a b c d shared n m = elim (cases_eq a d) [
 ]
 
 -- of two neighbouring columns that share a row
-pub sharing : (d : Diagram) (c : ℕ) → IsGrid d → c + 1 < size d → share_an_end (span (row_of Cross d c) (row_of Ring d c)) (span (row_of Cross d (c + 1)) (row_of Ring d (c + 1))) ≡ true → (r : ℕ) × (r < size d) × IsSharing r c (bare d)
+pub sharing : (d : Diagram) (c : ℕ) → IsGrid d → c + 1 < size d
+    → share_an_end (span (row_of Cross d c) (row_of Ring d c)) (span (row_of Cross d (c + 1)) (row_of Ring d (c + 1))) ≡ true
+    → (r : ℕ) × (r < size d) × IsSharing r c (bare d)
 sharing d c grid lt shared =
     let here : c < size d = omega (arith, lt) in
     let next : c + 1 ≡ suc c = add-one c in
@@ -51,7 +53,8 @@ sharing d c grid lt shared =
       | inr e ↦ (row_of Ring d c, row_below d grid Ring c here, told (row_of Ring d c) (inr (refl, sym (e ∙ ap (row_of Cross d) next))))
     ]
 
-pub slide_of_columns : (t : Table) → IsQuandle t → (d e : Diagram) (c : ℕ) → Step d (SlideColumns c) e → IsBijection (IsColouring t d) (IsColouring t e) (carried t d (SlideColumns c))
+pub slide_of_columns : (t : Table) → IsQuandle t → (d e : Diagram) (c : ℕ) → Step d (SlideColumns c) e
+    → IsBijection (IsColouring t d) (IsColouring t e) (carried t d (SlideColumns c))
 slide_of_columns t q d e c step =
     let m = step.marks in
     let marks = marks_traded c d e step.before step.after m.inside m.renumbered in
@@ -59,14 +62,17 @@ slide_of_columns t q d e c step =
     bijection_from t q d e step.before step.after (λ f. f) (λ f. f) (carried t d (SlideColumns c))
     (columns_slid t q d e step.before step.after row.0 c row.1 row.2 marks.0 marks.1) (λ f colouring. refl)
 
-pub slid_colours : (t : Table) → IsQuandle t → (d e : Diagram) (c : ℕ) → Step d (SlideColumns c) e → (f : List ℕ) → IsColouring t d f → slice_index f c ≡ slice_index f (c + 1)
+pub slid_colours : (t : Table) → IsQuandle t → (d e : Diagram) (c : ℕ) → Step d (SlideColumns c) e → (f : List ℕ) → IsColouring t d f
+    → slice_index f c ≡ slice_index f (c + 1)
 slid_colours t q d e c step f colouring =
     let m = step.marks in
     let row = sharing d c step.before m.inside m.may_slide.shared in
     one_colour t d step.before row.0 c row.1 row.2 f (by_columns t q d step.before f colouring) (omega (arith, m.inside)) ∙ ap (slice_index f) (sym (add-one c))
 
 -- of two neighbouring rows that share a column
-pub both : (d : Diagram) (r : ℕ) → IsGrid d → r + 1 < size d → share_an_end (span (column_of Cross d r) (column_of Ring d r)) (span (column_of Cross d (r + 1)) (column_of Ring d (r + 1))) ≡ true → HasBoth r (suc r) (bare d)
+pub both : (d : Diagram) (r : ℕ) → IsGrid d → r + 1 < size d
+    → share_an_end (span (column_of Cross d r) (column_of Ring d r)) (span (column_of Cross d (r + 1)) (column_of Ring d (r + 1))) ≡ true
+    → HasBoth r (suc r) (bare d)
 both d r grid lt shared =
     let here : r < size d = omega (arith, lt) in
     let next : r + 1 ≡ suc r = add-one r in
@@ -85,7 +91,8 @@ both d r grid lt shared =
           (ends_cross (suc r) (column_at (column_of Ring d r) d.x d.o) (ap (row_of Cross d) e ∙ (mark Cross (r + 1) lt).row ∙ next))
     ]
 
-pub slide_of_rows : (t : Table) → IsQuandle t → (d e : Diagram) (r : ℕ) → Step d (SlideRows r) e → IsBijection (IsColouring t d) (IsColouring t e) (carried t d (SlideRows r))
+pub slide_of_rows : (t : Table) → IsQuandle t → (d e : Diagram) (r : ℕ) → Step d (SlideRows r) e
+    → IsBijection (IsColouring t d) (IsColouring t e) (carried t d (SlideRows r))
 slide_of_rows t q d e r step =
     let m = step.marks in
     let is = step_moved d (SlideRows r) e step in

@@ -11,9 +11,10 @@ use Rattle.grid_core.specs.declared.mark.Corner.{Corner}
 use Rattle.grid_core.specs.declared.mark.Corner.TheVariants.{LowLeft, LowRight, HighLeft, HighRight}
 use Rattle.grid_core.specs.Diagram.{Diagram, IsGrid, size, row_of, other}
 use Rattle.grid_core.specs.Corners.{corner_column, corner_row as row_of_corner}
+use Rattle.grid_core.specs.Places.{lifted}
 use Rattle.grid_core.proofs.Marks.{row_once, no_cell_twice}
 use Rattle.grid_core.proofs.Marks as marks
-use Rattle.grid_moves.specs.Stabilisation.{Stabilises, grown}
+use Rattle.grid_moves.specs.Stabilisation.{Stabilises}
 use Rattle.grid_moves.proofs.Widened.{kinds, two_kinds}
 use Rattle.colour_laws.proofs.ColumnLists.{corner_row, raised}
 use Rattle.colour_laws.proofs.ColouredColumns.{IsStabilised}
@@ -49,7 +50,7 @@ new_row r LowRight = omega arith
 new_row r HighLeft = omega arith
 new_row r HighRight = omega arith
 
-other_row : (r : ℕ) (high : Bool) (s : ℕ) → s ≢ r → grown r s ≡ raised r high s
+other_row : (r : ℕ) (high : Bool) (s : ℕ) → s ≢ r → lifted (r + 1) s ≡ raised r high s
 other_row r high s n = grind (arith, nat_tests, n)
 
 -- the marks after a stabilisation, by their old rows
@@ -58,7 +59,7 @@ record HasBlock (kind : Kind) (corner : Corner) (r c : ℕ) (d e : Diagram) : Ty
   own_new : row_of kind e (c + 1 - corner_column corner) ≡ corner_row r (is_high corner)
   other_new : row_of (other kind) e (c + corner_column corner) ≡ corner_row r (is_high corner)
   far : row_of (other kind) e (c + 1 - corner_column corner) ≡ raised r (is_high corner) (row_of (other kind) d c)
-  rest : (k : Kind) (b : ℕ) → b < size d → b ≢ c → row_of k e (grown c b) ≡ raised r (is_high corner) (row_of k d b)
+  rest : (k : Kind) (b : ℕ) → b < size d → b ≢ c → row_of k e (lifted (c + 1) b) ≡ raised r (is_high corner) (row_of k d b)
 
 has_block : (c : ℕ) (kind : Kind) (corner : Corner) (r : ℕ) (d e : Diagram) → IsGrid d → Stabilises c kind corner r d e → HasBlock kind corner r c d e
 has_block c kind corner r d e grid stab =
@@ -74,7 +75,7 @@ has_block c kind corner r d e grid stab =
         | inl h ↦ elim (kinds kind k) [
           | inl same ↦ absurd (n (row_once d grid kind b c at lt (ap (λ z. row_of z d b) (sym same) ∙ h ∙ sym stab.marked.row)))
           | inr far ↦
-              ap (λ z. row_of z e (grown c b)) far
+              ap (λ z. row_of z e (lifted (c + 1) b)) far
               ∙ (stab.of_row b (record { inside = at; row = ap (λ z. row_of z d b) (sym far) ∙ h })).row
               ∙ own_row r corner ∙ ap (raised r (is_high corner)) (sym h)
         ]
@@ -84,9 +85,11 @@ has_block c kind corner r d e grid stab =
 -- from the rows of the block's columns to the lists
 assemble : (mark right high : Bool) (r c : ℕ) (d e : Diagram) → IsGrid d → IsGrid e → size e ≡ size d + 1 → c < size d
     → cond mark (slice_index d.x c) (slice_index d.o c) ≡ r → cond mark (slice_index d.o c) (slice_index d.x c) ≢ r
-    → slice_index e.x c ≡ (block_first mark right high r (column_at c d.x d.o)).x → slice_index e.x (suc c) ≡ (block_second mark right high r (column_at c d.x d.o)).x
-    → slice_index e.o c ≡ (block_first mark right high r (column_at c d.x d.o)).o → slice_index e.o (suc c) ≡ (block_second mark right high r (column_at c d.x d.o)).o
-    → ((k : Kind) (b : ℕ) → b < size d → b ≢ c → row_of k e (grown c b) ≡ raised r high (row_of k d b))
+    → slice_index e.x c ≡ (block_first mark right high r (column_at c d.x d.o)).x
+    → slice_index e.x (suc c) ≡ (block_second mark right high r (column_at c d.x d.o)).x
+    → slice_index e.o c ≡ (block_first mark right high r (column_at c d.x d.o)).o
+    → slice_index e.o (suc c) ≡ (block_second mark right high r (column_at c d.x d.o)).o
+    → ((k : Kind) (b : ℕ) → b < size d → b ≢ c → row_of k e (lifted (c + 1) b) ≡ raised r high (row_of k d b))
     → IsStabilised mark right high r c d e
 assemble mark right high r c d e grid grid' larger lt here apart x1 x2 o1 o2 rest =
     let blank : length (map (λ (m : ℕ). 0) d.x) ≡ length d.x = length-map d.x (λ (m : ℕ). 0) in
@@ -96,19 +99,24 @@ assemble mark right high r c d e grid grid' larger lt here apart x1 x2 o1 o2 res
     λ k i l at. ap (row_of k e) (above c i l) ∙ rest k i at (λ h. omega (arith, h, l)) in
     record {
       place = mark_at mark r c d.x d.o (map (λ m. 0) d.x) lt grid.same blank here apart;
-      crosses = with_block_crosses_at mark right high r c d.x d.o (map (λ m. 0) d.x) e.x lt grid.same blank (omega (arith, larger)) x1 x2 (low Cross) (high' Cross);
-      rings = with_block_rings_at mark right high r c d.x d.o (map (λ m. 0) d.x) e.o lt grid.same blank (omega (arith, larger, grid'.same)) o1 o2 (low Ring) (high' Ring);
+      crosses =
+          with_block_crosses_at mark right high r c d.x d.o (map (λ m. 0) d.x) e.x lt grid.same blank (omega (arith, larger)) x1 x2 (low Cross) (high' Cross);
+      rings =
+          with_block_rings_at mark right high r c d.x d.o (map (λ m. 0) d.x) e.o lt grid.same blank (omega (arith, larger, grid'.same)) o1 o2 (low Ring)
+          (high' Ring);
     }
   where
-    below : (c i : ℕ) → i < c → i ≡ grown c i
+    below : (c i : ℕ) → i < c → i ≡ lifted (c + 1) i
     below c i l = grind (arith, nat_tests)
 
-    above : (c i : ℕ) → c < i → suc i ≡ grown c i
+    above : (c i : ℕ) → c < i → suc i ≡ lifted (c + 1) i
     above c i l = grind (arith, nat_tests)
 
 -- a stabilisation by its marks is one by its lists
-pub is_stabilised : (c : ℕ) (kind : Kind) (corner : Corner) (r : ℕ) (d e : Diagram) → IsGrid d → IsGrid e → Stabilises c kind corner r d e → IsStabilised (is_cross kind) (is_right corner) (is_high corner) r c d e
-is_stabilised c kind corner r d e grid grid' stab = shape kind corner stab (has_block c kind corner r d e grid stab) (λ h. two_kinds d grid kind c stab.marked.inside (stab.marked.row ∙ sym h))
+pub is_stabilised : (c : ℕ) (kind : Kind) (corner : Corner) (r : ℕ) (d e : Diagram) → IsGrid d → IsGrid e → Stabilises c kind corner r d e
+    → IsStabilised (is_cross kind) (is_right corner) (is_high corner) r c d e
+is_stabilised c kind corner r d e grid grid' stab =
+    shape kind corner stab (has_block c kind corner r d e grid stab) (λ h. two_kinds d grid kind c stab.marked.inside (stab.marked.row ∙ sym h))
   where
     left : (k : Kind) (n : ℕ) → row_of k e (c + 0) ≡ n → row_of k e c ≡ n
     left k n h = ap (row_of k e) (let q : c ≡ c + 0 = omega arith in q) ∙ h
@@ -122,12 +130,29 @@ is_stabilised c kind corner r d e grid grid' stab = shape kind corner stab (has_
     right_next : (k : Kind) (n : ℕ) → row_of k e (c + 1) ≡ n → row_of k e (suc c) ≡ n
     right_next k n h = ap (row_of k e) (let q : suc c ≡ c + 1 = omega arith in q) ∙ h
 
-    shape : (kind : Kind) (corner : Corner) → Stabilises c kind corner r d e → HasBlock kind corner r c d e → row_of (other kind) d c ≢ r → IsStabilised (is_cross kind) (is_right corner) (is_high corner) r c d e
-    shape Cross LowLeft s b n = assemble true false false r c d e grid grid' s.larger s.marked.inside s.marked.row n (left Cross _ b.own) (left_next Cross _ b.own_new) (left Ring _ b.other_new) (left_next Ring _ b.far) b.rest
-    shape Cross LowRight s b n = assemble true true false r c d e grid grid' s.larger s.marked.inside s.marked.row n (right Cross _ b.own_new) (right_next Cross _ b.own) (right Ring _ b.far) (right_next Ring _ b.other_new) b.rest
-    shape Cross HighLeft s b n = assemble true false true r c d e grid grid' s.larger s.marked.inside s.marked.row n (left Cross _ b.own) (left_next Cross _ b.own_new) (left Ring _ b.other_new) (left_next Ring _ b.far) b.rest
-    shape Cross HighRight s b n = assemble true true true r c d e grid grid' s.larger s.marked.inside s.marked.row n (right Cross _ b.own_new) (right_next Cross _ b.own) (right Ring _ b.far) (right_next Ring _ b.other_new) b.rest
-    shape Ring LowLeft s b n = assemble false false false r c d e grid grid' s.larger s.marked.inside s.marked.row n (left Cross _ b.other_new) (left_next Cross _ b.far) (left Ring _ b.own) (left_next Ring _ b.own_new) b.rest
-    shape Ring LowRight s b n = assemble false true false r c d e grid grid' s.larger s.marked.inside s.marked.row n (right Cross _ b.far) (right_next Cross _ b.other_new) (right Ring _ b.own_new) (right_next Ring _ b.own) b.rest
-    shape Ring HighLeft s b n = assemble false false true r c d e grid grid' s.larger s.marked.inside s.marked.row n (left Cross _ b.other_new) (left_next Cross _ b.far) (left Ring _ b.own) (left_next Ring _ b.own_new) b.rest
-    shape Ring HighRight s b n = assemble false true true r c d e grid grid' s.larger s.marked.inside s.marked.row n (right Cross _ b.far) (right_next Cross _ b.other_new) (right Ring _ b.own_new) (right_next Ring _ b.own) b.rest
+    shape : (kind : Kind) (corner : Corner) → Stabilises c kind corner r d e → HasBlock kind corner r c d e → row_of (other kind) d c ≢ r
+        → IsStabilised (is_cross kind) (is_right corner) (is_high corner) r c d e
+    shape Cross LowLeft s b n =
+        assemble true false false r c d e grid grid' s.larger s.marked.inside s.marked.row n (left Cross _ b.own) (left_next Cross _ b.own_new)
+        (left Ring _ b.other_new) (left_next Ring _ b.far) b.rest
+    shape Cross LowRight s b n =
+        assemble true true false r c d e grid grid' s.larger s.marked.inside s.marked.row n (right Cross _ b.own_new) (right_next Cross _ b.own)
+        (right Ring _ b.far) (right_next Ring _ b.other_new) b.rest
+    shape Cross HighLeft s b n =
+        assemble true false true r c d e grid grid' s.larger s.marked.inside s.marked.row n (left Cross _ b.own) (left_next Cross _ b.own_new)
+        (left Ring _ b.other_new) (left_next Ring _ b.far) b.rest
+    shape Cross HighRight s b n =
+        assemble true true true r c d e grid grid' s.larger s.marked.inside s.marked.row n (right Cross _ b.own_new) (right_next Cross _ b.own)
+        (right Ring _ b.far) (right_next Ring _ b.other_new) b.rest
+    shape Ring LowLeft s b n =
+        assemble false false false r c d e grid grid' s.larger s.marked.inside s.marked.row n (left Cross _ b.other_new) (left_next Cross _ b.far)
+        (left Ring _ b.own) (left_next Ring _ b.own_new) b.rest
+    shape Ring LowRight s b n =
+        assemble false true false r c d e grid grid' s.larger s.marked.inside s.marked.row n (right Cross _ b.far) (right_next Cross _ b.other_new)
+        (right Ring _ b.own_new) (right_next Ring _ b.own) b.rest
+    shape Ring HighLeft s b n =
+        assemble false false true r c d e grid grid' s.larger s.marked.inside s.marked.row n (left Cross _ b.other_new) (left_next Cross _ b.far)
+        (left Ring _ b.own) (left_next Ring _ b.own_new) b.rest
+    shape Ring HighRight s b n =
+        assemble false true true r c d e grid grid' s.larger s.marked.inside s.marked.row n (right Cross _ b.far) (right_next Cross _ b.other_new)
+        (right Ring _ b.own_new) (right_next Ring _ b.own) b.rest

@@ -18,29 +18,39 @@ use Rattle.colour_laws.proofs.RowShifts.{same_columns, xs_of_relabel, os_of_rela
 
 -- both columns of the block have a mark in the corner's row
 pub short_corner : (mark high : Bool) (r : ℕ) (c : Column) → ends (corner_row r high) (short mark high r c) ≡ true
-short_corner true high r c = or_right (raised r high r == corner_row r high) (corner_row r high == corner_row r high) (eq-eqb (corner_row r high) (corner_row r high) refl)
-short_corner false high r c = or_left (corner_row r high == corner_row r high) (raised r high r == corner_row r high) (eq-eqb (corner_row r high) (corner_row r high) refl)
+short_corner true high r c =
+    or_right (raised r high r == corner_row r high) (corner_row r high == corner_row r high) (eq-eqb (corner_row r high) (corner_row r high) refl)
+short_corner false high r c =
+    or_left (corner_row r high == corner_row r high) (raised r high r == corner_row r high) (eq-eqb (corner_row r high) (corner_row r high) refl)
 
 pub long_corner : (mark high : Bool) (r : ℕ) (c : Column) → ends (corner_row r high) (long mark high r c) ≡ true
-long_corner true high r c = or_left (corner_row r high == corner_row r high) (raised r high c.o == corner_row r high) (eq-eqb (corner_row r high) (corner_row r high) refl)
-long_corner false high r c = or_right (raised r high c.x == corner_row r high) (corner_row r high == corner_row r high) (eq-eqb (corner_row r high) (corner_row r high) refl)
+long_corner true high r c =
+    or_left (corner_row r high == corner_row r high) (raised r high c.o == corner_row r high) (eq-eqb (corner_row r high) (corner_row r high) refl)
+long_corner false high r c =
+    or_right (raised r high c.x == corner_row r high) (corner_row r high == corner_row r high) (eq-eqb (corner_row r high) (corner_row r high) refl)
 
 pub raised_apart : (high : Bool) (r x o : ℕ) → ((raised r high x == corner_row r high) || (raised r high o == corner_row r high)) ≡ false
-raised_apart high r x o = or_from (raised r high x == corner_row r high) (raised r high o == corner_row r high) (ne_eqb (raised r high x) (corner_row r high) (raised_corner r high x)) (ne_eqb (raised r high o) (corner_row r high) (raised_corner r high o))
+raised_apart high r x o =
+    or_from (raised r high x == corner_row r high) (raised r high o == corner_row r high)
+    (ne_eqb (raised r high x) (corner_row r high) (raised_corner r high x)) (ne_eqb (raised r high o) (corner_row r high) (raised_corner r high o))
 
 -- a pair of columns at the front, both with a mark in the row
 pair_row : (p : Bool → ℕ → ℕ → ℕ) (r : ℕ) (a b : Column) (cs : List Column) → ends r a ≡ true → ends r b ≡ true → row_at p r r (a ∷ b ∷ cs) ≡ (a.y == b.y)
 pair_row p r a b cs e f = row_end p r r a (b ∷ cs) e ∙ on_end p r r a.y b cs f
 
 -- the new row
-new_row : (p : Bool → ℕ → ℕ → ℕ) (mark right high : Bool) (r k : ℕ) (cs : List Column) → IsMarkAt mark r k cs → row_at p (corner_row r high) (corner_row r high) (with_block mark right high r k cs) ≡ true
+new_row : (p : Bool → ℕ → ℕ → ℕ) (mark right high : Bool) (r k : ℕ) (cs : List Column) → IsMarkAt mark r k cs
+    → row_at p (corner_row r high) (corner_row r high) (with_block mark right high r k cs) ≡ true
 new_row p mark right high r k [] is = absurd is
 new_row p mark true high r zero (c ∷ cs) is =
-    pair_row p (corner_row r high) (long mark high r c) (short mark high r c) (map (relabel (raised r high)) cs) (long_corner mark high r c) (short_corner mark high r c) ∙ eq-eqb c.y c.y refl
+    pair_row p (corner_row r high) (long mark high r c) (short mark high r c) (map (relabel (raised r high)) cs) (long_corner mark high r c)
+    (short_corner mark high r c) ∙ eq-eqb c.y c.y refl
 new_row p mark false high r zero (c ∷ cs) is =
-    pair_row p (corner_row r high) (short mark high r c) (long mark high r c) (map (relabel (raised r high)) cs) (short_corner mark high r c) (long_corner mark high r c) ∙ eq-eqb c.y c.y refl
+    pair_row p (corner_row r high) (short mark high r c) (long mark high r c) (map (relabel (raised r high)) cs) (short_corner mark high r c)
+    (long_corner mark high r c) ∙ eq-eqb c.y c.y refl
 new_row p mark right high r (suc k) (c ∷ cs) is =
-    row_apart p (corner_row r high) (corner_row r high) (relabel (raised r high) c) (with_block mark right high r k cs) (raised_apart high r c.x c.o) ∙ new_row p mark right high r k cs is
+    row_apart p (corner_row r high) (corner_row r high) (relabel (raised r high) c) (with_block mark right high r k cs) (raised_apart high r c.x c.o)
+    ∙ new_row p mark right high r k cs is
 
 -- a column's ends hang on its marks alone
 ends_same : (r : ℕ) (a b : Column) → a.x ≡ b.x → a.o ≡ b.o → ends r a ≡ ends r b
@@ -66,9 +76,11 @@ common : (p : Bool → ℕ → ℕ → ℕ) (mark right high : Bool) (r k : ℕ)
     → row_at p (corner_row r high) (corner_row r high) ds ≡ true → doubled k (without k (ys_of ds)) ≡ ys_of ds
 common p mark right high r k [] ds is ex eo row = absurd is
 common p mark true high r zero (c ∷ cs) ds is ex eo row =
-    front_pair p (corner_row r high) (long mark high r c) (short mark high r c) (map (relabel (raised r high)) cs) ds (long_corner mark high r c) (short_corner mark high r c) ex eo row
+    front_pair p (corner_row r high) (long mark high r c) (short mark high r c) (map (relabel (raised r high)) cs) ds (long_corner mark high r c)
+    (short_corner mark high r c) ex eo row
 common p mark false high r zero (c ∷ cs) ds is ex eo row =
-    front_pair p (corner_row r high) (short mark high r c) (long mark high r c) (map (relabel (raised r high)) cs) ds (short_corner mark high r c) (long_corner mark high r c) ex eo row
+    front_pair p (corner_row r high) (short mark high r c) (long mark high r c) (map (relabel (raised r high)) cs) ds (short_corner mark high r c)
+    (long_corner mark high r c) ex eo row
 common p mark right high r (suc k) (c ∷ cs) [] is ex eo row = refl
 common p mark right high r (suc k) (c ∷ cs) (d ∷ ds) is ex eo row =
     let dx : d.x ≡ raised r high c.x = cc in
@@ -112,7 +124,8 @@ all_without b (suc k) (y ∷ ys) all = All-cons (λ m. m < b) y (without k ys) (
 
 -- what the marks alone decide
 pub same_marks : (mark right high : Bool) (r k : ℕ) (cs bs : List Column) → xs_of cs ≡ xs_of bs → os_of cs ≡ os_of bs
-    → (xs_of (with_block mark right high r k cs) ≡ xs_of (with_block mark right high r k bs)) × (os_of (with_block mark right high r k cs) ≡ os_of (with_block mark right high r k bs))
+    → (xs_of (with_block mark right high r k cs) ≡ xs_of (with_block mark right high r k bs)) × (os_of (with_block mark right high r k cs) ≡ os_of
+    (with_block mark right high r k bs))
 same_marks mark right high r k [] [] ex eo = (refl, refl)
 same_marks mark right high r k [] (b ∷ bs) ex eo = absurd (cc)
 same_marks mark right high r k (a ∷ cs) [] ex eo = absurd (cc)
@@ -126,17 +139,25 @@ same_marks mark right high r zero (a ∷ cs) (b ∷ bs) ex eo =
     let ho : a.o ≡ b.o = cc in
     let tx : xs_of cs ≡ xs_of bs = cc in
     let to : os_of cs ≡ os_of bs = cc in
-    let rx : xs_of (map (relabel (raised r high)) cs) ≡ xs_of (map (relabel (raised r high)) bs) = xs_of_relabel (raised r high) cs ∙ ap (map (raised r high)) tx ∙ sym (xs_of_relabel (raised r high) bs) in
-    let ro : os_of (map (relabel (raised r high)) cs) ≡ os_of (map (relabel (raised r high)) bs) = os_of_relabel (raised r high) cs ∙ ap (map (raised r high)) to ∙ sym (os_of_relabel (raised r high) bs) in
+    let rx : xs_of (map (relabel (raised r high)) cs) ≡ xs_of (map (relabel (raised r high)) bs) = xs_of_relabel (raised r high) cs
+    ∙ ap (map (raised r high)) tx ∙ sym (xs_of_relabel (raised r high) bs) in
+    let ro : os_of (map (relabel (raised r high)) cs) ≡ os_of (map (relabel (raised r high)) bs) = os_of_relabel (raised r high) cs
+    ∙ ap (map (raised r high)) to ∙ sym (os_of_relabel (raised r high) bs) in
     same_block mark right high r a b (map (relabel (raised r high)) cs) (map (relabel (raised r high)) bs) hx ho rx ro
   where
     same_block : (mark right high : Bool) (r : ℕ) (a b : Column) (cs bs : List Column) → a.x ≡ b.x → a.o ≡ b.o → xs_of cs ≡ xs_of bs → os_of cs ≡ os_of bs
-        → (xs_of (cond right (long mark high r a ∷ short mark high r a ∷ cs) (short mark high r a ∷ long mark high r a ∷ cs)) ≡ xs_of (cond right (long mark high r b ∷ short mark high r b ∷ bs) (short mark high r b ∷ long mark high r b ∷ bs)))
-        × (os_of (cond right (long mark high r a ∷ short mark high r a ∷ cs) (short mark high r a ∷ long mark high r a ∷ cs)) ≡ os_of (cond right (long mark high r b ∷ short mark high r b ∷ bs) (short mark high r b ∷ long mark high r b ∷ bs)))
-    same_block true true high r a b cs bs hx ho rx ro = (ap (λ l. corner_row r high ∷ raised r high r ∷ l) rx, ap₂ (λ o l. raised r high o ∷ corner_row r high ∷ l) ho ro)
-    same_block true false high r a b cs bs hx ho rx ro = (ap (λ l. raised r high r ∷ corner_row r high ∷ l) rx, ap₂ (λ o l. corner_row r high ∷ raised r high o ∷ l) ho ro)
-    same_block false true high r a b cs bs hx ho rx ro = (ap₂ (λ x l. raised r high x ∷ corner_row r high ∷ l) hx rx, ap (λ l. corner_row r high ∷ raised r high r ∷ l) ro)
-    same_block false false high r a b cs bs hx ho rx ro = (ap₂ (λ x l. corner_row r high ∷ raised r high x ∷ l) hx rx, ap (λ l. raised r high r ∷ corner_row r high ∷ l) ro)
+        → (xs_of (cond right (long mark high r a ∷ short mark high r a ∷ cs) (short mark high r a ∷ long mark high r a ∷ cs)) ≡ xs_of
+        (cond right (long mark high r b ∷ short mark high r b ∷ bs) (short mark high r b ∷ long mark high r b ∷ bs)))
+        × (os_of (cond right (long mark high r a ∷ short mark high r a ∷ cs) (short mark high r a ∷ long mark high r a ∷ cs)) ≡ os_of
+        (cond right (long mark high r b ∷ short mark high r b ∷ bs) (short mark high r b ∷ long mark high r b ∷ bs)))
+    same_block true true high r a b cs bs hx ho rx ro =
+        (ap (λ l. corner_row r high ∷ raised r high r ∷ l) rx, ap₂ (λ o l. raised r high o ∷ corner_row r high ∷ l) ho ro)
+    same_block true false high r a b cs bs hx ho rx ro =
+        (ap (λ l. raised r high r ∷ corner_row r high ∷ l) rx, ap₂ (λ o l. corner_row r high ∷ raised r high o ∷ l) ho ro)
+    same_block false true high r a b cs bs hx ho rx ro =
+        (ap₂ (λ x l. raised r high x ∷ corner_row r high ∷ l) hx rx, ap (λ l. corner_row r high ∷ raised r high r ∷ l) ro)
+    same_block false false high r a b cs bs hx ho rx ro =
+        (ap₂ (λ x l. corner_row r high ∷ raised r high x ∷ l) hx rx, ap (λ l. raised r high r ∷ corner_row r high ∷ l) ro)
 
 pub same_place : (mark : Bool) (r k : ℕ) (cs bs : List Column) → xs_of cs ≡ xs_of bs → os_of cs ≡ os_of bs → IsMarkAt mark r k cs → IsMarkAt mark r k bs
 same_place mark r k [] bs ex eo is = absurd is
@@ -165,7 +186,15 @@ old_row : (r : ℕ) (high : Bool) (n s : ℕ) → r < n → s < suc n → (s ≡
 old_row r high n s lr ls = elim (cases_lt s r) [
   | inl l ↦ inr (s, omega arith, elim (lifts r high s) [ under a e ↦ e | level_with a ↦ absurd (omega arith) | above a e ↦ absurd (omega arith) ])
   | inr g ↦ elim (cases_lt (suc r) s) [
-    | inl l ↦ inr (s - 1, omega arith, elim (lifts r high (s - 1)) [ under a e ↦ absurd (omega arith) | level_with a ↦ absurd (omega arith) | above a e ↦ omega (arith, e) ])
+    | inl l ↦ inr (
+      s - 1,
+      omega arith,
+      elim (lifts r high (s - 1)) [
+        | under a e ↦ absurd (omega arith)
+        | level_with a ↦ absurd (omega arith)
+        | above a e ↦ omega (arith, e)
+      ],
+    )
     | inr g' ↦ elim (cases_eq s r) [
       | inl e ↦ elim (two_rows r high) [ inl t ↦ inr (r, lr, t.0 ∙ sym e) | inr t ↦ inl (e ∙ sym t.1) ]
       | inr m ↦
@@ -213,39 +242,50 @@ stabilised t q g h grid grid' mark right high r k is =
     let rest_size : (ds : List Column) → IsMarked h ds → length (without k (ys_of ds)) ≡ length g.x = λ ds marked.
     let whole : length (ys_of ds) ≡ length h.x = length-map ds (λ (l : Column). l.y) ∙ sym (length-map ds (λ (l : Column). l.x)) ∙ ap length marked.crosses in
     omega (arith, length_without k (ys_of ds) (omega (arith, whole, size, k_lt)), whole, size) in
-    let home : (ds : List Column) → IsMarked h ds → IsMarked g (columns g.x g.o (without k (ys_of ds))) = λ ds marked. marked_columns g (without k (ys_of ds)) grid (rest_size ds marked) in
+    let home : (ds : List Column) → IsMarked h ds → IsMarked g (columns g.x g.o (without k (ys_of ds))) = λ ds marked. marked_columns g
+    (without k (ys_of ds)) grid (rest_size ds marked) in
     let corner_lt : corner_row r high < length h.x = omega (arith, corner_below r high (length g.x) found.0, size) in
-    let again : (ds : List Column) → IsMarked h ds → IsColoured (act t) (length h.x) ds → with_block mark right high r k (columns g.x g.o (without k (ys_of ds))) ≡ ds = λ ds marked coloured.
-    same_columns h (with_block mark right high r k (columns g.x g.o (without k (ys_of ds)))) ds (goes (columns g.x g.o (without k (ys_of ds))) (home ds marked)) marked
-    (with_block_ys mark right high r k (columns g.x g.o (without k (ys_of ds))) ∙ ap (doubled k) (ys_of_columns g.x g.o (without k (ys_of ds)) grid.same (rest_size ds marked))
+    let again : (ds : List Column) → IsMarked h ds → IsColoured (act t) (length h.x) ds
+    → with_block mark right high r k (columns g.x g.o (without k (ys_of ds))) ≡ ds = λ ds marked coloured.
+    same_columns h (with_block mark right high r k (columns g.x g.o (without k (ys_of ds)))) ds
+    (goes (columns g.x g.o (without k (ys_of ds))) (home ds marked)) marked
+    (with_block_ys mark right high r k (columns g.x g.o (without k (ys_of ds)))
+    ∙ ap (doubled k) (ys_of_columns g.x g.o (without k (ys_of ds)) grid.same (rest_size ds marked))
     ∙ common (act t) mark right high r k (bare g) ds is.place (marked.crosses ∙ is.crosses) (marked.rings ∙ is.rings)
     (sym (row_walk (act t) (corner_row r high) ds) ∙ coloured.walks (corner_row r high) corner_lt)) in
     let carried : IsCarried t g h (with_block mark right high r k) (λ ds. columns g.x g.o (without k (ys_of ds))) = record {
       goes = goes;
       comes = home;
-      walks = λ cs marked coloured s lt. row_walk (act t) s (with_block mark right high r k cs) ∙ elim (old_row r high (length g.x) s found.0 (omega (arith, lt, size))) [
-        | inl e ↦ subst (λ (u : ℕ). row_at (act t) u u (with_block mark right high r k cs) ≡ true) (sym e) (new_row (act t) mark right high r k cs (placed cs marked))
-        | inr w ↦ subst (λ (u : ℕ). row_at (act t) u u (with_block mark right high r k cs) ≡ true) w.2
-            ((with_block_rows (act t) acts mark right high r k cs (placed cs marked) w.0).row ∙ sym (row_walk (act t) w.0 cs) ∙ coloured.walks w.0 w.1)
-      ];
+      walks = λ cs marked coloured s lt. row_walk (act t) s (with_block mark right high r k cs)
+          ∙ elim (old_row r high (length g.x) s found.0 (omega (arith, lt, size))) [
+            | inl e ↦ subst (λ (u : ℕ). row_at (act t) u u (with_block mark right high r k cs) ≡ true) (sym e)
+                (new_row (act t) mark right high r k cs (placed cs marked))
+            | inr w ↦ subst (λ (u : ℕ). row_at (act t) u u (with_block mark right high r k cs) ≡ true) w.2
+                ((with_block_rows (act t) acts mark right high r k cs (placed cs marked) w.0).row ∙ sym (row_walk (act t) w.0 cs) ∙ coloured.walks w.0 w.1)
+          ];
       walks_back = λ ds marked coloured s lt.
           let cs = columns g.x g.o (without k (ys_of ds)) in
           row_walk (act t) s (columns g.x g.o (without k (ys_of ds)))
-          ∙ sym (with_block_rows (act t) acts mark right high r k (columns g.x g.o (without k (ys_of ds))) (placed (columns g.x g.o (without k (ys_of ds))) (home ds marked)) s).row
+          ∙ sym (with_block_rows (act t) acts mark right high r k (columns g.x g.o (without k (ys_of ds)))
+          (placed (columns g.x g.o (without k (ys_of ds))) (home ds marked)) s).row
           ∙ ap (row_at (act t) (raised r high s) (raised r high s)) (again ds marked coloured)
           ∙ sym (row_walk (act t) (raised r high s) ds) ∙ coloured.walks (raised r high s) (omega (arith, raised_below r high (length g.x) s found.0 lt, size));
       below = λ cs marked all. subst (All (λ y. y < t.order)) (sym (with_block_ys mark right high r k cs)) (all_doubled t.order k (ys_of cs) all);
-      below_back = λ ds marked all. subst (All (λ y. y < t.order)) (sym (ys_of_columns g.x g.o (without k (ys_of ds)) grid.same (rest_size ds marked))) (all_without t.order k (ys_of ds) all);
+      below_back = λ ds marked all. subst (All (λ y. y < t.order)) (sym (ys_of_columns g.x g.o (without k (ys_of ds)) grid.same (rest_size ds marked)))
+          (all_without t.order k (ys_of ds) all);
       there = λ cs marked coloured.
-          ap (λ l. columns g.x g.o (without k l)) (with_block_ys mark right high r k cs) ∙ ap (columns g.x g.o) (without_doubled k (ys_of cs)) ∙ columns_marked g cs marked;
+          ap (λ l. columns g.x g.o (without k l)) (with_block_ys mark right high r k cs) ∙ ap (columns g.x g.o) (without_doubled k (ys_of cs))
+          ∙ columns_marked g cs marked;
       again = again;
     } in
-    bijection_same (IsColouringByColumns t g) (IsColouringByColumns t h) (λ c. ys_of (with_block mark right high r k (columns g.x g.o c))) (λ d. ys_of (columns g.x g.o (without k (ys_of (columns h.x h.o d))))) (doubled k) (without k)
+    bijection_same (IsColouringByColumns t g) (IsColouringByColumns t h) (λ c. ys_of (with_block mark right high r k (columns g.x g.o c)))
+    (λ d. ys_of (columns g.x g.o (without k (ys_of (columns h.x h.o d))))) (doubled k) (without k)
     (bijection_of t g h (with_block mark right high r k) (λ ds. columns g.x g.o (without k (ys_of ds))) grid grid' carried)
     (λ c colouring. with_block_ys mark right high r k (columns g.x g.o c) ∙ ap (doubled k) (ys_of_columns g.x g.o c grid.same colouring.size))
     (λ d colouring.
     let marked : IsMarked h (columns h.x h.o d) = marked_columns h d grid' colouring.size in
-    ys_of_columns g.x g.o (without k (ys_of (columns h.x h.o d))) grid.same (rest_size (columns h.x h.o d) marked) ∙ ap (without k) (ys_of_columns h.x h.o d grid'.same colouring.size))
+    ys_of_columns g.x g.o (without k (ys_of (columns h.x h.o d))) grid.same (rest_size (columns h.x h.o d) marked)
+    ∙ ap (without k) (ys_of_columns h.x h.o d grid'.same colouring.size))
 
 -- a destabilisation undoes it
 pub destabilised : (t : Table) → IsQuandle t → (g h : Diagram) → IsGrid g → IsGrid h → (mark right high : Bool) (r k : ℕ) → IsStabilised mark right high r k h g

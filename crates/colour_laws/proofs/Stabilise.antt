@@ -17,7 +17,8 @@ two_rows r high =
     let is : raised r high r ≡ cond high r (suc r) = rw (a, b) refl in
     rows high is
   where
-    rows : (t : Bool) → raised r high r ≡ cond high r (suc r) → ((raised r high r ≡ r) × (corner_row r high ≡ suc r)) ⊎ ((raised r high r ≡ suc r) × (corner_row r high ≡ r))
+    rows : (t : Bool) → raised r high r ≡ cond high r (suc r)
+        → ((raised r high r ≡ r) × (corner_row r high ≡ suc r)) ⊎ ((raised r high r ≡ suc r) × (corner_row r high ≡ r))
     rows t is = elim (cases_Bool high) [
       | inl e ↦ inl (is ∙ cond-true high r (suc r) e, cond-true high (suc r) r e)
       | inr e ↦ inr (is ∙ cond-false high r (suc r) e, cond-false high (suc r) r e)
@@ -74,15 +75,31 @@ raised_eq r high s x = eq_tests x s (raised r high x) (raised r high s) (λ e. a
 -- no old row goes to the corner's row
 pub raised_corner : (r : ℕ) (high : Bool) (x : ℕ) → raised r high x ≢ corner_row r high
 raised_corner r high x = λ e. elim (two_rows r high) [
-  | inl t ↦ elim (lifts r high x) [ under a f ↦ omega (arith, t, e) | level_with a ↦ omega (arith, t, e, ap (raised r high) a) | above a f ↦ omega (arith, t, e) ]
-  | inr t ↦ elim (lifts r high x) [ under a f ↦ omega (arith, t, e) | level_with a ↦ omega (arith, t, e, ap (raised r high) a) | above a f ↦ omega (arith, t, e) ]
+  | inl t ↦ elim (lifts r high x) [
+    | under a f ↦ omega (arith, t, e)
+    | level_with a ↦ omega (arith, t, e, ap (raised r high) a)
+    | above a f ↦ omega (arith, t, e)
+  ]
+  | inr t ↦ elim (lifts r high x) [
+    | under a f ↦ omega (arith, t, e)
+    | level_with a ↦ omega (arith, t, e, ap (raised r high) a)
+    | above a f ↦ omega (arith, t, e)
+  ]
 ]
 
 -- for every other row the corner's row is where row r was
 corner_lt : (r : ℕ) (high : Bool) (s : ℕ) → s ≢ r → nat_lt (corner_row r high) (raised r high s) ≡ nat_lt r s
 corner_lt r high s n = lt_tests r s (corner_row r high) (raised r high s)
-    (λ l. elim (lifts r high s) [ under a f ↦ absurd (omega arith) | level_with a ↦ absurd (n a) | above a f ↦ elim (two_rows r high) [ inl t ↦ omega (arith, t) | inr t ↦ omega (arith, t) ] ])
-    (λ l. elim (lifts r high s) [ under a f ↦ elim (two_rows r high) [ inl t ↦ absurd (omega (arith, t, l)) | inr t ↦ absurd (omega (arith, t, l)) ] | level_with a ↦ absurd (n a) | above a f ↦ a ])
+    (λ l. elim (lifts r high s) [
+      | under a f ↦ absurd (omega arith)
+      | level_with a ↦ absurd (n a)
+      | above a f ↦ elim (two_rows r high) [ inl t ↦ omega (arith, t) | inr t ↦ omega (arith, t) ]
+    ])
+    (λ l. elim (lifts r high s) [
+      | under a f ↦ elim (two_rows r high) [ inl t ↦ absurd (omega (arith, t, l)) | inr t ↦ absurd (omega (arith, t, l)) ]
+      | level_with a ↦ absurd (n a)
+      | above a f ↦ a
+    ])
 
 corner_ne : (r : ℕ) (high : Bool) (s : ℕ) → (corner_row r high == raised r high s) ≡ false
 corner_ne r high s = ne_eqb (corner_row r high) (raised r high s) (λ e. raised_corner r high s (sym e))
@@ -95,8 +112,10 @@ pub record IsLike (p : Bool → ℕ → ℕ → ℕ) (r' r : ℕ) (cs' cs : List
 -- a column meets its own colour where the walk had it before
 pub crossed_meets : (p : Bool → ℕ → ℕ → ℕ) → Acts p → (l m : Bool) (y a : ℕ) → (crossed p l m y a == y) ≡ (a == y)
 crossed_meets p acts true true y a = refl
-crossed_meets p acts true false y a = eq_tests a y (p true y a) y (λ e. ap (p true y) e ∙ acts.fixed true y) (λ e. sym (acts.up_down y a) ∙ ap (p false y) e ∙ acts.fixed false y)
-crossed_meets p acts false true y a = eq_tests a y (p false y a) y (λ e. ap (p false y) e ∙ acts.fixed false y) (λ e. sym (acts.down_up y a) ∙ ap (p true y) e ∙ acts.fixed true y)
+crossed_meets p acts true false y a =
+    eq_tests a y (p true y a) y (λ e. ap (p true y) e ∙ acts.fixed true y) (λ e. sym (acts.up_down y a) ∙ ap (p false y) e ∙ acts.fixed false y)
+crossed_meets p acts false true y a =
+    eq_tests a y (p false y a) y (λ e. ap (p false y) e ∙ acts.fixed false y) (λ e. sym (acts.down_up y a) ∙ ap (p true y) e ∙ acts.fixed true y)
 crossed_meets p acts false false y a = refl
 
 -- what the block's columns are to an old row other than r
@@ -122,12 +141,14 @@ skip_short p r' s sh lo c e cs = record {
   row = row_apart p r' r' sh cs e.short_apart;
 }
 
-keep_long : (p : Bool → ℕ → ℕ → ℕ) (r' s : ℕ) (sh lo c : Column) → IsElsewhere r' s sh lo c → (cs' cs : List Column) → IsLike p r' s cs' cs → IsLike p r' s (lo ∷ cs') (c ∷ cs)
+keep_long : (p : Bool → ℕ → ℕ → ℕ) (r' s : ℕ) (sh lo c : Column) → IsElsewhere r' s sh lo c → (cs' cs : List Column) → IsLike p r' s cs' cs
+    → IsLike p r' s (lo ∷ cs') (c ∷ cs)
 keep_long p r' s sh lo c e cs' cs rest =
     let acts_so : (a : ℕ) → crosses p r' lo a ≡ crosses p s c a = λ a.
     ap₂ (λ l m. crossed p l m lo.y a) e.long_x e.long_o ∙ ap (λ y. crossed p (nat_lt c.x s) (nat_lt c.o s) y a) e.colour in
     record {
-      on = λ a. on_front p s s r' r' a a c lo cs cs' e.long_ends (ap (λ y. a == y) e.colour) (ap (λ b. on_at p r' r' b cs') (acts_so a) ∙ rest.on (crosses p s c a));
+      on = λ a. on_front p s s r' r' a a c lo cs cs' e.long_ends (ap (λ y. a == y) e.colour) (ap (λ b. on_at p r' r' b cs') (acts_so a)
+          ∙ rest.on (crosses p s c a));
       row = row_front p s s r' r' c lo cs cs' e.long_ends (ap (λ b. on_at p r' r' b cs') e.colour ∙ rest.on c.y) rest.row;
     }
 
@@ -143,7 +164,8 @@ elsewhere p false r' s sh lo c e cs' cs rest =
     record { on = λ a. skip.on a ∙ keep.on a; row = skip.row ∙ keep.row }
 
 -- and in row r
-pub at_mark : (p : Bool → ℕ → ℕ → ℕ) → Acts p → (right : Bool) (r' r : ℕ) (sh lo c : Column) → IsHere r' r sh lo c → (cs' cs : List Column) → IsLike p r' r cs' cs
+pub at_mark : (p : Bool → ℕ → ℕ → ℕ) → Acts p → (right : Bool) (r' r : ℕ) (sh lo c : Column) → IsHere r' r sh lo c → (cs' cs : List Column)
+    → IsLike p r' r cs' cs
     → IsLike p r' r (cond right (lo ∷ sh ∷ cs') (sh ∷ lo ∷ cs')) (c ∷ cs)
 at_mark p acts true r' r sh lo c e cs' cs rest = record {
   on = λ a. on_apart p r' r' a lo (sh ∷ cs') e.long_apart ∙ on_end p r' r' (crosses p r' lo a) sh cs' e.short_ends
@@ -155,7 +177,8 @@ at_mark p acts true r' r sh lo c e cs' cs rest = record {
 at_mark p acts false r' r sh lo c e cs' cs rest = record {
   on = λ a. on_end p r' r' a sh (lo ∷ cs') e.short_ends ∙ ap (λ y. a == y) e.short_colour ∙ sym (on_end p r r a c cs e.old_ends);
   row = row_end p r' r' sh (lo ∷ cs') e.short_ends ∙ on_apart p r' r' sh.y lo cs' e.long_apart
-      ∙ ap (λ b. on_at p r' r' b cs') (ap₂ (λ y z. crossed p (nat_lt lo.x r') (nat_lt lo.o r') y z) e.long_colour e.short_colour ∙ crossed_fixed p acts (nat_lt lo.x r') (nat_lt lo.o r') c.y)
+      ∙ ap (λ b. on_at p r' r' b cs') (ap₂ (λ y z. crossed p (nat_lt lo.x r') (nat_lt lo.o r') y z) e.long_colour e.short_colour
+      ∙ crossed_fixed p acts (nat_lt lo.x r') (nat_lt lo.o r') c.y)
       ∙ rest.on c.y ∙ sym (row_end p r r c cs e.old_ends);
 }
 
@@ -163,7 +186,8 @@ pub or_tests : (a b c d : Bool) → a ≡ c → b ≡ d → (a || b) ≡ (c || d
 or_tests a b c d e f = ap₂ (λ x y. x || y) e f
 
 -- the block's columns are so
-pub there : (mark : Bool) (high : Bool) (r s : ℕ) (c : Column) (cs : List Column) → IsMarkAt mark r zero (c ∷ cs) → s ≢ r → IsElsewhere (raised r high s) s (short mark high r c) (long mark high r c) c
+pub there : (mark : Bool) (high : Bool) (r s : ℕ) (c : Column) (cs : List Column) → IsMarkAt mark r zero (c ∷ cs) → s ≢ r
+    → IsElsewhere (raised r high s) s (short mark high r c) (long mark high r c) c
 there true high r s c cs at n =
     let old : (c.x == s) ≡ false = ne_eqb c.x s (λ e. n (sym e ∙ at.0)) in
     let now : (corner_row r high == raised r high s) ≡ (c.x == s) = corner_ne r high s ∙ sym old in
@@ -189,17 +213,20 @@ there false high r s c cs at n =
       colour = refl;
     }
 
-pub here : (mark : Bool) (high : Bool) (r : ℕ) (c : Column) (cs : List Column) → IsMarkAt mark r zero (c ∷ cs) → IsHere (raised r high r) r (short mark high r c) (long mark high r c) c
+pub here : (mark : Bool) (high : Bool) (r : ℕ) (c : Column) (cs : List Column) → IsMarkAt mark r zero (c ∷ cs)
+    → IsHere (raised r high r) r (short mark high r c) (long mark high r c) c
 here true high r c cs at = record {
   short_ends = or_left (raised r high r == raised r high r) (corner_row r high == raised r high r) (eq-eqb (raised r high r) (raised r high r) refl);
-  long_apart = or_from (corner_row r high == raised r high r) (raised r high c.o == raised r high r) (corner_ne r high r) (raised_eq r high r c.o ∙ ne_eqb c.o r at.1);
+  long_apart =
+      or_from (corner_row r high == raised r high r) (raised r high c.o == raised r high r) (corner_ne r high r) (raised_eq r high r c.o ∙ ne_eqb c.o r at.1);
   old_ends = ends_cross r c at.0;
   short_colour = refl;
   long_colour = refl;
 }
 here false high r c cs at = record {
   short_ends = or_right (corner_row r high == raised r high r) (raised r high r == raised r high r) (eq-eqb (raised r high r) (raised r high r) refl);
-  long_apart = or_from (raised r high c.x == raised r high r) (corner_row r high == raised r high r) (raised_eq r high r c.x ∙ ne_eqb c.x r at.1) (corner_ne r high r);
+  long_apart =
+      or_from (raised r high c.x == raised r high r) (corner_row r high == raised r high r) (raised_eq r high r c.x ∙ ne_eqb c.x r at.1) (corner_ne r high r);
   old_ends = ends_ring r c at.0;
   short_colour = refl;
   long_colour = refl;
@@ -217,14 +244,20 @@ pub with_block_rows : (p : Bool → ℕ → ℕ → ℕ) → Acts p → (mark ri
 with_block_rows p acts mark right high r k [] at s = record { on = λ a. refl; row = refl }
 with_block_rows p acts mark right high r zero (c ∷ cs) at s = elim (cases_eq s r) [
   | inl e ↦ subst (λ (s : ℕ). IsLike p (raised r high s) s (with_block mark right high r zero (c ∷ cs)) (c ∷ cs)) (sym e)
-      (at_mark p acts right (raised r high r) r (short mark high r c) (long mark high r c) c (here mark high r c cs at) (map (relabel (raised r high)) cs) cs (relabelled p high r r cs))
-  | inr n ↦ elsewhere p right (raised r high s) s (short mark high r c) (long mark high r c) c (there mark high r s c cs at n) (map (relabel (raised r high)) cs) cs (relabelled p high r s cs)
+      (at_mark p acts right (raised r high r) r (short mark high r c) (long mark high r c) c (here mark high r c cs at) (map (relabel (raised r high)) cs) cs
+      (relabelled p high r r cs))
+  | inr n ↦ elsewhere p right (raised r high s) s (short mark high r c) (long mark high r c) c (there mark high r s c cs at n)
+      (map (relabel (raised r high)) cs) cs (relabelled p high r s cs)
 ]
 with_block_rows p acts mark right high r (suc k) (c ∷ cs) at s =
     let rest = with_block_rows p acts mark right high r k cs at s in
-    let same : ends (raised r high s) (relabel (raised r high) c) ≡ ends s c = or_tests (raised r high c.x == raised r high s) (raised r high c.o == raised r high s) (c.x == s) (c.o == s) (raised_eq r high s c.x) (raised_eq r high s c.o) in
+    let same : ends (raised r high s) (relabel (raised r high) c) ≡ ends s c =
+    or_tests (raised r high c.x == raised r high s) (raised r high c.o == raised r high s) (c.x == s) (c.o == s) (raised_eq r high s c.x)
+    (raised_eq r high s c.o) in
     record {
       on = λ a. on_front p s s (raised r high s) (raised r high s) a a c (relabel (raised r high) c) cs (with_block mark right high r k cs) same refl
-          (ap₂ (λ l m. on_at p (raised r high s) (raised r high s) (crossed p l m c.y a) (with_block mark right high r k cs)) (raised_lt r high c.x s) (raised_lt r high c.o s) ∙ rest.on (crosses p s c a));
-      row = row_front p s s (raised r high s) (raised r high s) c (relabel (raised r high) c) cs (with_block mark right high r k cs) same (rest.on c.y) rest.row;
+          (ap₂ (λ l m. on_at p (raised r high s) (raised r high s) (crossed p l m c.y a) (with_block mark right high r k cs)) (raised_lt r high c.x s)
+          (raised_lt r high c.o s) ∙ rest.on (crosses p s c a));
+      row =
+          row_front p s s (raised r high s) (raised r high s) c (relabel (raised r high) c) cs (with_block mark right high r k cs) same (rest.on c.y) rest.row;
     }

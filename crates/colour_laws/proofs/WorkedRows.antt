@@ -83,5 +83,6 @@ stabilised = refl
 doubled : carried tetrahedral right_trefoil (Stabilise 1 Cross LowLeft) trefoil_colours ≡ 0 ∷ 1 ∷ 1 ∷ 3 ∷ 0 ∷ 3 ∷ []
 doubled = refl
 
-merged : carried tetrahedral (record { x = 5 ∷ 4 ∷ 3 ∷ 2 ∷ 1 ∷ 0 ∷ []; o = 2 ∷ 3 ∷ 1 ∷ 0 ∷ 5 ∷ 4 ∷ [] }) (Destabilise 1 3) (0 ∷ 1 ∷ 1 ∷ 3 ∷ 0 ∷ 3 ∷ []) ≡ trefoil_colours
+merged : carried tetrahedral (record { x = 5 ∷ 4 ∷ 3 ∷ 2 ∷ 1 ∷ 0 ∷ []; o = 2 ∷ 3 ∷ 1 ∷ 0 ∷ 5 ∷ 4 ∷ [] }) (Destabilise 1 3)
+    (0 ∷ 1 ∷ 1 ∷ 3 ∷ 0 ∷ 3 ∷ []) ≡ trefoil_colours
 merged = refl

@@ -78,6 +78,12 @@ pub fn destabilise()
         → IsBijection (IsColouring t d) (IsColouring t e) (carried t d (Move.Destabilise c r)) }
 {}
 
+/// In each colouring the two columns that a destabilisation merges have one colour.
+pub fn merged_columns_have_one_colour()
+    ensures { (t : Table) (d e : Diagram) (c r : ℕ) (colours : List ℕ) → IsQuandle t → Step d (Move.Destabilise c r) e → IsColouring t d colours
+        → slice_index colours c ≡ slice_index colours (c + 1) }
+{}
+
 /// Every legal move carries the colourings of the old diagram one to one to those of the new one.
 pub fn every_move_carries_one_to_one()
     ensures { (t : Table) (d e : Diagram) (move : Move) → IsQuandle t → Step d move e

@@ -83,7 +83,8 @@ record IsNext (w : Cochain) (at : Walker) (a s : ℕ) : Type 0 where
   colour : at.colour ≡ a
   sum : Same w.modulus at.sum s
 
-next : (w : Cochain) → IsCocycle w → (d : Diagram) (f : List ℕ) (r i a s : ℕ) → slice_index f i < w.quandle.order → a < w.quandle.order → lists.ends r (coloured_at i d.x d.o f) ≡ false
+next : (w : Cochain) → IsCocycle w → (d : Diagram) (f : List ℕ) (r i a s : ℕ) → slice_index f i < w.quandle.order → a < w.quandle.order
+    → lists.ends r (coloured_at i d.x d.o f) ≡ false
     → IsNext w (cond (covers d i r) (step_at w d f (record { colour = a; sum = s }) i) (record { colour = a; sum = s }))
     (crosses (act w.quandle) r (coloured_at i d.x d.o f) a) (s + gains (earned w) r (coloured_at i d.x d.o f) a)
 next w cocycle d f r i a s ly la apart =
@@ -94,23 +95,31 @@ next w cocycle d f r i a s ly la apart =
     let same : lists.covers r (coloured_at i d.x d.o f) ≡ covers d i r = covers_same (slice_index d.x i) (slice_index d.o i) r in
     elim (cases_Bool (covers d i r)) [
       | inl b ↦
-          let over : cond (covers d i r) (step_at w d f (record { colour = a; sum = s }) i) (record { colour = a; sum = s }) ≡ step_at w d f (record { colour = a; sum = s }) i =
+          let over : cond (covers d i r) (step_at w d f (record { colour = a; sum = s }) i) (record { colour = a; sum = s }) ≡ step_at w d f
+          (record { colour = a; sum = s }) i =
           cond-true (covers d i r) (step_at w d f (record { colour = a; sum = s }) i) (record { colour = a; sum = s }) b in
           let colour_is : passed_rightward w.quandle (is_up d i) a (slice_index f i) ≡ crosses (act w.quandle) r (coloured_at i d.x d.o f) a =
-          sym (act_inside w.quandle (is_up d i) (slice_index f i) a ly la) ∙ (sym (cond-true (lists.covers r (coloured_at i d.x d.o f)) (act w.quandle (is_up d i) (slice_index f i) a) a (same ∙ b)) ∙ way) in
+          sym (act_inside w.quandle (is_up d i) (slice_index f i) a ly la)
+          ∙ (sym (cond-true (lists.covers r (coloured_at i d.x d.o f)) (act w.quandle (is_up d i) (slice_index f i) a) a (same ∙ b)) ∙ way) in
           let gain_is : gain w (is_up d i) a (slice_index f i) ≡ gains (earned w) r (coloured_at i d.x d.o f) a =
-          sym (earned_inside w (is_up d i) (slice_index f i) a ly la) ∙ (sym (cond-true (lists.covers r (coloured_at i d.x d.o f)) (earned w (is_up d i) (slice_index f i) a) 0 (same ∙ b)) ∙ won) in
-          subst (λ (at : Walker). IsNext w at (crosses (act w.quandle) r (coloured_at i d.x d.o f) a) (s + gains (earned w) r (coloured_at i d.x d.o f) a)) (sym over)
+          sym (earned_inside w (is_up d i) (slice_index f i) a ly la)
+          ∙ (sym (cond-true (lists.covers r (coloured_at i d.x d.o f)) (earned w (is_up d i) (slice_index f i) a) 0 (same ∙ b)) ∙ won) in
+          subst (λ (at : Walker). IsNext w at (crosses (act w.quandle) r (coloured_at i d.x d.o f) a)
+          (s + gains (earned w) r (coloured_at i d.x d.o f) a)) (sym over)
           (record {
             colour = colour_is;
-            sum = same_by w.modulus ((s + gain w (is_up d i) a (slice_index f i)) % w.modulus) (s + gain w (is_up d i) a (slice_index f i)) ((s + gain w (is_up d i) a (slice_index f i)) % w.modulus) (s + gains (earned w) r (coloured_at i d.x d.o f) a)
+            sum =
+                same_by w.modulus ((s + gain w (is_up d i) a (slice_index f i)) % w.modulus) (s + gain w (is_up d i) a (slice_index f i))
+                ((s + gain w (is_up d i) a (slice_index f i)) % w.modulus) (s + gains (earned w) r (coloured_at i d.x d.o f) a)
                 (same_mod w.modulus (s + gain w (is_up d i) a (slice_index f i)) (omega (arith, cocycle.least))) (omega (arith, gain_is));
           })
       | inr b ↦
           let over : cond (covers d i r) (step_at w d f (record { colour = a; sum = s }) i) (record { colour = a; sum = s }) ≡ record { colour = a; sum = s } =
           cond-false (covers d i r) (step_at w d f (record { colour = a; sum = s }) i) (record { colour = a; sum = s }) b in
-          let none : gains (earned w) r (coloured_at i d.x d.o f) a ≡ 0 = sym won ∙ cond-false (lists.covers r (coloured_at i d.x d.o f)) (earned w (is_up d i) (slice_index f i) a) 0 (same ∙ b) in
-          subst (λ (at : Walker). IsNext w at (crosses (act w.quandle) r (coloured_at i d.x d.o f) a) (s + gains (earned w) r (coloured_at i d.x d.o f) a)) (sym over)
+          let none : gains (earned w) r (coloured_at i d.x d.o f) a ≡ 0 = sym won ∙ cond-false (lists.covers r (coloured_at i d.x d.o f))
+          (earned w (is_up d i) (slice_index f i) a) 0 (same ∙ b) in
+          subst (λ (at : Walker). IsNext w at (crosses (act w.quandle) r (coloured_at i d.x d.o f) a)
+          (s + gains (earned w) r (coloured_at i d.x d.o f) a)) (sym over)
           (record {
             colour = sym (cond-false (lists.covers r (coloured_at i d.x d.o f)) (act w.quandle (is_up d i) (slice_index f i) a) a (same ∙ b)) ∙ way;
             sum = same_of w.modulus s (s + gains (earned w) r (coloured_at i d.x d.o f) a) (omega (arith, none));
@@ -118,8 +127,10 @@ next w cocycle d f r i a s ly la apart =
     ]
 
 -- from a place between the ends on
-sum_between : (w : Cochain) → IsCocycle w → (d : Diagram) (f : List ℕ) → HasColours w.quandle d f → (r : ℕ) → AreEnds d r → (m i : ℕ) (at : Walker) → i + m ≡ (ends d r).high → (ends d r).low < i → at.colour < w.quandle.order
-    → Same w.modulus (fold (step_at w d f) at (filter (λ c. covers d c r) (range_with_len i m))).sum (at.sum + sum_on (act w.quandle) (earned w) r r at.colour (columns_from i d.x d.o f))
+sum_between : (w : Cochain) → IsCocycle w → (d : Diagram) (f : List ℕ) → HasColours w.quandle d f → (r : ℕ) → AreEnds d r → (m i : ℕ) (at : Walker)
+    → i + m ≡ (ends d r).high → (ends d r).low < i → at.colour < w.quandle.order
+    → Same w.modulus (fold (step_at w d f) at (filter (λ c. covers d c r) (range_with_len i m))).sum
+    (at.sum + sum_on (act w.quandle) (earned w) r r at.colour (columns_from i d.x d.o f))
 sum_between w cocycle d f has r known zero i at e low la =
     let here : i ≡ (ends d r).high = omega (arith, e) in
     let none : sum_on (act w.quandle) (earned w) r r at.colour (columns_from i d.x d.o f) ≡ 0 =
@@ -134,25 +145,33 @@ sum_between w cocycle d f has r known (suc m) i at e low la =
     let here = next w cocycle d f r i at.colour at.sum y la apart in
     let then : Walker = cond (covers d i r) (step_at w d f at i) at in
     let lb : (cond (covers d i r) (step_at w d f at i) at).colour < w.quandle.order =
-    subst (λ (z : ℕ). z < w.quandle.order) (sym here.colour) (crossed_below w.quandle cocycle.quandle (nat_lt (slice_index d.x i) r) (nat_lt (slice_index d.o i) r) (slice_index f i) at.colour la) in
+    subst (λ (z : ℕ). z < w.quandle.order) (sym here.colour)
+    (crossed_below w.quandle cocycle.quandle (nat_lt (slice_index d.x i) r) (nat_lt (slice_index d.o i) r) (slice_index f i) at.colour la) in
     let rest = sum_between w cocycle d f has r known m (suc i) (cond (covers d i r) (step_at w d f at i) at) (omega (arith, e)) (omega (arith, low)) lb in
-    let one : (fold (step_at w d f) at (filter (λ c. covers d c r) (range_with_len i (suc m)))).sum ≡ (fold (step_at w d f) (cond (covers d i r) (step_at w d f at i) at) (filter (λ c. covers d c r) (range_with_len (suc i) m))).sum =
+    let one : (fold (step_at w d f) at (filter (λ c. covers d c r) (range_with_len i (suc m)))).sum
+    ≡ (fold (step_at w d f) (cond (covers d i r) (step_at w d f at i) at) (filter (λ c. covers d c r) (range_with_len (suc i) m))).sum =
     ap (λ (v : Walker). v.sum) (one_column w d f at i (filter (λ c. covers d c r) (range_with_len (i + 1) m)) (covers d i r)
-    ∙ ap (λ j. fold (step_at w d f) (cond (covers d i r) (step_at w d f at i) at) (filter (λ c. covers d c r) (range_with_len j m))) (let k : i + 1 ≡ suc i = omega arith in k)) in
+    ∙ ap (λ j. fold (step_at w d f) (cond (covers d i r) (step_at w d f at i) at) (filter (λ c. covers d c r) (range_with_len j m))) (let k : i + 1 ≡ suc i =
+    omega arith in k)) in
     let two : sum_on (act w.quandle) (earned w) r r at.colour (columns_from i d.x d.o f)
-    ≡ gains (earned w) r (coloured_at i d.x d.o f) at.colour + sum_on (act w.quandle) (earned w) r r (cond (covers d i r) (step_at w d f at i) at).colour (columns_from (suc i) d.x d.o f) =
+    ≡ gains (earned w) r (coloured_at i d.x d.o f) at.colour + sum_on (act w.quandle) (earned w) r r (cond (covers d i r) (step_at w d f at i) at).colour
+    (columns_from (suc i) d.x d.o f) =
     ap (sum_on (act w.quandle) (earned w) r r at.colour) (columns_next i d.x d.o f has.rings has.size lt)
     ∙ (sum_on_apart (act w.quandle) (earned w) r r at.colour (coloured_at i d.x d.o f) (columns_from (suc i) d.x d.o f) apart
-    ∙ ap (λ b. gains (earned w) r (coloured_at i d.x d.o f) at.colour + sum_on (act w.quandle) (earned w) r r b (columns_from (suc i) d.x d.o f)) (sym here.colour)) in
+    ∙ ap (λ b. gains (earned w) r (coloured_at i d.x d.o f) at.colour + sum_on (act w.quandle) (earned w) r r b (columns_from (suc i) d.x d.o f))
+    (sym here.colour)) in
     same_by_two w.modulus
     (fold (step_at w d f) (cond (covers d i r) (step_at w d f at i) at) (filter (λ c. covers d c r) (range_with_len (suc i) m))).sum
-    ((cond (covers d i r) (step_at w d f at i) at).sum + sum_on (act w.quandle) (earned w) r r (cond (covers d i r) (step_at w d f at i) at).colour (columns_from (suc i) d.x d.o f))
+    ((cond (covers d i r) (step_at w d f at i) at).sum + sum_on (act w.quandle) (earned w) r r (cond (covers d i r) (step_at w d f at i) at).colour
+    (columns_from (suc i) d.x d.o f))
     (cond (covers d i r) (step_at w d f at i) at).sum (at.sum + gains (earned w) r (coloured_at i d.x d.o f) at.colour)
-    (fold (step_at w d f) at (filter (λ c. covers d c r) (range_with_len i (suc m)))).sum (at.sum + sum_on (act w.quandle) (earned w) r r at.colour (columns_from i d.x d.o f))
+    (fold (step_at w d f) at (filter (λ c. covers d c r) (range_with_len i (suc m)))).sum
+    (at.sum + sum_on (act w.quandle) (earned w) r r at.colour (columns_from i d.x d.o f))
     rest here.sum (omega (arith, one, two))
 
 -- up to the left end nothing is gained
-pub sum_to_left : (p G : Bool → ℕ → ℕ → ℕ) (d : Diagram) (f : List ℕ) → length d.o ≡ length d.x → length f ≡ length d.x → (r : ℕ) → AreEnds d r → (k i : ℕ) → i + k ≡ (ends d r).low
+pub sum_to_left : (p G : Bool → ℕ → ℕ → ℕ) (d : Diagram) (f : List ℕ) → length d.o ≡ length d.x → length f ≡ length d.x → (r : ℕ) → AreEnds d r → (k i : ℕ)
+    → i + k ≡ (ends d r).low
     → (sum_row p G r r (columns_from i d.x d.o f) ≡ sum_on p G r r (slice_index f (ends d r).low) (columns_from (suc (ends d r).low) d.x d.o f))
     × (rightward r (columns_from i d.x d.o f) ≡ (slice_index d.o (ends d r).low == r))
 sum_to_left p G d f rings long r known zero i e =
@@ -179,10 +198,13 @@ pub walked_same : (w : Cochain) → IsCocycle w → (d : Diagram) (f : List ℕ)
 walked_same w cocycle d f has r known =
     let la : slice_index f (ends d r).low < w.quandle.order = colour_below w.quandle d f has (ends d r).low (omega (arith, known.ordered, known.within)) in
     let start : Walker = record { colour = slice_index f (ends d r).low; sum = 0 } in
-    let whole = sum_between w cocycle d f has r known ((ends d r).high - (ends d r).low - 1) ((ends d r).low + 1) (record { colour = slice_index f (ends d r).low; sum = 0 }) (omega (arith, known.ordered)) (omega arith) la in
+    let whole = sum_between w cocycle d f has r known ((ends d r).high - (ends d r).low - 1) ((ends d r).low + 1)
+    (record { colour = slice_index f (ends d r).low; sum = 0 }) (omega (arith, known.ordered)) (omega arith) la in
     let place : suc (ends d r).low ≡ (ends d r).low + 1 = omega arith in
-    let left : sum_row (act w.quandle) (earned w) r r (columns d.x d.o f) ≡ sum_on (act w.quandle) (earned w) r r (slice_index f (ends d r).low) (columns_from ((ends d r).low + 1) d.x d.o f) =
+    let left : sum_row (act w.quandle) (earned w) r r (columns d.x d.o f) ≡ sum_on (act w.quandle) (earned w) r r (slice_index f (ends d r).low)
+    (columns_from ((ends d r).low + 1) d.x d.o f) =
     (sum_to_left (act w.quandle) (earned w) d f has.rings has.size r known (ends d r).low 0 (omega arith)).0
     ∙ ap (λ j. sum_on (act w.quandle) (earned w) r r (slice_index f (ends d r).low) (columns_from j d.x d.o f)) place in
-    same_by w.modulus (walked w d f r).sum (0 + sum_on (act w.quandle) (earned w) r r (slice_index f (ends d r).low) (columns_from ((ends d r).low + 1) d.x d.o f))
+    same_by w.modulus (walked w d f r).sum
+    (0 + sum_on (act w.quandle) (earned w) r r (slice_index f (ends d r).low) (columns_from ((ends d r).low + 1) d.x d.o f))
     (walked w d f r).sum (sum_row (act w.quandle) (earned w) r r (columns d.x d.o f)) whole (omega (arith, left))

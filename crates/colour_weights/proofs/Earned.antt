@@ -24,10 +24,14 @@ same_from_mod k a b some e = record { left = b / k; right = a / k; equal = omega
 
 -- what is taken away and added again
 pub same_minus : (k a : ℕ) → 0 < k → a ≤ k → Same k ((k - a) % k + a) 0
-same_minus k a some le = same_by_two k ((k - a) % k) (k - a) k 0 ((k - a) % k + a) 0 (same_mod k (k - a) some) (record { left = 0; right = 1; equal = omega arith }) (omega (arith, le))
+same_minus k a some le =
+    same_by_two k ((k - a) % k) (k - a) k 0 ((k - a) % k + a) 0 (same_mod k (k - a) some) (record { left = 0; right = 1; equal = omega arith })
+    (omega (arith, le))
 
 pub earned_inside : (w : Cochain) (up : Bool) (y a : ℕ) → y < w.quandle.order → a < w.quandle.order → earned w up y a ≡ gain w up a y
-earned_inside w up y a ly la = cond-true (are_both_colours w.quandle a y) (gain w up a y) 0 (and_from (nat_lt a w.quandle.order) (nat_lt y w.quandle.order) (lt-ltb a w.quandle.order la) (lt-ltb y w.quandle.order ly))
+earned_inside w up y a ly la =
+    cond-true (are_both_colours w.quandle a y) (gain w up a y) 0 (and_from (nat_lt a w.quandle.order) (nat_lt y w.quandle.order) (lt-ltb a w.quandle.order la)
+    (lt-ltb y w.quandle.order ly))
 
 earned_outside : (w : Cochain) (up : Bool) (y a : ℕ) → (w.quandle.order ≤ a) ⊎ (w.quandle.order ≤ y) → earned w up y a ≡ 0
 earned_outside w up y a out =
@@ -37,7 +41,8 @@ earned_outside w up y a out =
       | inr l ↦ and_right (nat_lt a w.quandle.order) (nat_lt y w.quandle.order) (le-ltb y w.quandle.order l)
     ])
 
-both_nothing : (w : Cochain) (up : Bool) (y a : ℕ) → (w.quandle.order ≤ a) ⊎ (w.quandle.order ≤ y) → Same w.modulus (earned w up y a + earned w (not up) y (act w.quandle up y a)) 0
+both_nothing : (w : Cochain) (up : Bool) (y a : ℕ) → (w.quandle.order ≤ a) ⊎ (w.quandle.order ≤ y)
+    → Same w.modulus (earned w up y a + earned w (not up) y (act w.quandle up y a)) 0
 both_nothing w up y a out =
     same_of w.modulus (earned w up y a + earned w (not up) y (act w.quandle up y a)) 0
     (ap₂ (λ m n. m + n) (earned_outside w up y a out) (ap (earned w (not up) y) (act_outside w.quandle up y a out) ∙ earned_outside w (not up) y a out))
@@ -97,7 +102,8 @@ earned_own w cocycle true y = elim (cases_lt y w.quandle.order) [
 ]
 
 earned_third : (w : Cochain) → IsCocycle w → (z y a : ℕ)
-    → Same w.modulus (earned w false y a + earned w false z (act w.quandle false y a)) (earned w false z a + earned w false (act w.quandle false z y) (act w.quandle false z a))
+    → Same w.modulus (earned w false y a + earned w false z (act w.quandle false y a))
+    (earned w false z a + earned w false (act w.quandle false z y) (act w.quandle false z a))
 earned_third w cocycle z y a =
     let t : Table = w.quandle in
     let q = cocycle.quandle in
@@ -105,27 +111,34 @@ earned_third w cocycle z y a =
       | inr out ↦
           same_of w.modulus _ _ (ap₂ (λ m n. m + n) refl (earned_outside w false z (act w.quandle false y a) (inr out))
           ∙ (swap (earned w false y a)
-          ∙ sym (ap₂ (λ m n. m + n) (earned_outside w false z a (inr out)) (ap₂ (earned w false) (act_outside w.quandle false z y (inr out)) (act_outside w.quandle false z a (inr out))))))
+          ∙ sym (ap₂ (λ m n. m + n) (earned_outside w false z a (inr out))
+          (ap₂ (earned w false) (act_outside w.quandle false z y (inr out)) (act_outside w.quandle false z a (inr out))))))
       | inl lz ↦ elim (cases_lt y w.quandle.order) [
         | inr out ↦
             same_of w.modulus _ _ (ap₂ (λ m n. m + n) (earned_outside w false y a (inr out)) (ap (earned w false z) (act_outside w.quandle false y a (inr out)))
             ∙ (sym (swap (earned w false z a))
-            ∙ sym (ap (λ n. earned w false z a + n) (ap (λ u. earned w false u (act w.quandle false z a)) (act_outside w.quandle false z y (inl out)) ∙ earned_outside w false y (act w.quandle false z a) (inr out)))))
+            ∙ sym (ap (λ n. earned w false z a + n) (ap (λ u. earned w false u (act w.quandle false z a)) (act_outside w.quandle false z y (inl out))
+            ∙ earned_outside w false y (act w.quandle false z a) (inr out)))))
         | inl ly ↦ elim (cases_lt a w.quandle.order) [
           | inr out ↦
-              same_of w.modulus _ _ (ap₂ (λ m n. m + n) (earned_outside w false y a (inl out)) (ap (earned w false z) (act_outside w.quandle false y a (inl out)) ∙ earned_outside w false z a (inl out))
+              same_of w.modulus _ _ (ap₂ (λ m n. m + n) (earned_outside w false y a (inl out))
+              (ap (earned w false z) (act_outside w.quandle false y a (inl out)) ∙ earned_outside w false z a (inl out))
               ∙ sym (ap₂ (λ m n. m + n) (earned_outside w false z a (inl out))
-              (ap (earned w false (act w.quandle false z y)) (act_outside w.quandle false z a (inl out)) ∙ earned_outside w false (act w.quandle false z y) a (inl out))))
+              (ap (earned w false (act w.quandle false z y)) (act_outside w.quandle false z a (inl out)) ∙ earned_outside w false (act w.quandle false z y) a
+              (inl out))))
           | inl la ↦
               let one : earned w false y a ≡ value w a y = earned_inside w false y a ly la in
               let two : earned w false z (act w.quandle false y a) ≡ value w (over w.quandle a y) z =
               ap (earned w false z) (act_down w.quandle y a ly la) ∙ earned_inside w false z (over w.quandle a y) lz (q.within a y la ly) in
               let three : earned w false z a ≡ value w a z = earned_inside w false z a lz la in
               let four : earned w false (act w.quandle false z y) (act w.quandle false z a) ≡ value w (over w.quandle a z) (over w.quandle y z) =
-              ap₂ (earned w false) (act_down w.quandle z y lz ly) (act_down w.quandle z a lz la) ∙ earned_inside w false (over w.quandle y z) (over w.quandle a z) (q.within y z ly lz) (q.within a z la lz) in
+              ap₂ (earned w false) (act_down w.quandle z y lz ly) (act_down w.quandle z a lz la)
+              ∙ earned_inside w false (over w.quandle y z) (over w.quandle a z) (q.within y z ly lz) (q.within a z la lz) in
               same_by w.modulus (value w a y + value w (over w.quandle a y) z) (value w a z + value w (over w.quandle a z) (over w.quandle y z))
-              (earned w false y a + earned w false z (act w.quandle false y a)) (earned w false z a + earned w false (act w.quandle false z y) (act w.quandle false z a))
-              (same_from_mod w.modulus (value w a y + value w (over w.quandle a y) z) (value w a z + value w (over w.quandle a z) (over w.quandle y z)) (omega (arith, cocycle.least)) (cocycle.law a y z la ly lz))
+              (earned w false y a + earned w false z (act w.quandle false y a))
+              (earned w false z a + earned w false (act w.quandle false z y) (act w.quandle false z a))
+              (same_from_mod w.modulus (value w a y + value w (over w.quandle a y) z) (value w a z + value w (over w.quandle a z) (over w.quandle y z))
+              (omega (arith, cocycle.least)) (cocycle.law a y z la ly lz))
               (omega (arith, one, two, three, four))
         ]
       ]
@@ -135,4 +148,5 @@ earned_third w cocycle z y a =
     swap n = omega arith
 
 pub earned_weighs : (w : Cochain) → IsCocycle w → Weighs w.modulus (act w.quandle) (earned w)
-earned_weighs w cocycle = record { own = earned_own w cocycle; up_down = earned_up_down w cocycle; down_up = earned_down_up w cocycle; third = earned_third w cocycle }
+earned_weighs w cocycle =
+    record { own = earned_own w cocycle; up_down = earned_up_down w cocycle; down_up = earned_down_up w cocycle; third = earned_third w cocycle }

@@ -52,7 +52,8 @@ by_traded_rows w cocycle d e grid grid' r hx ho f old new same =
     } in
     by_new_columns w cocycle d e grid grid' f f old new (map (relabel (swapped r)) (columns d.x d.o f)) marked'
     (sym (ys_of_relabel (swapped r) (columns d.x d.o f) ∙ ys_of_columns d.x d.o f grid.same old.size))
-    (subst (λ (m : ℕ). HaveSameWeight w.modulus (act w.quandle) (earned w) (size d) (columns d.x d.o f) m (map (relabel (swapped r)) (columns d.x d.o f))) (sym same_size) same)
+    (subst (λ (m : ℕ). HaveSameWeight w.modulus (act w.quandle) (earned w) (size d) (columns d.x d.o f) m (map (relabel (swapped r)) (columns d.x d.o f)))
+    (sym same_size) same)
 
 -- an exchange of rows
 pub exchange_of_rows : (w : Cochain) → IsCocycle w → (d e : Diagram) (r : ℕ) → Step d (ExchangeRows r) e → (f : List ℕ) → IsColouring w.quandle d f
@@ -67,23 +68,29 @@ exchange_of_rows w cocycle d e r step f colouring =
     let ho : e.o ≡ map (swapped r) d.o = ap (λ (f : Diagram). f.o) is ∙ map_same (exchanged r) (swapped r) (exchanged_swapped r) d.o in
     let tradable : AreRowsTradable r d = (
       omega (arith, step.marks.inside),
-      subst (λ (k : ℕ). AreFree (across r d) (across k d)) (add-one r) (are_free (column_of Cross d r) (column_of Ring d r) (column_of Cross d (r + 1)) (column_of Ring d (r + 1)) 0 0 step.marks.may_exchange),
+      subst (λ (k : ℕ). AreFree (across r d) (across k d)) (add-one r) (are_free (column_of Cross d r) (column_of Ring d r) (column_of Cross d (r + 1))
+          (column_of Ring d (r + 1)) 0 0 step.marks.may_exchange),
     ) in
     let marked = marked_columns d f grid old.size in
     let coloured = coloured_columns w.quandle d grid f old in
     let high : suc r < size d = tradable.0 in
     let low : r < size d = omega arith in
     let row : row_at (act w.quandle) r r (columns d.x d.o f) ≡ true = sym (row_walk (act w.quandle) r (columns d.x d.o f)) ∙ coloured.walks r low in
-    let row' : row_at (act w.quandle) (suc r) (suc r) (columns d.x d.o f) ≡ true = sym (row_walk (act w.quandle) (suc r) (columns d.x d.o f)) ∙ coloured.walks (suc r) high in
+    let row' : row_at (act w.quandle) (suc r) (suc r) (columns d.x d.o f) ≡ true = sym (row_walk (act w.quandle) (suc r) (columns d.x d.o f))
+    ∙ coloured.walks (suc r) high in
     let same = rows_exchanged_weight w.modulus (act w.quandle) (earned w) (act_acts w.quandle q) (earned_weighs w cocycle) (size d) r (columns d.x d.o f) high
-    (together (act w.quandle) d r (suc r) (columns d.x d.o f) marked row (coloured.crosses r low) (coloured.rings r low) (coloured.crosses (suc r) high) (coloured.rings (suc r) high) tradable.1)
-    (together (act w.quandle) d (suc r) r (columns d.x d.o f) marked row' (coloured.crosses (suc r) high) (coloured.rings (suc r) high) (coloured.crosses r low) (coloured.rings r low) (any_sym (across r d) (across (suc r) d) tradable.1))
+    (together (act w.quandle) d r (suc r) (columns d.x d.o f) marked row (coloured.crosses r low) (coloured.rings r low) (coloured.crosses (suc r) high)
+    (coloured.rings (suc r) high) tradable.1)
+    (together (act w.quandle) d (suc r) r (columns d.x d.o f) marked row' (coloured.crosses (suc r) high) (coloured.rings (suc r) high) (coloured.crosses r low)
+    (coloured.rings r low) (any_sym (across r d) (across (suc r) d) tradable.1))
     coloured in
     by_traded_rows w cocycle d e grid step.after r hx ho f old new same
 
 -- columns c and c + 1 trade places
-pair_weight : (k : ℕ) (p G : Bool → ℕ → ℕ → ℕ) → Acts p → Weighs k p G → (n : ℕ) (front : List Column) (u v : Column) (rest : List Column) → (u.x < n) × (u.o < n) → (v.x < n) × (v.o < n) → IsTradable zero (u ∷ v ∷ rest)
-    → IsColoured p n (front ++ u ∷ v ∷ rest) → IsColoured p n (front ++ pair_traded p u v rest) → HaveSameWeight k p G n (front ++ u ∷ v ∷ rest) n (front ++ pair_traded p u v rest)
+pair_weight : (k : ℕ) (p G : Bool → ℕ → ℕ → ℕ) → Acts p → Weighs k p G → (n : ℕ) (front : List Column) (u v : Column) (rest : List Column)
+    → (u.x < n) × (u.o < n) → (v.x < n) × (v.o < n) → IsTradable zero (u ∷ v ∷ rest)
+    → IsColoured p n (front ++ u ∷ v ∷ rest) → IsColoured p n (front ++ pair_traded p u v rest)
+    → HaveSameWeight k p G n (front ++ u ∷ v ∷ rest) n (front ++ pair_traded p u v rest)
 pair_weight k p G acts w n front u v rest lu lv tradable old new = elim tradable [
   | inl nested ↦
       subst (λ (l : List Column). HaveSameWeight k p G n (front ++ u ∷ v ∷ rest) n (front ++ l)) (sym (pair_outer p u v rest nested))
@@ -92,12 +99,17 @@ pair_weight k p G acts w n front u v rest lu lv tradable old new = elim tradable
       let is = pair_inner p u v rest nested in
       let new' : IsColoured p n (front ++ v ∷ recolour u (p (rises v) v.y u.y) ∷ rest) = subst (λ (l : List Column). IsColoured p n (front ++ l)) is new in
       subst (λ (l : List Column). HaveSameWeight k p G n (front ++ u ∷ v ∷ rest) n (front ++ l)) (sym is)
-      (same_turned k _ _ (nested_weight k p G acts w n front v (recolour u (p (rises v) v.y u.y)) u.y rest lu.0 lu.1 (elim nested [ inl h ↦ inl h | inr h ↦ inr h ]) refl new'))
+      (same_turned k _ _ (nested_weight k p G acts w n front v (recolour u (p (rises v) v.y u.y)) u.y rest lu.0 lu.1 (elim nested [
+        | inl h ↦ inl h
+        | inr h ↦ inr h
+      ]) refl new'))
   | inr (inr disjoint) ↦
-      subst (λ (l : List Column). HaveSameWeight k p G n (front ++ u ∷ v ∷ rest) n (front ++ l)) (sym (pair_disjoint p u v rest disjoint)) (disjoint_weight k p G n front u v rest disjoint)
+      subst (λ (l : List Column). HaveSameWeight k p G n (front ++ u ∷ v ∷ rest) n (front ++ l)) (sym (pair_disjoint p u v rest disjoint))
+      (disjoint_weight k p G n front u v rest disjoint)
 ]
 
-traded_weight : (k : ℕ) (p G : Bool → ℕ → ℕ → ℕ) → Acts p → Weighs k p G → (n : ℕ) (front : List Column) (c : ℕ) (cs : List Column) → IsInside n cs → IsTradable c cs
+traded_weight : (k : ℕ) (p G : Bool → ℕ → ℕ → ℕ) → Acts p → Weighs k p G → (n : ℕ) (front : List Column) (c : ℕ) (cs : List Column) → IsInside n cs
+    → IsTradable c cs
     → IsColoured p n (front ++ cs) → IsColoured p n (front ++ columns_traded p c cs) → HaveSameWeight k p G n (front ++ cs) n (front ++ columns_traded p c cs)
 traded_weight k p G acts w n front zero [] within tradable old new = absurd tradable
 traded_weight k p G acts w n front zero (u ∷ []) within tradable old new = absurd tradable
@@ -107,7 +119,8 @@ traded_weight k p G acts w n front (suc c) [] within tradable old new = absurd t
 traded_weight k p G acts w n front (suc c) (u ∷ cs) within tradable old new =
     let one = append_assoc front (u ∷ []) cs in
     let two = append_assoc front (u ∷ []) (columns_traded p c cs) in
-    let rest = traded_weight k p G acts w n (front ++ u ∷ []) c cs within.2 tradable (subst (IsColoured p n) (sym one) old) (subst (IsColoured p n) (sym two) new) in
+    let rest = traded_weight k p G acts w n (front ++ u ∷ []) c cs within.2 tradable (subst (IsColoured p n) (sym one) old)
+    (subst (IsColoured p n) (sym two) new) in
     subst (λ (l : List Column). HaveSameWeight k p G n l n (front ++ u ∷ columns_traded p c cs)) one
     (subst (λ (l : List Column). HaveSameWeight k p G n ((front ++ u ∷ []) ++ cs) n l) two rest)
 
@@ -123,7 +136,8 @@ exchange_of_columns w cocycle d e c step f colouring =
     let free : AreFree (coloured_at c d.x d.o []) (coloured_at (c + 1) d.x d.o []) =
     are_free (slice_index d.x c) (slice_index d.o c) (slice_index d.x (c + 1)) (slice_index d.o (c + 1)) 0 0 step.marks.may_exchange in
     let next : c + 1 ≡ suc c = add-one c in
-    let tradable : IsTradableAt c d.x d.o = tradable_at c d.x d.o (omega (arith, lt)) grid.same (subst (λ (k : ℕ). AreFree (column_at c d.x d.o) (column_at k d.x d.o)) next free) in
+    let tradable : IsTradableAt c d.x d.o = tradable_at c d.x d.o (omega (arith, lt)) grid.same
+    (subst (λ (k : ℕ). AreFree (column_at c d.x d.o) (column_at k d.x d.o)) next free) in
     let hx : e.x ≡ neighbours_traded c d.x = traded_at c e.x d.x (omega (arith, lt)) moved.same_size
     (moved_row c d e moved Cross (suc c) c (omega (arith, lt)) (to_left c)) (moved_row c d e moved Cross c (suc c) (omega (arith, lt)) (to_right c))
     (λ i at n m. moved_row c d e moved Cross i i at (stays c i n m)) in
@@ -144,8 +158,11 @@ exchange_of_columns w cocycle d e c step f colouring =
     } in
     let coloured' : IsColoured (act w.quandle) (size d) (columns_traded (act w.quandle) c (columns d.x d.o f)) =
     subst (λ (n : ℕ). IsColoured (act w.quandle) n (columns_traded (act w.quandle) c (columns d.x d.o f))) moved.same_size
-    (subst (IsColoured (act w.quandle) (size e)) (columns_marked e (columns_traded (act w.quandle) c (columns d.x d.o f)) marked') (coloured_columns w.quandle e grid' (traded_colours w.quandle c d f) new)) in
-    let same = traded_weight w.modulus (act w.quandle) (earned w) (act_acts w.quandle q) (earned_weighs w cocycle) (size d) [] c (columns d.x d.o f) (inside d (columns d.x d.o f) grid marked) able (coloured_columns w.quandle d grid f old) coloured' in
+    (subst (IsColoured (act w.quandle) (size e)) (columns_marked e (columns_traded (act w.quandle) c (columns d.x d.o f)) marked')
+    (coloured_columns w.quandle e grid' (traded_colours w.quandle c d f) new)) in
+    let same = traded_weight w.modulus (act w.quandle) (earned w) (act_acts w.quandle q) (earned_weighs w cocycle) (size d) [] c (columns d.x d.o f)
+    (inside d (columns d.x d.o f) grid marked) able (coloured_columns w.quandle d grid f old) coloured' in
     ap (weight_by_rows w e) (sym is)
     ∙ by_new_columns w cocycle d e grid grid' f (traded_colours w.quandle c d f) old new (columns_traded (act w.quandle) c (columns d.x d.o f)) marked' refl
-    (subst (λ (m : ℕ). HaveSameWeight w.modulus (act w.quandle) (earned w) (size d) (columns d.x d.o f) m (columns_traded (act w.quandle) c (columns d.x d.o f))) (sym moved.same_size) same)
+    (subst (λ (m : ℕ). HaveSameWeight w.modulus (act w.quandle) (earned w) (size d) (columns d.x d.o f) m
+    (columns_traded (act w.quandle) c (columns d.x d.o f))) (sym moved.same_size) same)

@@ -39,11 +39,13 @@ rightward_low d grid r lt =
           eq-eqb (slice_index d.o (ends d r).low) r (ap (slice_index d.o) is ∙ at_o.row) ∙ sym (lt-ltb (column_of Ring d r) (column_of Cross d r) l)
       | inr g ↦
           let is : (ends d r).low ≡ column_of Cross d r = omega (arith, low, g) in
-          ne_eqb (slice_index d.o (ends d r).low) r (λ e. no_cell_twice d grid (column_of Cross d r) at_x.inside (at_x.row ∙ sym (ap (slice_index d.o) (sym is) ∙ e)))
+          ne_eqb (slice_index d.o (ends d r).low) r
+          (λ e. no_cell_twice d grid (column_of Cross d r) at_x.inside (at_x.row ∙ sym (ap (slice_index d.o) (sym is) ∙ e)))
           ∙ sym (le-ltb (column_of Ring d r) (column_of Cross d r) g)
     ]
 
-rightward_same : (w : Cochain) (d : Diagram) → IsGrid d → (f : List ℕ) → HasColours w.quandle d f → (r : ℕ) → r < size d → rightward r (columns d.x d.o f) ≡ is_rightward d r
+rightward_same : (w : Cochain) (d : Diagram) → IsGrid d → (f : List ℕ) → HasColours w.quandle d f → (r : ℕ) → r < size d
+    → rightward r (columns d.x d.o f) ≡ is_rightward d r
 rightward_same w d grid f has r lt =
     (sum_to_left (act w.quandle) (earned w) d f has.rings has.size r (are_ends d grid r lt) (ends d r).low 0 (omega arith)).1 ∙ rightward_low d grid r lt
 
@@ -57,15 +59,19 @@ walked_below w some d f r = sum_below w some d f (passed d r) (record { colour =
 
 -- what a row counts for
 row_counts : (w : Cochain) → IsCocycle w → (d : Diagram) → IsGrid d → (f : List ℕ) → HasColours w.quandle d f → (r : ℕ) → r < size d
-    → Same w.modulus (row_weight w d f r + left_part (act w.quandle) (earned w) r (columns d.x d.o f)) (right_part (act w.quandle) (earned w) r (columns d.x d.o f))
+    → Same w.modulus (row_weight w d f r + left_part (act w.quandle) (earned w) r (columns d.x d.o f))
+    (right_part (act w.quandle) (earned w) r (columns d.x d.o f))
 row_counts w cocycle d grid f has r lt =
     let cs : List Column = columns d.x d.o f in
     let way = rightward_same w d grid f has r lt in
     let sum = walked_same w cocycle d f has r (are_ends d grid r lt) in
-    subst (λ (b : Bool). Same w.modulus (row_weight w d f r + cond b 0 (sum_row (act w.quandle) (earned w) r r (columns d.x d.o f))) (cond b (sum_row (act w.quandle) (earned w) r r (columns d.x d.o f)) 0)) (sym way)
-    (by_way (is_rightward d r) (walked w d f r).sum (sum_row (act w.quandle) (earned w) r r (columns d.x d.o f)) (walked_below w (omega (arith, cocycle.least)) d f r) sum)
+    subst (λ (b : Bool). Same w.modulus (row_weight w d f r + cond b 0 (sum_row (act w.quandle) (earned w) r r (columns d.x d.o f)))
+    (cond b (sum_row (act w.quandle) (earned w) r r (columns d.x d.o f)) 0)) (sym way)
+    (by_way (is_rightward d r) (walked w d f r).sum (sum_row (act w.quandle) (earned w) r r (columns d.x d.o f))
+    (walked_below w (omega (arith, cocycle.least)) d f r) sum)
   where
-    by_way : (b : Bool) (sum row : ℕ) → sum < w.modulus → Same w.modulus sum row → Same w.modulus (cond b sum ((w.modulus - sum) % w.modulus) + cond b 0 row) (cond b row 0)
+    by_way : (b : Bool) (sum row : ℕ) → sum < w.modulus → Same w.modulus sum row
+        → Same w.modulus (cond b sum ((w.modulus - sum) % w.modulus) + cond b 0 row) (cond b row 0)
     by_way true sum row below same = same_by w.modulus sum row (sum + 0) row same (omega arith)
     by_way false sum row below same =
         same_by_two w.modulus ((w.modulus - sum) % w.modulus + sum) 0 row sum ((w.modulus - sum) % w.modulus + row) 0
@@ -75,7 +81,8 @@ sum_total_from : (f : ℕ → ℕ) (a n : ℕ) → sum_by f (range_with_len a n)
 sum_total_from f a zero = refl
 sum_total_from f a (suc n) =
     sum_by-cons f a (range_with_len (a + 1) n)
-    ∙ ap₂ (λ m s. m + s) (ap f (let e : a ≡ a + 0 = omega arith in e)) (sum_total_from f (a + 1) n ∙ total_as (λ r. f (a + 1 + r)) (λ r. f (a + suc r)) n (λ r. ap f (let e : a + 1 + r ≡ a + suc r = omega arith in e)))
+    ∙ ap₂ (λ m s. m + s) (ap f (let e : a ≡ a + 0 = omega arith in e)) (sum_total_from f (a + 1) n ∙ total_as (λ r. f (a + 1 + r)) (λ r. f (a + suc r)) n
+    (λ r. ap f (let e : a + 1 + r ≡ a + suc r = omega arith in e)))
     ∙ sym (total_first (λ r. f (a + r)) n)
   where
     total_as : (g h : ℕ → ℕ) (n : ℕ) → ((r : ℕ) → g r ≡ h r) → total g n ≡ total h n
@@ -91,16 +98,24 @@ sum_total f n = sum_total_from f 0 n ∙ plain f n
 
 -- the weight by rows and the rows to the left are the rows to the right
 weight_counts : (w : Cochain) → IsCocycle w → (d : Diagram) → IsGrid d → (f : List ℕ) → HasColours w.quandle d f
-    → Same w.modulus (weight_by_rows w d f + total (λ r. left_part (act w.quandle) (earned w) r (columns d.x d.o f)) (size d)) (total (λ r. right_part (act w.quandle) (earned w) r (columns d.x d.o f)) (size d))
+    → Same w.modulus (weight_by_rows w d f + total (λ r. left_part (act w.quandle) (earned w) r (columns d.x d.o f)) (size d))
+    (total (λ r. right_part (act w.quandle) (earned w) r (columns d.x d.o f)) (size d))
 weight_counts w cocycle d grid f has =
-    let rows = total_same w.modulus (λ r. row_weight w d f r + left_part (act w.quandle) (earned w) r (columns d.x d.o f)) (λ r. right_part (act w.quandle) (earned w) r (columns d.x d.o f)) (size d)
+    let rows = total_same w.modulus (λ r. row_weight w d f r + left_part (act w.quandle) (earned w) r (columns d.x d.o f))
+    (λ r. right_part (act w.quandle) (earned w) r (columns d.x d.o f)) (size d)
     (λ r lt. row_counts w cocycle d grid f has r lt) in
     same_by_two w.modulus
     (weight_by_rows w d f) (sum_by (row_weight w d f) (range_with_len 0 (size d)))
-    (total (λ r. row_weight w d f r + left_part (act w.quandle) (earned w) r (columns d.x d.o f)) (size d)) (total (λ r. right_part (act w.quandle) (earned w) r (columns d.x d.o f)) (size d))
-    (weight_by_rows w d f + total (λ r. left_part (act w.quandle) (earned w) r (columns d.x d.o f)) (size d)) (total (λ r. right_part (act w.quandle) (earned w) r (columns d.x d.o f)) (size d))
+    (total (λ r. row_weight w d f r + left_part (act w.quandle) (earned w) r (columns d.x d.o f)) (size d))
+    (total (λ r. right_part (act w.quandle) (earned w) r (columns d.x d.o f)) (size d))
+    (weight_by_rows w d f + total (λ r. left_part (act w.quandle) (earned w) r (columns d.x d.o f)) (size d))
+    (total (λ r. right_part (act w.quandle) (earned w) r (columns d.x d.o f)) (size d))
     (same_mod w.modulus (sum_by (row_weight w d f) (range_with_len 0 (size d))) (omega (arith, cocycle.least))) rows
-    (omega (arith, sum_total (row_weight w d f) (size d), total_plus (λ r. row_weight w d f r) (λ r. left_part (act w.quandle) (earned w) r (columns d.x d.o f)) (size d)))
+    (omega (
+      arith,
+      sum_total (row_weight w d f) (size d),
+      total_plus (λ r. row_weight w d f r) (λ r. left_part (act w.quandle) (earned w) r (columns d.x d.o f)) (size d),
+    ))
 
 -- numbers below k that are the same are equal
 pub equal_below : (k a b : ℕ) → Same k a b → a < k → b < k → a ≡ b
@@ -122,7 +137,8 @@ equal_weights w cocycle d e grid grid' f g has has' same =
     let new = weight_counts w cocycle e grid' g has' in
     equal_below w.modulus (weight_by_rows w e g) (weight_by_rows w d f)
     (record { left = new.left + same.right + old.right; right = new.right + same.left + old.left; equal = omega (arith, old.equal, new.equal, same.equal) })
-    (mod_below w.modulus (sum_by (row_weight w e g) (range_with_len 0 (size e))) some) (mod_below w.modulus (sum_by (row_weight w d f) (range_with_len 0 (size d))) some)
+    (mod_below w.modulus (sum_by (row_weight w e g) (range_with_len 0 (size e))) some)
+    (mod_below w.modulus (sum_by (row_weight w d f) (range_with_len 0 (size d))) some)
 
 -- a sum mod k, with one more term
 pub add_mod : (k a b : ℕ) → 0 < k → (a % k + b) % k ≡ (a + b) % k

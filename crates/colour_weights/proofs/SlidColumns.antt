@@ -56,16 +56,19 @@ both_pass k p G acts w true true l' m' y a = same_of k _ _ (swap (gained G l' m'
     swap : (n : ℕ) → 0 + n ≡ n + 0
     swap n = omega arith
 both_pass k p G acts w true false l' m' y a =
-    subst (λ (z : ℕ). Same k (G true y a + gained G l' m' y (p true y a)) (gained G l' m' y a + G true z (crossed p l' m' y a))) (crossed_fixed p acts l' m' y) (gained_carries k p G acts w true l' m' y y a)
+    subst (λ (z : ℕ). Same k (G true y a + gained G l' m' y (p true y a)) (gained G l' m' y a + G true z (crossed p l' m' y a))) (crossed_fixed p acts l' m' y)
+    (gained_carries k p G acts w true l' m' y y a)
 both_pass k p G acts w false true l' m' y a =
-    subst (λ (z : ℕ). Same k (G false y a + gained G l' m' y (p false y a)) (gained G l' m' y a + G false z (crossed p l' m' y a))) (crossed_fixed p acts l' m' y) (gained_carries k p G acts w false l' m' y y a)
+    subst (λ (z : ℕ). Same k (G false y a + gained G l' m' y (p false y a)) (gained G l' m' y a + G false z (crossed p l' m' y a)))
+    (crossed_fixed p acts l' m' y) (gained_carries k p G acts w false l' m' y y a)
 both_pass k p G acts w false false l' m' y a = same_of k _ _ (swap (gained G l' m' y a))
   where
     swap : (n : ℕ) → 0 + n ≡ n + 0
     swap n = omega arith
 
 -- neighbours of one colour trade places, whatever their marks
-slid_pair : (k : ℕ) (p G : Bool → ℕ → ℕ → ℕ) → Acts p → Weighs k p G → (r : ℕ) (u v : Column) (rest : List Column) → u.y ≡ v.y → IsSlid k p G r (u ∷ v ∷ rest) (v ∷ u ∷ rest)
+slid_pair : (k : ℕ) (p G : Bool → ℕ → ℕ → ℕ) → Acts p → Weighs k p G → (r : ℕ) (u v : Column) (rest : List Column) → u.y ≡ v.y
+    → IsSlid k p G r (u ∷ v ∷ rest) (v ∷ u ∷ rest)
 slid_pair k p G acts w r u v rest e =
     -- a column of the colour of the walk
     let own : (c : Column) (a : ℕ) → a ≡ c.y → Same k (gains G r c a) 0 = λ c a same.
@@ -95,7 +98,8 @@ slid_pair k p G acts w r u v rest e =
       | inr f ↦ elim (cases_Bool (ends r v)) [
         | inl g ↦ record {
           on = λ a on.
-              let far : crosses p r u a ≡ v.y = eqb-true (crosses p r u a) v.y (sym (on_apart p r r a u (v ∷ rest) f ∙ on_end p r r (crosses p r u a) v rest g) ∙ on) in
+              let far : crosses p r u a ≡ v.y =
+              eqb-true (crosses p r u a) v.y (sym (on_apart p r r a u (v ∷ rest) f ∙ on_end p r r (crosses p r u a) v rest g) ∙ on) in
               let at : a ≡ u.y = eqb-true a u.y (sym (crossed_meets p acts (nat_lt u.x r) (nat_lt u.o r) u.y a) ∙ eq-eqb (crosses p r u a) u.y (far ∙ sym e)) in
               same_by k (gains G r u a) 0 (sum_on p G r r a (u ∷ v ∷ rest)) (sum_on p G r r a (v ∷ u ∷ rest)) (own u a at)
               (omega (arith, sum_on_apart p G r r a u (v ∷ rest) f, sum_on_end p G r r (crosses p r u a) v rest g, sum_on_end p G r r a v (u ∷ rest) g));
@@ -109,13 +113,15 @@ slid_pair k p G acts w r u v rest e =
         | inr g ↦ record {
           on = λ a on.
               let one : Same k (gains G r u a + gains G r v (crosses p r u a)) (gains G r v a + gains G r u (crosses p r v a)) =
-              subst (λ (y : ℕ). Same k (gained G (nat_lt u.x r) (nat_lt u.o r) y a + gains G r v (crossed p (nat_lt u.x r) (nat_lt u.o r) y a)) (gains G r v a + gained G (nat_lt u.x r) (nat_lt u.o r) y (crosses p r v a))) (sym e)
+              subst (λ (y : ℕ). Same k (gained G (nat_lt u.x r) (nat_lt u.o r) y a + gains G r v (crossed p (nat_lt u.x r) (nat_lt u.o r) y a))
+              (gains G r v a + gained G (nat_lt u.x r) (nat_lt u.o r) y (crosses p r v a))) (sym e)
               (both_pass k p G acts w (nat_lt u.x r) (nat_lt u.o r) (nat_lt v.x r) (nat_lt v.o r) v.y a) in
               let last : crosses p r v (crosses p r u a) ≡ crosses p r u (crosses p r v a) =
               ap (λ y. crosses p r v (crossed p (nat_lt u.x r) (nat_lt u.o r) y a)) e
               ∙ crossed_commute p acts (nat_lt v.x r) (nat_lt v.o r) (nat_lt u.x r) (nat_lt u.o r) v.y a
               ∙ ap (λ y. crossed p (nat_lt u.x r) (nat_lt u.o r) y (crosses p r v a)) (sym e) in
-              same_by k (gains G r u a + gains G r v (crosses p r u a)) (gains G r v a + gains G r u (crosses p r v a)) (sum_on p G r r a (u ∷ v ∷ rest)) (sum_on p G r r a (v ∷ u ∷ rest)) one
+              same_by k (gains G r u a + gains G r v (crosses p r u a)) (gains G r v a + gains G r u (crosses p r v a)) (sum_on p G r r a (u ∷ v ∷ rest))
+              (sum_on p G r r a (v ∷ u ∷ rest)) one
               (omega (
                 arith,
                 sum_on_apart p G r r a u (v ∷ rest) f,
@@ -123,7 +129,8 @@ slid_pair k p G acts w r u v rest e =
                 sum_on_apart p G r r a v (u ∷ rest) g,
                 sum_on_apart p G r r (crosses p r v a) u rest f,
               ));
-          row = λ row. same_of k _ _ (sum_row_apart p G r r u (v ∷ rest) f ∙ sum_row_apart p G r r v rest g ∙ sym (sum_row_apart p G r r v (u ∷ rest) g ∙ sum_row_apart p G r r u rest f));
+          row = λ row. same_of k _ _ (sum_row_apart p G r r u (v ∷ rest) f ∙ sum_row_apart p G r r v rest g
+              ∙ sym (sum_row_apart p G r r v (u ∷ rest) g ∙ sum_row_apart p G r r u rest f));
           way = inl (rightward_apart r v (u ∷ rest) g ∙ rightward_apart r u rest f ∙ sym (rightward_apart r u (v ∷ rest) f ∙ rightward_apart r v rest g));
         }
       ]
@@ -132,7 +139,8 @@ slid_pair k p G acts w r u v rest e =
     none : (a b : Column) → ends r a ≡ true → ends r b ≡ true → sum_row p G r r (a ∷ b ∷ rest) ≡ 0
     none a b ea eb = sum_row_end p G r r a (b ∷ rest) ea ∙ sum_on_end p G r r a.y b rest eb
 
-slid_row : (k : ℕ) (p G : Bool → ℕ → ℕ → ℕ) → Acts p → Weighs k p G → (r c : ℕ) (cs : List Column) → neighbours_traded c (ys_of cs) ≡ ys_of cs → IsSlid k p G r cs (neighbours_traded c cs)
+slid_row : (k : ℕ) (p G : Bool → ℕ → ℕ → ℕ) → Acts p → Weighs k p G → (r c : ℕ) (cs : List Column) → neighbours_traded c (ys_of cs) ≡ ys_of cs
+    → IsSlid k p G r cs (neighbours_traded c cs)
 slid_row k p G acts w r zero [] e = unmoved k p G r []
 slid_row k p G acts w r zero (u ∷ []) e = unmoved k p G r (u ∷ [])
 slid_row k p G acts w r zero (u ∷ v ∷ rest) e =
@@ -142,7 +150,8 @@ slid_row k p G acts w r (suc c) [] e = unmoved k p G r []
 slid_row k p G acts w r (suc c) (u ∷ cs) e = slid_behind k p G r u cs (neighbours_traded c cs) (slid_row k p G acts w r c cs (cc))
 
 -- columns c and c + 1, which have one colour
-pub columns_slid_weight : (k : ℕ) (p G : Bool → ℕ → ℕ → ℕ) → Acts p → Weighs k p G → (n c : ℕ) (cs : List Column) → neighbours_traded c (ys_of cs) ≡ ys_of cs → IsColoured p n cs → HaveSameWeight k p G n cs n (neighbours_traded c cs)
+pub columns_slid_weight : (k : ℕ) (p G : Bool → ℕ → ℕ → ℕ) → Acts p → Weighs k p G → (n c : ℕ) (cs : List Column) → neighbours_traded c (ys_of cs) ≡ ys_of cs
+    → IsColoured p n cs → HaveSameWeight k p G n cs n (neighbours_traded c cs)
 columns_slid_weight k p G acts w n c cs e coloured =
     weight_by_kept k p G n cs (neighbours_traded c cs)
     (λ r lt.
@@ -152,5 +161,6 @@ columns_slid_weight k p G acts w n c cs e coloured =
       | inr none ↦
           let old = nothing p G r cs none.0 in
           let new = nothing p G r (neighbours_traded c cs) none.1 in
-          same_of k (right_part p G r cs + left_part p G r (neighbours_traded c cs)) (right_part p G r (neighbours_traded c cs) + left_part p G r cs) (omega (arith, old.0, old.1, new.0, new.1))
+          same_of k (right_part p G r cs + left_part p G r (neighbours_traded c cs)) (right_part p G r (neighbours_traded c cs) + left_part p G r cs)
+          (omega (arith, old.0, old.1, new.0, new.1))
     ])

@@ -43,14 +43,16 @@ slide_of_columns w cocycle d e c step f colouring =
     let marked = marked_columns d f grid old.size in
     let coloured = coloured_columns w.quandle d grid f old in
     let stays = kept_colours w.quandle d grid row.0 c row.1 row.2 (columns d.x d.o f) marked coloured in
-    let same = columns_slid_weight w.modulus (act w.quandle) (earned w) (act_acts w.quandle q) (earned_weighs w cocycle) (size d) c (columns d.x d.o f) stays coloured in
+    let same = columns_slid_weight w.modulus (act w.quandle) (earned w) (act_acts w.quandle q) (earned_weighs w cocycle) (size d) c
+    (columns d.x d.o f) stays coloured in
     let marked' : IsMarked e (neighbours_traded c (columns d.x d.o f)) = record {
       crosses = traded_of (λ (l : Column). l.x) c (columns d.x d.o f) ∙ ap (neighbours_traded c) marked.crosses ∙ sym traded.0;
       rings = traded_of (λ (l : Column). l.o) c (columns d.x d.o f) ∙ ap (neighbours_traded c) marked.rings ∙ sym traded.1;
     } in
     by_new_columns w cocycle d e grid step.after f f old new (neighbours_traded c (columns d.x d.o f)) marked'
     (sym (traded_of (λ (l : Column). l.y) c (columns d.x d.o f) ∙ stays ∙ ys_of_columns d.x d.o f grid.same old.size))
-    (subst (λ (n : ℕ). HaveSameWeight w.modulus (act w.quandle) (earned w) (size d) (columns d.x d.o f) n (neighbours_traded c (columns d.x d.o f))) (sym same_size) same)
+    (subst (λ (n : ℕ). HaveSameWeight w.modulus (act w.quandle) (earned w) (size d) (columns d.x d.o f) n (neighbours_traded c (columns d.x d.o f)))
+    (sym same_size) same)
 
 -- a slide of rows
 pub slide_of_rows : (w : Cochain) → IsCocycle w → (d e : Diagram) (r : ℕ) → Step d (SlideRows r) e → (f : List ℕ) → IsColouring w.quandle d f
@@ -64,9 +66,11 @@ slide_of_rows w cocycle d e r step f colouring =
     let marked = marked_columns d f grid old.size in
     let blank = marked_columns d (map (λ m. 0) d.x) grid (length-map d.x (λ m. 0)) in
     let here : HasBoth r (suc r) (columns d.x d.o f) =
-    same_both r (suc r) (columns d.x d.o (map (λ m. 0) d.x)) (columns d.x d.o f) (blank.crosses ∙ sym marked.crosses) (blank.rings ∙ sym marked.rings) (both d r grid step.marks.inside step.marks.may_slide.shared) in
+    same_both r (suc r) (columns d.x d.o (map (λ m. 0) d.x)) (columns d.x d.o f) (blank.crosses ∙ sym marked.crosses) (blank.rings ∙ sym marked.rings)
+    (both d r grid step.marks.inside step.marks.may_slide.shared) in
     by_traded_rows w cocycle d e grid step.after r
     (ap (λ (g : Diagram). g.x) is ∙ map_same (exchanged r) (swapped r) (exchanged_swapped r) d.x)
     (ap (λ (g : Diagram). g.o) is ∙ map_same (exchanged r) (swapped r) (exchanged_swapped r) d.o)
     f old new
-    (rows_slid_weight w.modulus (act w.quandle) (earned w) (act_acts w.quandle q) (earned_weighs w cocycle) (size d) r (columns d.x d.o f) (omega (arith, step.marks.inside)) here (coloured_columns w.quandle d grid f old))
+    (rows_slid_weight w.modulus (act w.quandle) (earned w) (act_acts w.quandle q) (earned_weighs w cocycle) (size d) r (columns d.x d.o f)
+    (omega (arith, step.marks.inside)) here (coloured_columns w.quandle d grid f old))

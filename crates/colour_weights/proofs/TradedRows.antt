@@ -14,7 +14,8 @@ use Rattle.colour_weights.proofs.Totals.{IsKept, kept, total_same, total_plus, t
 use Rattle.colour_weights.proofs.LoweredRows.{rightward_relabel}
 
 -- under other numbers
-pub sum_on_relabel : (p G : Bool → ℕ → ℕ → ℕ) (f : ℕ → ℕ) (h r h' r' : ℕ) → ((x : ℕ) → (f x == r') ≡ (x == r)) → ((x : ℕ) → x ≢ r → nat_lt (f x) h' ≡ nat_lt x h)
+pub sum_on_relabel : (p G : Bool → ℕ → ℕ → ℕ) (f : ℕ → ℕ) (h r h' r' : ℕ) → ((x : ℕ) → (f x == r') ≡ (x == r))
+    → ((x : ℕ) → x ≢ r → nat_lt (f x) h' ≡ nat_lt x h)
     → (a : ℕ) (cs : List Column) → sum_on p G h' r' a (map (relabel f) cs) ≡ sum_on p G h r a cs
 sum_on_relabel p G f h r h' r' same below a [] = refl
 sum_on_relabel p G f h r h' r' same below a (c ∷ cs) =
@@ -31,7 +32,8 @@ sum_on_relabel p G f h r h' r' same below a (c ∷ cs) =
           ∙ sym (sum_on_apart p G h r a c cs (ends_apart r c n m))
     ]
 
-pub sum_row_relabel : (p G : Bool → ℕ → ℕ → ℕ) (f : ℕ → ℕ) (h r h' r' : ℕ) → ((x : ℕ) → (f x == r') ≡ (x == r)) → ((x : ℕ) → x ≢ r → nat_lt (f x) h' ≡ nat_lt x h)
+pub sum_row_relabel : (p G : Bool → ℕ → ℕ → ℕ) (f : ℕ → ℕ) (h r h' r' : ℕ) → ((x : ℕ) → (f x == r') ≡ (x == r))
+    → ((x : ℕ) → x ≢ r → nat_lt (f x) h' ≡ nat_lt x h)
     → (cs : List Column) → sum_row p G h' r' (map (relabel f) cs) ≡ sum_row p G h r cs
 sum_row_relabel p G f h r h' r' same below [] = refl
 sum_row_relabel p G f h r h' r' same below (c ∷ cs) =
@@ -48,11 +50,13 @@ sum_on_level p G h r a (c ∷ cs) = elim (cases_Bool (ends r c)) [
       ∙ sym (ap (λ l. level_sum p G h l a) (up_to_apart r c cs e))
 ]
 
-sum_row_same : (k : ℕ) (p G : Bool → ℕ → ℕ → ℕ) (h h' r : ℕ) (cs : List Column) → ((v : ℕ) → Same k (level_sum p G h (between r cs) v) (level_sum p G h' (between r cs) v)) → Same k (sum_row p G h r cs) (sum_row p G h' r cs)
+sum_row_same : (k : ℕ) (p G : Bool → ℕ → ℕ → ℕ) (h h' r : ℕ) (cs : List Column)
+    → ((v : ℕ) → Same k (level_sum p G h (between r cs) v) (level_sum p G h' (between r cs) v)) → Same k (sum_row p G h r cs) (sum_row p G h' r cs)
 sum_row_same k p G h h' r [] each = same_of k 0 0 refl
 sum_row_same k p G h h' r (c ∷ cs) each = elim (cases_Bool (ends r c)) [
   | inl e ↦
-      let here : Same k (level_sum p G h (up_to r cs) c.y) (level_sum p G h' (up_to r cs) c.y) = subst (λ (l : List Column). Same k (level_sum p G h l c.y) (level_sum p G h' l c.y)) (between_end r c cs e) (each c.y) in
+      let here : Same k (level_sum p G h (up_to r cs) c.y) (level_sum p G h' (up_to r cs) c.y) =
+      subst (λ (l : List Column). Same k (level_sum p G h l c.y) (level_sum p G h' l c.y)) (between_end r c cs e) (each c.y) in
       same_by k (level_sum p G h (up_to r cs) c.y) (level_sum p G h' (up_to r cs) c.y) (sum_row p G h r (c ∷ cs)) (sum_row p G h' r (c ∷ cs)) here
       (omega (arith, sum_row_end p G h r c cs e, sum_row_end p G h' r c cs e, sum_on_level p G h r c.y cs, sum_on_level p G h' r c.y cs))
   | inr e ↦
@@ -81,7 +85,8 @@ sum_row_above p G r (c ∷ cs) = elim (cases_Bool (ends r c)) [
 ]
 
 -- a row passes another row whose ends stand both between its own ends or both outside
-level_sum_between : (k : ℕ) (p G : Bool → ℕ → ℕ → ℕ) → Acts p → Weighs k p G → (r s : ℕ) (cs : List Column) → row_at p s s cs ≡ true → xs_in s cs ≡ 1 → os_in s cs ≡ 1 → IsTogether r s cs
+level_sum_between : (k : ℕ) (p G : Bool → ℕ → ℕ → ℕ) → Acts p → Weighs k p G → (r s : ℕ) (cs : List Column) → row_at p s s cs ≡ true → xs_in s cs ≡ 1
+    → os_in s cs ≡ 1 → IsTogether r s cs
     → (v : ℕ) → Same k (level_sum p G (suc s) (between r cs) v) (level_sum p G s (between r cs) v)
 level_sum_between k p G acts w r s cs row ex eo together v =
     let few = few_between r s cs in
@@ -101,13 +106,29 @@ total_swapped : (f : ℕ → ℕ) (r n : ℕ) → suc r < n → total (λ s. f (
 total_swapped f r zero lt = absurd (omega arith)
 total_swapped f r (suc zero) lt = absurd (omega arith)
 total_swapped f r (suc (suc m)) lt = elim (cases_lt r m) [
-  | inl l ↦ ap₂ (λ a b. a + b) (total_swapped f r (suc m) (omega arith)) (ap f (elim (traded r (suc m)) [ lower e is ↦ absurd (omega arith) | upper e is ↦ absurd (omega arith) | other n m is ↦ is ]))
+  | inl l ↦ ap₂ (λ a b. a + b) (total_swapped f r (suc m) (omega arith)) (ap f (elim (traded r (suc m)) [
+    | lower e is ↦ absurd (omega arith)
+    | upper e is ↦ absurd (omega arith)
+    | other n m is ↦ is
+  ]))
   | inr g ↦
       let at : r ≡ m = omega arith in
-      let one : f (swapped r m) ≡ f (suc m) = ap f (elim (traded r m) [ lower e is ↦ is ∙ ap suc at | upper e is ↦ absurd (omega arith) | other n m is ↦ absurd (n (sym at)) ]) in
-      let two : f (swapped r (suc m)) ≡ f m = ap f (elim (traded r (suc m)) [ lower e is ↦ absurd (omega arith) | upper e is ↦ is ∙ at | other n k is ↦ absurd (k (ap suc (sym at))) ]) in
+      let one : f (swapped r m) ≡ f (suc m) = ap f (elim (traded r m) [
+        | lower e is ↦ is ∙ ap suc at
+        | upper e is ↦ absurd (omega arith)
+        | other n m is ↦ absurd (n (sym at))
+      ]) in
+      let two : f (swapped r (suc m)) ≡ f m = ap f (elim (traded r (suc m)) [
+        | lower e is ↦ absurd (omega arith)
+        | upper e is ↦ is ∙ at
+        | other n k is ↦ absurd (k (ap suc (sym at)))
+      ]) in
       let rest : total (λ s. f (swapped r s)) m ≡ total f m =
-      total_equal (λ s. f (swapped r s)) f m (λ s lt. ap f (elim (traded r s) [ lower e is ↦ absurd (omega arith) | upper e is ↦ absurd (omega arith) | other n m is ↦ is ])) in
+      total_equal (λ s. f (swapped r s)) f m (λ s lt. ap f (elim (traded r s) [
+        | lower e is ↦ absurd (omega arith)
+        | upper e is ↦ absurd (omega arith)
+        | other n m is ↦ is
+      ])) in
       omega (arith, one, two, rest)
 ]
 
@@ -127,15 +148,21 @@ rows_traded_weight k p G n r cs high down up =
     (same_turned k (sum_row p G (suc (suc r)) r cs) (sum_row p G (suc r) r cs) up)
     (omega (arith, sum_row_above p G r cs, sum_row_relabel p G (swapped r) (suc (suc r)) r (suc r) (suc r) (eq_upper r) (lt_upper r) cs))) in
     let each : (s : ℕ) → s < n → IsKept k p G (swapped r s) cs s (map (relabel (swapped r)) cs) = λ s below. elim (traded r s) [
-      | lower e is ↦ subst (λ (q : ℕ). IsKept k p G q cs s (map (relabel (swapped r)) cs)) (sym is) (subst (λ (q : ℕ). IsKept k p G (suc r) cs q (map (relabel (swapped r)) cs)) (sym e) of_upper)
-      | upper e is ↦ subst (λ (q : ℕ). IsKept k p G q cs s (map (relabel (swapped r)) cs)) (sym is) (subst (λ (q : ℕ). IsKept k p G r cs q (map (relabel (swapped r)) cs)) (sym e) of_lower)
+      | lower e is ↦ subst (λ (q : ℕ). IsKept k p G q cs s (map (relabel (swapped r)) cs)) (sym is)
+          (subst (λ (q : ℕ). IsKept k p G (suc r) cs q (map (relabel (swapped r)) cs)) (sym e) of_upper)
+      | upper e is ↦ subst (λ (q : ℕ). IsKept k p G q cs s (map (relabel (swapped r)) cs)) (sym is)
+          (subst (λ (q : ℕ). IsKept k p G r cs q (map (relabel (swapped r)) cs)) (sym e) of_lower)
       | other u v is ↦ subst (λ (q : ℕ). IsKept k p G q cs s (map (relabel (swapped r)) cs)) (sym is)
           (kept k p G s s cs (map (relabel (swapped r)) cs) (rightward_relabel (swapped r) s s (eq_other r s u v) cs)
-          (same_of k (sum_row p G s s cs) (sum_row p G s s (map (relabel (swapped r)) cs)) (sym (sum_row_relabel p G (swapped r) s s s s (eq_other r s u v) (λ x n. lt_other r s u v x) cs))))
+          (same_of k (sum_row p G s s cs) (sum_row p G s s (map (relabel (swapped r)) cs))
+          (sym (sum_row_relabel p G (swapped r) s s s s (eq_other r s u v) (λ x n. lt_other r s u v x) cs))))
     ] in
-    let rows = total_same k (λ s. right_part p G (swapped r s) cs + left_part p G s (map (relabel (swapped r)) cs)) (λ s. right_part p G s (map (relabel (swapped r)) cs) + left_part p G (swapped r s) cs) n each in
-    same_by k (total (λ s. right_part p G (swapped r s) cs + left_part p G s (map (relabel (swapped r)) cs)) n) (total (λ s. right_part p G s (map (relabel (swapped r)) cs) + left_part p G (swapped r s) cs) n)
-    (total (λ s. right_part p G s cs) n + total (λ s. left_part p G s (map (relabel (swapped r)) cs)) n) (total (λ s. right_part p G s (map (relabel (swapped r)) cs)) n + total (λ s. left_part p G s cs) n)
+    let rows = total_same k (λ s. right_part p G (swapped r s) cs + left_part p G s (map (relabel (swapped r)) cs))
+    (λ s. right_part p G s (map (relabel (swapped r)) cs) + left_part p G (swapped r s) cs) n each in
+    same_by k (total (λ s. right_part p G (swapped r s) cs + left_part p G s (map (relabel (swapped r)) cs)) n)
+    (total (λ s. right_part p G s (map (relabel (swapped r)) cs) + left_part p G (swapped r s) cs) n)
+    (total (λ s. right_part p G s cs) n + total (λ s. left_part p G s (map (relabel (swapped r)) cs)) n)
+    (total (λ s. right_part p G s (map (relabel (swapped r)) cs)) n + total (λ s. left_part p G s cs) n)
     rows
     (omega (
       arith,
@@ -146,7 +173,8 @@ rows_traded_weight k p G n r cs high down up =
     ))
 
 -- an exchange of rows r and r + 1
-pub rows_exchanged_weight : (k : ℕ) (p G : Bool → ℕ → ℕ → ℕ) → Acts p → Weighs k p G → (n r : ℕ) (cs : List Column) → suc r < n → IsTogether r (suc r) cs → IsTogether (suc r) r cs
+pub rows_exchanged_weight : (k : ℕ) (p G : Bool → ℕ → ℕ → ℕ) → Acts p → Weighs k p G → (n r : ℕ) (cs : List Column) → suc r < n → IsTogether r (suc r) cs
+    → IsTogether (suc r) r cs
     → IsColoured p n cs → HaveSameWeight k p G n cs n (map (relabel (swapped r)) cs)
 rows_exchanged_weight k p G acts w n r cs high up down coloured =
     let lt : r < n = omega arith in
@@ -154,4 +182,5 @@ rows_exchanged_weight k p G acts w n r cs high up down coloured =
     let top : row_at p (suc r) (suc r) cs ≡ true = sym (row_walk p (suc r) cs) ∙ coloured.walks (suc r) high in
     rows_traded_weight k p G n r cs high
     (sum_row_same k p G (suc r) r (suc r) cs (level_sum_between k p G acts w (suc r) r cs low (coloured.crosses r lt) (coloured.rings r lt) down))
-    (sum_row_same k p G (suc (suc r)) (suc r) r cs (level_sum_between k p G acts w r (suc r) cs top (coloured.crosses (suc r) high) (coloured.rings (suc r) high) up))
+    (sum_row_same k p G (suc (suc r)) (suc r) r cs (level_sum_between k p G acts w r (suc r) cs top (coloured.crosses (suc r) high)
+    (coloured.rings (suc r) high) up))

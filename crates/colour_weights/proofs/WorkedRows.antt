@@ -37,7 +37,8 @@ tetrahedral_cocycle = record {
 no_fault : first_fault tetrahedral_cocycle ≡ None
 no_fault = refl
 
-law_broken : first_fault (record { quandle = tetrahedral; modulus = 2; entries = 0 ∷ 1 ∷ 0 ∷ 0 ∷ 0 ∷ 0 ∷ 0 ∷ 0 ∷ 0 ∷ 0 ∷ 0 ∷ 0 ∷ 0 ∷ 0 ∷ 0 ∷ 0 ∷ [] }) ≡ Some (Law 0 1 0)
+law_broken : first_fault (record { quandle = tetrahedral; modulus = 2; entries = 0 ∷ 1 ∷ 0 ∷ 0 ∷ 0 ∷ 0 ∷ 0 ∷ 0 ∷ 0 ∷ 0 ∷ 0 ∷ 0 ∷ 0 ∷ 0 ∷ 0 ∷ 0 ∷ [] })
+    ≡ Some (Law 0 1 0)
 law_broken = refl
 
 too_low : first_fault (record { quandle = trivial 2; modulus = 1; entries = [] }) ≡ Some Modulus
@@ -79,7 +80,8 @@ no_fault_of_trivial : first_fault of_trivial ≡ None
 no_fault_of_trivial = refl
 
 -- the sum over crossings is the sum over rows
-by_rows : list_all (λ c. weight tetrahedral_cocycle right_trefoil c == weight_by_rows tetrahedral_cocycle right_trefoil c) (colourings tetrahedral right_trefoil) ≡ true
+by_rows : list_all (λ c. weight tetrahedral_cocycle right_trefoil c == weight_by_rows tetrahedral_cocycle right_trefoil c)
+    (colourings tetrahedral right_trefoil) ≡ true
 by_rows = refl
 
 -- a closed braid of two strands and two positive letters: two crossings
@@ -101,7 +103,8 @@ left_by_rows : list_all (λ c. weight of_trivial left_hopf c == weight_by_rows o
 left_by_rows = refl
 
 -- carried colourings have the weights that they had
-kept_by_rows : list_all (λ c. weight tetrahedral_cocycle (after_row_shift 1 right_trefoil) (carried tetrahedral right_trefoil (ShiftRows 1) c) == weight tetrahedral_cocycle right_trefoil c) (colourings tetrahedral right_trefoil) ≡ true
+kept_by_rows : list_all (λ c. weight tetrahedral_cocycle (after_row_shift 1 right_trefoil) (carried tetrahedral right_trefoil (ShiftRows 1) c)
+    == weight tetrahedral_cocycle right_trefoil c) (colourings tetrahedral right_trefoil) ≡ true
 kept_by_rows = refl
 
 -- φ(x, y) = g(x) - g(x ▷ y) mod 7, with 0, 1, 3 for g: each pair of different colours has its own number

@@ -9,4 +9,5 @@ lift_row-requires-clause-colours c =
     let n = size c.args.grid.now in
     let q = c.args.quandle.now.order in
     subst (λ (ys : List ℕ). AreColours n q ys) (sym (c.as_mut_slice.ensures.value ∙ c.loop-row.invariant))
-    (moment_colours c.args.quandle.now c.order-order.ensures.quandle c.args.grid.now c.size-size.ensures.grid c.args.colours.now.items c.requires.colouring c.loop-row.row (omega (arith, c.loop-row-test.true, c.requires.most)))
+    (moment_colours c.args.quandle.now c.order-order.ensures.quandle c.args.grid.now c.size-size.ensures.grid c.args.colours.now.items c.requires.colouring
+    c.loop-row.row (omega (arith, c.loop-row-test.true, c.requires.most)))
