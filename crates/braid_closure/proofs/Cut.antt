@@ -6,12 +6,12 @@ use Rattle.std.proofs.lemmas.Option.{none-some}
 use Rattle.std.proofs.lemmas.Grind.{flat_map-append}
 use Rattle.std.proofs.lemmas.List.Elements.{All-head, All-tail}
 use Rattle.braid_core.specs.Braid.{IsLetter}
-use Rattle.braid_closure.specs.declared.column.Column.{Column}
+use Rattle.braid_closure.specs.declared.columns.Column.{Column}
 use Rattle.braid_closure.specs.Columns.{begun, ended, is_open, at_position}
-use Rattle.braid_closure.specs.Closure.{positive, negative, crossed, crossings, topped, top_row}
+use Rattle.braid_closure.specs.Closure.{positive, negative, after_letter, after_letters, ended_at_the_top, top_row}
 use Rattle.braid_closure.proofs.Positions.{Pair, positive_is, negative_is}
-use Rattle.braid_closure.proofs.Stages.{IsStage, EndsBelow, open_none, letter_pair, stage_as, stage_crossed}
-use Rattle.braid_closure.proofs.Grids.{top_split, topped_is, stage_top}
+use Rattle.braid_closure.proofs.Stages.{IsStage, EndsBelow, open_none, letter_pair, stage_as, stage_letter}
+use Rattle.braid_closure.proofs.Grids.{top_split, ended_at_top_is, stage_top}
 
 abbrev pub cut_row : ℕ → Option ℕ → Option ℕ
 cut_row r None = None
@@ -65,7 +65,8 @@ cut_negative : (s r k : ℕ) (columns : List Column) → s < r → (pair : Pair 
 cut_negative s r k columns lt pair =
     ap (cut s) (negative_is k r columns pair)
     ∙ (cut_append s pair.left (ended r pair.first ∷ (pair.between ++ pair.second ∷ begun r ∷ pair.right))
-    ∙ (ap (λ (zs : List Column). cut s pair.left ++ (zs ++ cut s (pair.between ++ pair.second ∷ begun r ∷ pair.right))) (cut_ended s r pair.first pair.first_open lt)
+    ∙ (ap (λ (zs : List Column). cut s pair.left ++ (zs ++ cut s (pair.between ++ pair.second ∷ begun r ∷ pair.right)))
+    (cut_ended s r pair.first pair.first_open lt)
     ∙ (ap (λ (zs : List Column). cut s pair.left ++ (cut_column s pair.first ++ zs))
     (cut_append s pair.between (pair.second ∷ begun r ∷ pair.right)
     ∙ (ap (λ (zs : List Column). cut s pair.between ++ (cut_column s pair.second ++ (zs ++ cut s pair.right))) (cut_begun s r lt)
@@ -73,32 +74,38 @@ cut_negative s r k columns lt pair =
     ∙ (sym (cut_append s pair.left (pair.first ∷ (pair.between ++ pair.second ∷ pair.right)))
     ∙ ap (cut s) (sym pair.is)))))
 
-pub cut_crossed : (s m r e : ℕ) (a : ℤ) (columns : List Column) → s < r → IsLetter m a → IsStage m m r e columns → cut s (crossed a r columns) ≡ cut s columns
-cut_crossed s m r e (pos k) columns lt letter stage = cut_positive s r k columns lt (letter_pair m k r e columns stage letter.least letter.most)
-cut_crossed s m r e (negsuc n) columns lt letter stage =
+pub cut_letter : (s m r e : ℕ) (a : ℤ) (columns : List Column) → s < r → IsLetter m a → IsStage m m r e columns
+    → cut s (after_letter a r columns) ≡ cut s columns
+cut_letter s m r e (pos k) columns lt letter stage = cut_positive s r k columns lt (letter_pair m k r e columns stage letter.least letter.most)
+cut_letter s m r e (negsuc n) columns lt letter stage =
     let most = letter.most in
     cut_negative s r (n + 1) columns lt (letter_pair m (n + 1) r e columns stage (omega arith) (omega arith))
 
-pub cut_crossings : (s m r e : ℕ) (letters : List ℤ) (columns : List Column) → s < r → r ≡ m + e → All (IsLetter m) letters → IsStage m m r e columns → cut s (crossings r columns letters) ≡ cut s columns
-cut_crossings s m r e [] columns lt r_is all stage = refl
-cut_crossings s m r e (a ∷ letters) columns lt r_is all stage =
-    cut_crossings s m (r + 1) (e + 1) letters (crossed a r columns) (omega arith) (omega arith) (All-tail (IsLetter m) a letters all) (stage_crossed m r e a columns r_is (All-head (IsLetter m) a letters all) stage)
-    ∙ cut_crossed s m r e a columns lt (All-head (IsLetter m) a letters all) stage
+pub cut_letters : (s m r e : ℕ) (letters : List ℤ) (columns : List Column) → s < r → r ≡ m + e → All (IsLetter m) letters → IsStage m m r e columns
+    → cut s (after_letters r columns letters) ≡ cut s columns
+cut_letters s m r e [] columns lt r_is all stage = refl
+cut_letters s m r e (a ∷ letters) columns lt r_is all stage =
+    cut_letters s m (r + 1) (e + 1) letters (after_letter a r columns) (omega arith) (omega arith) (All-tail (IsLetter m) a letters all)
+    (stage_letter m r e a columns r_is (All-head (IsLetter m) a letters all) stage)
+    ∙ cut_letter s m r e a columns lt (All-head (IsLetter m) a letters all) stage
 
-pub cut_top : (s m n i r e : ℕ) (columns : List Column) → s < m + e → i + 1 + (m + e) ≡ n → IsStage m (i + 1) r e columns → cut s (at_position (i + 1) (λ c. ended (top_row n (i + 1)) c ∷ []) columns) ≡ cut s columns
+pub cut_top : (s m n i r e : ℕ) (columns : List Column) → s < m + e → i + 1 + (m + e) ≡ n → IsStage m (i + 1) r e columns
+    → cut s (at_position (i + 1) (λ c. ended (top_row n (i + 1)) c ∷ []) columns) ≡ cut s columns
 cut_top s m n i r e columns lt n_is stage =
     let split = top_split m n i r e columns n_is stage in
-    ap (cut s) (topped_is m n i r e columns n_is split)
+    ap (cut s) (ended_at_top_is m n i r e columns n_is split)
     ∙ (cut_append s split.left (ended (m + e) split.here ∷ split.right)
     ∙ (ap (λ (zs : List Column). cut s split.left ++ (zs ++ cut s split.right)) (cut_ended s (m + e) split.here split.stands_open lt)
     ∙ (sym (cut_append s split.left (split.here ∷ split.right))
     ∙ ap (cut s) (sym split.is))))
 
-pub cut_topped : (s m n j r e : ℕ) (columns : List Column) → s < m + e → j + (m + e) ≡ n → r ≤ m + e → IsStage m j r e columns → cut s (topped n j columns) ≡ cut s columns
-cut_topped s m n zero r e columns lt n_is below stage = refl
-cut_topped s m n (suc i) r e columns lt n_is below stage =
+pub cut_ended_at_top : (s m n j r e : ℕ) (columns : List Column) → s < m + e → j + (m + e) ≡ n → r ≤ m + e → IsStage m j r e columns
+    → cut s (ended_at_the_top n j columns) ≡ cut s columns
+cut_ended_at_top s m n zero r e columns lt n_is below stage = refl
+cut_ended_at_top s m n (suc i) r e columns lt n_is below stage =
     let one = stage_as m (suc i) (i + 1) r r e e columns columns refl (omega arith) refl refl stage in
-    cut_topped s m n i r (e + 1) (at_position (i + 1) (λ c. ended (top_row n (i + 1)) c ∷ []) columns) (omega arith) (omega arith) (omega arith) (stage_top m n i r e columns (omega arith) below one)
+    cut_ended_at_top s m n i r (e + 1) (at_position (i + 1) (λ c. ended (top_row n (i + 1)) c ∷ []) columns) (omega arith) (omega arith) (omega arith)
+    (stage_top m n i r e columns (omega arith) below one)
     ∙ cut_top s m n i r e columns lt (omega arith) one
 
 -- the column of which a column in the part that is cut off is what is left
@@ -112,7 +119,8 @@ pub record CutSplit (r : ℕ) (columns before : List Column) (c : Column) (after
   pub cut_right : cut r right ≡ after
 
 -- the case of a first column, by what is left of it
-split_more : (r : ℕ) (d : Column) (columns before : List Column) (c : Column) (after part : List Column) → cut_column r d ≡ part → CutSplit r columns before c after → CutSplit r (d ∷ columns) (part ++ before) c after
+split_more : (r : ℕ) (d : Column) (columns before : List Column) (c : Column) (after part : List Column) → cut_column r d ≡ part
+    → CutSplit r columns before c after → CutSplit r (d ∷ columns) (part ++ before) c after
 split_more r d columns before c after part part_is split = record {
   left = d ∷ split.left;
   here = split.here;
@@ -136,7 +144,9 @@ one_left r d e = ap (λ (b : Bool). cond {A = List Column} b (record { x = d.x; 
 heads : (a b : Column) (xs ys : List Column) → a ∷ xs ≡ b ∷ ys → (a ≡ b) × (xs ≡ ys)
 heads a b xs ys e = (cc, cc)
 
-split_left : (r : ℕ) (d : Column) (columns before : List Column) (c : Column) (after : List Column) (b : Bool) → nat_le d.x r ≡ b → ((rest : List Column) → cut r columns ≡ rest ++ c ∷ after → CutSplit r columns rest c after) → cut r (d ∷ columns) ≡ before ++ c ∷ after → CutSplit r (d ∷ columns) before c after
+split_left : (r : ℕ) (d : Column) (columns before : List Column) (c : Column) (after : List Column) (b : Bool) → nat_le d.x r ≡ b
+    → ((rest : List Column) → cut r columns ≡ rest ++ c ∷ after → CutSplit r columns rest c after) → cut r (d ∷ columns) ≡ before ++ c ∷ after
+    → CutSplit r (d ∷ columns) before c after
 split_left r d columns before c after false is rest e =
     split_more r d columns before c after [] (none_left r d is) (rest before (sym (ap (λ (zs : List Column). zs ++ cut r columns) (none_left r d is)) ∙ e))
 split_left r d columns [] c after true is rest e =
@@ -154,7 +164,8 @@ split_left r d columns (b ∷ before) c after true is rest e =
     let both = heads (left_of r d) b (cut r columns) (before ++ c ∷ after) (sym (ap (λ (zs : List Column). zs ++ cut r columns) (one_left r d is)) ∙ e) in
     split_more r d columns before c after (b ∷ []) (one_left r d is ∙ ap (λ (z : Column). z ∷ []) both.0) (rest before both.1)
 
-pub cut_split : (r : ℕ) (columns before : List Column) (c : Column) (after : List Column) → cut r columns ≡ before ++ c ∷ after → CutSplit r columns before c after
+pub cut_split : (r : ℕ) (columns before : List Column) (c : Column) (after : List Column) → cut r columns ≡ before ++ c ∷ after
+    → CutSplit r columns before c after
 cut_split r [] [] c after e = absurd (let no : ◌≡◌ {A = List Column} [] (c ∷ after) = e in cc)
 cut_split r [] (b ∷ before) c after e = absurd (let no : ◌≡◌ {A = List Column} [] (b ∷ (before ++ c ∷ after)) = e in cc)
 cut_split r (d ∷ columns) before c after e = split_left r d columns before c after (nat_le d.x r) refl (λ rest h. cut_split r columns rest c after h) e

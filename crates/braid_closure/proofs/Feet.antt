@@ -16,12 +16,12 @@ use Rattle.colour_rows.specs.Colouring.{IsColouring}
 use Rattle.braid_core.specs.Braid.{Word, IsBraid, IsLetter}
 use Rattle.braid_core.specs.Action.{action}
 use Rattle.braid_core.specs.FixedPoints.{IsFixedPoint}
-use Rattle.braid_closure.specs.declared.column.Column.{Column}
+use Rattle.braid_closure.specs.declared.columns.Column.{Column}
 use Rattle.braid_closure.specs.Columns.{begun, open_columns}
-use Rattle.braid_closure.specs.Closure.{crossings, standing, top_row, topped, closing, closure_size, columns, closure, at_feet, colour_of}
-use Rattle.braid_closure.proofs.Stages.{IsStage, x_rows, first_stage, stage_as, stage_crossings, begun_open}
+use Rattle.braid_closure.specs.Closure.{after_letters, feet_columns, top_row, ended_at_the_top, closing, closure_size, columns, closure, at_feet, colour_of}
+use Rattle.braid_closure.proofs.Stages.{IsStage, x_rows, first_stage, stage_as, stage_letters, begun_open}
 use Rattle.braid_closure.proofs.Grids.{body_stage, closure_grid, size_closure}
-use Rattle.braid_closure.proofs.Cut.{cut, cut_crossings, cut_topped}
+use Rattle.braid_closure.proofs.Cut.{cut, cut_letters, cut_ended_at_top}
 use Rattle.braid_closure.proofs.Walked.{colours_of}
 use Rattle.braid_closure.proofs.Covered.{all_rising}
 use Rattle.braid_closure.proofs.Strands.{open_colours}
@@ -30,15 +30,16 @@ use Rattle.braid_closure.proofs.Turned.{bottom_where, top_colours, closes_tops}
 
 -- the columns after all letters, and those below the closing columns
 abbrev pub built : Word → List Column
-built b = crossings b.strands (standing b.strands) b.letters
+built b = after_letters b.strands (feet_columns b.strands) b.letters
 
 abbrev pub body : Word → List Column
-body b = topped (closure_size b) b.strands (built b)
+body b = ended_at_the_top (closure_size b) b.strands (built b)
 
 pub built_stage : (b : Word) → IsBraid b → IsStage b.strands b.strands (b.strands + length b.letters) (length b.letters) (built b)
 built_stage b braid =
-    stage_as b.strands b.strands b.strands (b.strands + length b.letters) (b.strands + length b.letters) (0 + length b.letters) (length b.letters) (built b) (built b) refl refl refl (zero-add (length b.letters))
-    (stage_crossings b.strands b.strands 0 b.letters (standing b.strands) (omega arith) braid.crossings (first_stage b.strands))
+    stage_as b.strands b.strands b.strands (b.strands + length b.letters) (b.strands + length b.letters) (0 + length b.letters) (length b.letters) (built b)
+    (built b) refl refl refl (zero-add (length b.letters))
+    (stage_letters b.strands b.strands 0 b.letters (feet_columns b.strands) (omega arith) braid.crossings (first_stage b.strands))
 
 pub parts_of : (b : Word) → IsBraid b → Parts (body b) (closing (closure_size b) b.strands)
 parts_of b braid = record {
@@ -47,12 +48,14 @@ parts_of b braid = record {
 }
 
 pub letter_cuts : (b : Word) → IsBraid b → (s : ℕ) → s < b.strands + length b.letters → cut s (body b) ≡ cut s (built b)
-letter_cuts b braid s lt = cut_topped s b.strands (closure_size b) b.strands (b.strands + length b.letters) (length b.letters) (built b) lt (omega arith) (omega arith) (built_stage b braid)
+letter_cuts b braid s lt =
+    cut_ended_at_top s b.strands (closure_size b) b.strands (b.strands + length b.letters) (length b.letters) (built b) lt (omega arith) (omega arith)
+    (built_stage b braid)
 
-pub foot_cuts : (b : Word) → IsBraid b → (i : ℕ) → i < b.strands → cut i (body b) ≡ cut i (standing b.strands)
+pub foot_cuts : (b : Word) → IsBraid b → (i : ℕ) → i < b.strands → cut i (body b) ≡ cut i (feet_columns b.strands)
 foot_cuts b braid i lt =
     letter_cuts b braid i (omega arith)
-    ∙ cut_crossings i b.strands b.strands 0 b.letters (standing b.strands) lt (omega arith) braid.crossings (first_stage b.strands)
+    ∙ cut_letters i b.strands b.strands 0 b.letters (feet_columns b.strands) lt (omega arith) braid.crossings (first_stage b.strands)
 
 -- the colour of the column with its X in a row
 abbrev pub colour_by : Word → List ℕ → ℕ → ℕ
@@ -72,9 +75,11 @@ colours_back b braid colours long =
     let inside : i < size (closure b) = omega (arith, long, lt) in
     sym (ap (λ (xs : List ℕ). get_or xs i 0) (by_rows (colour_by b colours) (columns b))
     ∙ (get_or-map (colour_by b colours) (x_rows (columns b)) i 0 0 inside
-    ∙ ap (λ (z : ℕ). get_or colours z 0) (column_is (closure b) (closure_grid b braid) Cross i (row_of Cross (closure b) i) (mark_at (closure b) Cross i inside)))))
+    ∙ ap (λ (z : ℕ). get_or colours z 0)
+    (column_is (closure b) (closure_grid b braid) Cross i (row_of Cross (closure b) i) (mark_at (closure b) Cross i inside)))))
 
-pub colour_read : (colour : ℕ → ℕ) (b : Word) → IsBraid b → (x : ℕ) → x < closure_size b → slice_index (colours_of colour (columns b)) (column_of Cross (closure b) x) ≡ colour x
+pub colour_read : (colour : ℕ → ℕ) (b : Word) → IsBraid b → (x : ℕ) → x < closure_size b
+    → slice_index (colours_of colour (columns b)) (column_of Cross (closure b) x) ≡ colour x
 colour_read colour b braid x lt =
     let mark = column_mark (closure b) (closure_grid b braid) Cross x (omega (arith, lt, size_closure b braid)) in
     ap (λ (xs : List ℕ). get_or xs (column_of Cross (closure b) x) 0) (by_rows colour (columns b))
@@ -92,31 +97,42 @@ range_agree f g m each =
 pub feet_read : (b : Word) (colours : List ℕ) → at_feet b colours ≡ map (colour_by b colours) (range_with_len 0 b.strands)
 feet_read b colours = map-map (slice_index colours) (column_of Cross (closure b)) (range_with_len 0 b.strands)
 
-pub standing_read : (colour : ℕ → ℕ) (m : ℕ) → open_colours colour (standing m) ≡ map colour (range_with_len 0 m)
-standing_read colour m = ap (colours_of colour) (begun_open 0 m) ∙ map-map (λ (c : Column). colour c.x) begun (range_with_len 0 m)
+pub feet_columns_read : (colour : ℕ → ℕ) (m : ℕ) → open_colours colour (feet_columns m) ≡ map colour (range_with_len 0 m)
+feet_columns_read colour m = ap (colours_of colour) (begun_open 0 m) ∙ map-map (λ (c : Column). colour c.x) begun (range_with_len 0 m)
 
 -- what all rows say of a colouring by rows
-closing_rows : (t : Table) (colour : ℕ → ℕ) (b : Word) → IsBraid b → ((r : ℕ) → r < closure_size b → Closes t colour r (columns b)) → top_colours colour (closure_size b) b.strands ≡ map colour (range_with_len 0 b.strands)
+closing_rows : (t : Table) (colour : ℕ → ℕ) (b : Word) → IsBraid b → ((r : ℕ) → r < closure_size b → Closes t colour r (columns b))
+    → top_colours colour (closure_size b) b.strands ≡ map colour (range_with_len 0 b.strands)
 closing_rows t colour b braid closes =
     range_agree (λ (i : ℕ). colour (top_row (closure_size b) (i + 1))) colour b.strands
-    (λ i lt. sym ((bottom_where t colour (closure_size b) b.strands i (body b) lt (omega arith) (parts_of b braid) (foot_cuts b braid i lt)).equal (closes i (omega arith))))
+    (λ i lt. sym
+    ((bottom_where t colour (closure_size b) b.strands i (body b) lt (omega arith) (parts_of b braid) (foot_cuts b braid i lt)).equal (closes i (omega arith))))
 
-pub rows_follow : (t : Table) (colour : ℕ → ℕ) (b : Word) → IsBraid b → IsBelow t colour (closure_size b) → ((r : ℕ) → r < closure_size b → Closes t colour r (columns b)) → Follows t colour b.strands (map colour (range_with_len 0 b.strands)) b.letters
+pub rows_follow : (t : Table) (colour : ℕ → ℕ) (b : Word) → IsBraid b → IsBelow t colour (closure_size b)
+    → ((r : ℕ) → r < closure_size b → Closes t colour r (columns b)) → Follows t colour b.strands (map colour (range_with_len 0 b.strands)) b.letters
 rows_follow t colour b braid is closes =
-    subst (λ (xs : List ℕ). Follows t colour b.strands xs b.letters) (standing_read colour b.strands)
-    (closes_follows t colour (closure_size b) b.strands b.strands 0 b.letters (standing b.strands) (body b) (closing (closure_size b) b.strands) is (omega arith) (omega arith) braid.crossings (first_stage b.strands) (parts_of b braid)
+    subst (λ (xs : List ℕ). Follows t colour b.strands xs b.letters) (feet_columns_read colour b.strands)
+    (closes_follows t colour (closure_size b) b.strands b.strands 0 b.letters (feet_columns b.strands) (body b) (closing (closure_size b) b.strands) is
+    (omega arith) (omega arith) braid.crossings (first_stage b.strands) (parts_of b braid)
     (letter_cuts b braid) (λ s from lt. closes s (omega arith)))
 
-rows_fixed : (t : Table) (colour : ℕ → ℕ) (b : Word) → IsBraid b → IsBelow t colour (closure_size b) → ((r : ℕ) → r < closure_size b → Closes t colour r (columns b)) → action t b.letters (map colour (range_with_len 0 b.strands)) ≡ map colour (range_with_len 0 b.strands)
+rows_fixed : (t : Table) (colour : ℕ → ℕ) (b : Word) → IsBraid b → IsBelow t colour (closure_size b)
+    → ((r : ℕ) → r < closure_size b → Closes t colour r (columns b))
+    → action t b.letters (map colour (range_with_len 0 b.strands)) ≡ map colour (range_with_len 0 b.strands)
 rows_fixed t colour b braid is closes =
     let follows = rows_follow t colour b braid is closes in
-    let image = follows_action t colour b.strands b.strands 0 b.letters (standing b.strands) (omega arith) braid.crossings (first_stage b.strands) (subst (λ (xs : List ℕ). Follows t colour b.strands xs b.letters) (sym (standing_read colour b.strands)) follows) in
-    let tops = closes_tops t colour (closure_size b) b.strands b.strands (b.strands + length b.letters) (length b.letters) (built b) (body b) (omega arith) (omega arith) (omega arith) (omega arith) (built_stage b braid) (parts_of b braid)
+    let image =
+    follows_action t colour b.strands b.strands 0 b.letters (feet_columns b.strands) (omega arith) braid.crossings (first_stage b.strands)
+    (subst (λ (xs : List ℕ). Follows t colour b.strands xs b.letters) (sym (feet_columns_read colour b.strands)) follows) in
+    let tops =
+    closes_tops t colour (closure_size b) b.strands b.strands (b.strands + length b.letters) (length b.letters) (built b) (body b) (omega arith)
+    (omega arith) (omega arith) (omega arith) (built_stage b braid) (parts_of b braid)
     (λ s from. refl) (λ i lt. closes (top_row (closure_size b) (i + 1)) (omega arith)) in
-    ap (action t b.letters) (sym (standing_read colour b.strands)) ∙ (sym image ∙ (tops ∙ closing_rows t colour b braid closes))
+    ap (action t b.letters) (sym (feet_columns_read colour b.strands)) ∙ (sym image ∙ (tops ∙ closing_rows t colour b braid closes))
 
 -- what is known of a colouring
-pub colouring_below : (t : Table) → IsQuandle t → (b : Word) → IsBraid b → (colours : List ℕ) → IsColouring t (closure b) colours → IsBelow t (colour_by b colours) (closure_size b)
+pub colouring_below : (t : Table) → IsQuandle t → (b : Word) → IsBraid b → (colours : List ℕ) → IsColouring t (closure b) colours
+    → IsBelow t (colour_by b colours) (closure_size b)
 colouring_below t q b braid colours is = record {
   quandle = q;
   below = λ x lt.
@@ -125,13 +141,15 @@ colouring_below t q b braid colours is = record {
       All-get_or (λ y. y < t.order) colours (column_of Cross (closure b) x) 0 (omega (arith, mark.inside, long)) is.colours_are.1;
 }
 
-pub colouring_closes : (t : Table) (b : Word) → IsBraid b → (colours : List ℕ) → IsColouring t (closure b) colours → (r : ℕ) → r < closure_size b → Closes t (colour_by b colours) r (columns b)
+pub colouring_closes : (t : Table) (b : Word) → IsBraid b → (colours : List ℕ) → IsColouring t (closure b) colours → (r : ℕ) → r < closure_size b
+    → Closes t (colour_by b colours) r (columns b)
 colouring_closes t b braid colours is r lt =
     let same = colours_back b braid colours is.colours_are.0 in
     subst (λ (xs : List ℕ). walk t (closure b) xs r ≡ slice_index xs (ends (closure b) r).high) same (is.rows r (omega (arith, lt, size_closure b braid)))
 
 -- a colouring read at the feet is a fixed point
-pub feet_fixed : (t : Table) → IsQuandle t → (b : Word) → IsBraid b → (colours : List ℕ) → IsColouring t (closure b) colours → IsFixedPoint t b (at_feet b colours)
+pub feet_fixed : (t : Table) → IsQuandle t → (b : Word) → IsBraid b → (colours : List ℕ) → IsColouring t (closure b) colours
+    → IsFixedPoint t b (at_feet b colours)
 feet_fixed t q b braid colours is =
     let colour = colour_by b colours in
     let below = colouring_below t q b braid colours is in
@@ -148,11 +166,14 @@ feet_fixed t q b braid colours is =
     }
 
 -- at each height the open columns have the feet's colours after the letters so far
-pub heights : (t : Table) → IsQuandle t → (b : Word) → IsBraid b → (colours : List ℕ) → IsColouring t (closure b) colours → (i : ℕ) → i ≤ length b.letters → map (colour_of b colours) (open_columns (crossings b.strands (standing b.strands) (take i b.letters))) ≡ action t (take i b.letters) (at_feet b colours)
+pub heights : (t : Table) → IsQuandle t → (b : Word) → IsBraid b → (colours : List ℕ) → IsColouring t (closure b) colours → (i : ℕ)
+    → i ≤ length b.letters
+    → map (colour_of b colours) (open_columns (after_letters b.strands (feet_columns b.strands) (take i b.letters))) ≡ action t (take i b.letters) (at_feet b colours)
 heights t q b braid colours is i most =
     let colour = colour_by b colours in
     let follows = rows_follow t colour b braid (colouring_below t q b braid colours is) (colouring_closes t b braid colours is) in
     let front = follows_front t colour b.strands i (map colour (range_with_len 0 b.strands)) b.letters follows in
-    follows_action t colour b.strands b.strands 0 (take i b.letters) (standing b.strands) (omega arith) (All-take (IsLetter b.strands) i b.letters braid.crossings) (first_stage b.strands)
-    (subst (λ (xs : List ℕ). Follows t colour b.strands xs (take i b.letters)) (sym (standing_read colour b.strands)) front)
-    ∙ ap (action t (take i b.letters)) (standing_read colour b.strands ∙ sym (feet_read b colours))
+    follows_action t colour b.strands b.strands 0 (take i b.letters) (feet_columns b.strands) (omega arith)
+    (All-take (IsLetter b.strands) i b.letters braid.crossings) (first_stage b.strands)
+    (subst (λ (xs : List ℕ). Follows t colour b.strands xs (take i b.letters)) (sym (feet_columns_read colour b.strands)) front)
+    ∙ ap (action t (take i b.letters)) (feet_columns_read colour b.strands ∙ sym (feet_read b colours))

@@ -12,4 +12,5 @@ pub mod Followed
 pub mod Turned
 pub mod Feet
 pub mod Colourings
+pub mod LetterCrossings
 mod WorkedRows

@@ -3,7 +3,7 @@ use Rattle.std.proofs.Common.{◌≡◌, ◌<◌, ◌≤◌, ◌+◌, ◌-◌, �
 use Rattle.std.proofs.lemmas.Bool.{eq-eqb, ne_eqb, cases_eq}
 use Rattle.std.proofs.lemmas.List.{nil_from_length}
 use Rattle.std.proofs.lemmas.List.Elements.{filter-append, filter_more}
-use Rattle.braid_closure.specs.declared.column.Column.{Column}
+use Rattle.braid_closure.specs.declared.columns.Column.{Column}
 use Rattle.braid_closure.specs.Columns.{begun, ended, is_open, open_columns, at_position}
 use Rattle.braid_closure.specs.Closure.{positive, negative}
 
@@ -15,12 +15,14 @@ at_here k change c columns open_c e =
     ap (λ (b : Bool). cond b (cond (k == 1) (change c ++ columns) (c ∷ at_position (k - 1) change columns)) (c ∷ at_position k change columns)) open_c
     ∙ ap (λ (b : Bool). cond b (change c ++ columns) (c ∷ at_position (k - 1) change columns)) (eq-eqb k 1 e)
 
-at_next : (k : ℕ) (change : Change) (c : Column) (columns : List Column) → is_open c ≡ true → (k ≡ 1 → ⊥) → at_position k change (c ∷ columns) ≡ c ∷ at_position (k - 1) change columns
+at_next : (k : ℕ) (change : Change) (c : Column) (columns : List Column) → is_open c ≡ true → (k ≡ 1 → ⊥)
+    → at_position k change (c ∷ columns) ≡ c ∷ at_position (k - 1) change columns
 at_next k change c columns open_c ne =
     ap (λ (b : Bool). cond b (cond (k == 1) (change c ++ columns) (c ∷ at_position (k - 1) change columns)) (c ∷ at_position k change columns)) open_c
     ∙ ap (λ (b : Bool). cond b (change c ++ columns) (c ∷ at_position (k - 1) change columns)) (ne_eqb k 1 ne)
 
-at_passed : (k : ℕ) (change : Change) (c : Column) (columns : List Column) → is_open c ≡ false → at_position k change (c ∷ columns) ≡ c ∷ at_position k change columns
+at_passed : (k : ℕ) (change : Change) (c : Column) (columns : List Column) → is_open c ≡ false
+    → at_position k change (c ∷ columns) ≡ c ∷ at_position k change columns
 at_passed k change c columns ended_c =
     ap (λ (b : Bool). cond b (cond (k == 1) (change c ++ columns) (c ∷ at_position (k - 1) change columns)) (c ∷ at_position k change columns)) ended_c
 
@@ -37,7 +39,8 @@ open_append left right = filter-append is_open left right
 IsSplitChange : Change → List Column → Column → List Column → Type 0
 IsSplitChange change left c right = (k : ℕ) → length (open_columns left) + 1 ≡ k → at_position k change (left ++ c ∷ right) ≡ left ++ (change c ++ right)
 
-split_step : (change : Change) (d : Column) (left : List Column) (c : Column) (right : List Column) → IsSplitChange change left c right → (b : Bool) → is_open d ≡ b → IsSplitChange change (d ∷ left) c right
+split_step : (change : Change) (d : Column) (left : List Column) (c : Column) (right : List Column) → IsSplitChange change left c right → (b : Bool)
+    → is_open d ≡ b → IsSplitChange change (d ∷ left) c right
 unfolding IsSplitChange
 split_step change d left c right rest true open_d k before =
     let more = ap length (open_here d left open_d) in
@@ -52,7 +55,8 @@ unfolding IsSplitChange
 split_change change [] c right open_c = λ k before. at_here k change c right open_c (sym before)
 split_change change (d ∷ left) c right open_c = split_step change d left c right (split_change change left c right open_c) (is_open d) refl
 
-pub at_split : (k : ℕ) (change : Change) (left : List Column) (c : Column) (right : List Column) → is_open c ≡ true → length (open_columns left) + 1 ≡ k → at_position k change (left ++ c ∷ right) ≡ left ++ (change c ++ right)
+pub at_split : (k : ℕ) (change : Change) (left : List Column) (c : Column) (right : List Column) → is_open c ≡ true
+    → length (open_columns left) + 1 ≡ k → at_position k change (left ++ c ∷ right) ≡ left ++ (change c ++ right)
 unfolding IsSplitChange
 at_split k change left c right open_c before = split_change change left c right open_c k before
 
@@ -72,10 +76,12 @@ more_left k c columns split j e = record {
   right = split.right;
   is = ap (λ (zs : List Column). c ∷ zs) split.is;
   stands_open = split.stands_open;
-  before = let size = ap length (open_append (c ∷ []) split.left) in let parts = length-append (open_columns (c ∷ [])) (open_columns split.left) in let rest = split.before in omega arith;
+  before = let size = ap length (open_append (c ∷ []) split.left) in
+      let parts = length-append (open_columns (c ∷ [])) (open_columns split.left) in let rest = split.before in omega arith;
 }
 
-split_here : (k : ℕ) (c : Column) (columns : List Column) → 1 ≤ k → k ≤ length (open_columns (c ∷ columns)) → ((j : ℕ) → 1 ≤ j → j ≤ length (open_columns columns) → Split j columns) → (b : Bool) → is_open c ≡ b → (k ≡ 1) ⊎ (k ≡ 1 → ⊥) → Split k (c ∷ columns)
+split_here : (k : ℕ) (c : Column) (columns : List Column) → 1 ≤ k → k ≤ length (open_columns (c ∷ columns))
+    → ((j : ℕ) → 1 ≤ j → j ≤ length (open_columns columns) → Split j columns) → (b : Bool) → is_open c ≡ b → (k ≡ 1) ⊎ (k ≡ 1 → ⊥) → Split k (c ∷ columns)
 split_here k c columns least most rest true open_c (inl e) = record { left = []; here = c; right = columns; is = refl; stands_open = open_c; before = sym e }
 split_here k c columns least most rest true open_c (inr ne) =
     let more = ap length (open_here c columns open_c) in
@@ -119,7 +125,9 @@ pair_from k columns low high = record {
 
 open_right : (k : ℕ) (columns : List Column) (low : Split k columns) → k < length (open_columns columns) → 1 ≤ length (open_columns low.right)
 open_right k columns low most =
-    let size = ap (λ (zs : List Column). length (open_columns zs)) low.is ∙ (ap length (open_append low.left (low.here ∷ low.right)) ∙ length-append (open_columns low.left) (open_columns (low.here ∷ low.right))) in
+    let size =
+    ap (λ (zs : List Column). length (open_columns zs)) low.is
+    ∙ (ap length (open_append low.left (low.here ∷ low.right)) ∙ length-append (open_columns low.left) (open_columns (low.here ∷ low.right))) in
     let here = ap length (open_here low.here low.right low.stands_open) in
     let known = low.before in
     omega arith
@@ -131,7 +139,8 @@ pub pair_at : (k : ℕ) (columns : List Column) → 1 ≤ k → k < length (open
 pair_at k columns least most = pair_above k columns most (split_at k columns least (omega arith))
 
 -- the open columns around a pair
-pub pair_open : (k : ℕ) (columns : List Column) (pair : Pair k columns) → open_columns columns ≡ open_columns pair.left ++ pair.first ∷ pair.second ∷ open_columns pair.right
+pub pair_open : (k : ℕ) (columns : List Column) (pair : Pair k columns)
+    → open_columns columns ≡ open_columns pair.left ++ pair.first ∷ pair.second ∷ open_columns pair.right
 pair_open k columns pair =
     ap open_columns pair.is
     ∙ (open_append pair.left (pair.first ∷ (pair.between ++ pair.second ∷ pair.right))
@@ -140,7 +149,8 @@ pair_open k columns pair =
     ∙ (ap (λ (zs : List Column). zs ++ open_columns (pair.second ∷ pair.right)) pair.none_between
     ∙ open_here pair.second pair.right pair.second_open))))
 
-second_split : (k r : ℕ) (change : Change) (columns : List Column) (pair : Pair k columns) → at_position (k + 1) change columns ≡ pair.left ++ pair.first ∷ (pair.between ++ (change pair.second ++ pair.right))
+second_split : (k r : ℕ) (change : Change) (columns : List Column) (pair : Pair k columns)
+    → at_position (k + 1) change columns ≡ pair.left ++ pair.first ∷ (pair.between ++ (change pair.second ++ pair.right))
 second_split k r change columns pair =
     let front = pair.left ++ pair.first ∷ pair.between in
     let known = pair.before in
@@ -153,16 +163,19 @@ second_split k r change columns pair =
     ∙ append_assoc pair.left (pair.first ∷ pair.between) (change pair.second ++ pair.right))
 
 -- the columns after a letter
-pub positive_is : (k r : ℕ) (columns : List Column) (pair : Pair k columns) → positive k r columns ≡ pair.left ++ begun r ∷ pair.first ∷ (pair.between ++ ended r pair.second ∷ pair.right)
+pub positive_is : (k r : ℕ) (columns : List Column) (pair : Pair k columns)
+    → positive k r columns ≡ pair.left ++ begun r ∷ pair.first ∷ (pair.between ++ ended r pair.second ∷ pair.right)
 positive_is k r columns pair =
     ap (at_position k (λ c. begun r ∷ c ∷ [])) (second_split k r (λ c. ended r c ∷ []) columns pair)
     ∙ at_split k (λ c. begun r ∷ c ∷ []) pair.left pair.first (pair.between ++ ended r pair.second ∷ pair.right) pair.first_open pair.before
 
-pub negative_is : (k r : ℕ) (columns : List Column) (pair : Pair k columns) → negative k r columns ≡ pair.left ++ ended r pair.first ∷ (pair.between ++ pair.second ∷ begun r ∷ pair.right)
+pub negative_is : (k r : ℕ) (columns : List Column) (pair : Pair k columns)
+    → negative k r columns ≡ pair.left ++ ended r pair.first ∷ (pair.between ++ pair.second ∷ begun r ∷ pair.right)
 negative_is k r columns pair =
     ap (at_position k (λ c. ended r c ∷ [])) (second_split k r (λ c. c ∷ begun r ∷ []) columns pair)
     ∙ at_split k (λ c. ended r c ∷ []) pair.left pair.first (pair.between ++ pair.second ∷ begun r ∷ pair.right) pair.first_open pair.before
 
 -- one column more
-pub open_more : (columns : List Column) (i : ℕ) (d : Column) → i < length columns → open_columns (take (i + 1) columns) ≡ open_columns (take i columns) ++ cond (is_open (get_or columns i d)) (get_or columns i d ∷ []) []
+pub open_more : (columns : List Column) (i : ℕ) (d : Column) → i < length columns
+    → open_columns (take (i + 1) columns) ≡ open_columns (take i columns) ++ cond (is_open (get_or columns i d)) (get_or columns i d ∷ []) []
 open_more columns i d lt = filter_more is_open columns i d lt

@@ -18,7 +18,7 @@ word m letters = record { strands = m; letters = letters }
 abbrev diagram : List ℕ → List ℕ → Diagram
 diagram x o = record { x = x; o = o }
 
--- the trefoil, of three positive crossings
+-- the trefoil, of three positive letters
 trefoil : closure (word 2 (pos 1 ∷ pos 1 ∷ pos 1 ∷ [])) ≡ diagram (4 ∷ 3 ∷ 2 ∷ 0 ∷ 1 ∷ 5 ∷ 6 ∷ []) (6 ∷ 5 ∷ 4 ∷ 3 ∷ 2 ∷ 1 ∷ 0 ∷ [])
 trefoil = refl
 

@@ -6,7 +6,7 @@ use Rattle.grid_core.specs.Diagram.{Diagram}
 use Rattle.grid_core.specs.declared.mark.Kind.TheVariants.{Cross}
 use Rattle.grid_core.specs.Parts.{column_of}
 use Rattle.braid_core.specs.Braid.{Word}
-use Rattle.braid_closure.specs.declared.column.Column.{Column}
+use Rattle.braid_closure.specs.declared.columns.Column.{Column}
 use Rattle.braid_closure.specs.Columns.{begun, ended, at_position, diagram_of}
 
 -- letter +k in row r: the column of position k+1 ends, and a new one begins directly to the left of the column of position k
@@ -17,27 +17,32 @@ positive k r columns = at_position k (λ c. begun r ∷ c ∷ []) (at_position (
 abbrev pub negative : ℕ → ℕ → List Column → List Column
 negative k r columns = at_position k (λ c. ended r c ∷ []) (at_position (k + 1) (λ c. c ∷ begun r ∷ []) columns)
 
-abbrev pub crossed : ℤ → ℕ → List Column → List Column
-crossed (pos k) r columns = positive k r columns
-crossed (negsuc n) r columns = negative (n + 1) r columns
+abbrev pub after_letter : ℤ → ℕ → List Column → List Column
+after_letter (pos k) r columns = positive k r columns
+after_letter (negsuc n) r columns = negative (n + 1) r columns
+
+-- the sign of the crossing of a letter: 1 for +k, and -1 for -k
+abbrev pub letter_sign : ℤ → ℤ
+letter_sign (pos k) = pos 1
+letter_sign (negsuc n) = negsuc 0
 
 -- the columns after these letters, of which the first has row r
-abbrev pub crossings : ℕ → List Column → List ℤ → List Column
-crossings r columns [] = columns
-crossings r columns (a ∷ letters) = crossings (r + 1) (crossed a r columns) letters
+abbrev pub after_letters : ℕ → List Column → List ℤ → List Column
+after_letters r columns [] = columns
+after_letters r columns (a ∷ letters) = after_letters (r + 1) (after_letter a r columns) letters
 
 -- m open columns, that of position j beginning in row j - 1
-abbrev pub standing : ℕ → List Column
-standing m = map begun (range_with_len 0 m)
+abbrev pub feet_columns : ℕ → List Column
+feet_columns m = map begun (range_with_len 0 m)
 
 -- the top row of position j in a grid of size n
 abbrev pub top_row : ℕ → ℕ → ℕ
 top_row n j = n - j
 
 -- the columns of positions m to 1 end in their top rows
-abbrev pub topped : ℕ → ℕ → List Column → List Column
-topped n zero columns = columns
-topped n (suc i) columns = topped n i (at_position (i + 1) (λ c. ended (top_row n (i + 1)) c ∷ []) columns)
+abbrev pub ended_at_the_top : ℕ → ℕ → List Column → List Column
+ended_at_the_top n zero columns = columns
+ended_at_the_top n (suc i) columns = ended_at_the_top n i (at_position (i + 1) (λ c. ended (top_row n (i + 1)) c ∷ []) columns)
 
 -- the closing columns of positions m to 1: that of position j begins in its top row and ends in row j - 1
 abbrev pub closing : ℕ → ℕ → List Column
@@ -49,7 +54,7 @@ closure_size b = length b.letters + 2 * b.strands
 
 -- all columns of the closure, from left to right
 abbrev pub columns : Word → List Column
-columns b = topped (closure_size b) b.strands (crossings b.strands (standing b.strands) b.letters) ++ closing (closure_size b) b.strands
+columns b = ended_at_the_top (closure_size b) b.strands (after_letters b.strands (feet_columns b.strands) b.letters) ++ closing (closure_size b) b.strands
 
 abbrev pub closure : Word → Diagram
 closure b = diagram_of (columns b)

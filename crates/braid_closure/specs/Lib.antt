@@ -2,6 +2,7 @@ pub mod Columns
 pub mod Closure
 pub use Rattle.grid_core.specs.Diagram
 pub use Rattle.grid_core.specs.Parts
+pub use Rattle.grid_core.specs.Crossing
 pub use Rattle.quandle_core.specs.Quandle
 pub use Rattle.quandle_core.specs.Bijection
 pub use Rattle.colour_rows.specs.Colouring

@@ -4,9 +4,9 @@ ghost use Rattle.std.specs.List.{All};
 ghost use Rattle.grid_core.specs.Diagram.{IsGrid};
 ghost use Rattle.braid_core.specs.Braid.{IsLetter};
 ghost use Rattle.braid_closure.specs.Columns.{open_columns, diagram_of};
-ghost use Rattle.braid_closure.specs.Closure.{crossed, crossings, standing, topped, closing, columns, closure, feet};
+ghost use Rattle.braid_closure.specs.Closure.{after_letter, after_letters, feet_columns, ended_at_the_top, closing, columns, closure, feet};
 
-use crate::column::{Column, Columns, begin_left, begin_right, end};
+use crate::columns::{Column, Columns, begin_left, begin_right, end};
 use arrayvec::ArrayVec;
 use braid_core::{Braid, MAX_STRANDS};
 use grid_core::{Grid, Kind, MAX_SIZE, Rows};
@@ -44,7 +44,7 @@ fn columns_of(braid: &Braid) -> Columns
 {
     let strands = braid.strands();
     let size = braid.letters().len() as u8 + 2 * strands;
-    let mut columns = standing(strands);
+    let mut columns = feet_columns(strands);
     cross_all(&mut columns, strands, braid.letters());
     end_all(&mut columns, strands, size);
     append_closing(&mut columns, strands, size);
@@ -52,9 +52,9 @@ fn columns_of(braid: &Braid) -> Columns
 }
 
 /// The open columns of the feet, position 1 first.
-fn standing(strands: u8) -> Columns
+fn feet_columns(strands: u8) -> Columns
     requires { strands ≤ MAX_SIZE }
-    ensures columns { result.items ≡ standing strands }
+    ensures columns { result.items ≡ feet_columns strands }
     ensures count { length (open_columns result.items) ≡ strands }
     ensures size { length result.items ≡ strands }
 {
@@ -70,7 +70,7 @@ fn cross_all(columns: &mut Columns, strands: u8, letters: &[i8])
     requires count { length (open_columns columns.old.items) ≡ strands }
     requires letters { All (IsLetter strands) letters.now }
     requires room { length columns.old.items + length letters.now ≤ MAX_SIZE }
-    ensures columns { columns.new.items ≡ crossings strands columns.old.items letters.now }
+    ensures columns { columns.new.items ≡ after_letters strands columns.old.items letters.now }
     ensures count { length (open_columns columns.new.items) ≡ strands }
     ensures size { length columns.new.items ≡ length columns.old.items + length letters.now }
 {
@@ -83,7 +83,7 @@ fn cross_all(columns: &mut Columns, strands: u8, letters: &[i8])
 fn cross(columns: &mut Columns, letter: i8, row: u8)
     requires letter { IsLetter (length (open_columns columns.old.items)) letter }
     requires room { length columns.old.items < MAX_SIZE }
-    ensures columns { columns.new.items ≡ crossed letter row columns.old.items }
+    ensures columns { columns.new.items ≡ after_letter letter row columns.old.items }
     ensures count { length (open_columns columns.new.items) ≡ length (open_columns columns.old.items) }
     ensures size { length columns.new.items ≡ length columns.old.items + 1 }
 {
@@ -101,7 +101,7 @@ fn cross(columns: &mut Columns, letter: i8, row: u8)
 fn end_all(columns: &mut Columns, strands: u8, size: u8)
     requires count { length (open_columns columns.old.items) ≡ strands }
     requires size { strands ≤ size }
-    ensures columns { columns.new.items ≡ topped size strands columns.old.items }
+    ensures columns { columns.new.items ≡ ended_at_the_top size strands columns.old.items }
     ensures size { length columns.new.items ≡ length columns.old.items }
 {
     for done in 0..strands {

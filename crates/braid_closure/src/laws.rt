@@ -1,6 +1,7 @@
 //! Laws of closures and their colourings, over the definitions alone.
-ghost use Rattle.std.specs.Prelude.{◌≡◌, ◌≤◌, ℕ, List, length, map, take};
+ghost use Rattle.std.specs.Prelude.{◌≡◌, ◌<◌, ◌≤◌, ◌+◌, ℕ, List, IsTrue, length, map, take, pos, slice_index_or};
 ghost use Rattle.grid_core.specs.Diagram.{IsGrid, size};
+ghost use Rattle.grid_core.specs.Crossing.{crosses, sign};
 ghost use Rattle.quandle_core.specs.Quandle.{Table, IsQuandle};
 ghost use Rattle.quandle_core.specs.Bijection.{IsBijection};
 ghost use Rattle.colour_rows.specs.Colouring.{IsColouring};
@@ -8,7 +9,7 @@ ghost use Rattle.braid_core.specs.Braid.{Word, IsBraid};
 ghost use Rattle.braid_core.specs.Action.{action};
 ghost use Rattle.braid_core.specs.FixedPoints.{IsFixedPoint};
 ghost use Rattle.braid_closure.specs.Columns.{open_columns};
-ghost use Rattle.braid_closure.specs.Closure.{standing, crossings, closure, closure_size, at_feet, colour_of};
+ghost use Rattle.braid_closure.specs.Closure.{feet_columns, after_letters, closure, closure_size, letter_sign, at_feet, colour_of};
 
 /// The closure of each braid is a grid, of size l + 2m for l letters and m strands.
 pub fn a_closure_is_a_grid()
@@ -16,12 +17,23 @@ pub fn a_closure_is_a_grid()
     ensures size { (b : Word) → IsBraid b → size (closure b) ≡ closure_size b }
 {}
 
+/// Each letter has its row, and in it exactly one crossing, of the letter's sign. No other row of the closure has a crossing.
+pub fn each_letter_is_one_crossing()
+    ensures letters { (b : Word) → IsBraid b → (i : ℕ) → i < length b.letters
+        → (c : ℕ)
+        × IsTrue (crosses (closure b) c (b.strands + i))
+        × (sign (closure b) c (b.strands + i) ≡ letter_sign (slice_index_or b.letters i (pos 0)))
+        × ((a : ℕ) → IsTrue (crosses (closure b) a (b.strands + i)) → a ≡ c) }
+    ensures rows { (b : Word) → IsBraid b → (c r : ℕ) → r < size (closure b) → IsTrue (crosses (closure b) c r)
+        → (b.strands ≤ r) × (r < b.strands + length b.letters) }
+{}
+
 /// In each colouring of the closure, at each height, the colours of the open columns from left to right are those of the feet after the letters so far.
 pub fn the_open_columns_follow_the_braid()
     ensures { (t : Table) → IsQuandle t → (b : Word) → IsBraid b
         → (colours : List ℕ) → IsColouring t (closure b) colours
         → (i : ℕ) → i ≤ length b.letters
-        → map (colour_of b colours) (open_columns (crossings b.strands (standing b.strands) (take i b.letters)))
+        → map (colour_of b colours) (open_columns (after_letters b.strands (feet_columns b.strands) (take i b.letters)))
         ≡ action t (take i b.letters) (at_feet b colours) }
 {}
 

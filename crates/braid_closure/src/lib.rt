@@ -3,7 +3,7 @@
 #![tactic(auto)]
 
 mod closure;
-mod column;
+mod columns;
 pub mod laws;
 #[cfg(test)]
 mod tests;

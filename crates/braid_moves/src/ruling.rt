@@ -5,7 +5,7 @@ ghost use Rattle.braid_moves.specs.Ruling.{are_same, ruling};
 use crate::applying::apply_braid;
 use crate::step::{BraidMove, BraidMoveFault};
 use braid_core::Braid;
-use knot_ports::OutOfMemory;
+use memory_core::OutOfMemory;
 use std::alloc::Global;
 
 /// What a list of steps from one braid to another is worth.

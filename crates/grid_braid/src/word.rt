@@ -6,7 +6,7 @@ ghost use Rattle.grid_braid.specs.Word.{leftward, rightward, row_letters, word, 
 
 use crate::strands::{count_down, count_within};
 use grid_core::{Grid, Kind, MAX_SIZE};
-use knot_ports::OutOfMemory;
+use memory_core::OutOfMemory;
 use std::alloc::{AllocFailed, Global};
 use std::marker::Model;
 

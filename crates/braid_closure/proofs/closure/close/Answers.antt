@@ -11,11 +11,16 @@ use Rattle.braid_closure.proofs.closure.close.Goals as goal
 
 pub column_of-requires : goal.column_of-requires
 column_of-requires c =
-    let is : size c.grid_of-grid.result ≡ closure_size c.args.braid.now = ap size (c.grid_of-grid.ensures ∙ ap diagram_of c.columns_of.ensures.columns) ∙ size_closure c.args.braid.now c.strands-row-end.ensures.braid in
+    let is : size c.grid_of-grid.result ≡ closure_size c.args.braid.now =
+    ap size (c.grid_of-grid.ensures ∙ ap diagram_of c.columns_of.ensures.columns) ∙ size_closure c.args.braid.now c.strands-row-end.ensures.braid in
     omega (arith, is)
 
 pub push-requires : goal.push-requires
-push-requires c = (omega arith, let size = ap length c.loop-row.invariant in omega (arith, size, length-map-range_with_len (column_of Cross c.grid_of-grid.result) 0 c.loop-row.row, c.strands-row-end.ensures.braid.most))
+push-requires c = (
+  omega arith,
+  let size = ap length c.loop-row.invariant in omega
+      (arith, size, length-map-range_with_len (column_of Cross c.grid_of-grid.result) 0 c.loop-row.row, c.strands-row-end.ensures.braid.most),
+)
 
 pub loop-row-preserved : goal.loop-row-preserved
 loop-row-preserved c =

@@ -1,6 +1,6 @@
 use Rattle.std.proofs.Common.{◌≡◌, ◌≤◌, map, take, length, unwrap_or}
 use Rattle.grid_core.specs.declared.grid.TheConstants.{MAX_SIZE}
-use Rattle.braid_closure.specs.declared.column.Column.{Column}
+use Rattle.braid_closure.specs.declared.columns.Column.{Column}
 use Rattle.braid_closure.proofs.closure.grid_of.Given as goal
 
 abbrev pub invariant-loop-column : goal.invariant-loop-column

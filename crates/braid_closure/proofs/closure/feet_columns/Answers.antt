@@ -1,10 +1,10 @@
 use Rattle.std.proofs.Common.{List, length, arith, ap, ◌∙◌}
 use Rattle.std.proofs.lemmas.List.FromFn.{length-map-range_with_len}
-use Rattle.braid_closure.specs.declared.column.Column.{Column}
+use Rattle.braid_closure.specs.declared.columns.Column.{Column}
 use Rattle.braid_closure.specs.Columns.{begun, open_columns}
 use Rattle.braid_closure.proofs.Stages.{begun_open}
 use Rattle.braid_closure.proofs.Built.{range_mapped}
-use Rattle.braid_closure.proofs.closure.standing.Goals as goal
+use Rattle.braid_closure.proofs.closure.feet_columns.Goals as goal
 
 pub push-requires : goal.push-requires
 push-requires c = (omega arith, let size = ap length c.loop-row.invariant in omega (arith, size, length-map-range_with_len begun 0 c.loop-row.row))
