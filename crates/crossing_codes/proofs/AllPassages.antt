@@ -7,12 +7,12 @@ use Rattle.grid_core.specs.declared.mark.Kind.TheVariants.{Ring}
 use Rattle.grid_core.specs.Diagram.{Diagram, IsGrid, size}
 use Rattle.grid_core.specs.Parts.{column_of}
 use Rattle.grid_core.proofs.Marks.{row_below, row_once, column_mark}
-use Rattle.crossing_codes.specs.declared.passage.Passage.{Passage}
+use Rattle.crossing_codes.specs.declared.passages.Passage.{Passage}
 use Rattle.crossing_codes.specs.Components.{component, starts}
 use Rattle.crossing_codes.specs.Passages.{Crossed, crossings, through, along, passages_from, passages}
 use Rattle.crossing_codes.specs.Edges.{is_passage, place}
 use Rattle.crossing_codes.proofs.Members.{Has, Apart, has_left, has_right, has_either, has_map, of_map, has_flat_map, of_flat_map, apart_append, apart_map, apart_flat_map, place_in, one_place, same_members}
-use Rattle.crossing_codes.proofs.Components.{component_apart, member_below, start_of, start_below, one_start, starts_apart}
+use Rattle.crossing_codes.proofs.SharedColumns.{component_apart, member_below, start_of, start_below, one_start, starts_apart}
 use Rattle.crossing_codes.proofs.Crossings.{cell, IsCrossing, column_inside, row_inside, has_over, has_under, which_along, along_apart, has_crossing, of_crossings, crossings_apart}
 
 -- a passage lies along one column alone
@@ -84,8 +84,10 @@ abbrev pub twice : Diagram → List Passage
 twice d = map (through true) (crossings d) ++ map (through false) (crossings d)
 
 has_twice : (d : Diagram) (over : Bool) (at : Crossed) → Has (crossings d) at → Has (twice d) (through over at)
-has_twice d true at h = has_left (map (through true) (crossings d)) (map (through false) (crossings d)) (through true at) (has_map (through true) (crossings d) at h)
-has_twice d false at h = has_right (map (through true) (crossings d)) (map (through false) (crossings d)) (through false at) (has_map (through false) (crossings d) at h)
+has_twice d true at h =
+    has_left (map (through true) (crossings d)) (map (through false) (crossings d)) (through true at) (has_map (through true) (crossings d) at h)
+has_twice d false at h =
+    has_right (map (through true) (crossings d)) (map (through false) (crossings d)) (through false at) (has_map (through false) (crossings d) at h)
 
 of_twice : (d : Diagram) → IsGrid d → (p : Passage) → Has (twice d) p → Has (passages d) p
 of_twice d grid p h = elim (has_either (map (through true) (crossings d)) (map (through false) (crossings d)) p h) [
@@ -105,8 +107,10 @@ same_cell a b column row = ap (λ c. cell c a.row) column ∙ ap (cell b.column)
 twice_apart : (d : Diagram) → Apart (twice d)
 twice_apart d =
     apart_append (map (through true) (crossings d)) (map (through false) (crossings d))
-    (apart_map (through true) (crossings d) (λ a b ha hb e. same_cell a b (ap (λ (p : Passage). p.column) e) (ap (λ (p : Passage). p.row) e)) (crossings_apart d))
-    (apart_map (through false) (crossings d) (λ a b ha hb e. same_cell a b (ap (λ (p : Passage). p.column) e) (ap (λ (p : Passage). p.row) e)) (crossings_apart d))
+    (apart_map (through true) (crossings d) (λ a b ha hb e. same_cell a b (ap (λ (p : Passage). p.column) e) (ap (λ (p : Passage). p.row) e))
+    (crossings_apart d))
+    (apart_map (through false) (crossings d) (λ a b ha hb e. same_cell a b (ap (λ (p : Passage). p.column) e) (ap (λ (p : Passage). p.row) e))
+    (crossings_apart d))
     (λ p over under.
     let a = of_map (through true) (crossings d) p over in
     let b = of_map (through false) (crossings d) p under in
@@ -140,7 +144,8 @@ only_passage false c r p e =
     passage_is false c r p (not-true p.over b.0) (eqb-true p.column c b.1) (eqb-true p.row r a.1)
 
 -- a place is that of the passage that stands there
-pub place_is : (d : Diagram) → IsGrid d → (over : Bool) (c r i : ℕ) (z : Passage) → i < length (passages d) → get_or (passages d) i z ≡ through over (cell c r) → place d (through over (cell c r)) ≡ i
+pub place_is : (d : Diagram) → IsGrid d → (over : Bool) (c r i : ℕ) (z : Passage) → i < length (passages d)
+    → get_or (passages d) i z ≡ through over (cell c r) → place d (through over (cell c r)) ≡ i
 place_is d grid over c r i z lt is =
     position_or_len_is (is_passage (through over (cell c r))) (passages d) i z (omega arith)
     (λ k less. false_from_ne_true (is_passage (through over (cell c r)) (get_or (passages d) k z)) (λ e.

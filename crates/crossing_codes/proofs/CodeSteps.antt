@@ -19,7 +19,8 @@ use Rattle.crossing_codes.proofs.AllPassages.{stands_at}
 use Rattle.crossing_codes.proofs.Placed.{length_after}
 
 -- the number in a passage's slot is its place
-pub number_is : (d : Diagram) → IsGrid d → (numbers : List ℕ) → HasNumbers (passages d) numbers → (over : Bool) (c r k : ℕ) → r < size d → IsCrossing d c r → k ≡ slot (through over (cell c r))
+pub number_is : (d : Diagram) → IsGrid d → (numbers : List ℕ) → HasNumbers (passages d) numbers → (over : Bool) (c r k : ℕ) → r < size d
+    → IsCrossing d c r → k ≡ slot (through over (cell c r))
     → (get_or numbers k 0 ≡ place d (through over (cell c r))) × (get_or numbers k 0 < length (edges_after d))
 number_is d grid numbers has over c r k lt x is =
     let at = stands_at d grid over c r lt x in
@@ -29,17 +30,46 @@ number_is d grid numbers has over c r k lt x is =
 
 -- a crossing from its parts
 pub crossing_is : (d : Diagram) (c r first second third fourth : ℕ) (positive : Bool) → positive ≡ is_positive d c r
-    → first ≡ edge_from d (through false (cell c r)) → second ≡ (if positive then edge_to d (through true (cell c r)) else edge_from d (through true (cell c r)))
+    → first ≡ edge_from d (through false (cell c r))
+    → second ≡ (if positive then edge_to d (through true (cell c r)) else edge_from d (through true (cell c r)))
     → third ≡ edge_to d (through false (cell c r)) → fourth ≡ (if positive then edge_from d (through true (cell c r)) else edge_to d (through true (cell c r)))
     → (let x : Crossing = record { first = first; second = second; third = third; fourth = fourth; positive = positive } in x) ≡ crossing d (cell c r)
 crossing_is d c r first second third fourth positive ep e1 e2 e3 e4 =
     let from = edge_from d (through true (cell c r)) in
     let to = edge_to d (through true (cell c r)) in
     ap (λ (k : ℕ). let x : Crossing = record { first = k; second = second; third = third; fourth = fourth; positive = positive } in x) e1
-    ∙ (ap (λ (k : ℕ). let x : Crossing = record { first = edge_from d (through false (cell c r)); second = k; third = third; fourth = fourth; positive = positive } in x) e2
-    ∙ (ap (λ (k : ℕ). let x : Crossing = record { first = edge_from d (through false (cell c r)); second = if positive then to else from; third = k; fourth = fourth; positive = positive } in x) e3
-    ∙ (ap (λ (k : ℕ). let x : Crossing = record { first = edge_from d (through false (cell c r)); second = if positive then to else from; third = edge_to d (through false (cell c r)); fourth = k; positive = positive } in x) e4
-    ∙ ap (λ (b : Bool). let x : Crossing = record { first = edge_from d (through false (cell c r)); second = if b then to else from; third = edge_to d (through false (cell c r)); fourth = if b then from else to; positive = b } in x) ep)))
+    ∙ (ap (λ (k : ℕ). let x : Crossing = record {
+      first = edge_from d
+          (through false (cell c r));
+      second = k;
+      third = third;
+      fourth = fourth;
+      positive = positive;
+    } in x) e2
+    ∙ (ap (λ (k : ℕ). let x : Crossing = record {
+      first = edge_from d
+          (through false (cell c r));
+      second = if positive then to else from;
+      third = k;
+      fourth = fourth;
+      positive = positive;
+    } in x) e3
+    ∙ (ap (λ (k : ℕ). let x : Crossing = record {
+      first = edge_from d (through false (cell c r));
+      second = if positive then to else from;
+      third = edge_to d
+          (through false (cell c r));
+      fourth = k;
+      positive = positive;
+    } in x) e4
+    ∙ ap (λ (b : Bool). let x : Crossing = record {
+      first = edge_from d (through false (cell c r));
+      second = if b then to else from;
+      third = edge_to d
+          (through false (cell c r));
+      fourth = if b then from else to;
+      positive = b;
+    } in x) ep)))
 
 -- a function of each element of joined lists
 pub map_joined : {A B C : Type 0} (f : B → C) (g : A → List B) (xs : List A) → map f (flat_map g xs) ≡ flat_map (λ x. map f (g x)) xs
@@ -60,18 +90,22 @@ crossed_below d n = flat_map (λ r. map (λ c. crossing d (cell c r)) (passed d 
 
 pub all_crossed : (d : Diagram) → crossed_below d (size d) ≡ map (crossing d) (crossings d)
 all_crossed d = sym (map_joined (crossing d) (λ r. map (λ c. cell c r) (passed d r)) (range_with_len 0 (size d))
-    ∙ flat_map_agree (λ r. map (crossing d) (map (λ c. cell c r) (passed d r))) (λ r. map (λ c. crossing d (cell c r)) (passed d r)) (range_with_len 0 (size d)) (λ r. map_twice (crossing d) (λ c. cell c r) (passed d r)))
+    ∙ flat_map_agree (λ r. map (crossing d) (map (λ c. cell c r) (passed d r))) (λ r. map (λ c. crossing d (cell c r)) (passed d r))
+    (range_with_len 0 (size d)) (λ r. map_twice (crossing d) (λ c. cell c r) (passed d r)))
 
-pub crossed_more : (d : Diagram) (n : ℕ) (found longer : List Crossing) → found ≡ crossed_below d n → longer ≡ found ++ map (λ c. crossing d (cell c n)) (passed d n) → longer ≡ crossed_below d (n + 1)
+pub crossed_more : (d : Diagram) (n : ℕ) (found longer : List Crossing) → found ≡ crossed_below d n
+    → longer ≡ found ++ map (λ c. crossing d (cell c n)) (passed d n) → longer ≡ crossed_below d (n + 1)
 crossed_more d n found longer so_far more =
     let row : ℕ → List Crossing = λ r. map (λ c. crossing d (cell c r)) (passed d r) in
     let same : 0 + n ≡ n = omega arith in
     more ∙ (ap (λ (xs : List Crossing). xs ++ row n) so_far
     ∙ (ap (λ (xs : List Crossing). crossed_below d n ++ xs) (sym (append-nil (row n)))
-    ∙ (sym (flat_map-append row (range_with_len 0 n) (n ∷ [])) ∙ ap (flat_map row) (ap (λ (k : ℕ). range_with_len 0 n ++ k ∷ []) (sym same) ∙ sym (range_longer 0 n)))))
+    ∙ (sym (flat_map-append row (range_with_len 0 n) (n ∷ []))
+    ∙ ap (flat_map row) (ap (λ (k : ℕ). range_with_len 0 n ++ k ∷ []) (sym same) ∙ sym (range_longer 0 n)))))
 
 -- the whole code
-pub code_is : (d : Diagram) (found : List Crossing) (edges loop_count : ℕ) → found ≡ map (crossing d) (crossings d) → edges ≡ length (passages d) → loop_count ≡ length (loops d)
+pub code_is : (d : Diagram) (found : List Crossing) (edges loop_count : ℕ) → found ≡ map (crossing d) (crossings d) → edges ≡ length (passages d)
+    → loop_count ≡ length (loops d)
     → (let x : Code = record { crossings = found; edges = edges; loops = loop_count } in x) ≡ code d
 code_is d found edges loop_count e1 e2 e3 =
     ap (λ (xs : List Crossing). let x : Code = record { crossings = xs; edges = edges; loops = loop_count } in x) e1

@@ -39,14 +39,19 @@ back_between d grid i j c less lt e =
     (let whole : i + (j - i) ≡ j = omega arith in sym (after_add d i (j - i) c) ∙ (ap (λ k. column_after d k c) whole ∙ sym e))
 
 -- while it was not back, it was in no column twice
-pub apart_until : (d : Diagram) → IsGrid d → (n c : ℕ) → c < size d → ((k : ℕ) → k + 1 < n → column_after d (k + 1) c ≢ c) → Apart (map (λ k. column_after d k c) (range_with_len 0 n))
+pub apart_until : (d : Diagram) → IsGrid d → (n c : ℕ) → c < size d → ((k : ℕ) → k + 1 < n → column_after d (k + 1) c ≢ c)
+    → Apart (map (λ k. column_after d k c) (range_with_len 0 n))
 apart_until d grid n c lt away =
     apart_map (λ k. column_after d k c) (range_with_len 0 n)
     (λ i j hi hj e. elim (cases_order i j) [
       | inl same ↦ same
       | inr other ↦ elim other [
-        | inl less ↦ absurd (away (j - i - 1) (let m = of_range 0 n j hj in omega arith) (let one : j - i - 1 + 1 ≡ j - i = omega arith in ap (λ k. column_after d k c) one ∙ back_between d grid i j c less lt e))
-        | inr more ↦ absurd (away (i - j - 1) (let m = of_range 0 n i hi in omega arith) (let one : i - j - 1 + 1 ≡ i - j = omega arith in ap (λ k. column_after d k c) one ∙ back_between d grid j i c more lt (sym e)))
+        | inl less ↦
+            absurd (away (j - i - 1) (let m = of_range 0 n j hj in omega arith)
+            (let one : j - i - 1 + 1 ≡ j - i = omega arith in ap (λ k. column_after d k c) one ∙ back_between d grid i j c less lt e))
+        | inr more ↦
+            absurd (away (i - j - 1) (let m = of_range 0 n i hi in omega arith)
+            (let one : i - j - 1 + 1 ≡ i - j = omega arith in ap (λ k. column_after d k c) one ∙ back_between d grid j i c more lt (sym e)))
       ]
     ])
     (apart_range 0 n)
@@ -66,7 +71,8 @@ not_before d c k lt =
     let n = length-range_with_len 0 (size d) in
     let short = prefix_len-le-length (λ i. not (is_back d c i)) (range_with_len 0 (size d)) in
     let within : k < size d = omega (arith, n, short, lt) in
-    eqb-false (column_after d (k + 1) c) c (ap (is_back d c) (sym (in_range (size d) k within)) ∙ fails_before_first (is_back d c) (range_with_len 0 (size d)) k 0 lt)
+    eqb-false (column_after d (k + 1) c) c
+    (ap (is_back d c) (sym (in_range (size d) k within)) ∙ fails_before_first (is_back d c) (range_with_len 0 (size d)) k 0 lt)
 
 returns_below : (d : Diagram) → IsGrid d → (c : ℕ) → c < size d → returns d c < size d
 returns_below d grid c lt = elim (cases_lt (returns d c) (size d)) [

@@ -11,7 +11,7 @@ use Rattle.colour_rows.proofs.Colourings.{colours_from, coloured, colouring}
 use Rattle.colour_list.specs.Listing.{all_lists, colourings}
 use Rattle.crossing_codes.specs.Code.{code}
 use Rattle.crossing_codes.specs.CodeColouring.{names_edges, agrees, is_code_colouring, code_colourings}
-use Rattle.crossing_codes.specs.EdgeColours.{edge_colours}
+use Rattle.crossing_codes.specs.EdgeColouring.{edge_colours}
 use Rattle.crossing_codes.proofs.Members.{Has, Apart, has_map, of_map, has_filter, of_filter, has_flat_map, has_range, apart_map, apart_filter, apart_flat_map, apart_range, fewer}
 use Rattle.crossing_codes.proofs.ColourForth.{code_coloured, colouring_known}
 use Rattle.crossing_codes.proofs.ColourBack.{column_colours, coded, coloured_back, edges_back}
@@ -22,7 +22,8 @@ has_list q zero f colours = inl (sym (nil_from_length f colours.0))
 has_list q (suc n) [] colours = absurd (let e = colours.0 in omega arith)
 has_list q (suc n) (a ∷ f) colours =
     let e = colours.0 in
-    has_flat_map (λ b. map (λ rest. b ∷ rest) (all_lists q n)) (range_with_len 0 q) a (a ∷ f) (has_range 0 q a (omega arith) (let lt = All-head (λ y. y < q) a f colours.1 in omega arith))
+    has_flat_map (λ b. map (λ rest. b ∷ rest) (all_lists q n)) (range_with_len 0 q) a (a ∷ f)
+    (has_range 0 q a (omega arith) (let lt = All-head (λ y. y < q) a f colours.1 in omega arith))
     (has_map (λ rest. a ∷ rest) (all_lists q n) f (has_list q n f (omega arith, All-tail (λ y. y < q) a f colours.1)))
 
 lists_apart : (q n : ℕ) → Apart (all_lists q n)
@@ -60,11 +61,15 @@ as_many t d grid q =
     let edge_lists = code_colourings t k in
     let lists = colourings t d in
     let forth = fewer (map (edge_colours t d) lists) edge_lists
-    (apart_map (edge_colours t d) lists (λ f g hf hg e. colouring_known t d f g grid q (is_listed t d f hf) (is_listed t d g hg) e) (apart_filter (is_colouring t d) (all_lists t.order (size d)) (lists_apart t.order (size d))))
-    (λ e h. let r = of_map (edge_colours t d) lists e h in subst (λ z. Has edge_lists z) r.2 (code_listed t d (edge_colours t d r.0) (code_coloured t d r.0 grid q (is_listed t d r.0 r.1)))) in
+    (apart_map (edge_colours t d) lists (λ f g hf hg e. colouring_known t d f g grid q (is_listed t d f hf) (is_listed t d g hg) e)
+    (apart_filter (is_colouring t d) (all_lists t.order (size d)) (lists_apart t.order (size d))))
+    (λ e h. let r = of_map (edge_colours t d) lists e h in subst (λ z. Has edge_lists z) r.2
+    (code_listed t d (edge_colours t d r.0) (code_coloured t d r.0 grid q (is_listed t d r.0 r.1)))) in
     let back = fewer (map (column_colours d) edge_lists) lists
     (apart_map (column_colours d) edge_lists (λ e g he hg same.
-    sym (edges_back t d e grid q (coded t d e (is_code_listed t d e he))) ∙ (ap (edge_colours t d) same ∙ edges_back t d g grid q (coded t d g (is_code_listed t d g hg))))
+    sym (edges_back t d e grid q (coded t d e (is_code_listed t d e he)))
+    ∙ (ap (edge_colours t d) same ∙ edges_back t d g grid q (coded t d g (is_code_listed t d g hg))))
     (apart_filter (is_code_colouring t k) (all_lists t.order (k.edges + k.loops)) (lists_apart t.order (k.edges + k.loops))))
-    (λ f h. let r = of_map (column_colours d) edge_lists f h in subst (λ z. Has lists z) r.2 (listed t d (column_colours d r.0) (coloured_back t d r.0 grid q (coded t d r.0 (is_code_listed t d r.0 r.1))))) in
+    (λ f h. let r = of_map (column_colours d) edge_lists f h in subst (λ z. Has lists z) r.2
+    (listed t d (column_colours d r.0) (coloured_back t d r.0 grid q (coded t d r.0 (is_code_listed t d r.0 r.1))))) in
     omega (arith, forth, back, length-map lists (edge_colours t d), length-map edge_lists (column_colours d))

@@ -11,7 +11,7 @@ use Rattle.grid_core.specs.Parts.{column_span, covers, ends, is_up, is_rightward
 use Rattle.grid_core.proofs.Marks.{row_below}
 use Rattle.colour_rows.specs.Walk.{passed}
 use Rattle.grid_core.proofs.Ends.{has_ends, span_high}
-use Rattle.crossing_codes.specs.declared.passage.Passage.{Passage}
+use Rattle.crossing_codes.specs.declared.passages.Passage.{Passage}
 use Rattle.crossing_codes.specs.Passages.{Crossed, crossings, through, passed_over, as_met, along_column, along_row, along}
 use Rattle.crossing_codes.proofs.Members.{Has, Apart, has_left, has_right, has_either, has_map, of_map, has_filter, of_filter, has_flat_map, of_flat_map, has_range, of_range, has_reverse, of_reverse, apart_append, apart_map, apart_filter, apart_range, apart_reverse, apart_flat_map}
 
@@ -71,7 +71,7 @@ pub has_met : (forward : Bool) (xs : List ℕ) (x : ℕ) → Has xs x → Has (a
 has_met true xs x h = h
 has_met false xs x h = has_reverse xs x h
 
-of_met : (forward : Bool) (xs : List ℕ) (x : ℕ) → Has (as_met forward xs) x → Has xs x
+pub of_met : (forward : Bool) (xs : List ℕ) (x : ℕ) → Has (as_met forward xs) x → Has xs x
 of_met true xs x h = h
 of_met false xs x h = of_reverse xs x h
 
@@ -126,8 +126,10 @@ pub along_apart : (d : Diagram) (b : ℕ) → Apart (along d b)
 along_apart d b =
     let s = row_of Ring d b in
     apart_append (along_column d b) (along_row d s)
-    (apart_map (λ k. through true (cell b k)) (as_met (is_up d b) (passed_over d b)) (λ i j hi hj e. ap (λ (p : Passage). p.row) e) (met_apart (is_up d b) (passed_over d b) (between_apart (λ k. lies_within (ends d k) b) (column_span d b))))
-    (apart_map (λ k. through false (cell k s)) (as_met (is_rightward d s) (passed d s)) (λ i j hi hj e. ap (λ (p : Passage). p.column) e) (met_apart (is_rightward d s) (passed d s) (between_apart (λ k. covers d k s) (ends d s))))
+    (apart_map (λ k. through true (cell b k)) (as_met (is_up d b) (passed_over d b)) (λ i j hi hj e. ap (λ (p : Passage). p.row) e)
+    (met_apart (is_up d b) (passed_over d b) (between_apart (λ k. lies_within (ends d k) b) (column_span d b))))
+    (apart_map (λ k. through false (cell k s)) (as_met (is_rightward d s) (passed d s)) (λ i j hi hj e. ap (λ (p : Passage). p.column) e)
+    (met_apart (is_rightward d s) (passed d s) (between_apart (λ k. covers d k s) (ends d s))))
     (λ p over under. let e : true ≡ false = sym (over_along d b p over).over ∙ (under_along d b p under).under in cc)
 
 -- the list of all crossings
@@ -147,5 +149,6 @@ pub crossings_apart : (d : Diagram) → Apart (crossings d)
 crossings_apart d =
     apart_flat_map (λ s. map (λ k. cell k s) (passed d s)) (range_with_len 0 (size d))
     (λ s h. apart_map (λ k. cell k s) (passed d s) (λ i j hi hj e. ap (λ (x : Crossed). x.column) e) (between_apart (λ k. covers d k s) (ends d s)))
-    (λ r s at hr hs at_r at_s. let a = of_map (λ k. cell k r) (passed d r) at at_r in let b = of_map (λ k. cell k s) (passed d s) at at_s in ap (λ (x : Crossed). x.row) (a.2 ∙ sym b.2))
+    (λ r s at hr hs at_r at_s. let a = of_map (λ k. cell k r) (passed d r) at at_r in let b = of_map (λ k. cell k s) (passed d s) at at_s in ap
+    (λ (x : Crossed). x.row) (a.2 ∙ sym b.2))
     (apart_range 0 (size d))

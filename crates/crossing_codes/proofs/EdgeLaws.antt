@@ -13,17 +13,17 @@ use Rattle.grid_core.specs.Parts.{covers, ends, is_up, is_rightward}
 use Rattle.grid_core.specs.Crossing.{crosses, Direction, unit, row_direction, turned_left, cross_product, is_positive}
 use Rattle.quandle_core.specs.Quandle.{Table, IsQuandle}
 use Rattle.colour_rows.specs.Colouring.{IsColouring}
-use Rattle.crossing_codes.specs.declared.passage.Passage.{Passage}
+use Rattle.crossing_codes.specs.declared.passages.Passage.{Passage}
 use Rattle.crossing_codes.specs.Components.{component, starts}
 use Rattle.crossing_codes.specs.Passages.{Crossed, crossings, through, passages, passages_from}
 use Rattle.crossing_codes.specs.Edges.{leads_to, all_lead_to, edges_after, edges_before, place, edge_from, edge_to}
 use Rattle.crossing_codes.specs.Printed.{passage_token}
 use Rattle.crossing_codes.specs.Code.{opposite, crossing, AreCounterclockwise}
 use Rattle.crossing_codes.specs.CodeColouring.{edge_colour}
-use Rattle.crossing_codes.specs.EdgeColours.{arriving, edge_colours}
+use Rattle.crossing_codes.specs.EdgeColouring.{arriving, edge_colours}
 use Rattle.crossing_codes.specs.OnTheWay.{passing}
 use Rattle.crossing_codes.proofs.Members.{Has, has_at, place_in, same_members, apart_range, has_range, of_range, has_flat_map, of_flat_map}
-use Rattle.crossing_codes.proofs.Components.{member_below, start_of, start_below, order_apart}
+use Rattle.crossing_codes.proofs.SharedColumns.{member_below, start_of, start_below, order_apart}
 use Rattle.crossing_codes.proofs.Crossings.{has_crossing, of_crossings}
 use Rattle.crossing_codes.proofs.AllPassages.{twice, each_twice, place_is, stands_at}
 use Rattle.crossing_codes.proofs.Placed.{placed, length_after, length_leads, leads_at}
@@ -51,22 +51,32 @@ pub columns_shared : (d : Diagram) → IsGrid d → IsPermutation (range_with_le
 columns_shared d grid =
     same_members (range_with_len 0 (size d)) (flat_map (component d) (starts d)) (apart_range 0 (size d)) (order_apart d grid)
     (λ c h. let m = of_range 0 (size d) c h in let s = start_of d grid c (omega arith) in has_flat_map (component d) (starts d) s.0 c s.1 s.2)
-    (λ c h. let s = of_flat_map (component d) (starts d) c h in let b = member_below d grid s.0 c (start_below d s.0 s.1) s.2 in has_range 0 (size d) c (omega arith) (omega arith))
+    (λ c h. let s = of_flat_map (component d) (starts d) c h in let b = member_below d grid s.0 c (start_below d s.0 s.1) s.2 in has_range 0 (size d) c
+    (omega arith) (omega arith))
 
 pub count_twice : (d : Diagram) → IsGrid d → length (passages d) ≡ 2 * length (crossings d)
 count_twice d grid =
-    omega (arith, length_permutation (passages d) (twice d) (each_twice d grid), length-append (map (through true) (crossings d)) (map (through false) (crossings d)), length-map (crossings d) (through true), length-map (crossings d) (through false))
+    omega (
+      arith,
+      length_permutation (passages d) (twice d) (each_twice d grid),
+      length-append (map (through true) (crossings d))
+          (map (through false) (crossings d)),
+      length-map (crossings d) (through true),
+      length-map (crossings d) (through false),
+    )
 
 -- the edge that leads to a passage, by its place
-place_at : (d : Diagram) → IsGrid d → (k : ℕ) (z : Passage) → k < length (passages d) → place d (get_or (passages d) k z) ≡ k
+pub place_at : (d : Diagram) → IsGrid d → (k : ℕ) (z : Passage) → k < length (passages d) → place d (get_or (passages d) k z) ≡ k
 place_at d grid k z lt = let p = get_or (passages d) k z in place_is d grid p.over p.column p.row k z lt refl
 
 pub edges_end : (d : Diagram) → IsGrid d → map (edge_from d) (passages d) ≡ range_with_len 1 (length (passages d))
 edges_end d grid =
     let z : Passage = record { over = true; column = 0; row = 0 } in
-    ext_get_or 0 (map (edge_from d) (passages d)) (range_with_len 1 (length (passages d))) (length-map (passages d) (edge_from d) ∙ sym (length-range_with_len 1 (length (passages d))))
+    ext_get_or 0 (map (edge_from d) (passages d)) (range_with_len 1 (length (passages d)))
+    (length-map (passages d) (edge_from d) ∙ sym (length-range_with_len 1 (length (passages d))))
     (λ k lt. let inside : k < length (passages d) = omega (arith, lt, length-map (passages d) (edge_from d)) in
-    get_or-map (edge_from d) (passages d) k z 0 inside ∙ (ap (λ (i : ℕ). i + 1) (place_at d grid k z inside) ∙ (omega arith ∙ sym (get_or-range_with_len 1 (length (passages d)) k 0 inside))))
+    get_or-map (edge_from d) (passages d) k z 0 inside
+    ∙ (ap (λ (i : ℕ). i + 1) (place_at d grid k z inside) ∙ (omega arith ∙ sym (get_or-range_with_len 1 (length (passages d)) k 0 inside))))
 
 pub edges_begin : (d : Diagram) → IsGrid d → map (edge_to d) (passages d) ≡ edges_after d
 edges_begin d grid =
@@ -86,27 +96,34 @@ leads_turned b m =
     (ext_get_or 0 (map g (range_with_len 1 m)) (range_with_len (b + 1 + 1) m) (length-map-range_with_len g 1 m ∙ sym (length-range_with_len (b + 1 + 1) m))
     (λ k lt. let inside : k < m = omega (arith, lt, length-map-range_with_len g 1 m) in
     get_or-map-range_with_len g 1 m k (k + 1) 0 inside (omega arith)
-    ∙ (cond-true (nat_lt (k + 1) (suc m)) (b + (k + 1) + 1) (b + 1) (lt-ltb (k + 1) (suc m) (omega arith)) ∙ (omega arith ∙ sym (get_or-range_with_len (b + 1 + 1) m k 0 inside)))))
+    ∙ (cond-true (nat_lt (k + 1) (suc m)) (b + (k + 1) + 1) (b + 1) (lt-ltb (k + 1) (suc m) (omega arith))
+    ∙ (omega arith ∙ sym (get_or-range_with_len (b + 1 + 1) m k 0 inside)))))
     (cond-false (nat_lt (m + 1) (suc m)) (b + (m + 1) + 1) (b + 1) (le-ltb (m + 1) (suc m) (omega arith))))
 
 leads_permute : (b p : ℕ) → IsPermutation (range_with_len (b + 1) p) (leads_to b p)
 leads_permute b zero = IsPermutation-refl []
 leads_permute b (suc m) =
     subst (λ (es : List ℕ). IsPermutation (range_with_len (b + 1) (suc m)) es) (sym (leads_turned b m))
-    (IsPermutation-sym (range_with_len (b + 1 + 1) m ++ (b + 1) ∷ []) ((b + 1) ∷ range_with_len (b + 1 + 1) m) (IsPermutation-to_front (range_with_len (b + 1 + 1) m) (b + 1)))
+    (IsPermutation-sym (range_with_len (b + 1 + 1) m ++ (b + 1) ∷ []) ((b + 1) ∷ range_with_len (b + 1 + 1) m)
+    (IsPermutation-to_front (range_with_len (b + 1 + 1) m) (b + 1)))
 
-all_permute : {A B : Type 0} (g : A → List B) (b : ℕ) (ss : List A) → IsPermutation (range_with_len (b + 1) (length (flat_map g ss))) (all_lead_to b (map (λ s. length (g s)) ss))
+all_permute : {A B : Type 0} (g : A → List B) (b : ℕ) (ss : List A)
+    → IsPermutation (range_with_len (b + 1) (length (flat_map g ss))) (all_lead_to b (map (λ s. length (g s)) ss))
 all_permute g b [] = IsPermutation-refl []
 all_permute g b (s ∷ ss) =
     let p = length (g s) in
     let n = length (flat_map g ss) in
     let further : b + 1 + p ≡ b + p + 1 = omega arith in
     subst (λ (xs : List ℕ). IsPermutation xs (leads_to b p ++ all_lead_to (b + p) (map (λ x. length (g x)) ss)))
-    (sym (ap (range_with_len (b + 1)) (length-append (g s) (flat_map g ss)) ∙ (range_split (b + 1) p n ∙ ap (λ (i : ℕ). range_with_len (b + 1) p ++ range_with_len i n) further)))
-    (IsPermutation-append (range_with_len (b + 1) p) (leads_to b p) (range_with_len (b + p + 1) n) (all_lead_to (b + p) (map (λ x. length (g x)) ss)) (leads_permute b p) (all_permute g (b + p) ss))
+    (sym (ap (range_with_len (b + 1)) (length-append (g s) (flat_map g ss))
+    ∙ (range_split (b + 1) p n ∙ ap (λ (i : ℕ). range_with_len (b + 1) p ++ range_with_len i n) further)))
+    (IsPermutation-append (range_with_len (b + 1) p) (leads_to b p) (range_with_len (b + p + 1) n) (all_lead_to (b + p) (map (λ x. length (g x)) ss))
+    (leads_permute b p) (all_permute g (b + p) ss))
 
 pub edges_each : (d : Diagram) → IsPermutation (range_with_len 1 (length (passages d))) (edges_after d)
-edges_each d = let zero_one : 0 + 1 ≡ 1 = omega arith in subst (λ (i : ℕ). IsPermutation (range_with_len i (length (passages d))) (edges_after d)) zero_one (all_permute (passages_from d) 0 (starts d))
+edges_each d =
+    let zero_one : 0 + 1 ≡ 1 = omega arith in
+    subst (λ (i : ℕ). IsPermutation (range_with_len i (length (passages d))) (edges_after d)) zero_one (all_permute (passages_from d) 0 (starts d))
 
 -- the edges of one component
 pub edges_of_round : (d : Diagram) → IsGrid d → (s : ℕ) → Has (starts d) s
@@ -134,7 +151,8 @@ edges_of_round d grid s h =
     )
 
 -- the edges between which a column passes over a row
-pub column_comes : (t : Table) (d : Diagram) (f : List ℕ) (at : Crossed) → IsQuandle t → IsGrid d → IsColouring t d f → Contains (crossings d) at → edge_colour (edge_colours t d f) (edge_from d (through true at)) ≡ get_or f at.column 0
+pub column_comes : (t : Table) (d : Diagram) (f : List ℕ) (at : Crossed) → IsQuandle t → IsGrid d → IsColouring t d f → Contains (crossings d) at
+    → edge_colour (edge_colours t d f) (edge_from d (through true at)) ≡ get_or f at.column 0
 column_comes t d f at q grid colouring h =
     let z : Passage = record { over = true; column = 0; row = 0 } in
     let x = of_crossings d at (has_contained (crossings d) at h) in
@@ -143,7 +161,8 @@ column_comes t d f at q grid colouring h =
     let back : i + 1 - 1 ≡ i = omega arith in
     ap (λ (k : ℕ). get_or (edge_colours t d f) k 0) back ∙ (edge_at t d f i z stands.within ∙ ap (arriving t d f) (stands.stands z))
 
-pub column_goes : (t : Table) (d : Diagram) (f : List ℕ) (at : Crossed) → IsQuandle t → IsGrid d → IsColouring t d f → Contains (crossings d) at → edge_colour (edge_colours t d f) (edge_to d (through true at)) ≡ get_or f at.column 0
+pub column_goes : (t : Table) (d : Diagram) (f : List ℕ) (at : Crossed) → IsQuandle t → IsGrid d → IsColouring t d f → Contains (crossings d) at
+    → edge_colour (edge_colours t d f) (edge_to d (through true at)) ≡ get_or f at.column 0
 column_goes t d f at q grid colouring h =
     let z : Passage = record { over = true; column = 0; row = 0 } in
     let x = of_crossings d at (has_contained (crossings d) at h) in
@@ -203,7 +222,8 @@ counterclockwise d at =
     }
 
 -- the two passages of a crossing as they are printed, and the edges on which they come
-pub printed_over : (d : Diagram) (at : Crossed) → (take 1 (passage_token d (through true at)) ≡ codes "O") × ((edge_from d (through true at) ≡ (crossing d at).second) ⊎ (edge_from d (through true at) ≡ (crossing d at).fourth))
+pub printed_over : (d : Diagram) (at : Crossed)
+    → (take 1 (passage_token d (through true at)) ≡ codes "O") × ((edge_from d (through true at) ≡ (crossing d at).second) ⊎ (edge_from d (through true at) ≡ (crossing d at).fourth))
 printed_over d at = (refl, by (is_positive d at.column at.row) refl)
   where
     by : (t : Bool) → is_positive d at.column at.row ≡ t
@@ -211,5 +231,6 @@ printed_over d at = (refl, by (is_positive d at.column at.row) refl)
     by true is = inr (sym (cond-true (is_positive d at.column at.row) (edge_from d (through true at)) (edge_to d (through true at)) is))
     by false is = inl (sym (cond-false (is_positive d at.column at.row) (edge_to d (through true at)) (edge_from d (through true at)) is))
 
-pub printed_under : (d : Diagram) (at : Crossed) → (take 1 (passage_token d (through false at)) ≡ codes "U") × (edge_from d (through false at) ≡ (crossing d at).first)
+pub printed_under : (d : Diagram) (at : Crossed)
+    → (take 1 (passage_token d (through false at)) ≡ codes "U") × (edge_from d (through false at) ≡ (crossing d at).first)
 printed_under d at = (refl, refl)

@@ -11,7 +11,7 @@ use Rattle.grid_core.specs.Parts.{column_of, is_up}
 use Rattle.grid_core.proofs.Marks.{row_below, column_is}
 use Rattle.quandle_core.specs.Quandle.{Table, IsQuandle}
 use Rattle.colour_rows.specs.Colouring.{IsColouring}
-use Rattle.crossing_codes.specs.declared.passage.Passage.{Passage}
+use Rattle.crossing_codes.specs.declared.passages.Passage.{Passage}
 use Rattle.crossing_codes.specs.Components.{next_column, column_after, round_length}
 use Rattle.crossing_codes.specs.Passages.{as_met, passed_over, along_column, along_row, along, passages_from}
 use Rattle.crossing_codes.specs.OnTheWay.{passing}
@@ -19,7 +19,9 @@ use Rattle.crossing_codes.proofs.ColumnsAfter.{after_below, after_add, round_is}
 use Rattle.crossing_codes.proofs.RowWalks.{Scans, scans_append, column_scans, column_keeps, coloured_from, row_run}
 
 pub range_split : (a m n : ℕ) → range_with_len a (m + n) ≡ range_with_len a m ++ range_with_len (a + m) n
-range_split a zero n = let e : zero + n ≡ n = omega arith in let f : a ≡ a + zero = omega arith in ap (range_with_len a) e ∙ ap (λ (i : ℕ). range_with_len i n) f
+range_split a zero n =
+    let e : zero + n ≡ n = omega arith in
+    let f : a ≡ a + zero = omega arith in ap (range_with_len a) e ∙ ap (λ (i : ℕ). range_with_len i n) f
 range_split a (suc m) n =
     let e : suc m + n ≡ suc (m + n) = omega arith in
     let f : a + 1 + m ≡ a + suc m = omega arith in
@@ -95,11 +97,16 @@ legs_follow t d f grid q colouring s (suc m) lt =
     let so_far = legs_follow t d f grid q colouring s m lt in
     let e : 0 + m ≡ m = omega arith in
     let more = along_follows t d f grid q colouring (column_after d m s) (after_below d grid m s lt) in
-    let split : legs d s 0 (suc m) ≡ legs d s 0 m ++ along d (column_after d m s) = legs_more d s 0 m ∙ ap (λ (j : ℕ). legs d s 0 m ++ along d (column_after d j s)) e in
+    let split : legs d s 0 (suc m) ≡ legs d s 0 m ++ along d (column_after d m s) =
+    legs_more d s 0 m ∙ ap (λ (j : ℕ). legs d s 0 m ++ along d (column_after d j s)) e in
     record {
       scans = subst (λ ps. Scans t d f (get_or f s 0) ps) (sym split)
-          (scans_append t d f (get_or f s 0) (legs d s 0 m) (along d (column_after d m s)) so_far.scans (subst (λ y. Scans t d f y (along d (column_after d m s))) (sym so_far.ends) more.scans));
-      ends = ap (fold (passing t d f) (get_or f s 0)) split ∙ (fold-append (passing t d f) (get_or f s 0) (legs d s 0 m) (along d (column_after d m s)) ∙ (ap (λ y. fold (passing t d f) y (along d (column_after d m s))) so_far.ends ∙ more.ends));
+          (scans_append t d f (get_or f s 0) (legs d s 0 m) (along d (column_after d m s)) so_far.scans
+          (subst (λ y. Scans t d f y (along d (column_after d m s))) (sym so_far.ends) more.scans));
+      ends =
+          ap (fold (passing t d f) (get_or f s 0)) split
+          ∙ (fold-append (passing t d f) (get_or f s 0) (legs d s 0 m) (along d (column_after d m s))
+          ∙ (ap (λ y. fold (passing t d f) y (along d (column_after d m s))) so_far.ends ∙ more.ends));
     }
 
 -- and all the way round
@@ -108,4 +115,5 @@ pub round_follows : (t : Table) (d : Diagram) (f : List ℕ) → IsGrid d → Is
 round_follows t d f grid q colouring s lt =
     let run = legs_follow t d f grid q colouring s (round_length d s) lt in
     let home : get_or f (column_after d (round_length d s) s) 0 ≡ get_or f s 0 = ap (λ k. get_or f k 0) (round_is d grid s lt).back in
-    subst (λ ps. Follows t d f (get_or f s 0) (get_or f s 0) ps) (sym (round_legs d s)) (subst (λ y. Follows t d f (get_or f s 0) y (legs d s 0 (round_length d s))) home run)
+    subst (λ ps. Follows t d f (get_or f s 0) (get_or f s 0) ps) (sym (round_legs d s))
+    (subst (λ y. Follows t d f (get_or f s 0) y (legs d s 0 (round_length d s))) home run)

@@ -1,6 +1,6 @@
 pub mod Members
 pub mod ColumnsAfter
-pub mod Components
+pub mod SharedColumns
 pub mod Crossings
 pub mod AllPassages
 pub mod RowWalks
@@ -22,5 +22,10 @@ pub mod NumberSteps
 pub mod GaussSteps
 pub mod EdgeLaws
 pub mod Counts
+pub mod Ordered
+pub mod Followed
+pub mod EdgePieces
+pub mod PassageOrder
+pub mod CrossingLines
 mod WorkedRows
 mod OneToOne

@@ -156,9 +156,11 @@ pub apart_reverse : {A : Type 0} (xs : List A) → Apart xs → Apart (reverse x
 apart_reverse [] a = tt
 apart_reverse (x ∷ xs) a =
     subst (λ zs. Apart zs) (sym (reverse_cons x xs))
-    (apart_append (reverse xs) (x ∷ []) (apart_reverse xs a.1) (λ h. h, tt) (λ z l r. elim r [ inl e ↦ a.0 (of_reverse xs x (subst (λ w. Has (reverse xs) w) (sym e) l)) | inr none ↦ none ]))
+    (apart_append (reverse xs) (x ∷ []) (apart_reverse xs a.1) (λ h. h, tt)
+    (λ z l r. elim r [ inl e ↦ a.0 (of_reverse xs x (subst (λ w. Has (reverse xs) w) (sym e) l)) | inr none ↦ none ]))
 
-pub apart_flat_map : {A B : Type 0} (f : A → List B) (xs : List A) → ((x : A) → Has xs x → Apart (f x)) → ((x y : A) (z : B) → Has xs x → Has xs y → Has (f x) z → Has (f y) z → x ≡ y) → Apart xs → Apart (flat_map f xs)
+pub apart_flat_map : {A B : Type 0} (f : A → List B) (xs : List A) → ((x : A) → Has xs x → Apart (f x))
+    → ((x y : A) (z : B) → Has xs x → Has xs y → Has (f x) z → Has (f y) z → x ≡ y) → Apart xs → Apart (flat_map f xs)
 apart_flat_map f [] each one a = tt
 apart_flat_map f (x ∷ xs) each one a =
     apart_append (f x) (flat_map f xs) (each x (inl refl))
@@ -200,13 +202,16 @@ same_members (x ∷ xs) ys a b into from =
       | inl l ↦ has_left cut.0 cut.1 z l
       | inr r ↦ elim r [ inl e ↦ absurd (a.0 (subst (λ w. Has xs w) (sym e) h)) | inr more ↦ has_right cut.0 cut.1 z more ]
     ])
-    (λ z h. elim (from z (subst (λ zs. Has zs z) (sym cut.2) (elim (has_either cut.0 cut.1 z h) [ inl l ↦ has_left cut.0 (x ∷ cut.1) z l | inr r ↦ has_right cut.0 (x ∷ cut.1) z (inr r) ]))) [
+    (λ z h. elim
+    (from z (subst (λ zs. Has zs z) (sym cut.2)
+    (elim (has_either cut.0 cut.1 z h) [ inl l ↦ has_left cut.0 (x ∷ cut.1) z l | inr r ↦ has_right cut.0 (x ∷ cut.1) z (inr r) ]))) [
       | inl e ↦ absurd (rest.1 (subst (λ w. Has (cut.0 ++ cut.1) w) (sym e) h))
       | inr more ↦ more
     ])
     in
     IsPermutation-trans (x ∷ xs) (x ∷ (cut.0 ++ cut.1)) ys (IsPermutation-cons x xs (cut.0 ++ cut.1) tail)
-    (subst (λ zs. IsPermutation (x ∷ (cut.0 ++ cut.1)) zs) (sym cut.2) (IsPermutation-sym (cut.0 ++ x ∷ cut.1) (x ∷ (cut.0 ++ cut.1)) (IsPermutation-middle cut.0 x cut.1)))
+    (subst (λ zs. IsPermutation (x ∷ (cut.0 ++ cut.1)) zs) (sym cut.2)
+    (IsPermutation-sym (cut.0 ++ x ∷ cut.1) (x ∷ (cut.0 ++ cut.1)) (IsPermutation-middle cut.0 x cut.1)))
 
 -- members of ys, none of them twice, are at most as many as ys
 pub fewer : {A : Type 0} (xs ys : List A) → Apart xs → ((x : A) → Has xs x → Has ys x) → length xs ≤ length ys

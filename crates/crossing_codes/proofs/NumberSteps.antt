@@ -10,7 +10,7 @@ use Rattle.grid_core.specs.Diagram.{Diagram, IsGrid, size}
 use Rattle.grid_core.specs.Parts.{covers, ends}
 use Rattle.colour_rows.specs.Walk.{passed}
 use Rattle.colour_rows.proofs.Ranges.{range_longer}
-use Rattle.crossing_codes.specs.declared.passage.Passage.{Passage}
+use Rattle.crossing_codes.specs.declared.passages.Passage.{Passage}
 use Rattle.crossing_codes.specs.Passages.{Crossed, crossings, passages}
 use Rattle.crossing_codes.specs.Printed.{crossing_number}
 use Rattle.crossing_codes.specs.Layout.{cell, crossings_below, IsNumbered, HasNumber}
@@ -40,7 +40,8 @@ below_before d grid r most at h =
     subst (λ (z : Crossed). cell z.column z.row < r * MAX_SIZE) k.2 (omega arith)
 
 -- one cell more gets its number
-pub number_more : (cells : List Crossed) (table : List ℕ) (c r n k : ℕ) → k ≡ cell c r → n ≡ length cells + 1 → k < length table → LieBefore k cells → IsNumbered cells table → IsNumbered (cells ++ crossed c r ∷ []) (set table k n)
+pub number_more : (cells : List Crossed) (table : List ℕ) (c r n k : ℕ) → k ≡ cell c r → n ≡ length cells + 1 → k < length table → LieBefore k cells
+    → IsNumbered cells table → IsNumbered (cells ++ crossed c r ∷ []) (set table k n)
 number_more cells table c r n k is number room before so_far i at lt stands = elim (cases_lt i (length cells)) [
   | inl less ↦
       let there : get_or cells i at ≡ at = sym (get_or_append_left cells (crossed c r ∷ []) at i less) ∙ stands in
@@ -68,7 +69,8 @@ row_more d r =
     ∙ (flat_map-append row (range_with_len 0 r) (r ∷ []) ∙ ap (λ (xs : List Crossed). crossings_below d r ++ xs) (append-nil (row r)))
 
 -- the number of a crossing in the list
-pub crossing_number_is : (d : Diagram) (i c r : ℕ) (z : Crossed) → i < length (crossings d) → get_or (crossings d) i z ≡ crossed c r → crossing_number d c r ≡ i + 1
+pub crossing_number_is : (d : Diagram) (i c r : ℕ) (z : Crossed) → i < length (crossings d) → get_or (crossings d) i z ≡ crossed c r
+    → crossing_number d c r ≡ i + 1
 crossing_number_is d i c r z lt is =
     let test : Crossed → Bool = λ at. (at.column == c) && (at.row == r) in
     let same : (at : Crossed) → test at ≡ true → at ≡ crossed c r = λ at e. let parts = and_parts (at.column == c) (at.row == r) e in
@@ -95,7 +97,8 @@ up_to_yes d r c after before e =
     let within : s.low + done + 1 < s.high = omega arith in
     let is : c ≡ s.low + 1 + done = omega arith in
     ap (λ (n : ℕ). crossings_below d r ++ map (λ b. crossed b r) (met true (λ b. covers d b r) s n)) next
-    ∙ sym (met_yes (λ b. crossed b r) true (λ b. covers d b r) s done c (crossings_below d r) (up_to d r c) (up_to d r c ++ crossed c r ∷ []) within is e refl refl)
+    ∙ sym (met_yes (λ b. crossed b r) true (λ b. covers d b r) s done c (crossings_below d r) (up_to d r c)
+    (up_to d r c ++ crossed c r ∷ []) within is e refl refl)
 
 pub up_to_no : (d : Diagram) (r c : ℕ) → (ends d r).low < c → c < (ends d r).high → covers d c r ≡ false → up_to d r (c + 1) ≡ up_to d r c
 up_to_no d r c after before e =
@@ -116,4 +119,5 @@ up_to_none d r c e =
 pub up_to_all : (d : Diagram) (r c : ℕ) → (ends d r).low < (ends d r).high → c ≡ (ends d r).high → up_to d r c ≡ crossings_below d (r + 1)
 up_to_all d r c ordered e =
     let whole : c - (ends d r).low - 1 ≡ (ends d r).high - (ends d r).low - 1 = omega arith in
-    met_ends (λ b. crossed b r) (λ b. covers d b r) (ends d r) (c - (ends d r).low - 1) (crossings_below d r) (up_to d r c) ordered whole refl ∙ sym (row_more d r)
+    met_ends (λ b. crossed b r) (λ b. covers d b r) (ends d r) (c - (ends d r).low - 1) (crossings_below d r) (up_to d r c) ordered whole refl
+    ∙ sym (row_more d r)

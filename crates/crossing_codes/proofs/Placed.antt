@@ -7,7 +7,7 @@ use Rattle.std.proofs.lemmas.List.{append_assoc, length-append, get_or_append_le
 use Rattle.std.proofs.lemmas.List.Concat.{flat_map-append}
 use Rattle.std.proofs.lemmas.List.FromFn.{get_or-map-range_with_len, length-map-range_with_len}
 use Rattle.grid_core.specs.Diagram.{Diagram, IsGrid}
-use Rattle.crossing_codes.specs.declared.passage.Passage.{Passage}
+use Rattle.crossing_codes.specs.declared.passages.Passage.{Passage}
 use Rattle.crossing_codes.specs.Components.{starts}
 use Rattle.crossing_codes.specs.Passages.{passages_from, passages}
 use Rattle.crossing_codes.specs.Edges.{leads_to, all_lead_to, edges_after, edges_before}
@@ -38,11 +38,20 @@ leads_at b p k lt = get_or-map-range_with_len (λ t. if nat_lt t p then b + t + 
 lengths_before : {A B : Type 0} (g : A → List B) (b : ℕ) (front : List A) → length (all_lead_to b (map (λ s. length (g s)) front)) ≡ length (flat_map g front)
 lengths_before g b [] = refl
 lengths_before g b (x ∷ front) =
-    omega (arith, length-append (leads_to b (length (g x))) (all_lead_to (b + length (g x)) (map (λ s. length (g s)) front)), length-append (g x) (flat_map g front), length_leads b (length (g x)), lengths_before g (b + length (g x)) front)
+    omega (
+      arith,
+      length-append (leads_to b (length (g x))) (all_lead_to (b + length (g x)) (map (λ s. length (g s)) front)),
+      length-append (g x)
+          (flat_map g front),
+      length_leads b (length (g x)),
+      lengths_before g (b + length (g x)) front,
+    )
 
 pub lead_split : {A B : Type 0} (g : A → List B) (b : ℕ) (front : List A) (s : A) (behind : List A)
     → all_lead_to b (map (λ x. length (g x)) (front ++ s ∷ behind))
-    ≡ all_lead_to b (map (λ x. length (g x)) front) ++ (leads_to (b + length (flat_map g front)) (length (g s)) ++ all_lead_to (b + length (flat_map g front) + length (g s)) (map (λ x. length (g x)) behind))
+    ≡ all_lead_to b
+    (map (λ x. length (g x)) front) ++ (leads_to (b + length (flat_map g front)) (length (g s)) ++ all_lead_to (b + length (flat_map g front) + length (g s))
+    (map (λ x. length (g x)) behind))
 lead_split g b [] s behind =
     let e : b ≡ b + 0 = omega arith in
     ap (λ (i : ℕ). leads_to i (length (g s)) ++ all_lead_to (i + length (g s)) (map (λ x. length (g x)) behind)) e
@@ -50,8 +59,11 @@ lead_split g b (x ∷ front) s behind =
     let more = lead_split g (b + length (g x)) front s behind in
     let e : b + length (g x) + length (flat_map g front) ≡ b + length (g x ++ flat_map g front) = omega (arith, length-append (g x) (flat_map g front)) in
     ap (λ (ns : List ℕ). leads_to b (length (g x)) ++ ns) (more
-    ∙ ap (λ (i : ℕ). all_lead_to (b + length (g x)) (map (λ y. length (g y)) front) ++ (leads_to i (length (g s)) ++ all_lead_to (i + length (g s)) (map (λ y. length (g y)) behind))) e)
-    ∙ sym (append_assoc (leads_to b (length (g x))) (all_lead_to (b + length (g x)) (map (λ y. length (g y)) front)) (leads_to (b + length (g x ++ flat_map g front)) (length (g s)) ++ all_lead_to (b + length (g x ++ flat_map g front) + length (g s)) (map (λ y. length (g y)) behind)))
+    ∙ ap (λ (i : ℕ). all_lead_to (b + length (g x))
+    (map (λ y. length (g y)) front) ++ (leads_to i (length (g s)) ++ all_lead_to (i + length (g s)) (map (λ y. length (g y)) behind))) e)
+    ∙ sym (append_assoc (leads_to b (length (g x))) (all_lead_to (b + length (g x)) (map (λ y. length (g y)) front))
+    (leads_to (b + length (g x ++ flat_map g front)) (length (g s)) ++ all_lead_to (b + length (g x ++ flat_map g front) + length (g s))
+    (map (λ y. length (g y)) behind)))
 
 pub length_after : (d : Diagram) → length (edges_after d) ≡ length (passages d)
 length_after d = lengths_before (passages_from d) 0 (starts d)
@@ -65,13 +77,17 @@ placed d s h =
     let b = length (flat_map g front) in
     let n = length (g s) in
     let split : passages d ≡ flat_map g front ++ (g s ++ flat_map g behind) = ap (flat_map g) cut.2 ∙ flat_map-append g front (s ∷ behind) in
-    let leads : edges_after d ≡ all_lead_to 0 (map (λ x. length (g x)) front) ++ (leads_to (0 + b) n ++ all_lead_to (0 + b + n) (map (λ x. length (g x)) behind)) = ap (λ (ss : List ℕ). all_lead_to 0 (map (λ x. length (g x)) ss)) cut.2 ∙ lead_split g 0 front s behind in
+    let leads : edges_after d ≡ all_lead_to 0
+    (map (λ x. length (g x)) front) ++ (leads_to (0 + b) n ++ all_lead_to (0 + b + n) (map (λ x. length (g x)) behind)) =
+    ap (λ (ss : List ℕ). all_lead_to 0 (map (λ x. length (g x)) ss)) cut.2 ∙ lead_split g 0 front s behind in
     let zero_b : 0 + b ≡ b = omega arith in
     let same : length (all_lead_to 0 (map (λ x. length (g x)) front)) ≡ b = lengths_before g 0 front in
     let at : (k : ℕ) → k < n → get_or (edges_after d) (b + k) 0 ≡ (if nat_lt (k + 1) n then b + (k + 1) + 1 else b + 1) =
     λ k lt. ap (λ (es : List ℕ). get_or es (b + k) 0) leads
-    ∙ (ap (λ (i : ℕ). get_or (all_lead_to 0 (map (λ x. length (g x)) front) ++ (leads_to (0 + b) n ++ all_lead_to (0 + b + n) (map (λ x. length (g x)) behind))) (i + k) 0) (sym same)
-    ∙ (middle (all_lead_to 0 (map (λ x. length (g x)) front)) (leads_to (0 + b) n) (all_lead_to (0 + b + n) (map (λ x. length (g x)) behind)) k 0 (omega (arith, length_leads (0 + b) n, lt))
+    ∙ (ap (λ (i : ℕ). get_or
+    (all_lead_to 0 (map (λ x. length (g x)) front) ++ (leads_to (0 + b) n ++ all_lead_to (0 + b + n) (map (λ x. length (g x)) behind))) (i + k) 0) (sym same)
+    ∙ (middle (all_lead_to 0 (map (λ x. length (g x)) front)) (leads_to (0 + b) n) (all_lead_to (0 + b + n) (map (λ x. length (g x)) behind)) k 0
+    (omega (arith, length_leads (0 + b) n, lt))
     ∙ (ap (λ (i : ℕ). get_or (leads_to i n) k 0) zero_b ∙ leads_at b n k lt))) in (
       b,
       record {
@@ -111,7 +127,8 @@ among d grid i lt =
     }
 
 -- the edge to which a passage leads is one of the diagram's
-pub leads_within : (d : Diagram) → IsGrid d → (i : ℕ) → i < length (passages d) → (1 ≤ get_or (edges_after d) i 0) × (get_or (edges_after d) i 0 ≤ length (passages d))
+pub leads_within : (d : Diagram) → IsGrid d → (i : ℕ) → i < length (passages d)
+    → (1 ≤ get_or (edges_after d) i 0) × (get_or (edges_after d) i 0 ≤ length (passages d))
 leads_within d grid i lt =
     let a = among d grid i lt in
     let n = length (passages_from d a.s) in

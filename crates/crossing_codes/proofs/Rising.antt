@@ -1,28 +1,16 @@
 -- The components before one are those of lesser starts.
-use Rattle.std.proofs.Common.{◌≡◌, ◌<◌, ◌≤◌, ◌+◌, ◌++◌, ◌∷◌, ◌∙◌, [], inl, inr, ℕ, zero, suc, Bool, true, false, cond, List, sym, subst, refl, ap, arith}
+use Rattle.std.proofs.Common.{◌≡◌, ◌<◌, ◌≤◌, ◌++◌, ◌∷◌, ◌∙◌, [], inl, inr, ℕ, cond, List, subst, refl, ap, arith}
 use Rattle.std.specs.Prelude.{nat_lt}
 use Rattle.std.specs.List.{range_with_len, filter}
 use Rattle.std.proofs.lemmas.Bool.{lt-ltb, le-ltb}
 use Rattle.grid_core.specs.Diagram.{Diagram, size}
 use Rattle.crossing_codes.specs.Components.{is_least, starts}
-use Rattle.crossing_codes.proofs.Members.{Has, has_right, of_range, of_filter}
+use Rattle.crossing_codes.proofs.Members.{Has, has_right}
+use Rattle.crossing_codes.proofs.Ordered.{Ordered, ordered_filter, ordered_range}
 
 -- each number is below all that follow
 abbrev Rising : List ℕ → Type 0
-Rising [] = Unit {0}
-Rising (x ∷ xs) = ((y : ℕ) → Has xs y → x < y) × Rising xs
-
-rising_range : (a n : ℕ) → Rising (range_with_len a n)
-rising_range a zero = tt
-rising_range a (suc n) = (λ y h. let r = of_range (a + 1) n y h in omega arith, rising_range (a + 1) n)
-
-rising_filter : (p : ℕ → Bool) (xs : List ℕ) → Rising xs → Rising (filter p xs)
-rising_filter p [] r = tt
-rising_filter p (x ∷ xs) r = by (p x) refl (rising_filter p xs r.1)
-  where
-    by : (t : Bool) → p x ≡ t → Rising (filter p xs) → Rising (filter p (x ∷ xs))
-    by true is later = subst (λ b. Rising (cond b (x ∷ filter p xs) (filter p xs))) (sym is) (λ y h. r.0 y (of_filter p xs y h).0, later)
-    by false is later = subst (λ b. Rising (cond b (x ∷ filter p xs) (filter p xs))) (sym is) later
+Rising xs = Ordered (λ (x y : ℕ). x < y) xs
 
 none_below : (s : ℕ) (xs : List ℕ) → ((y : ℕ) → Has xs y → s ≤ y) → filter (λ e. nat_lt e s) xs ≡ []
 none_below s [] above = refl
@@ -40,4 +28,6 @@ below_kept s (x ∷ front) behind r =
 -- the starts in front of one are those below it
 pub starts_below : (d : Diagram) (s : ℕ) (front behind : List ℕ) → starts d ≡ front ++ s ∷ behind → filter (λ e. nat_lt e s) (starts d) ≡ front
 starts_below d s front behind cut =
-    ap (filter (λ e. nat_lt e s)) cut ∙ below_kept s front behind (subst (λ xs. Rising xs) cut (rising_filter (is_least d) (range_with_len 0 (size d)) (rising_range 0 (size d))))
+    ap (filter (λ e. nat_lt e s)) cut
+    ∙ below_kept s front behind
+    (subst (λ xs. Rising xs) cut (ordered_filter (λ (x y : ℕ). x < y) (is_least d) (range_with_len 0 (size d)) (ordered_range 0 (size d))))

@@ -15,9 +15,9 @@ use Rattle.colour_rows.specs.Walk.{under, passed, walk, walk_to}
 use Rattle.colour_rows.specs.Colouring.{AreColours}
 use Rattle.grid_core.proofs.Ends.{left, right, has_ends, span_low, span_high}
 use Rattle.colour_rows.proofs.Walks.{past, turn_stays, return_stays, turn_return}
-use Rattle.crossing_codes.specs.declared.passage.Passage.{Passage}
+use Rattle.crossing_codes.specs.declared.passages.Passage.{Passage}
 use Rattle.crossing_codes.specs.Passages.{through, as_met, along_row}
-use Rattle.crossing_codes.specs.EdgeColours.{arriving}
+use Rattle.crossing_codes.specs.EdgeColouring.{arriving}
 use Rattle.crossing_codes.specs.OnTheWay.{passing}
 use Rattle.crossing_codes.proofs.Members.{Has, of_filter, of_range}
 use Rattle.crossing_codes.proofs.Crossings.{cell}
@@ -28,11 +28,13 @@ abbrev pub Scans : Table → Diagram → List ℕ → ℕ → List Passage → T
 Scans t d f x [] = Unit {0}
 Scans t d f x (p ∷ ps) = (arriving t d f p ≡ x) × Scans t d f (passing t d f x p) ps
 
-pub scans_append : (t : Table) (d : Diagram) (f : List ℕ) (x : ℕ) (ps qs : List Passage) → Scans t d f x ps → Scans t d f (fold (passing t d f) x ps) qs → Scans t d f x (ps ++ qs)
+pub scans_append : (t : Table) (d : Diagram) (f : List ℕ) (x : ℕ) (ps qs : List Passage) → Scans t d f x ps
+    → Scans t d f (fold (passing t d f) x ps) qs → Scans t d f x (ps ++ qs)
 scans_append t d f x [] qs a b = b
 scans_append t d f x (p ∷ ps) qs a b = (a.0, scans_append t d f (passing t d f x p) ps qs a.1 b)
 
-pub scans_at : (t : Table) (d : Diagram) (f : List ℕ) (x : ℕ) (ps : List Passage) (k : ℕ) (z : Passage) → Scans t d f x ps → k < length ps → arriving t d f (get_or ps k z) ≡ fold (passing t d f) x (take k ps)
+pub scans_at : (t : Table) (d : Diagram) (f : List ℕ) (x : ℕ) (ps : List Passage) (k : ℕ) (z : Passage) → Scans t d f x ps → k < length ps
+    → arriving t d f (get_or ps k z) ≡ fold (passing t d f) x (take k ps)
 scans_at t d f x [] k z a lt = absurd (omega arith)
 scans_at t d f x (p ∷ ps) zero z a lt = a.0
 scans_at t d f x (p ∷ ps) (suc k) z a lt = scans_at t d f (passing t d f x p) ps k z a.1 (omega arith)
@@ -76,20 +78,26 @@ stays_by t q true r u x y hx hy = hx
 stays_by t q false true u x y hx hy = turn_stays t q u x y hx hy
 stays_by t q false false u x y hx hy = return_stays t q u x y hx hy
 
-pub passing_stays : (t : Table) (d : Diagram) (f : List ℕ) → Coloured t d f → (x : ℕ) (p : Passage) → p.column < size d → x < t.order → passing t d f x p < t.order
+pub passing_stays : (t : Table) (d : Diagram) (f : List ℕ) → Coloured t d f → (x : ℕ) (p : Passage) → p.column < size d → x < t.order
+    → passing t d f x p < t.order
 passing_stays t d f c x p inside at = stays_by t c.quandle p.over (is_rightward d p.row) (is_up d p.column) x (get_or f p.column 0) at (c.below p.column inside)
 
-pub passing_once : (t : Table) (d : Diagram) (f : List ℕ) → Coloured t d f → (x z : ℕ) (p : Passage) → p.column < size d → x < t.order → z < t.order → passing t d f x p ≡ passing t d f z p → x ≡ z
-passing_once t d f c x z p inside hx hz e = once_by t c.quandle p.over (is_rightward d p.row) (is_up d p.column) x z (get_or f p.column 0) hx hz (c.below p.column inside) e
+pub passing_once : (t : Table) (d : Diagram) (f : List ℕ) → Coloured t d f → (x z : ℕ) (p : Passage) → p.column < size d → x < t.order → z < t.order
+    → passing t d f x p ≡ passing t d f z p → x ≡ z
+passing_once t d f c x z p inside hx hz e =
+    once_by t c.quandle p.over (is_rightward d p.row) (is_up d p.column) x z (get_or f p.column 0) hx hz (c.below p.column inside) e
 
-pub run_once : (t : Table) (d : Diagram) (f : List ℕ) → Coloured t d f → (x z : ℕ) (ps : List Passage) → ((p : Passage) → Has ps p → p.column < size d) → x < t.order → z < t.order → fold (passing t d f) x ps ≡ fold (passing t d f) z ps → x ≡ z
+pub run_once : (t : Table) (d : Diagram) (f : List ℕ) → Coloured t d f → (x z : ℕ) (ps : List Passage)
+    → ((p : Passage) → Has ps p → p.column < size d) → x < t.order → z < t.order → fold (passing t d f) x ps ≡ fold (passing t d f) z ps → x ≡ z
 run_once t d f c x z [] inside hx hz e = e
 run_once t d f c x z (p ∷ ps) inside hx hz e =
     let here = inside p (inl refl) in
     passing_once t d f c x z p here hx hz
-    (run_once t d f c (passing t d f x p) (passing t d f z p) ps (λ q h. inside q (inr h)) (passing_stays t d f c x p here hx) (passing_stays t d f c z p here hz) e)
+    (run_once t d f c (passing t d f x p) (passing t d f z p) ps (λ q h. inside q (inr h)) (passing_stays t d f c x p here hx)
+    (passing_stays t d f c z p here hz) e)
 
-fold_stays : (t : Table) (d : Diagram) (f : List ℕ) → Coloured t d f → (cs : List ℕ) → ((k : ℕ) → Has cs k → k < size d) → (x : ℕ) → x < t.order → fold (under t d f) x cs < t.order
+fold_stays : (t : Table) (d : Diagram) (f : List ℕ) → Coloured t d f → (cs : List ℕ) → ((k : ℕ) → Has cs k → k < size d) → (x : ℕ) → x < t.order
+    → fold (under t d f) x cs < t.order
 fold_stays t d f c [] inside x at = at
 fold_stays t d f c (k ∷ cs) inside x at =
     fold_stays t d f c cs (λ i h. inside i (inr h)) (under t d f x k) (turn_stays t c.quandle (is_up d k) x (get_or f k 0) at (c.below k (inside k (inl refl))))
@@ -97,11 +105,13 @@ fold_stays t d f c (k ∷ cs) inside x at =
 pub walk_to_stays : (t : Table) (d : Diagram) (f : List ℕ) → Coloured t d f → (r a : ℕ) → left d r < size d → a ≤ size d → walk_to t d f r a < t.order
 walk_to_stays t d f c r a start most =
     fold_stays t d f c (filter (λ b. covers d b r) (range_with_len (left d r + 1) (a - left d r - 1)))
-    (λ k h. let m = of_range (left d r + 1) (a - left d r - 1) k (of_filter (λ b. covers d b r) (range_with_len (left d r + 1) (a - left d r - 1)) k h).0 in omega arith)
+    (λ k h. let m = of_range (left d r + 1) (a - left d r - 1) k
+    (of_filter (λ b. covers d b r) (range_with_len (left d r + 1) (a - left d r - 1)) k h).0 in omega arith)
     (get_or f (left d r) 0) (c.below (left d r) start)
 
 -- the walk one column further
-pub walk_step : (t : Table) (d : Diagram) (f : List ℕ) (r a : ℕ) → left d r < a → walk_to t d f r (a + 1) ≡ (if covers d a r then under t d f (walk_to t d f r a) a else walk_to t d f r a)
+pub walk_step : (t : Table) (d : Diagram) (f : List ℕ) (r a : ℕ) → left d r < a
+    → walk_to t d f r (a + 1) ≡ (if covers d a r then under t d f (walk_to t d f r a) a else walk_to t d f r a)
 walk_step t d f r a after =
     let m = a - left d r - 1 in
     let x = get_or f (left d r) 0 in
@@ -134,7 +144,8 @@ right_scans t d f r rightward (suc m) a after =
     rest : List ℕ
     rest = filter (λ b. covers d b r) (range_with_len (a + 1) m)
 
-    by : (b : Bool) → covers d a r ≡ b → Scans t d f (walk_to t d f r (a + 1)) (unders d r rest) × (fold (passing t d f) (walk_to t d f r (a + 1)) (unders d r rest) ≡ walk_to t d f r (a + 1 + m))
+    by : (b : Bool) → covers d a r ≡ b
+        → Scans t d f (walk_to t d f r (a + 1)) (unders d r rest) × (fold (passing t d f) (walk_to t d f r (a + 1)) (unders d r rest) ≡ walk_to t d f r (a + 1 + m))
         → walk_to t d f r (a + 1) ≡ (if covers d a r then under t d f (walk_to t d f r a) a else walk_to t d f r a)
         → a + 1 + m ≡ a + suc m
         → Scans t d f (walk_to t d f r a) (unders d r (cond (covers d a r) (a ∷ rest) rest)) × (fold (passing t d f) (walk_to t d f r a) (unders d r (cond (covers d a r) (a ∷ rest) rest)) ≡ walk_to t d f r (a + suc m))
@@ -154,16 +165,20 @@ right_scans t d f r rightward (suc m) a after =
         )
 
 -- to the left
-left_scans : (t : Table) (d : Diagram) (f : List ℕ) (r : ℕ) → is_rightward d r ≡ false → Coloured t d f → left d r < size d → (m a : ℕ) → left d r < a → a + m ≤ size d
+left_scans : (t : Table) (d : Diagram) (f : List ℕ) (r : ℕ) → is_rightward d r ≡ false → Coloured t d f → left d r < size d → (m a : ℕ) → left d r < a
+    → a + m ≤ size d
     → Scans t d f (walk_to t d f r (a + m)) (unders d r (reverse (filter (λ b. covers d b r) (range_with_len a m)))) × (fold (passing t d f) (walk_to t d f r (a + m)) (unders d r (reverse (filter (λ b. covers d b r) (range_with_len a m)))) ≡ walk_to t d f r a)
 left_scans t d f r leftward c start zero a after most = (tt, let e : a + 0 ≡ a = omega arith in ap (walk_to t d f r) e)
 left_scans t d f r leftward c start (suc m) a after most =
     let p : ℕ → Bool = λ b. covers d b r in
     let split : reverse (filter p (range_with_len a (suc m))) ≡ reverse (cond (p (a + m)) ((a + m) ∷ []) []) ++ reverse (filter p (range_with_len a m)) =
-    ap (λ (bs : List ℕ). reverse (filter p bs)) (range_more m a) ∙ (ap (λ (bs : List ℕ). reverse bs) (filter-append p (range_with_len a m) ((a + m) ∷ [])) ∙ reverse-append (filter p (range_with_len a m)) (cond (p (a + m)) ((a + m) ∷ []) [])) in
+    ap (λ (bs : List ℕ). reverse (filter p bs)) (range_more m a)
+    ∙ (ap (λ (bs : List ℕ). reverse bs) (filter-append p (range_with_len a m) ((a + m) ∷ []))
+    ∙ reverse-append (filter p (range_with_len a m)) (cond (p (a + m)) ((a + m) ∷ []) [])) in
     let further : a + m + 1 ≡ a + suc m = omega arith in
     let within : walk_to t d f r (a + m) < t.order = walk_to_stays t d f c r (a + m) start (omega arith) in
-    subst (λ (bs : List ℕ). Scans t d f (walk_to t d f r (a + suc m)) (unders d r bs) × (fold (passing t d f) (walk_to t d f r (a + suc m)) (unders d r bs) ≡ walk_to t d f r a)) (sym split)
+    subst (λ (bs : List ℕ). Scans t d f
+    (walk_to t d f r (a + suc m)) (unders d r bs) × (fold (passing t d f) (walk_to t d f r (a + suc m)) (unders d r bs) ≡ walk_to t d f r a)) (sym split)
     (by (covers d (a + m) r) (left_scans t d f r leftward c start m a after (omega arith))
     (sym (ap (walk_to t d f r) further) ∙ walk_step t d f r (a + m) (omega arith))
     (turn_return t c.quandle (is_up d (a + m)) (walk_to t d f r (a + m)) (get_or f (a + m) 0) within (c.below (a + m) (omega arith))))
@@ -171,14 +186,16 @@ left_scans t d f r leftward c start (suc m) a after most =
     rest : List ℕ
     rest = filter (λ b. covers d b r) (range_with_len a m)
 
-    by : (b : Bool) → Scans t d f (walk_to t d f r (a + m)) (unders d r (reverse rest)) × (fold (passing t d f) (walk_to t d f r (a + m)) (unders d r (reverse rest)) ≡ walk_to t d f r a)
+    by : (b : Bool)
+        → Scans t d f (walk_to t d f r (a + m)) (unders d r (reverse rest)) × (fold (passing t d f) (walk_to t d f r (a + m)) (unders d r (reverse rest)) ≡ walk_to t d f r a)
         → walk_to t d f r (a + suc m) ≡ (if b then under t d f (walk_to t d f r (a + m)) (a + m) else walk_to t d f r (a + m))
         → past t d f (under t d f (walk_to t d f r (a + m)) (a + m)) (a + m) ≡ walk_to t d f r (a + m)
         → Scans t d f (walk_to t d f r (a + suc m)) (unders d r (reverse (cond b ((a + m) ∷ []) []) ++ reverse rest)) × (fold (passing t d f) (walk_to t d f r (a + suc m)) (unders d r (reverse (cond b ((a + m) ∷ []) []) ++ reverse rest)) ≡ walk_to t d f r a)
     by true later next undone =
         let w = walk_to t d f r (a + m) in
         let before : passing t d f (walk_to t d f r (a + suc m)) (through false (cell (a + m) r)) ≡ w =
-        ap (λ b. if b then under t d f (walk_to t d f r (a + suc m)) (a + m) else past t d f (walk_to t d f r (a + suc m)) (a + m)) leftward ∙ (ap (λ x. past t d f x (a + m)) next ∙ undone) in (
+        ap (λ b. if b then under t d f (walk_to t d f r (a + suc m)) (a + m) else past t d f (walk_to t d f r (a + suc m)) (a + m)) leftward
+        ∙ (ap (λ x. past t d f x (a + m)) next ∙ undone) in (
           (ap (λ b. if b then w else under t d f w (a + m)) leftward ∙ sym next, subst (λ x. Scans t d f x (unders d r (reverse rest))) (sym before) later.0),
           ap (λ x. fold (passing t d f) x (unders d r (reverse rest))) before ∙ later.1,
         )
@@ -216,7 +233,8 @@ pub record RowRun (t : Table) (d : Diagram) (f : List ℕ) (r x y : ℕ) : Type 
   pub scans : Scans t d f x (along_row d r)
   pub ends : fold (passing t d f) x (along_row d r) ≡ y
 
-row_right : (t : Table) (d : Diagram) (f : List ℕ) (r : ℕ) → IsGrid d → r < size d → is_rightward d r ≡ true → RowRun t d f r (get_or f (left d r) 0) (walk t d f r)
+row_right : (t : Table) (d : Diagram) (f : List ℕ) (r : ℕ) → IsGrid d → r < size d → is_rightward d r ≡ true
+    → RowRun t d f r (get_or f (left d r) 0) (walk t d f r)
 row_right t d f r grid lt rightward =
     let ends = has_ends d grid r lt in
     let ordered = ends.ordered in
@@ -225,11 +243,15 @@ row_right t d f r grid lt rightward =
     let run = right_scans t d f r rightward m (left d r + 1) (omega arith) in
     let same : along_row d r ≡ unders d r (passed d r) = ap (λ b. unders d r (as_met b (passed d r))) rightward in
     record {
-      scans = subst (λ ps. Scans t d f (get_or f (left d r) 0) ps) (sym same) (subst (λ x. Scans t d f x (unders d r (passed d r))) (walk_begins t d f r) run.0);
-      ends = ap (fold (passing t d f) (get_or f (left d r) 0)) same ∙ (ap (λ x. fold (passing t d f) x (unders d r (passed d r))) (sym (walk_begins t d f r)) ∙ (run.1 ∙ ap (walk_to t d f r) whole));
+      scans =
+          subst (λ ps. Scans t d f (get_or f (left d r) 0) ps) (sym same) (subst (λ x. Scans t d f x (unders d r (passed d r))) (walk_begins t d f r) run.0);
+      ends =
+          ap (fold (passing t d f) (get_or f (left d r) 0)) same
+          ∙ (ap (λ x. fold (passing t d f) x (unders d r (passed d r))) (sym (walk_begins t d f r)) ∙ (run.1 ∙ ap (walk_to t d f r) whole));
     }
 
-row_left : (t : Table) (d : Diagram) (f : List ℕ) (r : ℕ) → IsGrid d → Coloured t d f → r < size d → is_rightward d r ≡ false → RowRun t d f r (walk t d f r) (get_or f (left d r) 0)
+row_left : (t : Table) (d : Diagram) (f : List ℕ) (r : ℕ) → IsGrid d → Coloured t d f → r < size d → is_rightward d r ≡ false
+    → RowRun t d f r (walk t d f r) (get_or f (left d r) 0)
 row_left t d f r grid c lt leftward =
     let ends = has_ends d grid r lt in
     let ordered = ends.ordered in
@@ -239,8 +261,12 @@ row_left t d f r grid c lt leftward =
     let run = left_scans t d f r leftward c (omega arith) m (left d r + 1) (omega arith) (omega arith) in
     let same : along_row d r ≡ unders d r (reverse (passed d r)) = ap (λ b. unders d r (as_met b (passed d r))) leftward in
     record {
-      scans = subst (λ ps. Scans t d f (walk t d f r) ps) (sym same) (subst (λ x. Scans t d f x (unders d r (reverse (passed d r)))) (ap (walk_to t d f r) whole) run.0);
-      ends = ap (fold (passing t d f) (walk t d f r)) same ∙ (ap (λ x. fold (passing t d f) x (unders d r (reverse (passed d r)))) (sym (ap (walk_to t d f r) whole)) ∙ (run.1 ∙ walk_begins t d f r));
+      scans =
+          subst (λ ps. Scans t d f (walk t d f r) ps) (sym same)
+          (subst (λ x. Scans t d f x (unders d r (reverse (passed d r)))) (ap (walk_to t d f r) whole) run.0);
+      ends =
+          ap (fold (passing t d f) (walk t d f r)) same
+          ∙ (ap (λ x. fold (passing t d f) x (unders d r (reverse (passed d r)))) (sym (ap (walk_to t d f r) whole)) ∙ (run.1 ∙ walk_begins t d f r));
     }
 
 -- where the walk closes, the strand goes from the colour of the O's column to that of the X's
@@ -256,7 +282,8 @@ row_run t d f r grid c lt closes = elim (cases_Bool (is_rightward d r)) [
 ]
 
 -- and the other way round
-pub row_closes : (t : Table) (d : Diagram) (f : List ℕ) (r : ℕ) → IsGrid d → Coloured t d f → r < size d → ((p : Passage) → Has (along_row d r) p → p.column < size d)
+pub row_closes : (t : Table) (d : Diagram) (f : List ℕ) (r : ℕ) → IsGrid d → Coloured t d f → r < size d
+    → ((p : Passage) → Has (along_row d r) p → p.column < size d)
     → fold (passing t d f) (get_or f (column_of Ring d r) 0) (along_row d r) ≡ get_or f (column_of Cross d r) 0 → walk t d f r ≡ get_or f (right d r) 0
 row_closes t d f r grid c lt inside e =
     let ends = has_ends d grid r lt in

@@ -8,10 +8,10 @@ use Rattle.std.proofs.lemmas.List.FromFn.{length-range_with_len}
 use Rattle.grid_core.specs.Diagram.{Diagram, IsGrid}
 use Rattle.grid_core.specs.declared.grid.TheConstants.{MAX_SIZE}
 use Rattle.crossing_codes.specs.declared.layout.TheConstants.{MAX_CELLS}
-use Rattle.crossing_codes.specs.declared.passage.Passage.{Passage}
+use Rattle.crossing_codes.specs.declared.passages.Passage.{Passage}
 use Rattle.crossing_codes.specs.Passages.{passages}
 use Rattle.crossing_codes.specs.Layout.{cell, slot}
-use Rattle.crossing_codes.specs.declared.route.TheConstants.{MAX_SLOTS}
+use Rattle.crossing_codes.specs.declared.edges.TheConstants.{MAX_SLOTS}
 use Rattle.crossing_codes.proofs.Members.{Has, has_at, one_place, apart_map, of_map, has_range, fewer}
 use Rattle.crossing_codes.proofs.AllPassages.{passages_apart, passage_at}
 
@@ -46,12 +46,14 @@ slot_once p q ip iq e =
     let below_q = cell_below q.column q.row iq.0 iq.1 in
     elim (cases_Bool p.over) [
       | inl po ↦ elim (cases_Bool q.over) [
-        | inl qo ↦ let r = cell_once p.column q.column p.row q.row ip.0 iq.0 (let a = slot_over p po in let b = slot_over q qo in omega arith) in same_passage p q (po ∙ sym qo) r.0 r.1
+        | inl qo ↦ let r = cell_once p.column q.column p.row q.row ip.0 iq.0 (let a = slot_over p po in let b = slot_over q qo in omega arith) in
+            same_passage p q (po ∙ sym qo) r.0 r.1
         | inr qu ↦ absurd (let a = slot_over p po in let b = slot_under q qu in omega arith)
       ]
       | inr pu ↦ elim (cases_Bool q.over) [
         | inl qo ↦ absurd (let a = slot_under p pu in let b = slot_over q qo in omega arith)
-        | inr qu ↦ let r = cell_once p.column q.column p.row q.row ip.0 iq.0 (let a = slot_under p pu in let b = slot_under q qu in omega arith) in same_passage p q (pu ∙ sym qu) r.0 r.1
+        | inr qu ↦ let r = cell_once p.column q.column p.row q.row ip.0 iq.0 (let a = slot_under p pu in let b = slot_under q qu in omega arith) in
+            same_passage p q (pu ∙ sym qu) r.0 r.1
       ]
     ]
 
@@ -59,7 +61,8 @@ slot_once p q ip iq e =
 abbrev pub HasFirst : List Passage → List ℕ → ℕ → Type 0
 HasFirst ps table n = (i : ℕ) (p : Passage) → i < n → get_or ps i p ≡ p → get_or table (slot p) 0 ≡ i
 
-pub first_more : (ps : List Passage) (table : List ℕ) (n k : ℕ) (d : Passage) → All IsInside ps → AllPairs (λ p z. p ≢ z) ps → n < length ps → k < length table → k ≡ slot (get_or ps n d) → HasFirst ps table n → HasFirst ps (set table k n) (n + 1)
+pub first_more : (ps : List Passage) (table : List ℕ) (n k : ℕ) (d : Passage) → All IsInside ps → AllPairs (λ p z. p ≢ z) ps → n < length ps
+    → k < length table → k ≡ slot (get_or ps n d) → HasFirst ps table n → HasFirst ps (set table k n) (n + 1)
 first_more ps table n k d inside apart lt room is so_far i p less at = elim (cases_eq i n) [
   | inl same ↦
       let one : p ≡ get_or ps n d = sym at ∙ (ap (λ (j : ℕ). get_or ps j p) same ∙ get_or_default ps n p d lt) in

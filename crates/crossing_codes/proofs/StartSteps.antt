@@ -9,7 +9,7 @@ use Rattle.grid_core.specs.Diagram.{Diagram, IsGrid, size}
 use Rattle.colour_rows.proofs.Ranges.{range_longer}
 use Rattle.crossing_codes.specs.Components.{component, is_least, starts}
 use Rattle.crossing_codes.proofs.Members.{Has, has_range, of_range, has_filter, of_filter, has_flat_map, of_flat_map}
-use Rattle.crossing_codes.proofs.Components.{has_itself, start_of, start_least, one_start}
+use Rattle.crossing_codes.proofs.SharedColumns.{has_itself, start_of, start_least, one_start}
 use Rattle.crossing_codes.proofs.Strands.{any_has, has_any}
 
 -- the starts before column i, and the columns of their components
@@ -32,14 +32,18 @@ reached_or_start d grid i lt = elim (cases_Bool (is_least d i)) [
       let r = of_flat_map (component d) (so_far d i) i (any_has i (reached d i) e) in
       let s = is_start d i r.0 (omega arith) r.1 in
       let less = s.1 in
-      let same = one_start d grid r.0 i i s.0 (has_filter (is_least d) (range_with_len 0 (size d)) i (has_range 0 (size d) i (omega arith) (omega arith)) least) r.2 (has_itself d grid i lt) in
+      let same =
+      one_start d grid r.0 i i s.0 (has_filter (is_least d) (range_with_len 0 (size d)) i (has_range 0 (size d) i (omega arith) (omega arith)) least) r.2
+      (has_itself d grid i lt) in
       absurd (omega arith)) ∙ sym (ap not least)
   | inr not_least ↦
       let s = start_of d grid i lt in
       let least = (of_filter (is_least d) (range_with_len 0 (size d)) s.0 s.1).1 in
       let most = start_least d s.0 i s.1 s.2 in
       let other : s.0 ≢ i = λ e. let f : true ≡ false = sym least ∙ (ap (is_least d) e ∙ not_least) in cc in
-      has_any i (reached d i) (has_flat_map (component d) (so_far d i) s.0 i (has_filter (is_least d) (range_with_len 0 i) s.0 (has_range 0 i s.0 (omega arith) (omega arith)) least) s.2)
+      has_any i (reached d i)
+      (has_flat_map (component d) (so_far d i) s.0 i
+      (has_filter (is_least d) (range_with_len 0 i) s.0 (has_range 0 i s.0 (omega arith) (omega arith)) least) s.2)
       ∙ sym (ap not not_least)
 ]
 
@@ -61,7 +65,8 @@ seen_not false e = refl
 pub start_found : (d : Diagram) → IsGrid d → (i : ℕ) → i < size d → list_any (λ b. b == i) (reached d i) ≡ false → so_far d (i + 1) ≡ so_far d i ++ i ∷ []
 start_found d grid i lt e = starts_step d i true (not_seen (is_least d i) (sym (reached_or_start d grid i lt) ∙ e))
 
-pub reached_more : (d : Diagram) → IsGrid d → (i : ℕ) → i < size d → list_any (λ b. b == i) (reached d i) ≡ false → (k : ℕ) → list_any (λ b. b == k) (reached d (i + 1)) ≡ (list_any (λ b. b == k) (reached d i) || list_any (λ b. b == k) (component d i))
+pub reached_more : (d : Diagram) → IsGrid d → (i : ℕ) → i < size d → list_any (λ b. b == i) (reached d i) ≡ false → (k : ℕ)
+    → list_any (λ b. b == k) (reached d (i + 1)) ≡ (list_any (λ b. b == k) (reached d i) || list_any (λ b. b == k) (component d i))
 reached_more d grid i lt e k =
     ap (λ (ss : List ℕ). list_any (λ b. b == k) (flat_map (component d) ss)) (start_found d grid i lt e)
     ∙ (ap (list_any (λ b. b == k)) (flat_map-append (component d) (so_far d i) (i ∷ []) ∙ ap (λ (xs : List ℕ). reached d i ++ xs) (append-nil (component d i)))

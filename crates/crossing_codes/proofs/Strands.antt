@@ -6,14 +6,14 @@ use Rattle.std.proofs.lemmas.Bool.{cases_lt, cases_order, eqb-true, eq-eqb, or_c
 use Rattle.std.proofs.lemmas.List.{append-nil, length-append, get_or-append-add, nil_from_length}
 use Rattle.std.proofs.lemmas.List.Sums.{position_or_len_is}
 use Rattle.grid_core.specs.Diagram.{Diagram, IsGrid, size}
-use Rattle.crossing_codes.specs.declared.passage.Passage.{Passage}
+use Rattle.crossing_codes.specs.declared.passages.Passage.{Passage}
 use Rattle.crossing_codes.specs.Components.{column_after, round_length, component, starts}
 use Rattle.crossing_codes.specs.Passages.{passages_from, passages}
 use Rattle.crossing_codes.specs.Edges.{place, loops}
-use Rattle.crossing_codes.specs.EdgeColours.{strand_by, strand}
+use Rattle.crossing_codes.specs.EdgeColouring.{place_by_first_passage, place_where_column_begins}
 use Rattle.crossing_codes.proofs.Members.{Has, has_at, one_place, has_filter, of_filter, apart_filter}
 use Rattle.crossing_codes.proofs.ColumnsAfter.{IsRound, after_below, after_add, after_once, round_is}
-use Rattle.crossing_codes.proofs.Components.{has_after, start_below, one_start, starts_apart}
+use Rattle.crossing_codes.proofs.SharedColumns.{has_after, start_below, one_start, starts_apart}
 use Rattle.crossing_codes.proofs.AllPassages.{place_is}
 use Rattle.crossing_codes.proofs.Legs.{legs, round_legs, legs_split, turned_round}
 use Rattle.crossing_codes.proofs.Placed.{IsPlaced}
@@ -34,11 +34,14 @@ swapped d j k s = let e : k + j ≡ j + k = omega arith in sym (after_add d k j 
 later_round : (d : Diagram) → IsGrid d → (s j : ℕ) → s < size d → round_length d (column_after d j s) ≡ round_length d s
 later_round d grid s j lt =
     let round = round_is d grid s lt in
-    same_round d (column_after d j s) (round_length d (column_after d j s)) (round_length d s) (round_is d grid (column_after d j s) (after_below d grid j s lt)) (record {
+    same_round d (column_after d j s) (round_length d (column_after d j s)) (round_length d s)
+    (round_is d grid (column_after d j s) (after_below d grid j s lt)) (record {
       some = round.some;
       most = round.most;
       back = swapped d j (round_length d s) s ∙ ap (column_after d j) round.back;
-      first = λ k less e. round.first k less (after_once d grid j (column_after d (k + 1) s) s (after_below d grid (k + 1) s lt) lt (sym (swapped d j (k + 1) s) ∙ e));
+      first =
+          λ k less e. round.first k less
+          (after_once d grid j (column_after d (k + 1) s) s (after_below d grid (k + 1) s lt) lt (sym (swapped d j (k + 1) s) ∙ e));
     })
 
 -- how many passages of the component of s lie before its j-th column
@@ -52,7 +55,8 @@ round_parts d s j most =
     let e : 0 + j ≡ j = omega arith in
     round_legs d s ∙ (ap (legs d s 0) whole ∙ (legs_split d s 0 j (n - j) ∙ ap (λ (i : ℕ). legs d s 0 j ++ legs d s i (n - j)) e))
 
-pub turned_parts : (d : Diagram) → IsGrid d → (s j : ℕ) → s < size d → j ≤ round_length d s → passages_from d (column_after d j s) ≡ legs d s j (round_length d s - j) ++ legs d s 0 j
+pub turned_parts : (d : Diagram) → IsGrid d → (s j : ℕ) → s < size d → j ≤ round_length d s
+    → passages_from d (column_after d j s) ≡ legs d s j (round_length d s - j) ++ legs d s 0 j
 turned_parts d grid s j lt most =
     round_legs d (column_after d j s) ∙ (ap (legs d (column_after d j s) 0) (later_round d grid s j lt) ∙ turned_round d grid s j lt most)
 
@@ -79,14 +83,14 @@ first_of xs (y ∷ ys) z some =
     let e : length xs + 0 ≡ length xs = omega arith in
     sym (ap (λ (i : ℕ). get_or (xs ++ y ∷ ys) i z) (less ∙ sym e) ∙ get_or-append-add xs (y ∷ ys) 0 z)
 
-strand_first : (d : Diagram) (c : ℕ) (ps : List Passage) (z : Passage) → 0 < length ps → strand_by d c ps ≡ place d (get_or ps 0 z)
+strand_first : (d : Diagram) (c : ℕ) (ps : List Passage) (z : Passage) → 0 < length ps → place_by_first_passage d c ps ≡ place d (get_or ps 0 z)
 strand_first d c [] z some = absurd (omega arith)
 strand_first d c (p ∷ ps) z some = refl
 
 -- a column of a component with passages begins on the edge that leads to the passage after those before it
-pub strand_is : (d : Diagram) → IsGrid d → (s b j : ℕ) → IsPlaced d s b → j ≤ round_length d s → 0 < length (passages_from d s)
-    → strand d (column_after d j s) ≡ b + turn (length (passages_from d s)) (before d s j)
-strand_is d grid s b j p most some =
+pub begins_on_edge : (d : Diagram) → IsGrid d → (s b j : ℕ) → IsPlaced d s b → j ≤ round_length d s → 0 < length (passages_from d s)
+    → place_where_column_begins d (column_after d j s) ≡ b + turn (length (passages_from d s)) (before d s j)
+begins_on_edge d grid s b j p most some =
     let z : Passage = record { over = true; column = 0; row = 0 } in
     let lt = start_below d s p.start in
     let c = column_after d j s in
@@ -100,7 +104,12 @@ strand_is d grid s b j p most some =
     let first : get_or (passages_from d c) 0 z ≡ get_or ps i z =
     ap (λ (ws : List Passage). get_or ws 0 z) turned
     ∙ (first_of xs ys z (omega (arith, ap length parts)) ∙ ap (λ (ws : List Passage). get_or ws (turn (length ws) (length xs)) z) (sym parts)) in
-    let within : i < length ps = elim (cases_lt (length xs) (length ps)) [ inl less ↦ omega (arith, turn_less (length ps) (length xs) less) | inr whole ↦ omega (arith, turn_whole (length ps) (length xs) whole) ] in
+    let within : i < length ps =
+    elim (cases_lt (length xs) (length ps)) [
+      | inl less ↦ omega (arith, turn_less (length ps) (length xs) less)
+      | inr whole ↦ omega
+          (arith, turn_whole (length ps) (length xs) whole)
+    ] in
     let inside = p.within in
     strand_first d c (passages_from d c) z size_turned
     ∙ (ap (place d) first
@@ -144,14 +153,17 @@ loop_place d grid i c lt h =
     (λ within. has_any c (component d (get_or (loops d) i 0)) h)
 
 -- each column of a loop begins on it
-pub strand_of_loop : (d : Diagram) → IsGrid d → (i j : ℕ) → i < length (loops d) → j < round_length d (get_or (loops d) i 0)
-    → strand d (column_after d j (get_or (loops d) i 0)) ≡ length (passages d) + i
-strand_of_loop d grid i j lt less =
+pub begins_on_loop : (d : Diagram) → IsGrid d → (i j : ℕ) → i < length (loops d) → j < round_length d (get_or (loops d) i 0)
+    → place_where_column_begins d (column_after d j (get_or (loops d) i 0)) ≡ length (passages d) + i
+begins_on_loop d grid i j lt less =
     let s = get_or (loops d) i 0 in
     let h = has_at (loops d) i 0 lt in
     let xs = legs d s 0 j in
     let ys = legs d s j (round_length d s - j) in
     let parts = round_parts d s j (omega arith) in
     let turned = turned_parts d grid s j (start_below d s (loop_start d s h)) (omega arith) in
-    let empty = nil_from_length (passages_from d (column_after d j s)) (omega (arith, ap length turned, ap length parts, length-append xs ys, length-append ys xs, loop_empty d s h)) in
-    ap (strand_by d (column_after d j s)) empty ∙ ap (λ (k : ℕ). length (passages d) + k) (loop_place d grid i (column_after d j s) lt (has_after d s j less))
+    let empty =
+    nil_from_length (passages_from d (column_after d j s))
+    (omega (arith, ap length turned, ap length parts, length-append xs ys, length-append ys xs, loop_empty d s h)) in
+    ap (place_by_first_passage d (column_after d j s)) empty
+    ∙ ap (λ (k : ℕ). length (passages d) + k) (loop_place d grid i (column_after d j s) lt (has_after d s j less))

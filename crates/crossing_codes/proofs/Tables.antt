@@ -21,7 +21,8 @@ columns_more kind d grid columns c long lt so_far k less = elim (cases_eq k c) [
       ∙ so_far k (omega (arith, less, other))
 ]
 
-pub columns_all : (kind : Kind) (d : Diagram) → IsGrid d → (columns : List ℕ) (c : ℕ) → size d ≤ c → ((k : ℕ) → k < c → get_or columns (row_of kind d k) 0 ≡ k) → HasColumns kind d columns
+pub columns_all : (kind : Kind) (d : Diagram) → IsGrid d → (columns : List ℕ) (c : ℕ) → size d ≤ c
+    → ((k : ℕ) → k < c → get_or columns (row_of kind d k) 0 ≡ k) → HasColumns kind d columns
 columns_all kind d grid columns c most all r lt =
     let mark = column_mark d grid kind r lt in
     let inside = mark.inside in

@@ -6,7 +6,7 @@ use Rattle.grid_core.specs.Diagram.{Diagram, IsGrid, size}
 use Rattle.grid_core.specs.Parts.{is_up, is_rightward}
 use Rattle.grid_core.specs.Crossing.{unit, cross_product, is_positive}
 use Rattle.quandle_core.specs.Quandle.{Table, IsQuandle, over, back}
-use Rattle.crossing_codes.specs.declared.passage.Passage.{Passage}
+use Rattle.crossing_codes.specs.declared.passages.Passage.{Passage}
 use Rattle.crossing_codes.specs.declared.crossing.Crossing.{Crossing}
 use Rattle.crossing_codes.specs.Passages.{through, passages}
 use Rattle.crossing_codes.specs.Edges.{place, edge_from, edge_to, edges_after}
@@ -44,13 +44,15 @@ goes t up rightward x y = if rightward then (if up then back t x y else over t x
 abbrev pub meets : Table → Bool → ℕ → ℕ → ℕ → Bool
 meets t positive x y z = if positive then z == over t x y else x == over t z y
 
-pub meets_from : (t : Table) → IsQuandle t → (up rightward : Bool) (x y z : ℕ) → x < t.order → y < t.order → z ≡ goes t up rightward x y → meets t (if up then not rightward else rightward) x y z ≡ true
+pub meets_from : (t : Table) → IsQuandle t → (up rightward : Bool) (x y z : ℕ) → x < t.order → y < t.order → z ≡ goes t up rightward x y
+    → meets t (if up then not rightward else rightward) x y z ≡ true
 meets_from t q true true x y z hx hy e = eq-eqb x (over t z y) (sym (ap (λ w. over t w y) e ∙ q.over_back x y hx hy))
 meets_from t q true false x y z hx hy e = eq-eqb z (over t x y) e
 meets_from t q false true x y z hx hy e = eq-eqb z (over t x y) e
 meets_from t q false false x y z hx hy e = eq-eqb x (over t z y) (sym (ap (λ w. over t w y) e ∙ q.over_back x y hx hy))
 
-pub meets_to : (t : Table) → IsQuandle t → (up rightward : Bool) (x y z : ℕ) → z < t.order → y < t.order → meets t (if up then not rightward else rightward) x y z ≡ true → z ≡ goes t up rightward x y
+pub meets_to : (t : Table) → IsQuandle t → (up rightward : Bool) (x y z : ℕ) → z < t.order → y < t.order
+    → meets t (if up then not rightward else rightward) x y z ≡ true → z ≡ goes t up rightward x y
 meets_to t q true true x y z hz hy e = sym (ap (λ w. back t w y) (eqb-true x (over t z y) e) ∙ q.back_over z y hz hy)
 meets_to t q true false x y z hz hy e = eqb-true z (over t x y) e
 meets_to t q false true x y z hz hy e = eqb-true z (over t x y) e
@@ -74,7 +76,8 @@ pub record Says (t : Table) (d : Diagram) (e : List ℕ) (c r : ℕ) : Type 0 wh
 from_colour : (d : Diagram) (e : List ℕ) (i : ℕ) → edge_colour e (i + 1) ≡ get_or e i 0
 from_colour d e i = let s : i + 1 - 1 ≡ i = omega arith in ap (λ k. get_or e k 0) s
 
-agrees_from : (t : Table) (d : Diagram) (e : List ℕ) (c r : ℕ) (positive : Bool) → after_colour d e (place d (through true (cell c r))) ≡ get_or e (place d (through true (cell c r))) 0
+agrees_from : (t : Table) (d : Diagram) (e : List ℕ) (c r : ℕ) (positive : Bool)
+    → after_colour d e (place d (through true (cell c r))) ≡ get_or e (place d (through true (cell c r))) 0
     → meets t positive (get_or e (place d (through false (cell c r))) 0) (get_or e (place d (through true (cell c r))) 0) (after_colour d e (place d (through false (cell c r)))) ≡ true
     → agrees t e (crossing_by d c r positive) ≡ true
 agrees_from t d e c r true above below =
@@ -92,7 +95,8 @@ agrees_from t d e c r false above below =
 
 agrees_to : (t : Table) (d : Diagram) (e : List ℕ) (c r : ℕ) (positive : Bool) → agrees t e (crossing_by d c r positive) ≡ true
     → (after_colour d e (place d (through true (cell c r))) ≡ get_or e (place d (through true (cell c r))) 0)
-    × (meets t positive (get_or e (place d (through false (cell c r))) 0) (get_or e (place d (through true (cell c r))) 0) (after_colour d e (place d (through false (cell c r)))) ≡ true)
+    × (meets t positive (get_or e (place d (through false (cell c r))) 0) (get_or e (place d (through true (cell c r))) 0)
+    (after_colour d e (place d (through false (cell c r)))) ≡ true)
 agrees_to t d e c r true h =
     let o = place d (through true (cell c r)) in
     let u = place d (through false (cell c r)) in
@@ -116,8 +120,10 @@ agrees_says t d e c r h = let parts = agrees_to t d e c r (is_positive d c r) h 
 is_edge_from : (n i : ℕ) → (1 ≤ i) × (i ≤ n) → is_edge n i ≡ true
 is_edge_from n i within = and_from (nat_le 1 i) (nat_le i n) (le-leb 1 i within.0) (le-leb i n within.1)
 
-names_by : (d : Diagram) (c r : ℕ) (positive : Bool) → is_edge (length (passages d)) (edge_from d (through false (cell c r))) ≡ true → is_edge (length (passages d)) (edge_to d (through false (cell c r))) ≡ true
-    → is_edge (length (passages d)) (edge_from d (through true (cell c r))) ≡ true → is_edge (length (passages d)) (edge_to d (through true (cell c r))) ≡ true → names_edges (length (passages d)) (crossing_by d c r positive) ≡ true
+names_by : (d : Diagram) (c r : ℕ) (positive : Bool) → is_edge (length (passages d)) (edge_from d (through false (cell c r))) ≡ true
+    → is_edge (length (passages d)) (edge_to d (through false (cell c r))) ≡ true
+    → is_edge (length (passages d)) (edge_from d (through true (cell c r))) ≡ true
+    → is_edge (length (passages d)) (edge_to d (through true (cell c r))) ≡ true → names_edges (length (passages d)) (crossing_by d c r positive) ≡ true
 names_by d c r true a b e f = rw (a, b, e, f) refl
 names_by d c r false a b e f = rw (a, b, e, f) refl
 
@@ -129,5 +135,7 @@ crossing_names d grid c r lt x =
     let at_over = above.within in
     let at_under = below.within in
     names_by d c r (is_positive d c r)
-    (is_edge_from n (edge_from d (through false (cell c r))) (omega arith, omega arith)) (is_edge_from n (edge_to d (through false (cell c r))) (leads_within d grid (place d (through false (cell c r))) below.within))
-    (is_edge_from n (edge_from d (through true (cell c r))) (omega arith, omega arith)) (is_edge_from n (edge_to d (through true (cell c r))) (leads_within d grid (place d (through true (cell c r))) above.within))
+    (is_edge_from n (edge_from d (through false (cell c r))) (omega arith, omega arith))
+    (is_edge_from n (edge_to d (through false (cell c r))) (leads_within d grid (place d (through false (cell c r))) below.within))
+    (is_edge_from n (edge_from d (through true (cell c r))) (omega arith, omega arith))
+    (is_edge_from n (edge_to d (through true (cell c r))) (leads_within d grid (place d (through true (cell c r))) above.within))

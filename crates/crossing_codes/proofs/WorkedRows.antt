@@ -5,10 +5,11 @@ use Rattle.std.specs.Fmt.{digits}
 use Rattle.grid_core.specs.Diagram.{Diagram}
 use Rattle.quandle_core.specs.Tables.{dihedral, tetrahedral}
 use Rattle.crossing_codes.specs.Components.{component, starts}
+use Rattle.crossing_codes.specs.StrandPlaces.{on_column, on_row, place_after, met_after, at_cross}
 use Rattle.crossing_codes.specs.Edges.{edges_after}
 use Rattle.crossing_codes.specs.Code.{code}
 use Rattle.crossing_codes.specs.CodeColouring.{is_code_colouring}
-use Rattle.crossing_codes.specs.EdgeColours.{edge_colours, strand}
+use Rattle.crossing_codes.specs.EdgeColouring.{edge_colours, place_where_column_begins}
 use Rattle.crossing_codes.specs.Printed.{pd_text, gauss_text}
 
 abbrev pub right_trefoil : Diagram
@@ -32,6 +33,18 @@ above = record { x = 1 ∷ 0 ∷ 3 ∷ 2 ∷ []; o = 2 ∷ 3 ∷ 0 ∷ 1 ∷ [] 
 -- the strand runs through all columns of the trefoil, every second one
 trefoil_round : component right_trefoil 0 ≡ 0 ∷ 2 ∷ 4 ∷ 1 ∷ 3 ∷ []
 trefoil_round = refl
+
+-- from the X of its column 0 down two rows, into the row of the O, and under column 1
+trefoil_first : met_after right_trefoil 4 (at_cross right_trefoil 0) ≡ on_row 1 2 ∷ []
+trefoil_first = refl
+
+none_before : met_after right_trefoil 3 (at_cross right_trefoil 0) ≡ []
+none_before = refl
+
+-- once round the unknot, from cell to cell
+unknot_places : map (λ k. place_after unknot k (at_cross unknot 0)) (1 ∷ 2 ∷ 3 ∷ 4 ∷ 5 ∷ 6 ∷ 7 ∷ 8 ∷ [])
+    ≡ on_column 0 1 ∷ on_row 0 1 ∷ on_row 1 1 ∷ on_column 1 1 ∷ on_column 1 0 ∷ on_row 1 0 ∷ on_row 0 0 ∷ on_column 0 0 ∷ []
+unknot_places = refl
 
 one_component : starts right_trefoil ≡ 0 ∷ []
 one_component = refl
@@ -98,5 +111,5 @@ by_rotations : is_code_colouring tetrahedral (code right_trefoil) (edge_colours 
 by_rotations = refl
 
 -- the columns of the trefoil begin on these edges, counted from 0
-where_columns_begin : map (strand right_trefoil) (0 ∷ 1 ∷ 2 ∷ 3 ∷ 4 ∷ []) ≡ 0 ∷ 3 ∷ 1 ∷ 5 ∷ 2 ∷ []
+where_columns_begin : map (place_where_column_begins right_trefoil) (0 ∷ 1 ∷ 2 ∷ 3 ∷ 4 ∷ []) ≡ 0 ∷ 3 ∷ 1 ∷ 5 ∷ 2 ∷ []
 where_columns_begin = refl

@@ -3,7 +3,7 @@
 use Rattle.std.specs.Prelude.{ℕ, ◌+◌, ◌==◌, ◌&&◌, Bool, not, List, [], ◌∷◌, ◌++◌, map, filter, length, nat_lt, slice_index, if◌then◌else◌}
 use Rattle.std.specs.List.{range_with_len, flat_map, position_or_len}
 use Rattle.grid_core.specs.Diagram.{Diagram}
-use Rattle.crossing_codes.specs.declared.passage.Passage.{Passage}
+use Rattle.crossing_codes.specs.declared.passages.Passage.{Passage}
 use Rattle.crossing_codes.specs.Components.{starts}
 use Rattle.crossing_codes.specs.Passages.{passages, passages_from}
 

@@ -7,7 +7,7 @@ use Rattle.grid_core.specs.declared.span.Span.{Span}
 use Rattle.grid_core.specs.Diagram.{Diagram, size}
 use Rattle.grid_core.specs.Parts.{column_of}
 use Rattle.colour_rows.specs.Walk.{passed}
-use Rattle.crossing_codes.specs.declared.passage.Passage.{Passage}
+use Rattle.crossing_codes.specs.declared.passages.Passage.{Passage}
 use Rattle.crossing_codes.specs.Passages.{Crossed}
 use Rattle.crossing_codes.specs.Printed.{crossing_number}
 use Rattle.crossing_codes.specs.declared.layout.TheConstants.{MAX_CELLS}

@@ -1,9 +1,10 @@
 pub mod Components
 pub mod Passages
 pub mod Edges
+pub mod StrandPlaces
 pub mod Code
 pub mod CodeColouring
-pub mod EdgeColours
+pub mod EdgeColouring
 pub mod Printed
 pub mod Layout
 pub mod OnTheWay
@@ -11,6 +12,7 @@ pub use Rattle.grid_core.specs.Diagram
 pub use Rattle.grid_core.specs.Span
 pub use Rattle.grid_core.specs.Parts
 pub use Rattle.grid_core.specs.Crossing
+pub use Rattle.text_lines.specs.Lines
 pub use Rattle.quandle_core.specs.Quandle
 pub use Rattle.colour_rows.specs.Walk
 pub use Rattle.colour_rows.specs.Colouring

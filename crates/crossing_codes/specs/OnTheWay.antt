@@ -4,7 +4,7 @@ use Rattle.grid_core.specs.Diagram.{Diagram, size}
 use Rattle.grid_core.specs.Parts.{is_up, is_rightward}
 use Rattle.quandle_core.specs.Quandle.{Table}
 use Rattle.colour_rows.specs.Walk.{passed_rightward, passed_leftward}
-use Rattle.crossing_codes.specs.declared.passage.Passage.{Passage}
+use Rattle.crossing_codes.specs.declared.passages.Passage.{Passage}
 
 -- the passage is in the diagram
 abbrev pub LiesIn : Diagram → Passage → Type 0

@@ -6,7 +6,7 @@ use Rattle.grid_core.specs.Diagram.{Diagram, size, row_of}
 use Rattle.grid_core.specs.Span.{lies_within}
 use Rattle.grid_core.specs.Parts.{column_span, ends, is_up, is_rightward}
 use Rattle.colour_rows.specs.Walk.{passed}
-use Rattle.crossing_codes.specs.declared.passage.Passage.{Passage}
+use Rattle.crossing_codes.specs.declared.passages.Passage.{Passage}
 use Rattle.crossing_codes.specs.Components.{component, starts}
 
 -- where a column passes over a row: the column covers the row, and lies strictly between the row's ends

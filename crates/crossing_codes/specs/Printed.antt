@@ -5,7 +5,7 @@ use Rattle.grid_core.specs.Diagram.{Diagram}
 use Rattle.grid_core.specs.Crossing.{is_positive}
 use Rattle.crossing_codes.specs.declared.crossing.Code.{Code}
 use Rattle.crossing_codes.specs.declared.crossing.Crossing.{Crossing}
-use Rattle.crossing_codes.specs.declared.passage.Passage.{Passage}
+use Rattle.crossing_codes.specs.declared.passages.Passage.{Passage}
 use Rattle.crossing_codes.specs.Components.{starts}
 use Rattle.crossing_codes.specs.Passages.{Crossed, crossings, passages_from}
 

@@ -13,14 +13,14 @@ ghost use Rattle.quandle_core.specs.Bijection.{IsBijection};
 ghost use Rattle.colour_rows.specs.Colouring.{IsColouring};
 ghost use Rattle.crossing_codes.specs.Code.{crossing, code};
 ghost use Rattle.crossing_codes.specs.CodeColouring.{is_code_colouring};
-ghost use Rattle.crossing_codes.specs.EdgeColours.{edge_colours};
+ghost use Rattle.crossing_codes.specs.EdgeColouring.{edge_colours};
 
 use crate::crossing::{Code, Crossing};
+use crate::edges::{MAX_SLOTS, Route, numbers_of, slot};
 use crate::layout::Layout;
-use crate::passage::Passage;
-use crate::route::{MAX_SLOTS, Route, numbers_of, slot};
+use crate::passages::Passage;
 use grid_core::{Grid, Items};
-use knot_ports::OutOfMemory;
+use memory_core::OutOfMemory;
 use std::alloc::{AllocError, Global};
 
 /// The code of a grid: its crossings by row from the lowest, and in a row by column from the left, and how many edges and

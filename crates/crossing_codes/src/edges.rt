@@ -1,107 +1,97 @@
-//! The colours of edges and loops that a colouring of the columns gives.
-ghost use Rattle.std.specs.Prelude.{◌≡◌, ◌<◌, ◌≤◌, ◌++◌, false, length, IfOk, OnOk};
-ghost use Rattle.std.specs.List.{All};
-ghost use Rattle.grid_core.specs.Diagram.{size};
-ghost use Rattle.colour_rows.specs.Colouring.{IsColouring};
-ghost use Rattle.crossing_codes.specs.EdgeColours.{edge_colours};
-ghost use Rattle.crossing_codes.specs.OnTheWay.{LiesIn, passing, on_the_way};
+//! All passages of a grid in the order of its edges, and where they lead.
+ghost use Rattle.std.specs.Prelude.{◌≡◌, ◌≢◌, ◌<◌, ◌≤◌, ◌+◌, ◌^◌, ◌++◌, ℕ, length, IfOk, OnOk};
+ghost use Rattle.std.specs.List.{All, AllPairs};
+ghost use Rattle.grid_core.specs.declared.grid.TheConstants.{MAX_SIZE};
+ghost use Rattle.crossing_codes.specs.declared.layout.TheConstants.{MAX_CELLS};
+ghost use Rattle.crossing_codes.specs.Passages.{passages};
+ghost use Rattle.crossing_codes.specs.Edges.{edges_after, leads_to, loops};
+ghost use Rattle.crossing_codes.specs.Layout.{slot, HasNumbers};
 
-use crate::following::{Columns, push_round, starts};
-use crate::layout::Layout;
-use crate::passage::Passage;
-use colour_rows::Colouring;
-use grid_core::Grid;
-use knot_ports::OutOfMemory;
-use quandle_core::Quandle;
+use crate::components::starts;
+use crate::layout::{Layout, MAX_CELLS, cell};
+use crate::passages::{Passage, push_round};
+use memory_core::OutOfMemory;
 use std::alloc::{AllocError, Global};
 
-/// The colours of edges 1, 2, .. of the grid's code, and then of its loops, that a colouring of the grid gives.
-///
-/// An edge that has a part of a column has the column's colour, one that lies wholly in a row has the colour of the row's walk at that place, and a loop has the colour of its columns.
-/// The colours are to be a colouring of the grid.
-pub fn edge_colours(
-    alloc: Global,
-    grid: &Grid,
-    quandle: &Quandle,
-    colours: &Colouring,
-) -> Result<Vec<u8>, OutOfMemory>
-    requires { IsColouring quandle.now grid.now colours.now.items }
-    ensures { IfOk result (λ v. v.items ≡ edge_colours quandle.now grid.now colours.now.items) }
-{
-    let layout = Layout::of(grid);
-    let _size = layout.size();
-    let _order = quandle.order();
-    let colours = colours.as_slice();
-    let mut found = Vec::new(alloc);
-    let mut round = Vec::new(alloc);
-    let mut loops = Columns::new();
-    let starts = starts(&layout);
-    for start in starts.as_slice() {
-        round.clear();
-        push_round(&mut round, &layout, *start)?;
-        let colour = colours[*start as usize];
-        if round.is_empty() {
-            loops.push(colour);
-        }
-        push_edges(
-            &mut found,
-            &layout,
-            quandle,
-            colours,
-            colour,
-            round.as_slice(),
-        )?;
-    }
-    found.extend_from_slice(loops.as_slice())?;
-    Ok(found)
+/// How many slots a table by passage has: one for each cell under, and then one for each cell over.
+pub(crate) const MAX_SLOTS: usize = MAX_CELLS + MAX_CELLS;
+
+/// What one meets on the way through all components in order.
+#[derive(Drop)]
+pub(crate) struct Route {
+    /// The passages; edge i + 1 leads to passage i.
+    pub(crate) passages: Vec<Passage>,
+    /// The edge to which each passage leads.
+    pub(crate) after: Vec<u32>,
+    /// How many components have no passage.
+    pub(crate) loops: u32,
 }
 
-/// Appends the colours with which a strand, at first of this colour, comes to each passage of a component.
-fn push_edges(
-    out: &mut Vec<u8>,
-    layout: &Layout,
-    quandle: &Quandle,
-    colours: &[u8],
-    colour: u8,
-    round: &[Passage],
-) -> Result<(), AllocError>
-    requires colours { All (λ y. y < quandle.now.order) colours.now }
-    requires long { size layout.now ≤ length colours.now }
-    requires colour { colour < quandle.now.order }
-    requires round { All (LiesIn layout.now) round.now }
-    ensures { OnOk result (out.new.items ≡ out.old.items ++ on_the_way quandle.now layout.now colours.now colour round.now) }
-{
-    let mut colour = colour;
-    for passage in round {
-        out.push(colour)?;
-        if !passage.over {
-            colour = passed_under(layout, quandle, colours, *passage, colour);
+impl Route {
+    /// The route of a grid.
+    pub(crate) fn of(alloc: Global, layout: &Layout) -> Result<Route, OutOfMemory>
+        ensures passages { IfOk result (λ r. r.passages.items ≡ passages layout.now) }
+        ensures after { IfOk result (λ r. r.after.items ≡ edges_after layout.now) }
+        ensures loops { IfOk result (λ r. r.loops ≡ length (loops layout.now)) }
+    {
+        let room = usize::from(layout.size()) * usize::from(layout.size());
+        let mut passages = Vec::with_capacity(alloc, room)?;
+        let mut after = Vec::with_capacity(alloc, room)?;
+        let mut loops = 0;
+        let starts = starts(layout);
+        for start in starts.as_slice() {
+            let before = passages.len();
+            push_round(&mut passages, layout, *start)?;
+            let count = passages.len() - before;
+            push_leads(&mut after, before as u32, count as u32)?;
+            if count == 0 {
+                loops += 1;
+            }
         }
+        Ok(Route {
+            passages,
+            after,
+            loops,
+        })
+    }
+}
+
+/// Appends the edge to which each passage of a component leads.
+fn push_leads(after: &mut Vec<u32>, before: u32, count: u32) -> Result<(), AllocError>
+    requires { before + count < 2 ^ 32 }
+    ensures { OnOk result (after.new.items ≡ after.old.items ++ leads_to before count) }
+{
+    for done in 0..count {
+        let next = if done + 1 < count {
+            before + done + 2
+        } else {
+            before + 1
+        };
+        after.push(next)?;
     }
     Ok(())
 }
 
-/// What a colour becomes where its strand passes under, in the direction of the row.
-fn passed_under(
-    layout: &Layout,
-    quandle: &Quandle,
-    colours: &[u8],
-    passage: Passage,
-    colour: u8,
-) -> u8
-    requires under { passage.over ≡ false }
-    requires passage { LiesIn layout.now passage }
-    requires colours { All (λ y. y < quandle.now.order) colours.now }
-    requires long { size layout.now ≤ length colours.now }
-    requires colour { colour < quandle.now.order }
-    ensures is { result ≡ passing quandle.now layout.now colours.now colour passage }
-    ensures below { result < quandle.now.order }
+/// A table by slot of the numbers, from 0, that the passages have in the list.
+pub(crate) fn numbers_of(passages: &[Passage]) -> [u16; MAX_SLOTS]
+    requires few { length passages.now ≤ MAX_SLOTS }
+    requires inside { All (λ p. (p.column < MAX_SIZE) × (p.row < MAX_SIZE)) passages.now }
+    requires apart { AllPairs (λ p q. p ≢ q) passages.now }
+    ensures { HasNumbers passages.now result }
 {
-    let _order = quandle.order();
-    let column = colours[passage.column as usize];
-    if layout.is_up(passage.column) == layout.is_rightward(passage.row) {
-        quandle.back(colour, column)
-    } else {
-        quandle.over(colour, column)
+    let mut numbers = [0; MAX_SLOTS];
+    for number in 0..passages.len() {
+        numbers[slot(passages[number])] = number as u16;
     }
+    numbers
+}
+
+/// The slot of a passage in a table.
+pub(crate) fn slot(passage: Passage) -> usize
+    requires { (passage.column < MAX_SIZE) × (passage.row < MAX_SIZE) }
+    ensures is { result ≡ slot passage }
+    ensures within { result < MAX_SLOTS }
+{
+    let cell = cell(passage.column, passage.row);
+    if passage.over { MAX_CELLS + cell } else { cell }
 }

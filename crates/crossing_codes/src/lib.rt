@@ -4,19 +4,19 @@
 
 mod code;
 mod code_colouring;
+mod components;
 mod crossing;
+mod edge_colouring;
 mod edges;
-mod following;
 pub mod laws;
 mod layout;
-mod passage;
-mod printing;
-mod route;
+mod passages;
+mod printed;
 #[cfg(test)]
 mod tests;
 
 pub use code::code_of;
 pub use code_colouring::is_code_colouring;
 pub use crossing::{Code, Crossing};
-pub use edges::edge_colours;
-pub use printing::{gauss_text, pd_text};
+pub use edge_colouring::edge_colours;
+pub use printed::{gauss_text, pd_text};

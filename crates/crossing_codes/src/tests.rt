@@ -2,8 +2,8 @@
 //! The planar diagram code of the figure eight is that of published tables, in the order of the rows; all other expected texts are those of a separate plain program.
 use crate::code::code_of;
 use crate::code_colouring::is_code_colouring;
-use crate::edges::edge_colours;
-use crate::printing::{gauss_text, pd_text};
+use crate::edge_colouring::edge_colours;
+use crate::printed::{gauss_text, pd_text};
 use colour_rows::Colouring;
 use grid_core::Grid;
 use quandle_core::Quandle;

@@ -1,12 +1,12 @@
 use Rattle.std.proofs.Common.{◌≡◌, ◌≢◌, ◌∙◌, true, List, length, sym, ap, subst, arith}
 use Rattle.std.specs.List.{All, AllPairs}
-use Rattle.crossing_codes.specs.declared.passage.Passage.{Passage}
+use Rattle.crossing_codes.specs.declared.passages.Passage.{Passage}
 use Rattle.grid_core.specs.Diagram.{IsGrid, size}
 use Rattle.quandle_core.specs.Bijection.{IsBijection}
 use Rattle.colour_rows.specs.Colouring.{IsColouring}
 use Rattle.crossing_codes.specs.declared.crossing.Code.{Code}
 use Rattle.crossing_codes.specs.CodeColouring.{is_code_colouring}
-use Rattle.crossing_codes.specs.EdgeColours.{edge_colours}
+use Rattle.crossing_codes.specs.EdgeColouring.{edge_colours}
 use Rattle.crossing_codes.proofs.OneToOne.{one_to_one}
 use Rattle.crossing_codes.specs.Layout.{HasNumbers}
 use Rattle.crossing_codes.specs.Code.{code}
@@ -26,7 +26,8 @@ numbers_of-numbers-requires-clause-inside c =
 
 pub numbers_of-numbers-requires-clause-apart : goal.numbers_of-numbers-requires-clause-apart
 numbers_of-numbers-requires-clause-apart c =
-    subst (λ (ps : List Passage). AllPairs (λ p z. p ≢ z) ps) (sym (c.as_slice.ensures.value ∙ c.in_ok-route.ensures.passages)) (passages_differ c.of-layout.result c.size-size.ensures.grid)
+    subst (λ (ps : List Passage). AllPairs (λ p z. p ≢ z) ps) (sym (c.as_slice.ensures.value ∙ c.in_ok-route.ensures.passages))
+    (passages_differ c.of-layout.result c.size-size.ensures.grid)
 
 pub push_crossings-requires : goal.push_crossings-requires
 push_crossings-requires c =
@@ -34,7 +35,9 @@ push_crossings-requires c =
     record {
       row = omega arith;
       after = c.as_slice-in-loop-row.ensures.value ∙ c.in_ok-route.ensures.after;
-      numbers = subst (λ (ps : List Passage). HasNumbers ps c.numbers_of-numbers.result) (c.as_slice.ensures.value ∙ c.in_ok-route.ensures.passages) c.numbers_of-numbers.ensures;
+      numbers =
+          subst (λ (ps : List Passage). HasNumbers ps c.numbers_of-numbers.result)
+          (c.as_slice.ensures.value ∙ c.in_ok-route.ensures.passages) c.numbers_of-numbers.ensures;
     }
 
 pub loop-row-preserved : goal.loop-row-preserved

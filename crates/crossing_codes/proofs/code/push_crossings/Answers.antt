@@ -15,7 +15,8 @@ loop-column-init c =
     let d = c.args.layout.now in
     let r = c.args.row in
     let low = ap (λ (z : Span). z.low) c.row_span-span.ensures.span in
-    met_begins (λ (b : ℕ). crossing d (cell b r)) (λ b. covers d b r) (ends d r) (c.row_span-span.result.low + 1 - (ends d r).low - 1) c.args.out.now.items (omega arith)
+    met_begins (λ (b : ℕ). crossing d (cell b r)) (λ b. covers d b r) (ends d r) (c.row_span-span.result.low + 1 - (ends d r).low - 1) c.args.out.now.items
+    (omega arith)
 
 pub crossing-requires-clause-across : goal.crossing-requires-clause-across
 crossing-requires-clause-across c =
@@ -43,11 +44,14 @@ loop-column-preserved c =
     let is : k ≡ s.low + 1 + done = omega arith in
     elim c.if-covers.branch [
       | then-covers+in_ok-push w ↦ rw w.out-is
-          (met_yes (λ (b : ℕ). crossing d (cell b r)) true (λ b. covers d b r) s done k c.args.out.now.items c.loop-column.out.items w.push.new.self.items within is (sym c.covers.ensures ∙ w.if-covers.true) c.loop-column.invariant
+          (met_yes (λ (b : ℕ). crossing d (cell b r)) true
+          (λ b. covers d b r) s done k c.args.out.now.items c.loop-column.out.items w.push.new.self.items within is
+          (sym c.covers.ensures ∙ w.if-covers.true) c.loop-column.invariant
           (w.in_ok-push.ensures.items ∙ ap (λ (x : Crossing). c.loop-column.out.items ++ x ∷ []) w.crossing.ensures)
           ∙ ap (λ (n : ℕ). c.args.out.now.items ++ map (λ (b : ℕ). crossing d (cell b r)) (met true (λ b. covers d b r) s n)) (sym next))
       | else-covers w ↦ rw w.out-is
-          (met_no (λ (b : ℕ). crossing d (cell b r)) true (λ b. covers d b r) s done k c.args.out.now.items c.loop-column.out.items within is (sym c.covers.ensures ∙ w.if-covers.false) c.loop-column.invariant
+          (met_no (λ (b : ℕ). crossing d (cell b r)) true (λ b. covers d b r) s done k c.args.out.now.items c.loop-column.out.items within is
+          (sym c.covers.ensures ∙ w.if-covers.false) c.loop-column.invariant
           ∙ ap (λ (n : ℕ). c.args.out.now.items ++ map (λ (b : ℕ). crossing d (cell b r)) (met true (λ b. covers d b r) s n)) (sym next))
     ]
 
@@ -63,4 +67,5 @@ returns c =
     let least = c.loop-column.auto.column in
     let most = c.loop-column.auto.column-end in
     let end = c.loop-column-test.false in
-    met_ends (λ (b : ℕ). crossing d (cell b r)) (λ b. covers d b r) s (k - s.low - 1) c.args.out.now.items c.loop-column.out.items (omega arith) (omega arith) c.loop-column.invariant
+    met_ends (λ (b : ℕ). crossing d (cell b r)) (λ b. covers d b r) s (k - s.low - 1) c.args.out.now.items c.loop-column.out.items (omega arith)
+    (omega arith) c.loop-column.invariant

@@ -16,4 +16,5 @@ returns c =
     let items = c.as_slice-crossing-items.result.now in
     sym (and_from (are_colours (k.edges + k.loops) t.order e) (list_all test k.crossings)
     (sym (c.are_colours.ensures ∙ ap (λ n. are_colours (k.edges + k.loops) n e) c.order.ensures.order) ∙ c.if-not-are_colours.false)
-    (ap (list_all test) (sym (take_all c.loop-crossing.crossing-index items c.loop-crossing-test.false ∙ c.as_slice-crossing-items.ensures)) ∙ c.loop-crossing.invariant))
+    (ap (list_all test) (sym (take_all c.loop-crossing.crossing-index items c.loop-crossing-test.false ∙ c.as_slice-crossing-items.ensures))
+    ∙ c.loop-crossing.invariant))

@@ -1,5 +1,5 @@
 use Rattle.crossing_codes.specs.Components.{component, starts}
-use Rattle.crossing_codes.proofs.Components.{start_least}
+use Rattle.crossing_codes.proofs.SharedColumns.{start_least}
 use Rattle.crossing_codes.proofs.EdgeLaws.{has_contained, columns_shared}
 use Rattle.crossing_codes.proofs.laws.the_components_share_out_the_columns.Goals as goal
 

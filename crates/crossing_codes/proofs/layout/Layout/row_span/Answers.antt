@@ -5,4 +5,5 @@ use Rattle.crossing_codes.proofs.layout.Layout.row_span.Goals as goal
 
 pub returns-clause-within : goal.returns-clause-within
 returns-clause-within c =
-    rw (c.between.ensures, c.column_of.ensures.column, c.column_of-2.ensures.column) (row_within c.args.self.now (subst IsGrid c.self.view_is c.size-size.ensures.grid) c.args.row c.requires)
+    rw (c.between.ensures, c.column_of.ensures.column, c.column_of-2.ensures.column)
+    (row_within c.args.self.now (subst IsGrid c.self.view_is c.size-size.ensures.grid) c.args.row c.requires)
