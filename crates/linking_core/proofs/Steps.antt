@@ -14,7 +14,7 @@ use Rattle.grid_moves.specs.Shift.{shifted, ShiftsColumns, ShiftsRows}
 use Rattle.grid_moves.specs.Exchange.{exchanged, ExchangesColumns, ExchangesRows}
 use Rattle.grid_moves.specs.Slide.{SlidesColumns, SlidesRows}
 use Rattle.grid_moves.specs.Stabilisation.{Stabilises}
-use Rattle.grid_moves.specs.BlockMarks.{column_in_new_row}
+use Rattle.grid_moves.specs.DoubleRows.{column_in_new_row}
 use Rattle.grid_moves.specs.Step.{Step}
 use Rattle.grid_moves.specs.Joining.{Joins, Equivalent}
 use Rattle.grid_moves.proofs.Widened.{widened_from_stabilises, above_small, near_low}

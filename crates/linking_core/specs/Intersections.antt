@@ -1,5 +1,5 @@
 -- The signed intersections of a component with the lines of the page: 1 where it crosses the line upward or to the right, and -1 where downward or to the left.
-use Rattle.std.specs.Prelude.{◌==◌, ◌&&◌, ℕ, ℤ, Bool, List, map, filter}
+use Rattle.std.specs.Prelude.{◌==◌, ◌&&◌, ℕ, ℤ, List, map, filter}
 use Rattle.std.specs.List.{range_with_len}
 use Rattle.grid_core.specs.Diagram.{Diagram, size}
 use Rattle.grid_core.specs.Span.{lies_within, crosses_height}
