@@ -21,10 +21,9 @@ impl Made {
         self.sum = self.sum.wrapping_mul(31).wrapping_add(number);
     }
 
-    /// Counts the numbers of a key in.
-    fn add_words(&mut self, key: Packed) {
-        self.add(key.first);
-        self.add(key.second);
+    /// Counts a key in.
+    fn count_in(&mut self, key: Packed) {
+        self.sum = key.checksum_after(self.sum);
     }
 }
 
@@ -109,7 +108,7 @@ fn add_form(made: &mut Made, form: &LeastForm, turn: u32) {
 /// Makes a key and counts it in.
 fn add_key(made: &mut Made, grid: &Grid) {
     let least = canonical_key(grid);
-    made.add_words(least.key);
+    made.count_in(least.key);
     made.add(u128::from(least.columns) * 32 + u128::from(least.rows));
 }
 
@@ -118,7 +117,7 @@ fn add_offers(made: &mut Made, offers: &Offers, turn: u32) {
     let list = offers.offers();
     made.offers = made.offers.saturating_add(list.len() as u64);
     if let Some(offer) = list.get(turn as usize % MAX_SIZE) {
-        made.add_words(offer.key);
+        made.count_in(offer.key);
         made.add(u128::from(offer.link.after.0) * 32 + u128::from(offer.link.after.1));
     }
 }

@@ -5,18 +5,19 @@ use Rattle.std.proofs.lemmas.Bool.{cases_lt}
 use Rattle.std.proofs.lemmas.List.Elements.{All-contains}
 use Rattle.grid_core.specs.declared.mark.Kind.TheVariants.{Cross}
 use Rattle.grid_core.specs.Diagram.{Diagram, IsGrid, size, row_of}
-use Rattle.grid_canon.specs.declared.least.LeastForm.{LeastForm}
-use Rattle.grid_canon.specs.Translate.{translate, translates}
+use Rattle.grid_canon.specs.declared.canonical_form.LeastForm.{LeastForm}
+use Rattle.grid_canon.specs.Translation.{translate, translates}
 use Rattle.grid_canon.specs.Order.{IsAtMost}
-use Rattle.grid_canon.specs.Canonical.{IsCanonicalForm, IsCanonical, IsLeastForm}
+use Rattle.grid_canon.specs.CanonicalForm.{IsCanonicalForm, IsCanonical, IsLeastForm}
 use Rattle.grid_canon.specs.Cornered.{cornered, IsFirstLeast}
-use Rattle.grid_canon.proofs.Turned.{origin, origin_cases, origin-below, size-translate, translate-grid, translate-translate}
+use Rattle.grid_canon.proofs.Translated.{origin, origin_cases, origin-below, size-translate, translate-grid, translate-translate}
 use Rattle.grid_canon.proofs.Ordered.{at_most_both}
 use Rattle.grid_canon.proofs.LeastTranslates.{translates_all, translates_contains, shifts_of, least_form_at, first_least_exists}
 use Rattle.grid_canon.proofs.Joined.{translate_none}
 
 pub translate_itself : (d : Diagram) → IsGrid d → Contains (translates d) d
-translate_itself d grid = subst (λ t. Contains (translates d) t) (translate_none d grid) (translates_contains d 0 0 (omega (arith, grid.least)) (omega (arith, grid.least)))
+translate_itself d grid =
+    subst (λ t. Contains (translates d) t) (translate_none d grid) (translates_contains d 0 0 (omega (arith, grid.least)) (omega (arith, grid.least)))
 
 pub translated_grid : (d e : Diagram) → IsGrid d → Contains (translates d) e → IsGrid e
 translated_grid d e grid c = let s = shifts_of d e c in subst IsGrid s.4 (translate-grid d s.0 s.1 grid s.2 s.3)
@@ -34,13 +35,24 @@ translated_twice d e f grid ce cf =
     let hb : t.1 < size d = omega (arith, t.3, n) in
     let is : translate d (origin (size d) t.0 s.0) (origin (size d) t.1 s.1) ≡ f =
     sym (translate-translate d s.0 s.1 t.0 t.1 grid s.2 s.3 ha hb) ∙ ap (λ g. translate g t.0 t.1) s.4 ∙ t.4 in
-    subst (λ g. Contains (translates d) g) is (translates_contains d (origin (size d) t.0 s.0) (origin (size d) t.1 s.1) (origin-below (size d) t.0 s.0 ha s.2) (origin-below (size d) t.1 s.1 hb s.3))
+    subst (λ g. Contains (translates d) g) is (translates_contains d (origin (size d) t.0 s.0) (origin (size d) t.1 s.1)
+    (origin-below (size d) t.0 s.0 ha s.2) (origin-below (size d) t.1 s.1 hb s.3))
 
 -- the shift back
 shift_back : (n a : ℕ) → a < n → (k : ℕ) × (k < n) × (origin n k a ≡ 0)
 shift_back n a lt = elim (cases_lt 0 a) [
-  | inl some ↦ (n - a, omega (arith, some, lt), elim (origin_cases n (n - a) a (omega (arith, some, lt)) lt) [ inl low ↦ absurd (omega (arith, low.0, lt)) | inr high ↦ omega (arith, high.1, lt) ])
-  | inr none ↦ (0, omega (arith, lt), elim (origin_cases n 0 a (omega (arith, lt)) lt) [ inl low ↦ omega (arith, low.1, none) | inr high ↦ absurd (omega (arith, high.0, lt)) ])
+  | inl some ↦ (
+    n - a,
+    omega (arith, some, lt),
+    elim (origin_cases n (n - a) a (omega (arith, some, lt)) lt)
+        [ inl low ↦ absurd (omega (arith, low.0, lt)) | inr high ↦ omega (arith, high.1, lt) ],
+  )
+  | inr none ↦ (
+    0,
+    omega (arith, lt),
+    elim (origin_cases n 0 a (omega (arith, lt)) lt)
+        [ inl low ↦ omega (arith, low.1, none) | inr high ↦ absurd (omega (arith, high.0, lt)) ],
+  )
 ]
 
 pub translated_back : (d e : Diagram) → IsGrid d → Contains (translates d) e → Contains (translates e) d
@@ -50,14 +62,16 @@ translated_back d e grid c =
     let a = shift_back (size d) s.0 s.2 in
     let b = shift_back (size d) s.1 s.3 in
     let is : translate e a.0 b.0 ≡ d =
-    ap (λ g. translate g a.0 b.0) (sym s.4) ∙ translate-translate d s.0 s.1 a.0 b.0 grid s.2 s.3 a.1 b.1 ∙ ap₂ (λ (z w : ℕ). translate d z w) a.2 b.2 ∙ translate_none d grid in
+    ap (λ g. translate g a.0 b.0) (sym s.4) ∙ translate-translate d s.0 s.1 a.0 b.0 grid s.2 s.3 a.1 b.1 ∙ ap₂ (λ (z w : ℕ). translate d z w) a.2 b.2
+    ∙ translate_none d grid in
     subst (λ g. Contains (translates e) g) is (translates_contains e a.0 b.0 (omega (arith, a.1, n)) (omega (arith, b.1, n)))
 
 -- canonical forms
 pub least_form_exists : (d : Diagram) → IsGrid d → (form : LeastForm) × IsLeastForm d form
 least_form_exists d grid =
     let best = first_least_exists d (size d - 1) in
-    let whole : IsFirstLeast d (size d) best.0 = subst (λ (n : ℕ). IsFirstLeast d n best.0) (let e : size d - 1 + 1 ≡ size d = omega (arith, grid.least) in e) best.1 in
+    let whole : IsFirstLeast d (size d) best.0 =
+    subst (λ (n : ℕ). IsFirstLeast d n best.0) (let e : size d - 1 + 1 ≡ size d = omega (arith, grid.least) in e) best.1 in
     let form : LeastForm = record { grid = cornered d best.0; columns = best.0; rows = row_of Cross d best.0 } in
     (form, least_form_at d best.0 form grid whole refl refl refl)
 
@@ -66,7 +80,8 @@ canonical_exists d grid = let form = least_form_exists d grid in (form.0.grid, f
 
 pub canonical_once : (d e f : Diagram) → IsCanonicalForm d e → IsCanonicalForm d f → e ≡ f
 canonical_once d e f one two =
-    at_most_both e f (All-contains (λ t. IsAtMost e t) (translates d) f one.least two.among) (All-contains (λ t. IsAtMost f t) (translates d) e two.least one.among)
+    at_most_both e f (All-contains (λ t. IsAtMost e t) (translates d) f one.least two.among)
+    (All-contains (λ t. IsAtMost f t) (translates d) e two.least one.among)
 
 pub canonical_grid : (d e : Diagram) → IsGrid d → IsCanonicalForm d e → IsGrid e
 canonical_grid d e grid form = translated_grid d e grid form.among
@@ -77,7 +92,9 @@ canonical_of_translate d e f grid c form =
     let ge = translated_grid d e grid c in
     record {
       among = translated_twice e d f ge back form.among;
-      least = translates_all (λ t. IsAtMost f t) e (λ a b ha hb. All-contains (λ t. IsAtMost f t) (translates d) (translate e a b) form.least (translated_twice d e (translate e a b) grid c (translates_contains e a b ha hb)));
+      least =
+          translates_all (λ t. IsAtMost f t) e (λ a b ha hb. All-contains (λ t. IsAtMost f t) (translates d) (translate e a b) form.least
+          (translated_twice d e (translate e a b) grid c (translates_contains e a b ha hb)));
     }
 
 pub translate_from_canonical : (d e f : Diagram) → IsGrid d → IsGrid e → IsCanonicalForm d f → IsCanonicalForm e f → Contains (translates d) e

@@ -1,4 +1,4 @@
--- All digits of a number changed at once, with the bit 16 of each digit as its guard.
+-- All digits of a number changed at once, with the highest bit of each digit as its guard.
 use Rattle.std.proofs.Common.{◌≡◌, ◌<◌, ◌≤◌, ◌+◌, ◌-◌, ◌*◌, ◌/◌, ◌^◌, ◌∷◌, [], ◌∙◌, ℕ, zero, suc, List, All, length, get_or, map, replicate, bit_and, nat_lt, arith, refl, sym, ap, ap₂, subst, inl, inr}
 use Rattle.std.specs.Prelude.{if◌then◌else◌}
 use Rattle.std.proofs.Math.Nat.{pow-succ', pow-le-pow_right, mul-le-mul_right}
@@ -11,60 +11,66 @@ use Rattle.std.proofs.lemmas.List.Elements.{All-tail, All-map}
 use Rattle.grid_core.specs.Places.{lifted}
 use Rattle.grid_moves.specs.Shift.{shifted}
 use Rattle.grid_moves.proofs.Shifted.{shifted_low, shifted_high, shifted_below}
-use Rattle.grid_canon.specs.declared.packed.TheConstants.{BASE}
-use Rattle.grid_canon.specs.declared.short_numbers.TheConstants.{MAX_SHORT_SIZE}
-use Rattle.grid_canon.specs.Key.{number}
-use Rattle.grid_canon.specs.Digits.{digits}
-use Rattle.grid_canon.proofs.Numbers.{AreDigits, number-below, base_bits}
-use Rattle.grid_canon.proofs.Digits.{length-digits, number-digits}
+use Rattle.grid_canon.specs.declared.digits.TheConstants.{SHORT_BASE, SHORT_BITS, MAX_SHORT_SIZE, GUARD}
+use Rattle.grid_canon.specs.Digits.{short_number, digits}
+use Rattle.grid_canon.proofs.ShortNumbers.{AreShortDigits, short_number-below, short_bits}
+use Rattle.grid_canon.proofs.NumbersOfDigits.{length-digits, short_number-digits}
+
+-- the bits of all digits of the longest short number
+abbrev pub FULL_BITS : ℕ
+FULL_BITS = SHORT_BITS * MAX_SHORT_SIZE
 
 -- the number with as many digits 1
 abbrev pub ones_of : ℕ → ℕ
-ones_of n = number (replicate n 1)
+ones_of n = short_number (replicate n 1)
 
-pub ones_exact : (n : ℕ) → 31 * ones_of n + 1 ≡ BASE ^ n
+pub ones_exact : (n : ℕ) → (SHORT_BASE - 1) * ones_of n + 1 ≡ SHORT_BASE ^ n
 ones_exact zero = refl
 ones_exact (suc n) =
-    let power : BASE ^ length (replicate {A = ℕ} n 1) ≡ BASE ^ n = ap (λ (z : ℕ). BASE ^ z) (length-replicate {A = ℕ} n 1) in
-    omega (arith, ones_exact n, power, pow-succ' BASE n)
+    let power : SHORT_BASE ^ length (replicate {A = ℕ} n 1) ≡ SHORT_BASE ^ n = ap (λ (z : ℕ). SHORT_BASE ^ z) (length-replicate {A = ℕ} n 1) in
+    omega (arith, ones_exact n, power, pow-succ' SHORT_BASE n)
 
 -- the first n digits of n + m digits 1
-ones_split : (n m : ℕ) → ones_of (n + m) ≡ ones_of n * BASE ^ m + ones_of m
-ones_split n m = counted (BASE ^ n) (BASE ^ m) (ones_of n) (ones_of m) (ones_of (n + m)) (ones_exact n) (ones_exact m) (ones_exact (n + m) ∙ pow-add BASE n m)
+ones_split : (n m : ℕ) → ones_of (n + m) ≡ ones_of n * SHORT_BASE ^ m + ones_of m
+ones_split n m =
+    counted (SHORT_BASE ^ n) (SHORT_BASE ^ m) (ones_of n) (ones_of m) (ones_of (n + m)) (ones_exact n) (ones_exact m)
+    (ones_exact (n + m) ∙ pow-add SHORT_BASE n m)
   where
-    counted : (p q a b s : ℕ) → 31 * a + 1 ≡ p → 31 * b + 1 ≡ q → 31 * s + 1 ≡ p * q → s ≡ a * q + b
-    counted p q a b s ea eb es = let e : (31 * a + 1) * q ≡ p * q = ap (λ (z : ℕ). z * q) ea in omega arith
+    counted : (p q a b s : ℕ) → (SHORT_BASE - 1) * a + 1 ≡ p → (SHORT_BASE - 1) * b + 1 ≡ q → (SHORT_BASE - 1) * s + 1 ≡ p * q → s ≡ a * q + b
+    counted p q a b s ea eb es = let e : ((SHORT_BASE - 1) * a + 1) * q ≡ p * q = ap (λ (z : ℕ). z * q) ea in omega arith
 
-pub ones_shifted : (n m : ℕ) → ones_of (n + m) / BASE ^ m ≡ ones_of n
+pub ones_shifted : (n m : ℕ) → ones_of (n + m) / SHORT_BASE ^ m ≡ ones_of n
 ones_shifted n m =
-    ap (λ (z : ℕ). z / BASE ^ m) (ones_split n m) ∙ div-mul-add (ones_of n) (BASE ^ m) (ones_of m) (omega (arith, ones_exact m))
+    ap (λ (z : ℕ). z / SHORT_BASE ^ m) (ones_split n m) ∙ div-mul-add (ones_of n) (SHORT_BASE ^ m) (ones_of m) (omega (arith, ones_exact m))
 
 -- the number with the images of some rows as its digits
 abbrev number_by : (ℕ → ℕ) → List ℕ → ℕ
-number_by f rows = number (map f rows)
+number_by f rows = short_number (map f rows)
 
-number_by-cons : (f : ℕ → ℕ) (x : ℕ) (xs : List ℕ) → number_by f (x ∷ xs) ≡ f x * BASE ^ length xs + number_by f xs
-number_by-cons f x xs = ap (λ (z : ℕ). f x * BASE ^ z + number_by f xs) (length-map xs f)
+number_by-cons : (f : ℕ → ℕ) (x : ℕ) (xs : List ℕ) → number_by f (x ∷ xs) ≡ f x * SHORT_BASE ^ length xs + number_by f xs
+number_by-cons f x xs = ap (λ (z : ℕ). f x * SHORT_BASE ^ z + number_by f xs) (length-map xs f)
 
-number_by-below : (f : ℕ → ℕ) (xs : List ℕ) → All (λ r. f r < BASE) xs → number_by f xs < BASE ^ length xs
-number_by-below f xs each = subst (λ (z : ℕ). number_by f xs < BASE ^ z) (length-map xs f) (number-below (map f xs) (All-map (λ digit. digit < BASE) f xs each))
+number_by-below : (f : ℕ → ℕ) (xs : List ℕ) → All (λ r. f r < SHORT_BASE) xs → number_by f xs < SHORT_BASE ^ length xs
+number_by-below f xs each =
+    subst (λ (z : ℕ). number_by f xs < SHORT_BASE ^ z) (length-map xs f) (short_number-below (map f xs) (All-map (λ digit. digit < SHORT_BASE) f xs each))
 
 abbrev one : ℕ → ℕ
 one r = 1
 
 number_by-one : (xs : List ℕ) → number_by one xs ≡ ones_of (length xs)
-number_by-one xs = ap number (constant xs)
+number_by-one xs = ap short_number (constant xs)
   where
     constant : (xs : List ℕ) → map one xs ≡ replicate (length xs) 1
     constant [] = refl
     constant (x ∷ xs) = ap (λ zs. 1 ∷ zs) (constant xs)
 
 -- an equation of digits is one of numbers
-number_by-sums : (a b : ℕ) (f g h k : ℕ → ℕ) (xs : List ℕ) → All (λ r. f r + a * g r ≡ h r + b * k r) xs → number_by f xs + a * number_by g xs ≡ number_by h xs + b * number_by k xs
+number_by-sums : (a b : ℕ) (f g h k : ℕ → ℕ) (xs : List ℕ) → All (λ r. f r + a * g r ≡ h r + b * k r) xs
+    → number_by f xs + a * number_by g xs ≡ number_by h xs + b * number_by k xs
 number_by-sums a b f g h k [] each = omega arith
 number_by-sums a b f g h k (x ∷ xs) each =
     ap₂ (λ (z w : ℕ). z + a * w) (number_by-cons f x xs) (number_by-cons g x xs)
-    ∙ joined (BASE ^ length xs) (f x) (g x) (h x) (k x) (number_by f xs) (number_by g xs) (number_by h xs) (number_by k xs)
+    ∙ joined (SHORT_BASE ^ length xs) (f x) (g x) (h x) (k x) (number_by f xs) (number_by g xs) (number_by h xs) (number_by k xs)
     (each 0 0 (omega arith))
     (number_by-sums a b f g h k xs (All-tail (λ r. f r + a * g r ≡ h r + b * k r) x xs each))
     ∙ sym (ap₂ (λ (z w : ℕ). z + b * w) (number_by-cons h x xs) (number_by-cons k x xs))
@@ -74,7 +80,7 @@ number_by-sums a b f g h k (x ∷ xs) each =
 
 -- a row with the guard, lower by as many; whether a row is below a bound, and whether it is not
 abbrev raised : ℕ → ℕ → ℕ
-raised by r = r + (16 - by)
+raised by r = r + (GUARD - by)
 
 abbrev under : ℕ → ℕ → ℕ
 under by r = if nat_lt r by then 1 else 0
@@ -82,43 +88,44 @@ under by r = if nat_lt r by then 1 else 0
 abbrev over : ℕ → ℕ → ℕ
 over by r = if nat_lt r by then 0 else 1
 
-guard_of : (by r : ℕ) → by ≤ 16 → r < 16 → bit_and (raised by r) 16 ≡ 16 * over by r
-guard_of by r le lt = and_pow (raised by r) 4 ∙ grind (arith, nat_tests)
+guard_of : (by r : ℕ) → by ≤ GUARD → r < GUARD → bit_and (raised by r) GUARD ≡ GUARD * over by r
+guard_of by r le lt = and_pow (raised by r) (SHORT_BITS - 1) ∙ grind (arith, nat_tests)
 
 -- the guards that are left
-guards_left : (by : ℕ) (xs : List ℕ) → by ≤ 16 → All (λ r. r < 16) xs → bit_and (number_by (raised by) xs) (16 * ones_of (length xs)) ≡ 16 * number_by (over by) xs
+guards_left : (by : ℕ) (xs : List ℕ) → by ≤ GUARD → All (λ r. r < GUARD) xs
+    → bit_and (number_by (raised by) xs) (GUARD * ones_of (length xs)) ≡ GUARD * number_by (over by) xs
 guards_left by [] le low = refl
 guards_left by (x ∷ xs) le low =
-    let rest = All-tail (λ r. r < 16) x xs low in
+    let rest = All-tail (λ r. r < GUARD) x xs low in
     let n : ℕ = length xs in
-    let power : BASE ^ n ≡ 2 ^ (5 * n) = base_bits n in
-    let long : BASE ^ length (replicate {A = ℕ} n 1) ≡ BASE ^ n = ap (λ (z : ℕ). BASE ^ z) (length-replicate {A = ℕ} n 1) in
+    let power : SHORT_BASE ^ n ≡ 2 ^ (SHORT_BITS * n) = short_bits n in
+    let long : SHORT_BASE ^ length (replicate {A = ℕ} n 1) ≡ SHORT_BASE ^ n = ap (λ (z : ℕ). SHORT_BASE ^ z) (length-replicate {A = ℕ} n 1) in
     ap₂ bit_and
     (number_by-cons (raised by) x xs ∙ ap (λ (z : ℕ). raised by x * z + number_by (raised by) xs) power)
-    (let e : 16 * ones_of (suc n) ≡ 16 * 2 ^ (5 * n) + 16 * ones_of n = omega (arith, power, long) in e)
-    ∙ and_block (5 * n) (raised by x) 16 (number_by (raised by) xs) (16 * ones_of n)
+    (let e : GUARD * ones_of (suc n) ≡ GUARD * 2 ^ (SHORT_BITS * n) + GUARD * ones_of n = omega (arith, power, long) in e)
+    ∙ and_block (SHORT_BITS * n) (raised by x) GUARD (number_by (raised by) xs) (GUARD * ones_of n)
     (omega (arith, power, number_by-below (raised by) xs (λ k d inside. omega (arith, rest k d inside))))
     (omega (arith, power, ones_exact n))
-    ∙ ap₂ (λ (z w : ℕ). z * 2 ^ (5 * n) + w) (guard_of by x le (low 0 0 (omega arith))) (guards_left by xs le rest)
-    ∙ ap (λ (z : ℕ). 16 * over by x * z + 16 * number_by (over by) xs) (sym power)
-    ∙ regrouped (over by x) (BASE ^ n) (number_by (over by) xs)
-    ∙ ap (λ (z : ℕ). 16 * z) (sym (number_by-cons (over by) x xs))
+    ∙ ap₂ (λ (z w : ℕ). z * 2 ^ (SHORT_BITS * n) + w) (guard_of by x le (low 0 0 (omega arith))) (guards_left by xs le rest)
+    ∙ ap (λ (z : ℕ). GUARD * over by x * z + GUARD * number_by (over by) xs) (sym power)
+    ∙ regrouped (over by x) (SHORT_BASE ^ n) (number_by (over by) xs)
+    ∙ ap (λ (z : ℕ). GUARD * z) (sym (number_by-cons (over by) x xs))
   where
-    regrouped : (a p b : ℕ) → 16 * a * p + 16 * b ≡ 16 * (a * p + b)
+    regrouped : (a p b : ℕ) → GUARD * a * p + GUARD * b ≡ GUARD * (a * p + b)
     regrouped a p b = omega arith
 
 -- the sums of the digits
 abbrev same : ℕ → ℕ
 same r = r
 
-number_by-same : (xs : List ℕ) → number_by same xs ≡ number xs
-number_by-same xs = ap number (map-id xs)
+number_by-same : (xs : List ℕ) → number_by same xs ≡ short_number xs
+number_by-same xs = ap short_number (map-id xs)
 
-raised_sum : (by : ℕ) (xs : List ℕ) → by ≤ 16 → number_by (raised by) xs + by * ones_of (length xs) ≡ number xs + 16 * ones_of (length xs)
+raised_sum : (by : ℕ) (xs : List ℕ) → by ≤ GUARD → number_by (raised by) xs + by * ones_of (length xs) ≡ short_number xs + GUARD * ones_of (length xs)
 raised_sum by xs le =
     ap (λ (z : ℕ). number_by (raised by) xs + by * z) (sym (number_by-one xs))
-    ∙ number_by-sums by 16 (raised by) one same one xs (λ k d inside. omega (arith, le))
-    ∙ ap₂ (λ (z w : ℕ). z + 16 * w) (number_by-same xs) (number_by-one xs)
+    ∙ number_by-sums by GUARD (raised by) one same one xs (λ k d inside. omega (arith, le))
+    ∙ ap₂ (λ (z w : ℕ). z + GUARD * w) (number_by-same xs) (number_by-one xs)
 
 sides_sum : (by : ℕ) (xs : List ℕ) → number_by (under by) xs + number_by (over by) xs ≡ ones_of (length xs)
 sides_sum by xs =
@@ -128,12 +135,13 @@ sides_sum by xs =
     sides : (r : ℕ) → under by r + 1 * over by r ≡ 1 + 0 * 1
     sides r = grind (arith, nat_tests)
 
-lowered_sum : (size by : ℕ) (xs : List ℕ) → size ≤ 16 → by < size → All (λ r. r < size) xs → number_by (raised by) xs + size * number_by (under by) xs ≡ number_by (shifted size by) xs + 16 * ones_of (length xs)
+lowered_sum : (size by : ℕ) (xs : List ℕ) → size ≤ GUARD → by < size → All (λ r. r < size) xs
+    → number_by (raised by) xs + size * number_by (under by) xs ≡ number_by (shifted size by) xs + GUARD * ones_of (length xs)
 lowered_sum size by xs le lt inside =
-    number_by-sums size 16 (raised by) (under by) (shifted size by) one xs (λ k d within. digit (get_or xs k d) (inside k d within))
-    ∙ ap (λ (z : ℕ). number_by (shifted size by) xs + 16 * z) (number_by-one xs)
+    number_by-sums size GUARD (raised by) (under by) (shifted size by) one xs (λ k d within. digit (get_or xs k d) (inside k d within))
+    ∙ ap (λ (z : ℕ). number_by (shifted size by) xs + GUARD * z) (number_by-one xs)
   where
-    digit : (r : ℕ) → r < size → raised by r + size * under by r ≡ shifted size by r + 16 * 1
+    digit : (r : ℕ) → r < size → raised by r + size * under by r ≡ shifted size by r + GUARD * 1
     digit r small = elim (cases_lt r by) [
       | inl low ↦
           ap (λ (z : ℕ). raised by r + size * z) (let e : under by r ≡ 1 = grind (arith, nat_tests) in e)
@@ -143,7 +151,7 @@ lowered_sum size by xs le lt inside =
           ∙ omega (arith, shifted_high size by r high small)
     ]
 
-lifted_sum : (row : ℕ) (xs : List ℕ) → number xs + number_by (over row) xs ≡ number_by (lifted row) xs
+lifted_sum : (row : ℕ) (xs : List ℕ) → short_number xs + number_by (over row) xs ≡ number_by (lifted row) xs
 lifted_sum row xs =
     let sums = number_by-sums 1 0 same (over row) (lifted row) one xs (λ k d inside. digit (get_or xs k d)) in
     omega (arith, sums, number_by-same xs)
@@ -153,77 +161,91 @@ lifted_sum row xs =
 
 -- the digits with their guards, lowered, and the guards that are left, as the code computes them
 abbrev pub guarded : ℕ → ℕ → ℕ → ℕ
-guarded value by units = value + 16 * units - by * units
+guarded value by units = value + GUARD * units - by * units
 
 abbrev pub kept : ℕ → ℕ → ℕ → ℕ
-kept value by units = bit_and (guarded value by units) (16 * units)
+kept value by units = bit_and (guarded value by units) (GUARD * units)
 
 -- what there is room for
 pub record Room (value by units : ℕ) : Type 0 where
-  pub digits : value < 2 ^ 60
-  pub guards : 16 * units < 2 ^ 60
-  pub taken : by * units ≤ 16 * units
+  pub digits : value < 2 ^ FULL_BITS
+  pub guards : GUARD * units < 2 ^ FULL_BITS
+  pub taken : by * units ≤ GUARD * units
 
-room : (value by units : ℕ) (xs : List ℕ) → length xs ≤ MAX_SHORT_SIZE → by ≤ 16 → All (λ r. r < 16) xs → value ≡ number xs → units ≡ ones_of (length xs) → Room value by units
+room : (value by units : ℕ) (xs : List ℕ) → length xs ≤ MAX_SHORT_SIZE → by ≤ GUARD → All (λ r. r < GUARD) xs → value ≡ short_number xs
+    → units ≡ ones_of (length xs) → Room value by units
 room value by units xs long le low is count =
-    let most : BASE ^ length xs ≤ 2 ^ 60 = pow-le-pow_right {n = BASE} (omega arith) {i = length xs} {j = MAX_SHORT_SIZE} long in
-    let small : AreDigits xs = λ k d inside. omega (arith, low k d inside) in
+    let most : SHORT_BASE ^ length xs ≤ 2 ^ FULL_BITS = pow-le-pow_right {n = SHORT_BASE} (omega arith) {i = length xs} {j = MAX_SHORT_SIZE} long in
+    let small : AreShortDigits xs = λ k d inside. omega (arith, low k d inside) in
     record {
-      digits = omega (arith, number-below xs small);
+      digits = omega (arith, short_number-below xs small);
       guards = omega (arith, ones_exact (length xs));
       taken = mul-le-mul_right units le;
     }
 
-guarded_is : (value by units : ℕ) (xs : List ℕ) → by ≤ 16 → value ≡ number xs → units ≡ ones_of (length xs) → guarded value by units ≡ number_by (raised by) xs
+guarded_is : (value by units : ℕ) (xs : List ℕ) → by ≤ GUARD → value ≡ short_number xs → units ≡ ones_of (length xs)
+    → guarded value by units ≡ number_by (raised by) xs
 guarded_is value by units xs le is count =
     let sum = raised_sum by xs le in
     let taken : by * units ≡ by * ones_of (length xs) = ap (λ (z : ℕ). by * z) count in
     omega arith
 
-kept_is : (value by units : ℕ) (xs : List ℕ) → by ≤ 16 → All (λ r. r < 16) xs → value ≡ number xs → units ≡ ones_of (length xs) → kept value by units ≡ 16 * number_by (over by) xs
+kept_is : (value by units : ℕ) (xs : List ℕ) → by ≤ GUARD → All (λ r. r < GUARD) xs → value ≡ short_number xs → units ≡ ones_of (length xs)
+    → kept value by units ≡ GUARD * number_by (over by) xs
 kept_is value by units xs le low is count =
-    ap₂ (λ (z w : ℕ). bit_and z (16 * w)) (guarded_is value by units xs le is count) count ∙ guards_left by xs le low
+    ap₂ (λ (z w : ℕ). bit_and z (GUARD * w)) (guarded_is value by units xs le is count) count ∙ guards_left by xs le low
 
 -- the rows lowered round the circle
 pub record Lowers (size value by units times : ℕ) : Type 0 where
   pub room : Room value by units
-  pub whole : guarded value by units + times * ((16 * units - kept value by units) / 16) ≡ number (map (shifted size by) (digits size value)) + 16 * units
-  pub below : number (map (shifted size by) (digits size value)) < 2 ^ 60
+  pub whole : guarded value by units + times * ((GUARD * units - kept value by units) / GUARD) ≡ short_number
+      (map (shifted size by) (digits size value)) + GUARD * units
+  pub below : short_number (map (shifted size by) (digits size value)) < 2 ^ FULL_BITS
 
-pub lowered_digits : (size value by units times : ℕ) → size ≤ MAX_SHORT_SIZE → value < BASE ^ size → by < size → All (λ r. r < size) (digits size value) → units ≡ ones_of size → times ≡ size → Lowers size value by units times
+pub lowered_digits : (size value by units times : ℕ) → size ≤ MAX_SHORT_SIZE
+    → value < SHORT_BASE ^ size → by < size → All (λ r. r < size) (digits size value) → units ≡ ones_of size → times ≡ size → Lowers size value by units times
 lowered_digits size value by units times most lt small inside count turns =
     let xs : List ℕ = digits size value in
     let long : length xs ≡ size = length-digits size value in
-    let is : value ≡ number xs = sym (number-digits size value lt) in
+    let is : value ≡ short_number xs = sym (short_number-digits size value lt) in
     let ones : units ≡ ones_of (length xs) = count ∙ ap ones_of (sym long) in
-    let le : by ≤ 16 = omega arith in
-    let low : All (λ r. r < 16) xs = λ k d within. omega (arith, inside k d within) in
-    let left : (16 * units - kept value by units) / 16 ≡ number_by (under by) xs = omega (arith, kept_is value by units xs le low is ones, sides_sum by xs, ones) in
+    let le : by ≤ GUARD = omega arith in
+    let low : All (λ r. r < GUARD) xs = λ k d within. omega (arith, inside k d within) in
+    let left : (GUARD * units - kept value by units) / GUARD ≡ number_by (under by) xs =
+    omega (arith, kept_is value by units xs le low is ones, sides_sum by xs, ones) in
     record {
       room = room value by units xs (omega arith) le low is ones;
       whole =
           ap₂ (λ (z w : ℕ). guarded value by units + z * w) turns left
           ∙ ap (λ (z : ℕ). z + size * number_by (under by) xs) (guarded_is value by units xs le is ones)
           ∙ lowered_sum size by xs (omega arith) small inside
-          ∙ ap (λ (z : ℕ). number_by (shifted size by) xs + 16 * z) (sym ones);
-      below = omega (arith, number_by-below (shifted size by) xs (λ k d within. omega (arith, shifted_below size by (get_or xs k d) small (inside k d within))), pow-le-pow_right {n = BASE} (omega arith) {i = length xs} {j = MAX_SHORT_SIZE} (omega arith));
+          ∙ ap (λ (z : ℕ). number_by (shifted size by) xs + GUARD * z) (sym ones);
+      below =
+          omega (
+            arith,
+            number_by-below (shifted size by) xs
+                (λ k d within. omega (arith, shifted_below size by (get_or xs k d) small (inside k d within))),
+            pow-le-pow_right {n = SHORT_BASE}
+                (omega arith) {i = length xs} {j = MAX_SHORT_SIZE} (omega arith),
+          );
     }
 
 -- the rows lifted from a row on
 pub record Lifts (size value row units : ℕ) : Type 0 where
   pub room : Room value row units
-  pub whole : value + kept value row units / 16 ≡ number (map (lifted row) (digits size value))
-  pub left : kept value row units / 16 ≤ units
+  pub whole : value + kept value row units / GUARD ≡ short_number (map (lifted row) (digits size value))
+  pub left : kept value row units / GUARD ≤ units
 
-pub lifted_digits : (size value row units : ℕ) → size < MAX_SHORT_SIZE → value < BASE ^ size → row ≤ size → All (λ r. r < size) (digits size value) → units ≡ ones_of size → Lifts size value row units
+pub lifted_digits : (size value row units : ℕ) → size < MAX_SHORT_SIZE → value < SHORT_BASE ^ size → row ≤ size → All (λ r. r < size) (digits size value)
+    → units ≡ ones_of size → Lifts size value row units
 lifted_digits size value row units most lt small inside count =
     let xs : List ℕ = digits size value in
     let long : length xs ≡ size = length-digits size value in
-    let is : value ≡ number xs = sym (number-digits size value lt) in
+    let is : value ≡ short_number xs = sym (short_number-digits size value lt) in
     let ones : units ≡ ones_of (length xs) = count ∙ ap ones_of (sym long) in
-    let le : row ≤ 16 = omega arith in
-    let low : All (λ r. r < 16) xs = λ k d within. omega (arith, inside k d within) in
-    let left : kept value row units / 16 ≡ number_by (over row) xs = omega (arith, kept_is value row units xs le low is ones) in
+    let le : row ≤ GUARD = omega arith in
+    let low : All (λ r. r < GUARD) xs = λ k d within. omega (arith, inside k d within) in
+    let left : kept value row units / GUARD ≡ number_by (over row) xs = omega (arith, kept_is value row units xs le low is ones) in
     record {
       room = room value row units xs (omega arith) le low is ones;
       whole = ap₂ (λ (z w : ℕ). z + w) is left ∙ lifted_sum row xs;

@@ -17,10 +17,10 @@ use Rattle.grid_core.proofs.Accepted.{faultless}
 use Rattle.grid_core.specs.Diagram.{Diagram, IsGrid, size, rows_of}
 use Rattle.grid_core.proofs.Marks.{rows_each, rows_fit}
 use Rattle.grid_core.proofs.OneEach.{each_below}
-use Rattle.grid_canon.specs.declared.packed.TheConstants.{BASE}
-use Rattle.grid_canon.specs.declared.packed.Packed.{Packed}
-use Rattle.grid_canon.specs.Translate.{turned, translate}
-use Rattle.grid_canon.proofs.Turned.{size-translate}
+use Rattle.grid_canon.specs.declared.key.TheConstants.{BASE}
+use Rattle.grid_canon.specs.declared.key.Packed.{Packed}
+use Rattle.grid_canon.specs.Translation.{translated_rows, translate}
+use Rattle.grid_canon.proofs.Translated.{size-translate}
 use Rattle.grid_canon.specs.Order.{compare}
 use Rattle.grid_canon.specs.Key.{number, filled, key_of, size_of, same_key, compare_keys, digit_at}
 use Rattle.grid_canon.proofs.Ordered.{nat_cmp_less, nat_cmp_greater, nat_cmp_same}
@@ -78,7 +78,8 @@ key_once d e gd ge same =
     (sym (rings_of_key d gd) ∙ ap₂ (λ (p : Packed) (n : ℕ). map (digit_at p.second) (range_with_len 0 n)) same sizes ∙ rings_of_key e ge)
 
 -- the order
-first_order : (d e : Diagram) → IsGrid d → IsGrid e → nat_cmp (key_of d).first (key_of e).first ≡ ordering_then (nat_cmp (size d) (size e)) (slice_cmp nat_cmp (filled d.x) (filled e.x))
+first_order : (d e : Diagram) → IsGrid d → IsGrid e
+    → nat_cmp (key_of d).first (key_of e).first ≡ ordering_then (nat_cmp (size d) (size e)) (slice_cmp nat_cmp (filled d.x) (filled e.x))
 first_order d e gd ge =
     number-order (size d ∷ filled d.x) (size e ∷ filled e.x) (omega (arith, length-filled d.x gd.most, length-filled e.x ge.most))
     (All-cons (λ digit. digit < BASE) (size d) (filled d.x) (size_is_digit d gd) (filled-digits d.x (rows_are_digits d Cross gd)))
@@ -111,23 +112,27 @@ key_order d e gd ge =
     ∙ elim (cases_order (size d) (size e)) [
       | inl same ↦
           let tied = nat_cmp_same (size d) (size e) same in
-          ap (λ o. ordering_then o (slice_cmp nat_cmp (filled d.o) (filled e.o))) (then_equal (nat_cmp (size d) (size e)) (slice_cmp nat_cmp (filled d.x) (filled e.x)) tied ∙ filled_order d.x e.x same)
+          ap (λ o. ordering_then o (slice_cmp nat_cmp (filled d.o) (filled e.o)))
+          (then_equal (nat_cmp (size d) (size e)) (slice_cmp nat_cmp (filled d.x) (filled e.x)) tied ∙ filled_order d.x e.x same)
           ∙ ap (λ o. ordering_then (slice_cmp nat_cmp d.x e.x) o) (filled_order d.o e.o (gd.same ∙ same ∙ sym ge.same))
           ∙ sym (then_equal (nat_cmp (size d) (size e)) (compare d e) tied)
       | inr other ↦ elim other [
         | inl lt ↦
             let less = nat_cmp_less (size d) (size e) lt in
-            then_less (ordering_then (nat_cmp (size d) (size e)) (slice_cmp nat_cmp (filled d.x) (filled e.x))) (slice_cmp nat_cmp (filled d.o) (filled e.o)) (then_less (nat_cmp (size d) (size e)) (slice_cmp nat_cmp (filled d.x) (filled e.x)) less)
+            then_less (ordering_then (nat_cmp (size d) (size e)) (slice_cmp nat_cmp (filled d.x) (filled e.x))) (slice_cmp nat_cmp (filled d.o) (filled e.o))
+            (then_less (nat_cmp (size d) (size e)) (slice_cmp nat_cmp (filled d.x) (filled e.x)) less)
             ∙ sym (then_less (nat_cmp (size d) (size e)) (compare d e) less)
         | inr gt ↦
             let greater = nat_cmp_greater (size d) (size e) gt in
-            then_greater (ordering_then (nat_cmp (size d) (size e)) (slice_cmp nat_cmp (filled d.x) (filled e.x))) (slice_cmp nat_cmp (filled d.o) (filled e.o)) (then_greater (nat_cmp (size d) (size e)) (slice_cmp nat_cmp (filled d.x) (filled e.x)) greater)
+            then_greater (ordering_then (nat_cmp (size d) (size e)) (slice_cmp nat_cmp (filled d.x) (filled e.x)))
+            (slice_cmp nat_cmp (filled d.o) (filled e.o)) (then_greater (nat_cmp (size d) (size e)) (slice_cmp nat_cmp (filled d.x) (filled e.x)) greater)
             ∙ sym (then_greater (nat_cmp (size d) (size e)) (compare d e) greater)
       ]
     ]
 
 -- reading a key back
-read_back : (d : Diagram) (key : Packed) (n : ℕ) → IsGrid d → key_of d ≡ key → n ≡ size_of key → d ≡ record { x = map (digit_at key.first) (range_with_len 0 n); o = map (digit_at key.second) (range_with_len 0 n) }
+read_back : (d : Diagram) (key : Packed) (n : ℕ) → IsGrid d → key_of d ≡ key → n ≡ size_of key
+    → d ≡ record { x = map (digit_at key.first) (range_with_len 0 n); o = map (digit_at key.second) (range_with_len 0 n) }
 read_back d key n grid same is =
     let sizes : size d ≡ n = sym (size_of_key d grid) ∙ ap size_of same ∙ sym is in
     ap₂ (λ (x o : List ℕ). made x o)
@@ -143,28 +148,33 @@ unfolding named
 named_back d key grid same = sym (read_back d key (size_of key) grid same refl)
 
 -- the lists that were read are those of each grid with the key
-pub read_lists : (d : Diagram) (key : Packed) (n : ℕ) (x o : List ℕ) → IsGrid d → key_of d ≡ key → n ≡ size_of key → x ≡ map (digit_at key.first) (range_with_len 0 n) → o ≡ map (digit_at key.second) (range_with_len 0 n) → d ≡ record { x = x; o = o }
+pub read_lists : (d : Diagram) (key : Packed) (n : ℕ) (x o : List ℕ) → IsGrid d → key_of d ≡ key → n ≡ size_of key
+    → x ≡ map (digit_at key.first) (range_with_len 0 n) → o ≡ map (digit_at key.second) (range_with_len 0 n) → d ≡ record { x = x; o = o }
 read_lists d key n x o grid same is ex eo = read_back d key n grid same is ∙ ap₂ (λ (x o : List ℕ). made x o) (sym ex) (sym eo)
 
 pub too_large : (d : Diagram) (key : Packed) → IsGrid d → key_of d ≡ key → MAX_SIZE < size_of key → ⊥
 too_large d key grid same large = omega (arith, sym (size_of_key d grid) ∙ ap size_of same, grid.most, large)
 
-pub kept_where_key : (o : Option Diagram) (g d : Diagram) (key : Packed) → IfSome o (λ h. (h ≡ g) × (key_of h ≡ key)) → IfNone o (key_of g ≡ key → ⊥) → g ≡ d → key_of d ≡ key → o ≡ Some d
+pub kept_where_key : (o : Option Diagram) (g d : Diagram) (key : Packed) → IfSome o (λ h. (h ≡ g) × (key_of h ≡ key)) → IfNone o (key_of g ≡ key → ⊥) → g ≡ d
+    → key_of d ≡ key → o ≡ Some d
 kept_where_key None g d key some none is same = absurd (none (ap (λ (f : Diagram). key_of f) is ∙ same))
 kept_where_key (Some h) g d key some none is same = ap (λ f. Some f) (some.0 ∙ is)
 
 pub faulty : (d : Diagram) (x o : List ℕ) (fault : GridFault) → IsGrid d → d ≡ record { x = x; o = o } → Some fault ≡ first_fault x o → ⊥
-faulty d x o fault grid is e = absurd (let no : ◌≡◌ {A = Option GridFault} (Some fault) None = e ∙ ap (λ (f : Diagram). first_fault f.x f.o) (sym is) ∙ faultless d grid in cc)
+faulty d x o fault grid is e =
+    absurd (let no : ◌≡◌ {A = Option GridFault} (Some fault) None = e ∙ ap (λ (f : Diagram). first_fault f.x f.o) (sym is) ∙ faultless d grid in cc)
 
 -- the key of a translate, from the rows
-pub key_of_turned : (d : Diagram) (a b n first second : ℕ) → a < size d → n ≡ size d → first ≡ number (n ∷ filled (turned (size d) a b d.x)) → second ≡ number (0 ∷ filled (turned (size d) a b d.o)) → key_of (translate d a b) ≡ record { first = first; second = second }
-key_of_turned d a b n first second ha is ef es =
+pub key_of_translated : (d : Diagram) (a b n first second : ℕ) → a < size d → n ≡ size d → first ≡ number (n ∷ filled (translated_rows (size d) a b d.x))
+    → second ≡ number (0 ∷ filled (translated_rows (size d) a b d.o)) → key_of (translate d a b) ≡ record { first = first; second = second }
+key_of_translated d a b n first second ha is ef es =
     ap₂ (λ (z w : ℕ). pair z w)
-    (sym (ef ∙ ap (λ (z : ℕ). number (z ∷ filled (turned (size d) a b d.x))) (is ∙ sym (size-translate d a b ha))))
-    (sym (es ∙ no_digit_before (filled (turned (size d) a b d.o))))
+    (sym (ef ∙ ap (λ (z : ℕ). number (z ∷ filled (translated_rows (size d) a b d.x))) (is ∙ sym (size-translate d a b ha))))
+    (sym (es ∙ no_digit_before (filled (translated_rows (size d) a b d.o))))
   where
     pair : ℕ → ℕ → Packed
     pair first second = record { first = first; second = second }
 
-pub rings_number : (d : Diagram) (a b second : ℕ) → IsGrid d → second ≡ number (0 ∷ filled (turned (length d.o) a b d.o)) → second ≡ number (0 ∷ filled (turned (size d) a b d.o))
-rings_number d a b second grid e = e ∙ ap (λ (n : ℕ). number (0 ∷ filled (turned n a b d.o))) grid.same
+pub rings_number : (d : Diagram) (a b second : ℕ) → IsGrid d → second ≡ number (0 ∷ filled (translated_rows (length d.o) a b d.o))
+    → second ≡ number (0 ∷ filled (translated_rows (size d) a b d.o))
+rings_number d a b second grid e = e ∙ ap (λ (n : ℕ). number (0 ∷ filled (translated_rows n a b d.o))) grid.same

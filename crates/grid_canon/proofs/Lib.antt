@@ -1,14 +1,17 @@
-pub mod Turned
+pub mod Translated
 pub mod Ordered
 pub mod LeastTranslates
+pub mod NumbersTo
 pub mod Numbers
-pub mod Digits
+pub mod ShortNumbers
+pub mod NumbersOfDigits
 mod DigitLists
 mod Guards
 pub mod CutNumbers
-mod TurnedNumbers
+mod TranslatedNumbers
 pub mod Keys
 mod ShortGrids
+pub mod ShortKeys
 pub mod Joined
 pub mod CanonicalForms
 mod WorkedRows

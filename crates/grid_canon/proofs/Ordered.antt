@@ -15,7 +15,9 @@ pub nat_cmp_less : (a b : ℕ) → a < b → nat_cmp a b ≡ Less
 nat_cmp_less a b lt = ap (λ t. cond t Less (cond (a == b) Equal Greater)) (lt-ltb a b lt)
 
 pub nat_cmp_greater : (a b : ℕ) → b < a → nat_cmp a b ≡ Greater
-nat_cmp_greater a b lt = ap (λ t. cond t Less (cond (a == b) Equal Greater)) (le-ltb a b (omega arith)) ∙ ap (λ t. cond t Equal Greater) (ne_eqb a b (λ e. absurd (omega (arith, e, lt))))
+nat_cmp_greater a b lt =
+    ap (λ t. cond t Less (cond (a == b) Equal Greater)) (le-ltb a b (omega arith))
+    ∙ ap (λ t. cond t Equal Greater) (ne_eqb a b (λ e. absurd (omega (arith, e, lt))))
 
 pub nat_cmp_same : (a b : ℕ) → a ≡ b → nat_cmp a b ≡ Equal
 nat_cmp_same a b e = ap (λ t. cond t Less (cond (a == b) Equal Greater)) (le-ltb a b (omega (arith, e))) ∙ ap (λ t. cond t Equal Greater) (eq-eqb a b e)
@@ -40,7 +42,8 @@ then_first Equal q n = absurd (n refl)
 then_first Greater q n = refl
 
 -- the first place at which two lists differ decides
-pub slice_cmp_at : (xs ys : List ℕ) (i : ℕ) → i < length xs → i < length ys → ((k : ℕ) → k < i → get_or xs k 0 ≡ get_or ys k 0) → nat_cmp (get_or xs i 0) (get_or ys i 0) ≢ Equal → slice_cmp nat_cmp xs ys ≡ nat_cmp (get_or xs i 0) (get_or ys i 0)
+pub slice_cmp_at : (xs ys : List ℕ) (i : ℕ) → i < length xs → i < length ys → ((k : ℕ) → k < i → get_or xs k 0 ≡ get_or ys k 0)
+    → nat_cmp (get_or xs i 0) (get_or ys i 0) ≢ Equal → slice_cmp nat_cmp xs ys ≡ nat_cmp (get_or xs i 0) (get_or ys i 0)
 slice_cmp_at [] ys i lx ly before here = absurd (omega (arith, lx))
 slice_cmp_at (x ∷ xs) [] i lx ly before here = absurd (omega (arith, ly))
 slice_cmp_at (x ∷ xs) (y ∷ ys) zero lx ly before here = then_first (nat_cmp x y) (slice_cmp nat_cmp xs ys) here

@@ -8,10 +8,10 @@ use Rattle.std.proofs.lemmas.List.FromFn.{get_or-range_with_len, length-range_wi
 use Rattle.grid_core.specs.declared.grid.TheConstants.{MAX_SIZE}
 use Rattle.grid_core.specs.Diagram.{Diagram, size}
 use Rattle.grid_core.proofs.WorkedRows.{right_trefoil, left_trefoil}
-use Rattle.grid_canon.specs.declared.least.LeastForm.{LeastForm}
-use Rattle.grid_canon.specs.Translate.{translate, translates}
+use Rattle.grid_canon.specs.declared.canonical_form.LeastForm.{LeastForm}
+use Rattle.grid_canon.specs.Translation.{translate, translates}
 use Rattle.grid_canon.specs.Order.{compare}
-use Rattle.grid_canon.specs.Canonical.{IsLeastForm}
+use Rattle.grid_canon.specs.CanonicalForm.{IsLeastForm}
 use Rattle.grid_canon.specs.Key.{key_of}
 use Rattle.grid_canon.proofs.Ordered.{compare_self}
 use Rattle.grid_canon.proofs.LeastTranslates.{translates_contains}
@@ -36,9 +36,12 @@ abbrev comes_first : LeastForm → ℕ → ℕ → Bool
 comes_first form a b = nat_lt form.columns a || ((form.columns == a) && nat_le form.rows b)
 
 abbrev is_first : Diagram → LeastForm → Bool
-is_first d form = list_all (λ a. list_all (λ b. not (is_eq (compare (translate d a b) form.grid)) || comes_first form a b) (range_with_len 0 (size d))) (range_with_len 0 (size d))
+is_first d form =
+    list_all (λ a. list_all (λ b. not (is_eq (compare (translate d a b) form.grid)) || comes_first form a b) (range_with_len 0 (size d)))
+    (range_with_len 0 (size d))
 
-by_tests : (d : Diagram) (form : LeastForm) → nat_lt form.columns (size d) ≡ true → nat_lt form.rows (size d) ≡ true → translate d form.columns form.rows ≡ form.grid → none_less d form.grid ≡ true → is_first d form ≡ true → IsLeastForm d form
+by_tests : (d : Diagram) (form : LeastForm) → nat_lt form.columns (size d) ≡ true → nat_lt form.rows (size d) ≡ true
+    → translate d form.columns form.rows ≡ form.grid → none_less d form.grid ≡ true → is_first d form ≡ true → IsLeastForm d form
 by_tests d form columns rows reached least first =
     let ha = ltb-true form.columns (size d) columns in
     let hb = ltb-true form.rows (size d) rows in
@@ -50,7 +53,10 @@ by_tests d form columns rows reached least first =
       columns = ha;
       rows = hb;
       reached = reached;
-      first = λ a b la lb same. at a b same (passes_below (λ b. not (is_eq (compare (translate d a b) form.grid)) || comes_first form a b) (size d) (passes_below (λ a. list_all (λ b. not (is_eq (compare (translate d a b) form.grid)) || comes_first form a b) (range_with_len 0 (size d))) (size d) first a la) b lb);
+      first =
+          λ a b la lb same. at a b same (passes_below (λ b. not (is_eq (compare (translate d a b) form.grid)) || comes_first form a b) (size d)
+          (passes_below (λ a. list_all (λ b. not (is_eq (compare (translate d a b) form.grid)) || comes_first form a b) (range_with_len 0 (size d)))
+          (size d) first a la) b lb);
     }
   where
     placed : (a b : ℕ) → comes_first form a b ≡ true → (form.columns < a) ⊎ ((form.columns ≡ a) × (form.rows ≤ b))
@@ -59,15 +65,19 @@ by_tests d form columns rows reached least first =
       | inr both ↦ let parts = and_parts (form.columns == a) (nat_le form.rows b) both in inr (eqb-true form.columns a parts.0, leb-true form.rows b parts.1)
     ]
 
-    at : (a b : ℕ) → translate d a b ≡ form.grid → (not (is_eq (compare (translate d a b) form.grid)) || comes_first form a b) ≡ true → (form.columns < a) ⊎ ((form.columns ≡ a) × (form.rows ≤ b))
+    at : (a b : ℕ) → translate d a b ≡ form.grid → (not (is_eq (compare (translate d a b) form.grid)) || comes_first form a b) ≡ true
+        → (form.columns < a) ⊎ ((form.columns ≡ a) × (form.rows ≤ b))
     at a b same e = elim (or_cases (not (is_eq (compare (translate d a b) form.grid))) (comes_first form a b) e) [
-      | inl other ↦ absurd (let no : ◌≡◌ {A = Bool} true false = sym (ap is_eq (compare_self (translate d a b) form.grid same)) ∙ not-true (is_eq (compare (translate d a b) form.grid)) other in cc)
+      | inl other ↦
+          absurd (let no : ◌≡◌ {A = Bool} true false = sym (ap is_eq (compare_self (translate d a b) form.grid same))
+          ∙ not-true (is_eq (compare (translate d a b) form.grid)) other in cc)
       | inr first ↦ placed a b first
     ]
 
 -- the right trefoil is its form after the shift of rows by 4
 right_form : IsLeastForm right_trefoil (record { grid = record { x = 0 ∷ 4 ∷ 3 ∷ 2 ∷ 1 ∷ []; o = 3 ∷ 2 ∷ 1 ∷ 0 ∷ 4 ∷ [] }; columns = 0; rows = 4 })
-right_form = by_tests right_trefoil (record { grid = record { x = 0 ∷ 4 ∷ 3 ∷ 2 ∷ 1 ∷ []; o = 3 ∷ 2 ∷ 1 ∷ 0 ∷ 4 ∷ [] }; columns = 0; rows = 4 }) refl refl refl refl refl
+right_form =
+    by_tests right_trefoil (record { grid = record { x = 0 ∷ 4 ∷ 3 ∷ 2 ∷ 1 ∷ []; o = 3 ∷ 2 ∷ 1 ∷ 0 ∷ 4 ∷ [] }; columns = 0; rows = 4 }) refl refl refl refl refl
 
 -- the left trefoil is its own form, which five translates reach
 left_form : IsLeastForm left_trefoil (record { grid = left_trefoil; columns = 0; rows = 0 })
@@ -80,7 +90,8 @@ four = record { x = 0 ∷ 1 ∷ 2 ∷ 3 ∷ []; o = 2 ∷ 3 ∷ 1 ∷ 0 ∷ [] }
 four_form : IsLeastForm four (record { grid = record { x = 0 ∷ 1 ∷ 2 ∷ 3 ∷ []; o = 1 ∷ 3 ∷ 0 ∷ 2 ∷ [] }; columns = 3; rows = 3 })
 four_form = by_tests four (record { grid = record { x = 0 ∷ 1 ∷ 2 ∷ 3 ∷ []; o = 1 ∷ 3 ∷ 0 ∷ 2 ∷ [] }; columns = 3; rows = 3 }) refl refl refl refl refl
 
-by_columns_alone : list_all (λ a. not (is_eq (compare (translate four a 0) (record { x = 0 ∷ 1 ∷ 2 ∷ 3 ∷ []; o = 1 ∷ 3 ∷ 0 ∷ 2 ∷ [] })))) (range_with_len 0 4) ≡ true
+by_columns_alone : list_all (λ a. not (is_eq (compare (translate four a 0) (record { x = 0 ∷ 1 ∷ 2 ∷ 3 ∷ []; o = 1 ∷ 3 ∷ 0 ∷ 2 ∷ [] }))))
+    (range_with_len 0 4) ≡ true
 by_columns_alone = refl
 
 -- the key of the left trefoil

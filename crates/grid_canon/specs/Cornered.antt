@@ -2,9 +2,9 @@
 use Rattle.std.specs.Prelude.{◌≡◌, ◌<◌, ℕ, slice_index}
 use Rattle.std.specs.declared.cmp.Ordering.TheVariants.{Less}
 use Rattle.grid_core.specs.Diagram.{Diagram, size}
-use Rattle.grid_canon.specs.Translate.{translate}
+use Rattle.grid_canon.specs.Translation.{translate}
 use Rattle.grid_canon.specs.Order.{compare, IsAtMost}
-use Rattle.grid_canon.specs.Key.{number}
+use Rattle.grid_canon.specs.Digits.{short_number}
 
 -- the translate that has the X of column a in its lower left cell
 abbrev pub cornered : Diagram → ℕ → Diagram
@@ -20,4 +20,4 @@ pub record IsFirstLeast (d : Diagram) (n a : ℕ) : Type 0 where
 pub record IsCornered (d : Diagram) (column row crosses : ℕ) : Type 0 where
   pub inside : column < size d
   pub row_is : row ≡ slice_index d.x column
-  pub crosses_are : crosses ≡ number (cornered d column).x
+  pub crosses_are : crosses ≡ short_number (cornered d column).x

@@ -1,10 +1,10 @@
-pub mod Translate
+pub mod Translation
 pub mod Shifts
 pub mod Order
-pub mod Canonical
+pub mod CanonicalForm
 pub mod Cornered
 pub mod Digits
+pub mod ShortGrid
 pub mod Key
-pub mod LeastKey
 pub use Rattle.grid_core.specs.Diagram
 pub use Rattle.grid_moves.specs.Shift

@@ -6,13 +6,13 @@ ghost use Rattle.grid_core.specs.Diagram.{Diagram, IsGrid, size};
 ghost use Rattle.grid_moves.specs.Shift.{shifted};
 ghost use Rattle.grid_moves.specs.Renumbered.{Renumbered};
 ghost use Rattle.grid_moves.specs.Joining.{Joins, JoinsWithin};
-ghost use Rattle.grid_canon.specs.Translate.{translate, translates};
+ghost use Rattle.grid_canon.specs.Translation.{translate, translates};
 ghost use Rattle.grid_canon.specs.Shifts.{shift_moves};
 ghost use Rattle.grid_canon.specs.Order.{compare};
-ghost use Rattle.grid_canon.specs.Canonical.{IsCanonicalForm, IsCanonical, IsLeastForm};
+ghost use Rattle.grid_canon.specs.CanonicalForm.{IsCanonicalForm, IsCanonical, IsLeastForm};
 ghost use Rattle.grid_canon.specs.Key.{key_of, size_of, compare_keys};
 
-use crate::least::LeastForm;
+use crate::canonical_form::LeastForm;
 
 /// A translate has each mark at its new column and its new row, both counted round the circle, and is a grid.
 pub fn a_translate_moves_each_mark()

@@ -2,17 +2,17 @@
 //! Two diagrams are translates of each other exactly where their canonical forms have one key.
 #![tactic(auto)]
 
+mod canonical_form;
+mod digits;
+mod key;
 pub mod laws;
-mod least;
-mod packed;
-mod short;
-mod short_numbers;
+mod short_grid;
 #[cfg(test)]
 mod tests;
 mod translation;
 
-pub use least::{LeastForm, LeastKey, canonical, canonical_key};
-pub use packed::{BASE, Packed, compare_keys, pack, unpack};
-pub use short::ShortGrid;
-pub use short_numbers::MAX_SHORT_SIZE;
+pub use canonical_form::{LeastForm, LeastKey, canonical, canonical_key};
+pub use digits::MAX_SHORT_SIZE;
+pub use key::{BASE, Packed, compare_keys, pack, unpack};
+pub use short_grid::ShortGrid;
 pub use translation::translate;

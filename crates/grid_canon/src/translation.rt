@@ -4,7 +4,7 @@ ghost use Rattle.std.specs.List.{All};
 ghost use Rattle.grid_core.specs.declared.grid.TheConstants.{MAX_SIZE};
 ghost use Rattle.grid_core.specs.Diagram.{size};
 ghost use Rattle.grid_moves.specs.Shift.{shifted};
-ghost use Rattle.grid_canon.specs.Translate.{turned, translate};
+ghost use Rattle.grid_canon.specs.Translation.{translated_rows, translate};
 
 use arrayvec::ArrayVec;
 use grid_core::{Grid, Kind, Rows};
@@ -18,25 +18,25 @@ pub fn translate(grid: &Grid, columns: u8, rows: u8) -> Grid
 {
     let size = grid.size();
     Grid::of_rows(
-        turned(grid.rows(Kind::Cross), columns, rows, size),
-        turned(grid.rows(Kind::Ring), columns, rows, size),
+        translated_rows(grid.rows(Kind::Cross), columns, rows, size),
+        translated_rows(grid.rows(Kind::Ring), columns, rows, size),
     )
 }
 
 /// The rows of a kind after both shifts.
-fn turned(list: &[u8], columns: u8, rows: u8, size: u8) -> Rows
+fn translated_rows(list: &[u8], columns: u8, rows: u8, size: u8) -> Rows
     requires size { size ≤ MAX_SIZE }
     requires list { length list.now ≡ size }
     requires inside { All (λ r. r < size) list.now }
     requires of_columns { columns < size }
     requires of_rows { rows < size }
-    ensures { result.items ≡ turned size columns rows list.now }
+    ensures { result.items ≡ translated_rows size columns rows list.now }
 {
     let (left, right) = list.split_at(columns as usize);
-    let mut turned = ArrayVec::new();
-    push_lowered(&mut turned, right, rows, size);
-    push_lowered(&mut turned, left, rows, size);
-    turned
+    let mut rows_after = ArrayVec::new();
+    push_lowered(&mut rows_after, right, rows, size);
+    push_lowered(&mut rows_after, left, rows, size);
+    rows_after
 }
 
 /// Appends some rows, each lower by a number, round the circle of as many as the size.

@@ -1,4 +1,4 @@
-use Rattle.grid_canon.proofs.Turned.{translate-renumbered, translate-grid}
+use Rattle.grid_canon.proofs.Translated.{translate-renumbered, translate-grid}
 use Rattle.grid_canon.proofs.laws.a_translate_moves_each_mark.Goals as goal
 
 pub returns-clause-marks : goal.returns-clause-marks

@@ -1,0 +1,166 @@
+//! Short grids: the rows of at most `MAX_SHORT_SIZE` columns as the digits of two numbers.
+ghost use Rattle.std.specs.Prelude.{◌≡◌, ◌<◌, ◌≤◌, ◌↔◌, slice_index, nat_lt, IsTrue};
+ghost use Rattle.std.specs.declared.cmp.Ordering.TheVariants.{Less};
+ghost use Rattle.grid_core.specs.Diagram.{IsGrid, size};
+ghost use Rattle.grid_moves.specs.Widening.{widened};
+ghost use Rattle.grid_canon.specs.Digits.{short_number};
+ghost use Rattle.grid_canon.specs.Order.{compare};
+ghost use Rattle.grid_canon.specs.Cornered.{cornered, IsFirstLeast, IsCornered};
+ghost use Rattle.grid_canon.specs.CanonicalForm.{IsLeastKey};
+
+use crate::canonical_form::LeastKey;
+use crate::digits::{
+    MAX_SHORT_SIZE, cut, cut_next, first_digit, lifted, lowered, number_of, with_digit,
+};
+use crate::key::{Packed, filled_short};
+use grid_core::{Grid, Kind};
+use grid_moves::Widening;
+use std::marker::Model;
+
+/// A grid of at most `MAX_SHORT_SIZE` columns, as two numbers whose digits are its rows: one step of arithmetic moves the marks of all columns.
+/// Contracts see it as the diagram.
+#[derive(Drop)]
+pub struct ShortGrid {
+    size: u32,
+    /// The rows of the Xs by column, the first column's as the highest digit.
+    crosses: u64,
+    /// The rows of the Os, likewise.
+    rings: u64,
+}
+
+impl Model for ShortGrid {
+    ghost use Rattle.grid_core.specs.Diagram.{Diagram};
+    ghost use Rattle.grid_canon.specs.ShortGrid.{of_digits, IsShort};
+
+    ghost Value = { Diagram };
+
+    ghost view = { λ g. of_digits g.size g.crosses g.rings };
+
+    ghost invariant = { λ g. IsShort g.size g.crosses g.rings };
+}
+
+impl ShortGrid {
+    /// The short grid of a grid that has at most `MAX_SHORT_SIZE` columns. Takes no memory.
+    pub fn of(grid: &Grid) -> ShortGrid
+        requires { size grid.now ≤ MAX_SHORT_SIZE }
+        ensures { result ≡ grid.now }
+    {
+        ShortGrid {
+            size: u32::from(grid.size()),
+            crosses: number_of(grid.rows(Kind::Cross)),
+            rings: number_of(grid.rows(Kind::Ring)),
+        }
+    }
+
+    /// The grid with one more row, and for the marks of each kind one more column, which are known to make a grid. Takes no memory.
+    pub fn widened(&self, widening: Widening) -> ShortGrid
+        requires grid { IsGrid (widened widening self.now) }
+        requires short { size self.now < MAX_SHORT_SIZE }
+        requires row { widening.row ≤ size self.now }
+        requires crosses { widening.crosses ≤ size self.now }
+        requires rings { widening.rings ≤ size self.now }
+        ensures { result ≡ widened widening self.now }
+    {
+        let size = self.size;
+        let row = u64::from(widening.row);
+        let crosses = lifted(self.crosses, row, size);
+        let rings = lifted(self.rings, row, size);
+        ShortGrid {
+            size: size + 1,
+            crosses: with_digit(crosses, row, u32::from(widening.crosses), size),
+            rings: with_digit(rings, row, u32::from(widening.rings), size),
+        }
+    }
+
+    /// The key of the canonical form with its least shifts, as `canonical_key` answers it for a grid. Takes no memory.
+    pub fn canonical_key(&self) -> LeastKey
+        ensures { IsLeastKey self.now result }
+    {
+        let size = self.size;
+        let least = self.least_translate();
+        let rings = self.cornered_rings(least.column, least.row);
+        LeastKey {
+            key: Packed {
+                first: filled_short(size, least.crosses, size),
+                second: filled_short(0, rings, size),
+            },
+            columns: least.column as u8,
+            rows: least.row as u8,
+        }
+    }
+
+    /// The least translate with an X in its lower left cell, by the first column that gives it.
+    fn least_translate(&self) -> Cornered
+        ensures first { IsFirstLeast self.now (size self.now) result.column }
+        ensures found { IsCornered self.now result.column result.row result.crosses }
+    {
+        let size = self.size;
+        let mut crosses = self.crosses;
+        let mut row = first_digit(crosses, size);
+        let mut best = Cornered {
+            column: 0,
+            row,
+            crosses: lowered(crosses, row, size),
+        };
+        for column in 1..size {
+            crosses = cut_next(crosses, row, size);
+            row = first_digit(crosses, size);
+            let next = Cornered {
+                column,
+                row,
+                crosses: lowered(crosses, row, size),
+            };
+            if self.comes_before(&next, &best) {
+                best = next;
+            }
+        }
+        best
+    }
+
+    /// Whether one translate comes before another.
+    fn comes_before(&self, near: &Cornered, far: &Cornered) -> bool
+        requires near { IsCornered self.now near.now.column near.now.row near.now.crosses }
+        requires far { IsCornered self.now far.now.column far.now.row far.now.crosses }
+        ensures { IsTrue result ↔ (compare (cornered self.now near.now.column) (cornered self.now far.now.column) ≡ Less) }
+    {
+        let _size = self.size;
+        if near.crosses > far.crosses {
+            false
+        } else if near.crosses < far.crosses {
+            true
+        } else {
+            self.rings_come_before(near, far)
+        }
+    }
+
+    /// Whether the number of the Os of one translate is below that of another. It is seldom called: kept out of the loop over the
+    /// columns, whose numbers so stay in registers.
+    #[inline(never)]
+    fn rings_come_before(&self, near: &Cornered, far: &Cornered) -> bool
+        requires near { IsCornered self.now near.now.column near.now.row near.now.crosses }
+        requires far { IsCornered self.now far.now.column far.now.row far.now.crosses }
+        ensures { result ≡ nat_lt (short_number (cornered self.now near.now.column).o) (short_number (cornered self.now far.now.column).o) }
+    {
+        self.cornered_rings(near.column, near.row) < self.cornered_rings(far.column, far.row)
+    }
+
+    /// The number of the Os of the translate that has the X of a column, in this row, in its lower left cell.
+    fn cornered_rings(&self, column: u32, row: u64) -> u64
+        requires column { column < size self.now }
+        requires row { row ≡ slice_index self.now.x column }
+        ensures { result ≡ short_number (cornered self.now column).o }
+    {
+        lowered(cut(self.rings, column, self.size), row, self.size)
+    }
+}
+
+/// A translate with an X in its lower left cell.
+#[derive(Clone, Copy, Drop)]
+struct Cornered {
+    /// The column of this X in the grid.
+    column: u32,
+    /// Its row.
+    row: u64,
+    /// The number of the translate's Xs.
+    crosses: u64,
+}
