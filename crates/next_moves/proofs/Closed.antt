@@ -8,8 +8,8 @@ use Rattle.grid_moves.specs.declared.step.Move.TheVariants.{ShiftColumns, ShiftR
 use Rattle.grid_moves.specs.Step.{Step}
 use Rattle.grid_moves.specs.Joining.{JoinsWithin, WithinCap}
 use Rattle.grid_moves.proofs.OneResult.{step_once}
-use Rattle.grid_canon.specs.Translate.{translate, translates}
-use Rattle.grid_canon.specs.Canonical.{IsCanonicalForm, IsCanonical}
+use Rattle.grid_canon.specs.Translation.{translate, translates}
+use Rattle.grid_canon.specs.CanonicalForm.{IsCanonicalForm, IsCanonical}
 use Rattle.grid_canon.proofs.LeastTranslates.{translates_contains, shifts_of}
 use Rattle.grid_canon.proofs.Joined.{column_shift_step, row_shift_step, shifts_joined_within}
 use Rattle.grid_canon.proofs.CanonicalForms.{canonical_exists, canonical_of_translate, translated_back, translated_size}
@@ -25,9 +25,12 @@ use Rattle.next_moves.specs.Neighbours.{is_shift, IsNeighbour}
 -- a shift leads to a translate
 pub shift_translates : (move : Move) (d e : Diagram) → is_shift move ≡ true → Step d move e → Contains (translates d) e
 shift_translates (ShiftColumns k) d e shifts step =
-    subst (λ t. Contains (translates d) t) (step_once d (ShiftColumns k) (translate d k 0) e (column_shift_step d k step.before step.marks.least step.marks.most) step) (translates_contains d k 0 step.marks.most (omega (arith, step.before.least)))
+    subst (λ t. Contains (translates d) t) (step_once d (ShiftColumns k) (translate d k 0) e
+    (column_shift_step d k step.before step.marks.least step.marks.most) step)
+    (translates_contains d k 0 step.marks.most (omega (arith, step.before.least)))
 shift_translates (ShiftRows k) d e shifts step =
-    subst (λ t. Contains (translates d) t) (step_once d (ShiftRows k) (translate d 0 k) e (row_shift_step d k step.before step.marks.least step.marks.most) step) (translates_contains d 0 k (omega (arith, step.before.least)) step.marks.most)
+    subst (λ t. Contains (translates d) t) (step_once d (ShiftRows k) (translate d 0 k) e
+    (row_shift_step d k step.before step.marks.least step.marks.most) step) (translates_contains d 0 k (omega (arith, step.before.least)) step.marks.most)
 shift_translates (ExchangeColumns c) d e shifts step = absurd (let no_shift : false ≡ true = shifts in cc)
 shift_translates (ExchangeRows r) d e shifts step = absurd (let no_shift : false ≡ true = shifts in cc)
 shift_translates (SlideColumns c) d e shifts step = absurd (let no_shift : false ≡ true = shifts in cc)
@@ -35,7 +38,8 @@ shift_translates (SlideRows r) d e shifts step = absurd (let no_shift : false �
 shift_translates (Stabilise c kind corner) d e shifts step = absurd (let no_shift : false ≡ true = shifts in cc)
 shift_translates (Destabilise c r) d e shifts step = absurd (let no_shift : false ≡ true = shifts in cc)
 
-module _ (members : List Diagram) (cap : ℕ) (grids : All IsGrid members) (closed : (f g : Diagram) → Contains members f → IsNeighbour f cap g → Contains members g) where
+module _ (members : List Diagram) (cap : ℕ) (grids : All IsGrid members)
+    (closed : (f g : Diagram) → Contains members f → IsNeighbour f cap g → Contains members g) where
   -- the form of a diagram is a member
   abbrev IsKnown : Diagram → Type 0
   IsKnown d = (f : Diagram) → IsCanonicalForm d f → Contains members f
@@ -68,10 +72,15 @@ module _ (members : List Diagram) (cap : ℕ) (grids : All IsGrid members) (clos
       start [] d e joined = joined.0
       start (move ∷ moves) d e joined = joined.0
 
-pub closed_has_all : (members : List Diagram) (a : Diagram) (cap : ℕ) → IsGrid a → All IsGrid members → ((f : Diagram) → IsCanonicalForm a f → Contains members f) → ((f g : Diagram) → Contains members f → IsNeighbour f cap g → Contains members g) → (f : Diagram) → IsCanonical f → WithinCap a f cap → Contains members f
+pub closed_has_all : (members : List Diagram) (a : Diagram) (cap : ℕ) → IsGrid a → All IsGrid members
+    → ((f : Diagram) → IsCanonicalForm a f → Contains members f) → ((f g : Diagram) → Contains members f → IsNeighbour f cap g → Contains members g)
+    → (f : Diagram) → IsCanonical f → WithinCap a f cap → Contains members f
 closed_has_all members a cap grid grids start closed f own joined = known_all members cap grids closed joined.0 a f grid joined.1 start f own
 
-pub closed_is_all : (members : List Diagram) (a b : Diagram) (cap : ℕ) → IsGrid a → IsGrid b → All IsGrid members → AllPairs (λ d e. d ≢ e) members → All (IsReached a b cap) members → ((f : Diagram) → IsCanonicalForm a f → Contains members f) → ((f : Diagram) → IsCanonicalForm b f → Contains members f) → ((f g : Diagram) → Contains members f → IsNeighbour f cap g → Contains members g) → AreMembers (IsReached a b cap) members
+pub closed_is_all : (members : List Diagram) (a b : Diagram) (cap : ℕ) → IsGrid a → IsGrid b → All IsGrid members → AllPairs (λ d e. d ≢ e) members
+    → All (IsReached a b cap) members → ((f : Diagram) → IsCanonicalForm a f → Contains members f)
+    → ((f : Diagram) → IsCanonicalForm b f → Contains members f) → ((f g : Diagram) → Contains members f → IsNeighbour f cap g → Contains members g)
+    → AreMembers (IsReached a b cap) members
 closed_is_all members a b cap ga gb grids different reached fa fb closed = record {
   different = different;
   exactly = λ f. (
@@ -86,8 +95,11 @@ closed_is_all members a b cap ga gb grids different reached fa fb closed = recor
 -- a translate is reached at its size, and a neighbour within the cap
 pub translate_reached : (d e : Diagram) (cap : ℕ) → IsGrid d → size d ≤ cap → Contains (translates d) e → WithinCap d e cap
 translate_reached d e cap grid small c =
-    let s = shifts_of d e c in
-    (shift_moves s.0 s.1, within_larger (size d) cap (shift_moves s.0 s.1) d e small (subst (λ t. JoinsWithin (size d) d (shift_moves s.0 s.1) t) s.4 (shifts_joined_within d s.0 s.1 grid s.2 s.3)))
+    let s = shifts_of d e c in (
+      shift_moves s.0 s.1,
+      within_larger (size d) cap (shift_moves s.0 s.1) d e small
+          (subst (λ t. JoinsWithin (size d) d (shift_moves s.0 s.1) t) s.4 (shifts_joined_within d s.0 s.1 grid s.2 s.3)),
+    )
 
 pub form_reached : (d f : Diagram) (cap : ℕ) → IsGrid d → size d ≤ cap → IsCanonicalForm d f → WithinCap d f cap
 form_reached d f cap grid small form = translate_reached d f cap grid small form.among
@@ -96,7 +108,8 @@ pub neighbour_reached : (d f : Diagram) (cap : ℕ) → IsGrid d → size d ≤ 
 neighbour_reached d f cap grid small near =
     let long = translated_size d near.before grid near.translated in
     within_cap_after d near.before f cap (translate_reached d near.before cap grid small near.translated)
-    (within_cap_after near.before near.after f cap (near.move ∷ [], (omega (arith, long, small), (near.after, (near.step, (near.small, refl))))) (form_reached near.after f cap near.step.after near.small near.form))
+    (within_cap_after near.before near.after f cap (near.move ∷ [], (omega (arith, long, small), (near.after, (near.step, (near.small, refl)))))
+    (form_reached near.after f cap near.step.after near.small near.form))
 
 -- the offers of a key
 pub whole_of_key : (n : Neighbourhood) (d : Diagram) → IsWhole n → IsGrid d → key_of d ≡ n.origin → IsOfferList d n.cap n.offers

@@ -5,25 +5,29 @@ use Rattle.std.proofs.lemmas.List.Elements.{All-head, All-tail}
 use Rattle.grid_core.specs.Diagram.{Diagram}
 use Rattle.grid_moves.specs.Step.{Step}
 use Rattle.grid_moves.proofs.OneResult.{step_once}
-use Rattle.grid_canon.specs.declared.least.LeastForm.{LeastForm}
-use Rattle.grid_canon.specs.declared.packed.Packed.{Packed}
-use Rattle.grid_canon.specs.Translate.{translate}
-use Rattle.grid_canon.specs.Canonical.{IsLeastForm}
+use Rattle.grid_canon.specs.declared.canonical_form.LeastForm.{LeastForm}
+use Rattle.grid_canon.specs.declared.key.Packed.{Packed}
+use Rattle.grid_canon.specs.Translation.{translate}
+use Rattle.grid_canon.specs.CanonicalForm.{IsLeastForm}
 use Rattle.grid_canon.specs.Key.{key_of}
 use Rattle.grid_canon.proofs.CanonicalForms.{least_form_once}
-use Rattle.next_moves.specs.declared.offer.Link.{Link}
-use Rattle.next_moves.specs.declared.offer.Offer.{Offer}
+use Rattle.next_moves.specs.declared.links.Link.{Link}
+use Rattle.next_moves.specs.declared.links.Offer.{Offer}
 use Rattle.next_moves.specs.Tries.{Try}
 use Rattle.next_moves.specs.Offers.{Leads, IsOfferOf, IsOfferList, try_of}
 
 -- the forms to which two links with one try lead
-form_once : (d e f : Diagram) (link other : Link) → Leads d link e → Leads d other f → ◌≡◌ {A = Try} (record { before = link.before; step = link.step }) (record { before = other.before; step = other.step }) → ◌≡◌ {A = LeastForm} (record { grid = e; columns = link.after.0; rows = link.after.1 }) (record { grid = f; columns = other.after.0; rows = other.after.1 })
+form_once : (d e f : Diagram) (link other : Link) → Leads d link e → Leads d other f
+    → ◌≡◌ {A = Try} (record { before = link.before; step = link.step }) (record { before = other.before; step = other.step })
+    → ◌≡◌ {A = LeastForm} (record { grid = e; columns = link.after.0; rows = link.after.1 }) (record { grid = f; columns = other.after.0; rows = other.after.1 })
 form_once d e f link other one two same =
     let P : Try → Type 0 = λ t. Step (translate d t.before.0 t.before.1) t.step one.moved in
-    let here : Step (translate d other.before.0 other.before.1) other.step one.moved = let p : P (record { before = other.before; step = other.step }) = subst P same one.step in p in
+    let here : Step (translate d other.before.0 other.before.1) other.step one.moved =
+    let p : P (record { before = other.before; step = other.step }) = subst P same one.step in p in
     let moved : one.moved ≡ two.moved = step_once (translate d other.before.0 other.before.1) other.step one.moved two.moved here two.step in
     let F : LeastForm = record { grid = e; columns = link.after.0; rows = link.after.1 } in
-    least_form_once two.moved (record { grid = e; columns = link.after.0; rows = link.after.1 }) (record { grid = f; columns = other.after.0; rows = other.after.1 }) (subst (λ g. IsLeastForm g F) moved one.form) two.form
+    least_form_once two.moved (record { grid = e; columns = link.after.0; rows = link.after.1 })
+    (record { grid = f; columns = other.after.0; rows = other.after.1 }) (subst (λ g. IsLeastForm g F) moved one.form) two.form
 
 pub link_once : (d e f : Diagram) (link : Link) → Leads d link e → Leads d link f → e ≡ f
 link_once d e f link one two = ap (λ (form : LeastForm). form.grid) (form_once d e f link link one two refl)
@@ -46,7 +50,8 @@ offers_once d (x ∷ xs) [] ax ay same = absurd (let n : suc (length (map try_of
 offers_once d (x ∷ xs) (y ∷ ys) ax ay same =
     let head : try_of x ≡ try_of y = cc in
     let tail : map try_of xs ≡ map try_of ys = cc in
-    ap₂ (λ z zs. z ∷ zs) (offer_once d x y (All-head (IsOfferOf d) x xs ax) (All-head (IsOfferOf d) y ys ay) head) (offers_once d xs ys (All-tail (IsOfferOf d) x xs ax) (All-tail (IsOfferOf d) y ys ay) tail)
+    ap₂ (λ z zs. z ∷ zs) (offer_once d x y (All-head (IsOfferOf d) x xs ax) (All-head (IsOfferOf d) y ys ay) head)
+    (offers_once d xs ys (All-tail (IsOfferOf d) x xs ax) (All-tail (IsOfferOf d) y ys ay) tail)
 
 pub list_once : (d : Diagram) (cap : ℕ) (offers others : List Offer) → IsOfferList d cap offers → IsOfferList d cap others → offers ≡ others
 list_once d cap offers others one two = offers_once d offers others one.leads two.leads (one.order ∙ sym two.order)

@@ -5,8 +5,9 @@ use Rattle.std.proofs.lemmas.List.{append-nil}
 use Rattle.std.proofs.lemmas.List.Elements.{All-append, All-filter, All-map, filter-append}
 use Rattle.grid_core.specs.declared.mark.Kind.TheVariants.{Cross, Ring}
 use Rattle.grid_core.specs.Diagram.{Diagram}
-use Rattle.next_moves.specs.declared.offer.Offer.{Offer}
-use Rattle.next_moves.specs.Tries.{Try, tries, trades, exchanges, is_exchange, column_exchange, column_trades, row_exchange, row_trades, destabilisation, destabilisations, all_destabilisations, stabilisation, stabilisations, all_stabilisations, corners}
+use Rattle.next_moves.specs.declared.links.Offer.{Offer}
+use Rattle.grid_core.specs.Corners.{corners}
+use Rattle.next_moves.specs.Tries.{Try, tries, trades, exchanges, is_exchange, column_exchange, column_trades, row_exchange, row_trades, destabilisation, destabilisations, all_destabilisations, stabilisation, stabilisations, all_stabilisations}
 use Rattle.next_moves.specs.Offers.{is_offered, IsOfferOf, AreOffersOf, try_of, exchanges_among}
 use Rattle.next_moves.proofs.Members.{map_filter, filter_swap, filter_none}
 use Rattle.next_moves.proofs.Complete.{ranged, flat_ranged}
@@ -52,7 +53,8 @@ exchanges_of_tries n =
         ∙ ap₂ (λ (ts us : List Try). ts ++ us) (of_columns n (range_with_len 0 n)) (of_rows n (range_with_len 0 n))
 
 -- the exchanges among the offers of all tries are the offers of all exchanges
-pub exchanges_offered : (d : Diagram) (cap n : ℕ) (offers : List Offer) → AreOffersOf d cap (tries n) offers → AreOffersOf d cap (exchanges n) (exchanges_among offers)
+pub exchanges_offered : (d : Diagram) (cap n : ℕ) (offers : List Offer) → AreOffersOf d cap (tries n) offers
+    → AreOffersOf d cap (exchanges n) (exchanges_among offers)
 exchanges_offered d cap n offers are = record {
   order = map_filter try_of exchanges_in offers
       ∙ ap (filter exchanges_in) are.order

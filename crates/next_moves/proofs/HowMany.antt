@@ -32,7 +32,8 @@ places_of {A} z xs (y ∷ ys) all = by (all 0 (omega arith)) (places_of z xs ys 
         stands (suc k) lt = rest.stands k (omega (arith, lt))
 
 -- numbers below n, no two of them equal, are at most n
-below_le : (xs : List ℕ) (n : ℕ) → ((i j d : ℕ) → i < j → j < length xs → get_or xs i d ≢ get_or xs j d) → ((k : ℕ) → k < length xs → get_or xs k 0 < n) → length xs ≤ n
+below_le : (xs : List ℕ) (n : ℕ) → ((i j d : ℕ) → i < j → j < length xs → get_or xs i d ≢ get_or xs j d) → ((k : ℕ) → k < length xs → get_or xs k 0 < n)
+    → length xs ≤ n
 below_le xs n apart below =
     length-le_from_distinct_below xs n (IsDistinct-from_apart eqb xs (λ i j d less lt. ne_eqb (get_or xs i d) (get_or xs j d) (apart i j d less lt)))
     (λ q found. of_any q (Any-from_list_any (eqb q) xs found))
@@ -43,7 +44,8 @@ below_le xs n apart below =
         omega (arith, same, get_or_default xs any.0 0 any.1 any.2, any.3, below any.0 any.2)
 
 -- different elements of a list are at most as many as it has
-different_le : {A : Type 0} (z : A) (xs ys : List A) → AllPairs (λ d e. d ≢ e) ys → ((k : ℕ) → k < length ys → Contains xs (get_or ys k z)) → length ys ≤ length xs
+different_le : {A : Type 0} (z : A) (xs ys : List A) → AllPairs (λ d e. d ≢ e) ys → ((k : ℕ) → k < length ys → Contains xs (get_or ys k z))
+    → length ys ≤ length xs
 different_le z xs ys different all =
     let p = places_of z xs ys all in
     omega (
@@ -66,7 +68,8 @@ more_excluded P k m one more =
 
 members_le : (P : Diagram → Type 0) (xs ys : List Diagram) → AreMembers P xs → AreMembers P ys → length ys ≤ length xs
 members_le P xs ys one two =
-    different_le blank xs ys two.different (λ i lt. (one.exactly (get_or ys i blank)).0 ((two.exactly (get_or ys i blank)).1 (i, lt, get_or_default ys i (get_or ys i blank) blank lt)))
+    different_le blank xs ys two.different (λ i lt. (one.exactly (get_or ys i blank)).0
+    ((two.exactly (get_or ys i blank)).1 (i, lt, get_or_default ys i (get_or ys i blank) blank lt)))
 
 pub one_number : (P : Diagram → Type 0) (k l : ℕ) → HasMembers P k → HasMembers P l → k ≡ l
 one_number P k l one two = omega (arith, members_le P one.0 two.0 one.2 two.2, members_le P two.0 one.0 two.2 one.2, one.1, two.1)

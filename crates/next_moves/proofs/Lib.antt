@@ -4,8 +4,9 @@ pub mod Sides
 pub mod BlockRows
 pub mod Circle
 pub mod Rounds
-pub mod Turns
-pub mod BlockTurns
+pub mod TranslatedMoves
+pub mod TranslatedBlocks
+pub mod MovesOnTranslates
 pub mod Members
 pub mod Matched
 pub mod Complete

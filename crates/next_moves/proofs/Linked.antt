@@ -4,31 +4,38 @@ use Rattle.grid_core.specs.Diagram.{Diagram, IsGrid, size}
 use Rattle.grid_moves.specs.declared.step.Move.{Move}
 use Rattle.grid_moves.specs.Joining.{Joins, JoinsWithin}
 use Rattle.grid_moves.proofs.Within.{within_append, within_joins}
-use Rattle.grid_canon.specs.Translate.{translate}
+use Rattle.grid_canon.specs.Translation.{translate}
 use Rattle.grid_canon.specs.Shifts.{shift_moves}
-use Rattle.grid_canon.proofs.Turned.{size-translate}
+use Rattle.grid_canon.proofs.Translated.{size-translate}
 use Rattle.grid_canon.proofs.Joined.{shifts_joined_within}
-use Rattle.next_moves.specs.declared.offer.Link.{Link}
+use Rattle.next_moves.specs.declared.links.Link.{Link}
 use Rattle.next_moves.specs.Offers.{Leads}
 use Rattle.next_moves.specs.Links.{link_moves}
 
 -- a list within a cap is one within a larger cap
 pub within_larger : (cap more : ℕ) (moves : List Move) (d e : Diagram) → cap ≤ more → JoinsWithin cap d moves e → JoinsWithin more d moves e
 within_larger cap more [] d e le joined = (omega (arith, le, joined.0), joined.1)
-within_larger cap more (move ∷ moves) d e le joined = (omega (arith, le, joined.0), (joined.1.0, (joined.1.1.0, within_larger cap more moves joined.1.0 e le joined.1.1.1)))
+within_larger cap more (move ∷ moves) d e le joined =
+    (omega (arith, le, joined.0), (joined.1.0, (joined.1.1.0, within_larger cap more moves joined.1.0 e le joined.1.1.1)))
 
-pub link_joined_within : (d f : Diagram) (link : Link) (cap : ℕ) → IsGrid d → Leads d link f → size d ≤ cap → size f ≤ cap → JoinsWithin cap d (link_moves link) f
+pub link_joined_within : (d f : Diagram) (link : Link) (cap : ℕ) → IsGrid d → Leads d link f → size d ≤ cap → size f ≤ cap
+    → JoinsWithin cap d (link_moves link) f
 link_joined_within d f link cap grid led small same =
-    let turned : Diagram = translate d link.before.0 link.before.1 in
+    let translated : Diagram = translate d link.before.0 link.before.1 in
     let moved = led.moved in
-    let long : size turned ≡ size d = size-translate d link.before.0 link.before.1 led.columns in
+    let long : size translated ≡ size d = size-translate d link.before.0 link.before.1 led.columns in
     let form = led.form in
     let back : size f ≡ size moved = ap size (sym form.reached) ∙ size-translate moved link.after.0 link.after.1 form.columns in
-    let first = within_larger (size d) cap (shift_moves link.before.0 link.before.1) d turned small (shifts_joined_within d link.before.0 link.before.1 grid led.columns led.rows) in
-    let middle : JoinsWithin cap turned (link.step ∷ []) moved = (omega (arith, long, small), (moved, (led.step, (omega (arith, back, same), refl)))) in
-    let last = within_larger (size moved) cap (shift_moves link.after.0 link.after.1) moved f (omega (arith, back, same)) (subst (λ g. JoinsWithin (size moved) moved (shift_moves link.after.0 link.after.1) g) form.reached (shifts_joined_within moved link.after.0 link.after.1 led.step.after form.columns form.rows)) in
+    let first =
+    within_larger (size d) cap (shift_moves link.before.0 link.before.1) d translated small
+    (shifts_joined_within d link.before.0 link.before.1 grid led.columns led.rows) in
+    let middle : JoinsWithin cap translated (link.step ∷ []) moved = (omega (arith, long, small), (moved, (led.step, (omega (arith, back, same), refl)))) in
+    let last =
+    within_larger (size moved) cap (shift_moves link.after.0 link.after.1) moved f (omega (arith, back, same))
+    (subst (λ g. JoinsWithin (size moved) moved (shift_moves link.after.0 link.after.1) g) form.reached
+    (shifts_joined_within moved link.after.0 link.after.1 led.step.after form.columns form.rows)) in
     within_append cap (shift_moves link.before.0 link.before.1 ++ link.step ∷ []) (shift_moves link.after.0 link.after.1) d moved f
-    (within_append cap (shift_moves link.before.0 link.before.1) (link.step ∷ []) d turned moved first middle) last
+    (within_append cap (shift_moves link.before.0 link.before.1) (link.step ∷ []) d translated moved first middle) last
 
 pub link_joined : (d f : Diagram) (link : Link) → IsGrid d → Leads d link f → Joins d (link_moves link) f
 link_joined d f link grid led =

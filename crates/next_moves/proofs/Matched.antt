@@ -13,17 +13,18 @@ use Rattle.grid_moves.specs.declared.step.Move.TheVariants.{ShiftColumns, ShiftR
 use Rattle.grid_moves.specs.Shift.{shifted}
 use Rattle.grid_moves.specs.Step.{Step}
 use Rattle.grid_moves.proofs.Shifted.{shifted_below}
-use Rattle.grid_canon.specs.Translate.{translate, translates}
-use Rattle.grid_canon.proofs.Turned.{origin, origin-below, origin-shifted, size-translate, row_of-translate, translate-translate}
+use Rattle.grid_canon.specs.Translation.{translate, translates}
+use Rattle.grid_canon.proofs.Translated.{origin, origin-below, origin-shifted, size-translate, row_of-translate, translate-translate}
 use Rattle.grid_canon.proofs.Joined.{at_origin}
 use Rattle.grid_canon.proofs.LeastTranslates.{translates_contains, contains_left, contains_right, flat_map_contains, range_contains, map_contains}
 use Rattle.next_moves.specs.Neighbours.{is_shift}
-use Rattle.next_moves.specs.Tries.{Try, turn, place, tries, is_exchange, column_exchange, column_slide, column_trades, row_exchange, row_slide, row_trades, destabilisation, destabilisations, stabilisation, stabilisations, corners}
+use Rattle.grid_core.specs.Corners.{corners}
+use Rattle.next_moves.specs.Tries.{Try, shift_before, place_after_shift, tries, is_exchange, column_exchange, column_slide, column_trades, row_exchange, row_slide, row_trades, destabilisation, destabilisations, stabilisation, stabilisations}
 use Rattle.next_moves.proofs.Members.{contains_first, contains_later}
-use Rattle.next_moves.proofs.Sides.{turn-below, place-below, first_origin}
+use Rattle.next_moves.proofs.Sides.{shift_before-below, place_after_shift-below, first_origin}
 use Rattle.next_moves.proofs.Rounds.{brought, brought_next, brought_from}
-use Rattle.next_moves.proofs.Turns.{exchange_columns_turned, exchange_rows_turned, slide_columns_turned, slide_rows_turned}
-use Rattle.next_moves.proofs.BlockTurns.{stabilise_turned, destabilise_turned}
+use Rattle.next_moves.proofs.TranslatedMoves.{exchange_columns_translated, exchange_rows_translated, slide_columns_translated, slide_rows_translated}
+use Rattle.next_moves.proofs.TranslatedBlocks.{stabilise_translated, destabilise_translated}
 
 -- a try on d leads to a translate of e, to which the move leads from a translate of d; it is an exchange where the move is
 pub record Matched (move : Move) (d e : Diagram) : Type 0 where
@@ -66,7 +67,8 @@ module _ (n : ℕ) where
   tries_block q s hq hs =
       contains_left (columns_part ++ rows_part ++ blocks_part) marks_part (destabilisation n q s)
       (contains_right (columns_part ++ rows_part) blocks_part (destabilisation n q s)
-      (flat_map_contains (destabilisations n) (range_with_len 0 n) q (destabilisation n q s) (range_contains n q hq) (map_contains (destabilisation n q) (range_with_len 0 n) s (range_contains n s hs))))
+      (flat_map_contains (destabilisations n) (range_with_len 0 n) q (destabilisation n q s) (range_contains n q hq)
+      (map_contains (destabilisation n q) (range_with_len 0 n) s (range_contains n s hs))))
 
   tries_mark : (q : ℕ) (kind : Kind) (corner : Corner) → q < n → Contains (tries n) (stabilisation q kind corner)
   tries_mark q kind corner hq =
@@ -76,15 +78,24 @@ module _ (n : ℕ) where
       each : (corner : Corner) → Contains corners corner
       each LowLeft = contains_first LowLeft (LowRight ∷ HighLeft ∷ HighRight ∷ [])
       each LowRight = contains_later LowLeft (LowRight ∷ HighLeft ∷ HighRight ∷ []) LowRight (contains_first LowRight (HighLeft ∷ HighRight ∷ []))
-      each HighLeft = contains_later LowLeft (LowRight ∷ HighLeft ∷ HighRight ∷ []) HighLeft (contains_later LowRight (HighLeft ∷ HighRight ∷ []) HighLeft (contains_first HighLeft (HighRight ∷ [])))
-      each HighRight = contains_later LowLeft (LowRight ∷ HighLeft ∷ HighRight ∷ []) HighRight (contains_later LowRight (HighLeft ∷ HighRight ∷ []) HighRight (contains_later HighLeft (HighRight ∷ []) HighRight (contains_first HighRight [])))
+      each HighLeft =
+          contains_later LowLeft (LowRight ∷ HighLeft ∷ HighRight ∷ []) HighLeft
+          (contains_later LowRight (HighLeft ∷ HighRight ∷ []) HighLeft (contains_first HighLeft (HighRight ∷ [])))
+      each HighRight =
+          contains_later LowLeft (LowRight ∷ HighLeft ∷ HighRight ∷ []) HighRight
+          (contains_later LowRight (HighLeft ∷ HighRight ∷ []) HighRight (contains_later HighLeft (HighRight ∷ []) HighRight (contains_first HighRight [])))
 
       of_kind : (kind : Kind) → Contains (stabilisations q) (stabilisation q kind corner)
-      of_kind Cross = contains_left (map (stabilisation q Cross) corners) (map (stabilisation q Ring) corners) (stabilisation q Cross corner) (map_contains (stabilisation q Cross) corners corner (each corner))
-      of_kind Ring = contains_right (map (stabilisation q Cross) corners) (map (stabilisation q Ring) corners) (stabilisation q Ring corner) (map_contains (stabilisation q Ring) corners corner (each corner))
+      of_kind Cross =
+          contains_left (map (stabilisation q Cross) corners) (map (stabilisation q Ring) corners) (stabilisation q Cross corner)
+          (map_contains (stabilisation q Cross) corners corner (each corner))
+      of_kind Ring =
+          contains_right (map (stabilisation q Cross) corners) (map (stabilisation q Ring) corners) (stabilisation q Ring corner)
+          (map_contains (stabilisation q Ring) corners corner (each corner))
 
 -- a translate of a translate, by what its shifts come to
-brought_translate : (d : Diagram) (a b k l t u : ℕ) → IsGrid d → a < size d → b < size d → k < size d → l < size d → origin (size d) k a ≡ t → origin (size d) l b ≡ u → translate (translate d a b) k l ≡ translate d t u
+brought_translate : (d : Diagram) (a b k l t u : ℕ) → IsGrid d → a < size d → b < size d → k < size d → l < size d → origin (size d) k a ≡ t
+    → origin (size d) l b ≡ u → translate (translate d a b) k l ≡ translate d t u
 brought_translate d a b k l t u grid ha hb hk hl et eu = translate-translate d a b k l grid ha hb hk hl ∙ ap₂ (λ (z w : ℕ). translate d z w) et eu
 
 -- back to where it was not shifted
@@ -105,11 +116,11 @@ record ColumnsRound (d : Diagram) (a b c : ℕ) : Type 0 where
   l : ℕ
   columns : k < size d
   rows : l < size d
-  inside : place (size d) q + 1 < size d
-  turned : turn (size d) q < size d
-  first : origin (size d) k (place (size d) q) ≡ c
-  second : origin (size d) k (place (size d) q + 1) ≡ c + 1
-  there : translate (translate d a b) k l ≡ translate d (turn (size d) q) 0
+  inside : place_after_shift (size d) q + 1 < size d
+  shift : shift_before (size d) q < size d
+  first : origin (size d) k (place_after_shift (size d) q) ≡ c
+  second : origin (size d) k (place_after_shift (size d) q + 1) ≡ c + 1
+  there : translate (translate d a b) k l ≡ translate d (shift_before (size d) q) 0
 
 columns_round : (d : Diagram) (a b c : ℕ) → IsGrid d → a < size d → b < size d → c + 1 < size d → ColumnsRound d a b c
 columns_round d a b c grid ha hb inside =
@@ -117,8 +128,8 @@ columns_round d a b c grid ha hb inside =
     let hc : c < n = omega (arith, inside) in
     let q : ℕ = origin n a c in
     let hq : q < n = origin-below n a c ha hc in
-    let p : ℕ = place n q in
-    let p1 : p + 1 < n = place-below n q grid.least hq in
+    let p : ℕ = place_after_shift n q in
+    let p1 : p + 1 < n = place_after_shift-below n q grid.least hq in
     let hp : p < n = omega (arith, p1) in
     let k : ℕ = shifted n p c in
     let l : ℕ = shifted n b 0 in
@@ -132,43 +143,56 @@ columns_round d a b c grid ha hb inside =
       columns = hk;
       rows = hl;
       inside = p1;
-      turned = turn-below n q grid.least hq;
+      shift = shift_before-below n q grid.least hq;
       first = ap (λ (z : ℕ). origin n k z) (sym (brought n p c hp hc)) ∙ origin-shifted n k c hk hc;
       second = ap (λ (z : ℕ). origin n k z) (sym (brought_next n p c p1 inside)) ∙ origin-shifted n k (c + 1) hk inside;
-      there = brought_translate d a b k l (turn n q) 0 grid ha hb hk hl (brought_from n a c p (turn n q) ha hc hp (turn-below n q grid.least hq) (first_origin n q grid.least hq)) (back_to_zero n b hb);
+      there =
+          brought_translate d a b k l (shift_before n q) 0 grid ha hb hk hl
+          (brought_from n a c p (shift_before n q) ha hc hp (shift_before-below n q grid.least hq) (first_origin n q grid.least hq)) (back_to_zero n b hb);
     }
 
-match_column_exchange : (d : Diagram) (a b c : ℕ) (e : Diagram) → IsGrid d → a < size d → b < size d → Step (translate d a b) (ExchangeColumns c) e → Matched (ExchangeColumns c) d e
+match_column_exchange : (d : Diagram) (a b c : ℕ) (e : Diagram) → IsGrid d → a < size d → b < size d → Step (translate d a b) (ExchangeColumns c) e
+    → Matched (ExchangeColumns c) d e
 match_column_exchange d a b c e grid ha hb step =
     let long : size (translate d a b) ≡ size d = size-translate d a b ha in
     let r = columns_round d a b c grid ha hb (omega (arith, step.marks.inside, long)) in
     let same : size e ≡ size d = step.marks.renumbered.same_size ∙ long in
-    let turned = exchange_columns_turned (translate d a b) e c (place (size d) r.q) r.k r.l step (omega (arith, r.columns, long)) (omega (arith, r.rows, long)) (omega (arith, r.inside, long)) (ap (λ (z : ℕ). origin z r.k (place (size d) r.q)) long ∙ r.first) (ap (λ (z : ℕ). origin z r.k (place (size d) r.q + 1)) long ∙ r.second) in
+    let translated =
+    exchange_columns_translated (translate d a b) e c (place_after_shift (size d) r.q) r.k r.l step (omega (arith, r.columns, long))
+    (omega (arith, r.rows, long)) (omega (arith, r.inside, long)) (ap (λ (z : ℕ). origin z r.k (place_after_shift (size d) r.q)) long ∙ r.first)
+    (ap (λ (z : ℕ). origin z r.k (place_after_shift (size d) r.q + 1)) long ∙ r.second) in
     record {
       try = column_exchange (size d) r.q;
       alike = refl;
       among = tries_column (size d) r.q (column_exchange (size d) r.q) r.below (contains_first (column_exchange (size d) r.q) (column_slide (size d) r.q ∷ []));
-      columns = r.turned;
+      columns = r.shift;
       rows = omega (arith, hb);
       result = translate e r.k r.l;
-      step = subst (λ t. Step t (ExchangeColumns (place (size d) r.q)) (translate e r.k r.l)) r.there turned;
+      step = subst (λ t. Step t (ExchangeColumns (place_after_shift (size d) r.q)) (translate e r.k r.l)) r.there translated;
       same = translates_contains e r.k r.l (omega (arith, r.columns, same)) (omega (arith, r.rows, same));
     }
 
-match_column_slide : (d : Diagram) (a b c : ℕ) (e : Diagram) → IsGrid d → a < size d → b < size d → Step (translate d a b) (SlideColumns c) e → Matched (SlideColumns c) d e
+match_column_slide : (d : Diagram) (a b c : ℕ) (e : Diagram) → IsGrid d → a < size d → b < size d → Step (translate d a b) (SlideColumns c) e
+    → Matched (SlideColumns c) d e
 match_column_slide d a b c e grid ha hb step =
     let long : size (translate d a b) ≡ size d = size-translate d a b ha in
     let r = columns_round d a b c grid ha hb (omega (arith, step.marks.inside, long)) in
     let same : size e ≡ size d = step.marks.renumbered.same_size ∙ long in
-    let turned = slide_columns_turned (translate d a b) e c (place (size d) r.q) r.k r.l step (omega (arith, r.columns, long)) (omega (arith, r.rows, long)) (omega (arith, r.inside, long)) (ap (λ (z : ℕ). origin z r.k (place (size d) r.q)) long ∙ r.first) (ap (λ (z : ℕ). origin z r.k (place (size d) r.q + 1)) long ∙ r.second) in
+    let translated =
+    slide_columns_translated (translate d a b) e c (place_after_shift (size d) r.q) r.k r.l step (omega (arith, r.columns, long))
+    (omega (arith, r.rows, long)) (omega (arith, r.inside, long)) (ap (λ (z : ℕ). origin z r.k (place_after_shift (size d) r.q)) long ∙ r.first)
+    (ap (λ (z : ℕ). origin z r.k (place_after_shift (size d) r.q + 1)) long ∙ r.second) in
     record {
       try = column_slide (size d) r.q;
       alike = refl;
-      among = tries_column (size d) r.q (column_slide (size d) r.q) r.below (contains_later (column_exchange (size d) r.q) (column_slide (size d) r.q ∷ []) (column_slide (size d) r.q) (contains_first (column_slide (size d) r.q) []));
-      columns = r.turned;
+      among =
+          tries_column (size d) r.q (column_slide (size d) r.q) r.below
+          (contains_later (column_exchange (size d) r.q) (column_slide (size d) r.q ∷ []) (column_slide (size d) r.q)
+          (contains_first (column_slide (size d) r.q) []));
+      columns = r.shift;
       rows = omega (arith, hb);
       result = translate e r.k r.l;
-      step = subst (λ t. Step t (SlideColumns (place (size d) r.q)) (translate e r.k r.l)) r.there turned;
+      step = subst (λ t. Step t (SlideColumns (place_after_shift (size d) r.q)) (translate e r.k r.l)) r.there translated;
       same = translates_contains e r.k r.l (omega (arith, r.columns, same)) (omega (arith, r.rows, same));
     }
 
@@ -180,11 +204,11 @@ record RowsRound (d : Diagram) (a b c : ℕ) : Type 0 where
   l : ℕ
   columns : k < size d
   rows : l < size d
-  inside : place (size d) q + 1 < size d
-  turned : turn (size d) q < size d
-  first : shifted (size d) l c ≡ place (size d) q
-  second : shifted (size d) l (c + 1) ≡ place (size d) q + 1
-  there : translate (translate d a b) k l ≡ translate d 0 (turn (size d) q)
+  inside : place_after_shift (size d) q + 1 < size d
+  shift : shift_before (size d) q < size d
+  first : shifted (size d) l c ≡ place_after_shift (size d) q
+  second : shifted (size d) l (c + 1) ≡ place_after_shift (size d) q + 1
+  there : translate (translate d a b) k l ≡ translate d 0 (shift_before (size d) q)
 
 rows_round : (d : Diagram) (a b c : ℕ) → IsGrid d → a < size d → b < size d → c + 1 < size d → RowsRound d a b c
 rows_round d a b c grid ha hb inside =
@@ -192,8 +216,8 @@ rows_round d a b c grid ha hb inside =
     let hc : c < n = omega (arith, inside) in
     let q : ℕ = origin n b c in
     let hq : q < n = origin-below n b c hb hc in
-    let p : ℕ = place n q in
-    let p1 : p + 1 < n = place-below n q grid.least hq in
+    let p : ℕ = place_after_shift n q in
+    let p1 : p + 1 < n = place_after_shift-below n q grid.least hq in
     let hp : p < n = omega (arith, p1) in
     let k : ℕ = shifted n a 0 in
     let l : ℕ = shifted n p c in
@@ -207,47 +231,59 @@ rows_round d a b c grid ha hb inside =
       columns = hk;
       rows = hl;
       inside = p1;
-      turned = turn-below n q grid.least hq;
+      shift = shift_before-below n q grid.least hq;
       first = brought n p c hp hc;
       second = brought_next n p c p1 inside;
-      there = brought_translate d a b k l 0 (turn n q) grid ha hb hk hl (back_to_zero n a ha) (brought_from n b c p (turn n q) hb hc hp (turn-below n q grid.least hq) (first_origin n q grid.least hq));
+      there =
+          brought_translate d a b k l 0 (shift_before n q) grid ha hb hk hl (back_to_zero n a ha)
+          (brought_from n b c p (shift_before n q) hb hc hp (shift_before-below n q grid.least hq) (first_origin n q grid.least hq));
     }
 
-match_row_exchange : (d : Diagram) (a b c : ℕ) (e : Diagram) → IsGrid d → a < size d → b < size d → Step (translate d a b) (ExchangeRows c) e → Matched (ExchangeRows c) d e
+match_row_exchange : (d : Diagram) (a b c : ℕ) (e : Diagram) → IsGrid d → a < size d → b < size d → Step (translate d a b) (ExchangeRows c) e
+    → Matched (ExchangeRows c) d e
 match_row_exchange d a b c e grid ha hb step =
     let long : size (translate d a b) ≡ size d = size-translate d a b ha in
     let r = rows_round d a b c grid ha hb (omega (arith, step.marks.inside, long)) in
     let same : size e ≡ size d = step.marks.renumbered.same_size ∙ long in
-    let turned = exchange_rows_turned (translate d a b) e c (place (size d) r.q) r.k r.l step (omega (arith, r.columns, long)) (omega (arith, r.rows, long)) (omega (arith, r.inside, long)) (ap (λ (z : ℕ). shifted z r.l c) long ∙ r.first) (ap (λ (z : ℕ). shifted z r.l (c + 1)) long ∙ r.second) in
+    let translated =
+    exchange_rows_translated (translate d a b) e c (place_after_shift (size d) r.q) r.k r.l step (omega (arith, r.columns, long))
+    (omega (arith, r.rows, long)) (omega (arith, r.inside, long)) (ap (λ (z : ℕ). shifted z r.l c) long ∙ r.first)
+    (ap (λ (z : ℕ). shifted z r.l (c + 1)) long ∙ r.second) in
     record {
       try = row_exchange (size d) r.q;
       alike = refl;
       among = tries_row (size d) r.q (row_exchange (size d) r.q) r.below (contains_first (row_exchange (size d) r.q) (row_slide (size d) r.q ∷ []));
       columns = omega (arith, ha);
-      rows = r.turned;
+      rows = r.shift;
       result = translate e r.k r.l;
-      step = subst (λ t. Step t (ExchangeRows (place (size d) r.q)) (translate e r.k r.l)) r.there turned;
+      step = subst (λ t. Step t (ExchangeRows (place_after_shift (size d) r.q)) (translate e r.k r.l)) r.there translated;
       same = translates_contains e r.k r.l (omega (arith, r.columns, same)) (omega (arith, r.rows, same));
     }
 
-match_row_slide : (d : Diagram) (a b c : ℕ) (e : Diagram) → IsGrid d → a < size d → b < size d → Step (translate d a b) (SlideRows c) e → Matched (SlideRows c) d e
+match_row_slide : (d : Diagram) (a b c : ℕ) (e : Diagram) → IsGrid d → a < size d → b < size d → Step (translate d a b) (SlideRows c) e
+    → Matched (SlideRows c) d e
 match_row_slide d a b c e grid ha hb step =
     let long : size (translate d a b) ≡ size d = size-translate d a b ha in
     let r = rows_round d a b c grid ha hb (omega (arith, step.marks.inside, long)) in
     let same : size e ≡ size d = step.marks.renumbered.same_size ∙ long in
-    let turned = slide_rows_turned (translate d a b) e c (place (size d) r.q) r.k r.l step (omega (arith, r.columns, long)) (omega (arith, r.rows, long)) (omega (arith, r.inside, long)) (ap (λ (z : ℕ). shifted z r.l c) long ∙ r.first) (ap (λ (z : ℕ). shifted z r.l (c + 1)) long ∙ r.second) in
+    let translated =
+    slide_rows_translated (translate d a b) e c (place_after_shift (size d) r.q) r.k r.l step (omega (arith, r.columns, long)) (omega (arith, r.rows, long))
+    (omega (arith, r.inside, long)) (ap (λ (z : ℕ). shifted z r.l c) long ∙ r.first) (ap (λ (z : ℕ). shifted z r.l (c + 1)) long ∙ r.second) in
     record {
       try = row_slide (size d) r.q;
       alike = refl;
-      among = tries_row (size d) r.q (row_slide (size d) r.q) r.below (contains_later (row_exchange (size d) r.q) (row_slide (size d) r.q ∷ []) (row_slide (size d) r.q) (contains_first (row_slide (size d) r.q) []));
+      among =
+          tries_row (size d) r.q (row_slide (size d) r.q) r.below
+          (contains_later (row_exchange (size d) r.q) (row_slide (size d) r.q ∷ []) (row_slide (size d) r.q) (contains_first (row_slide (size d) r.q) []));
       columns = omega (arith, ha);
-      rows = r.turned;
+      rows = r.shift;
       result = translate e r.k r.l;
-      step = subst (λ t. Step t (SlideRows (place (size d) r.q)) (translate e r.k r.l)) r.there turned;
+      step = subst (λ t. Step t (SlideRows (place_after_shift (size d) r.q)) (translate e r.k r.l)) r.there translated;
       same = translates_contains e r.k r.l (omega (arith, r.columns, same)) (omega (arith, r.rows, same));
     }
 
-match_marks : (d : Diagram) (a b c : ℕ) (kind : Kind) (corner : Corner) (e : Diagram) → IsGrid d → a < size d → b < size d → Step (translate d a b) (Stabilise c kind corner) e → Matched (Stabilise c kind corner) d e
+match_marks : (d : Diagram) (a b c : ℕ) (kind : Kind) (corner : Corner) (e : Diagram) → IsGrid d → a < size d → b < size d
+    → Step (translate d a b) (Stabilise c kind corner) e → Matched (Stabilise c kind corner) d e
 match_marks d a b c kind corner e grid ha hb step =
     let n : ℕ = size d in
     let long : size (translate d a b) ≡ n = size-translate d a b ha in
@@ -272,7 +308,7 @@ match_marks d a b c kind corner e grid ha hb step =
     brought_translate d a b k l 0 0 grid ha hb hk hl
     (ap (λ (z : ℕ). origin n z a) ek ∙ brought_from n a c q 0 ha hc hq zero_below (at_origin n q hq))
     (ap (λ (z : ℕ). origin n z b) el ∙ brought_from n b r s 0 hb hr hs zero_below same_row) in
-    let turned = stabilise_turned c kind corner (translate d a b) e q s step (omega (arith, hq, long)) (omega (arith, hs, long)) in
+    let translated = stabilise_translated c kind corner (translate d a b) e q s step (omega (arith, hq, long)) (omega (arith, hs, long)) in
     let grown : size e ≡ size (translate d a b) + 1 = stab.larger in
     let k' : ℕ = shifted (size (translate d a b) + 1) q c in
     let l' : ℕ = shifted (size (translate d a b) + 1) s r in
@@ -283,11 +319,23 @@ match_marks d a b c kind corner e grid ha hb step =
       columns = zero_below;
       rows = zero_below;
       result = translate e k' l';
-      step = subst (λ t. Step t (Stabilise q kind corner) (translate e k' l')) there turned;
-      same = translates_contains e k' l' (omega (arith, grown, shifted_below (size (translate d a b) + 1) q c (omega (arith, hq, long)) (omega (arith, hc, long)))) (omega (arith, grown, shifted_below (size (translate d a b) + 1) s r (omega (arith, hs, long)) (omega (arith, hr, long))));
+      step = subst (λ t. Step t (Stabilise q kind corner) (translate e k' l')) there translated;
+      same =
+          translates_contains e k' l' (omega (
+            arith,
+            grown,
+            shifted_below (size (translate d a b) + 1) q c (omega (arith, hq, long))
+                (omega (arith, hc, long)),
+          )) (omega (
+            arith,
+            grown,
+            shifted_below (size (translate d a b) + 1) s r (omega (arith, hs, long))
+                (omega (arith, hr, long)),
+          ));
     }
 
-match_blocks : (d : Diagram) (a b c r : ℕ) (e : Diagram) → IsGrid d → a < size d → b < size d → Step (translate d a b) (Destabilise c r) e → Matched (Destabilise c r) d e
+match_blocks : (d : Diagram) (a b c r : ℕ) (e : Diagram) → IsGrid d → a < size d → b < size d → Step (translate d a b) (Destabilise c r) e
+    → Matched (Destabilise c r) d e
 match_blocks d a b c r e grid ha hb step =
     let n : ℕ = size d in
     let long : size (translate d a b) ≡ n = size-translate d a b ha in
@@ -298,10 +346,10 @@ match_blocks d a b c r e grid ha hb step =
     let s : ℕ = origin n b r in
     let hq : q < n = origin-below n a c ha hc in
     let hs : s < n = origin-below n b r hb hr in
-    let p : ℕ = place n q in
-    let u : ℕ = place n s in
-    let p1 : p + 1 < n = place-below n q grid.least hq in
-    let u1 : u + 1 < n = place-below n s grid.least hs in
+    let p : ℕ = place_after_shift n q in
+    let u : ℕ = place_after_shift n s in
+    let p1 : p + 1 < n = place_after_shift-below n q grid.least hq in
+    let u1 : u + 1 < n = place_after_shift-below n s grid.least hs in
     let hp : p < n = omega (arith, p1) in
     let hu : u < n = omega (arith, u1) in
     let k : ℕ = shifted (size (translate d a b)) p c in
@@ -310,32 +358,35 @@ match_blocks d a b c r e grid ha hb step =
     let el : l ≡ shifted n u r = ap (λ (z : ℕ). shifted z u r) long in
     let hk : k < n = omega (arith, ek, shifted_below n p c hp hc) in
     let hl : l < n = omega (arith, el, shifted_below n u r hu hr) in
-    let there : translate (translate d a b) k l ≡ translate d (turn n q) (turn n s) =
-    brought_translate d a b k l (turn n q) (turn n s) grid ha hb hk hl
-    (ap (λ (z : ℕ). origin n z a) ek ∙ brought_from n a c p (turn n q) ha hc hp (turn-below n q grid.least hq) (first_origin n q grid.least hq))
-    (ap (λ (z : ℕ). origin n z b) el ∙ brought_from n b r u (turn n s) hb hr hu (turn-below n s grid.least hs) (first_origin n s grid.least hs)) in
+    let there : translate (translate d a b) k l ≡ translate d (shift_before n q) (shift_before n s) =
+    brought_translate d a b k l (shift_before n q) (shift_before n s) grid ha hb hk hl
+    (ap (λ (z : ℕ). origin n z a) ek ∙ brought_from n a c p (shift_before n q) ha hc hp (shift_before-below n q grid.least hq) (first_origin n q grid.least hq))
+    (ap (λ (z : ℕ). origin n z b) el ∙ brought_from n b r u (shift_before n s) hb hr hu (shift_before-below n s grid.least hs)
+    (first_origin n s grid.least hs)) in
     let ep : p < size e = omega (arith, p1, smaller) in
     let eu : u < size e = omega (arith, u1, smaller) in
-    let turned = destabilise_turned c r (translate d a b) e p u step ep eu in
+    let translated = destabilise_translated c r (translate d a b) e p u step ep eu in
     let in_column : c < size e = step.marks.undone.marked.inside in
     let in_row : r < size e = mark_below e step.after step.marks.kind c r step.marks.undone.marked in
     record {
       try = destabilisation n q s;
       alike = refl;
       among = tries_block n q s hq hs;
-      columns = turn-below n q grid.least hq;
-      rows = turn-below n s grid.least hs;
+      columns = shift_before-below n q grid.least hq;
+      rows = shift_before-below n s grid.least hs;
       result = translate e (shifted (size e) p c) (shifted (size e) u r);
-      step = subst (λ t. Step t (Destabilise p u) (translate e (shifted (size e) p c) (shifted (size e) u r))) there turned;
-      same = translates_contains e (shifted (size e) p c) (shifted (size e) u r) (shifted_below (size e) p c ep in_column) (shifted_below (size e) u r eu in_row);
+      step = subst (λ t. Step t (Destabilise p u) (translate e (shifted (size e) p c) (shifted (size e) u r))) there translated;
+      same =
+          translates_contains e (shifted (size e) p c) (shifted (size e) u r) (shifted_below (size e) p c ep in_column) (shifted_below (size e) u r eu in_row);
     }
 
-pub matched : (move : Move) (d : Diagram) (a b : ℕ) (e : Diagram) → IsGrid d → a < size d → b < size d → is_shift move ≡ false → Step (translate d a b) move e → Matched move d e
-matched (ShiftColumns k) d a b e grid ha hb turns step = absurd (let impossible : true ≡ false = turns in cc)
-matched (ShiftRows k) d a b e grid ha hb turns step = absurd (let impossible : true ≡ false = turns in cc)
-matched (ExchangeColumns c) d a b e grid ha hb turns step = match_column_exchange d a b c e grid ha hb step
-matched (ExchangeRows r) d a b e grid ha hb turns step = match_row_exchange d a b r e grid ha hb step
-matched (SlideColumns c) d a b e grid ha hb turns step = match_column_slide d a b c e grid ha hb step
-matched (SlideRows r) d a b e grid ha hb turns step = match_row_slide d a b r e grid ha hb step
-matched (Stabilise c kind corner) d a b e grid ha hb turns step = match_marks d a b c kind corner e grid ha hb step
-matched (Destabilise c r) d a b e grid ha hb turns step = match_blocks d a b c r e grid ha hb step
+pub matched : (move : Move) (d : Diagram) (a b : ℕ) (e : Diagram) → IsGrid d → a < size d → b < size d → is_shift move ≡ false
+    → Step (translate d a b) move e → Matched move d e
+matched (ShiftColumns k) d a b e grid ha hb no_shift step = absurd (let impossible : true ≡ false = no_shift in cc)
+matched (ShiftRows k) d a b e grid ha hb no_shift step = absurd (let impossible : true ≡ false = no_shift in cc)
+matched (ExchangeColumns c) d a b e grid ha hb no_shift step = match_column_exchange d a b c e grid ha hb step
+matched (ExchangeRows r) d a b e grid ha hb no_shift step = match_row_exchange d a b r e grid ha hb step
+matched (SlideColumns c) d a b e grid ha hb no_shift step = match_column_slide d a b c e grid ha hb step
+matched (SlideRows r) d a b e grid ha hb no_shift step = match_row_slide d a b r e grid ha hb step
+matched (Stabilise c kind corner) d a b e grid ha hb no_shift step = match_marks d a b c kind corner e grid ha hb step
+matched (Destabilise c r) d a b e grid ha hb no_shift step = match_blocks d a b c r e grid ha hb step

@@ -10,10 +10,12 @@ contains_first x xs = (0, omega arith, refl)
 pub contains_later : {A : Type 0} (x : A) (xs : List A) (y : A) → Contains xs y → Contains (x ∷ xs) y
 contains_later x xs y c = (suc c.0, omega (arith, c.1), c.2)
 
-contains_filter_at : {A : Type 0} (test : A → Bool) (xs : List A) (x : A) (k : ℕ) → k < length xs → get_or xs k x ≡ x → test x ≡ true → Contains (filter test xs) x
+contains_filter_at : {A : Type 0} (test : A → Bool) (xs : List A) (x : A) (k : ℕ) → k < length xs → get_or xs k x ≡ x → test x ≡ true
+    → Contains (filter test xs) x
 contains_filter_at test [] x k lt is pass = absurd (omega (arith, lt))
 contains_filter_at test (y ∷ ys) x zero lt is pass =
-    subst (λ zs. Contains zs x) (sym (ap (λ b. cond b (y ∷ filter test ys) (filter test ys)) (ap test is ∙ pass))) (subst (λ z. Contains (z ∷ filter test ys) x) (sym is) (contains_first x (filter test ys)))
+    subst (λ zs. Contains zs x) (sym (ap (λ b. cond b (y ∷ filter test ys) (filter test ys)) (ap test is ∙ pass)))
+    (subst (λ z. Contains (z ∷ filter test ys) x) (sym is) (contains_first x (filter test ys)))
 contains_filter_at test (y ∷ ys) x (suc k) lt is pass = by (test y) refl (contains_filter_at test ys x k (omega (arith, lt)) is pass)
   where
     by : (b : Bool) → test y ≡ b → Contains (filter test ys) x → Contains (filter test (y ∷ ys)) x
@@ -28,7 +30,8 @@ filter_kept : {A : Type 0} (test : A → Bool) (xs : List A) (zs : List A) (x : 
 filter_kept test [] zs x e c = absurd (omega (arith, c.1, ap length e))
 filter_kept {A} test (y ∷ ys) zs x e c = by (test y) refl (filter_kept test ys (filter test ys) x refl)
   where
-    at : (k : ℕ) → k < length (y ∷ filter test ys) → get_or (y ∷ filter test ys) k x ≡ x → test y ≡ true → (Contains (filter test ys) x → Contains ys x × (test x ≡ true)) → Contains (y ∷ ys) x × (test x ≡ true)
+    at : (k : ℕ) → k < length (y ∷ filter test ys) → get_or (y ∷ filter test ys) k x ≡ x → test y ≡ true
+        → (Contains (filter test ys) x → Contains ys x × (test x ≡ true)) → Contains (y ∷ ys) x × (test x ≡ true)
     at zero lt is pass rest = (subst (λ z. Contains (z ∷ ys) x) (sym is) (contains_first x ys), sym (ap test is) ∙ pass)
     at (suc k) lt is pass rest = let r = rest (k, omega (arith, lt), is) in (contains_later y ys x r.0, r.1)
 
@@ -53,14 +56,16 @@ pub mapped_from : {A B : Type 0} (f : A → B) (xs : List A) (y : B) → Contain
 mapped_from f xs y c = mapped_at f xs y c.0 c.1 c.2
 
 -- filters and maps in another order
-filter_first : {A : Type 0} (test : A → Bool) (x : A) (xs : List A) (b : Bool) → test x ≡ b → filter test (x ∷ xs) ≡ cond b (x ∷ filter test xs) (filter test xs)
+filter_first : {A : Type 0} (test : A → Bool) (x : A) (xs : List A) (b : Bool) → test x ≡ b
+    → filter test (x ∷ xs) ≡ cond b (x ∷ filter test xs) (filter test xs)
 filter_first test x xs b is = ap (λ t. cond t (x ∷ filter test xs) (filter test xs)) is
 
 pub map_filter : {A B : Type 0} (f : A → B) (test : B → Bool) (xs : List A) → map f (filter (λ x. test (f x)) xs) ≡ filter test (map f xs)
 map_filter f test [] = refl
 map_filter f test (x ∷ xs) = by (test (f x)) refl (map_filter f test xs)
   where
-    by : (b : Bool) → test (f x) ≡ b → map f (filter (λ y. test (f y)) xs) ≡ filter test (map f xs) → map f (filter (λ y. test (f y)) (x ∷ xs)) ≡ filter test (f x ∷ map f xs)
+    by : (b : Bool) → test (f x) ≡ b → map f (filter (λ y. test (f y)) xs) ≡ filter test (map f xs)
+        → map f (filter (λ y. test (f y)) (x ∷ xs)) ≡ filter test (f x ∷ map f xs)
     by true is rest =
         ap (map f) (filter_first (λ y. test (f y)) x xs true is) ∙ ap (λ ys. f x ∷ ys) rest ∙ sym (filter_first test (f x) (map f xs) true is)
     by false is rest =

@@ -23,10 +23,18 @@ kept_append : {A : Type 0} (p : A → Bool) (xs ys : List A) → length (filter 
 kept_append p xs ys = ap length (filter-append p xs ys) ∙ length-append (filter p xs) (filter p ys)
 
 -- as many at most for each number
-kept_each : {A : Type 0} (p : A → Bool) (f : ℕ → List A) (b n : ℕ) → ((c : ℕ) → c < n → length (filter p (f c)) ≤ b) → length (filter p (flat_map f (range_with_len 0 n))) ≤ n * b
+kept_each : {A : Type 0} (p : A → Bool) (f : ℕ → List A) (b n : ℕ) → ((c : ℕ) → c < n → length (filter p (f c)) ≤ b)
+    → length (filter p (flat_map f (range_with_len 0 n))) ≤ n * b
 kept_each p f b zero each = omega arith
 kept_each p f b (suc m) each =
-    omega (arith, kept_each p f b m (λ c lt. each c (omega (arith, lt))), each m (omega arith), kept_append p (flat_map f (range_with_len 0 m)) (f m), ap (λ ts. length (filter p ts)) (ap (λ (z : ℕ). flat_map f (range_with_len 0 z)) (sym (add-one m)) ∙ flat_map_range_more f m))
+    omega (
+      arith,
+      kept_each p f b m (λ c lt. each c (omega (arith, lt))),
+      each m (omega arith),
+      kept_append p (flat_map f (range_with_len 0 m))
+          (f m),
+      ap (λ ts. length (filter p ts)) (ap (λ (z : ℕ). flat_map f (range_with_len 0 z)) (sym (add-one m)) ∙ flat_map_range_more f m),
+    )
 
 -- the blocks of one column
 none_kept : {A : Type 0} (p : A → Bool) (t : A) → p t ≡ false → length (filter p (t ∷ [])) ≡ 0
@@ -35,7 +43,8 @@ none_kept p t e = ap (λ b. length (cond b (t ∷ []) [])) e
 counted_itself : (r : ℕ) → counted r r ≡ 1
 counted_itself r = grind (arith, nat_tests)
 
-block_counted : (d : Diagram) (cap c r : ℕ) → IsGrid d → c < size d → r < size d → length (filter (is_offered d cap) (destabilisation (size d) c r ∷ [])) ≤ counted (row_of_both d c) r + counted (row_of_both d (next (size d) c)) r
+block_counted : (d : Diagram) (cap c r : ℕ) → IsGrid d → c < size d → r < size d
+    → length (filter (is_offered d cap) (destabilisation (size d) c r ∷ [])) ≤ counted (row_of_both d c) r + counted (row_of_both d (next (size d) c)) r
 block_counted d cap c r grid hc hr =
     let most = kept_le (is_offered d cap) (destabilisation (size d) c r ∷ []) in
     elim (cases_eq r (row_of_both d c)) [
@@ -46,7 +55,8 @@ block_counted d cap c r grid hc hr =
       ]
     ]
 
-blocks_passed : (d : Diagram) (cap c m : ℕ) → IsGrid d → c < size d → m ≤ size d → length (filter (is_offered d cap) (map (destabilisation (size d) c) (range_with_len 0 m))) ≤ passed (row_of_both d c) m + passed (row_of_both d (next (size d) c)) m
+blocks_passed : (d : Diagram) (cap c m : ℕ) → IsGrid d → c < size d → m ≤ size d
+    → length (filter (is_offered d cap) (map (destabilisation (size d) c) (range_with_len 0 m))) ≤ passed (row_of_both d c) m + passed (row_of_both d (next (size d) c)) m
 blocks_passed d cap c zero grid hc le = omega arith
 blocks_passed d cap c (suc m) grid hc le =
     let p = is_offered d cap in
@@ -69,11 +79,18 @@ blocks_offered d cap grid =
     omega (
       arith,
       kept_each (is_offered d cap) (destabilisations (size d)) 2 (size d) (λ c hc.
-          omega (arith, blocks_passed d cap c (size d) grid hc (omega arith), passed_le (row_of_both d c) (size d), passed_le (row_of_both d (next (size d) c)) (size d))),
+          omega (
+            arith,
+            blocks_passed d cap c (size d) grid hc (omega arith),
+            passed_le (row_of_both d c) (size d),
+            passed_le
+                (row_of_both d (next (size d) c)) (size d),
+          )),
     )
 
 -- of two tries of which one is not offered
-one_kept : (d : Diagram) (cap : ℕ) (s t : Try) → (is_offered d cap s ≡ false) ⊎ (is_offered d cap t ≡ false) → length (filter (is_offered d cap) (s ∷ t ∷ [])) ≤ 1
+one_kept : (d : Diagram) (cap : ℕ) (s t : Try) → (is_offered d cap s ≡ false) ⊎ (is_offered d cap t ≡ false)
+    → length (filter (is_offered d cap) (s ∷ t ∷ [])) ≤ 1
 one_kept d cap s t once =
     let p = is_offered d cap in
     let both = kept_append p (s ∷ []) (t ∷ []) in

@@ -2,11 +2,11 @@
 use Rattle.std.proofs.Common.{◌≡◌, ◌≢◌, ◌<◌, ◌≤◌, ◌+◌, ◌-◌, ◌∙◌, ℕ, arith, sym, ap, inl, inr}
 use Rattle.std.proofs.lemmas.Bool.{cases_eq}
 use Rattle.std.proofs.lemmas.Bool.Decides.{nat_tests}
+use Rattle.grid_core.specs.Places.{lifted}
 use Rattle.grid_moves.specs.Shift.{shifted}
 use Rattle.grid_moves.specs.Exchange.{exchanged}
-use Rattle.grid_moves.specs.Stabilisation.{grown}
 use Rattle.grid_moves.proofs.Shifted.{shifted_below}
-use Rattle.grid_canon.proofs.Turned.{origin, origin_cases, shifted_cases}
+use Rattle.grid_canon.proofs.Translated.{origin, origin_cases, shifted_cases}
 
 -- the shift by (c - p) brings c to p
 pub brought : (n p c : ℕ) → p < n → c < n → shifted n (shifted n p c) c ≡ p
@@ -33,7 +33,8 @@ brought_from n a c p t ha hc hp ht e =
 
 -- the next one, where it came from
 -- two neighbours that trade their numbers, seen from another place
-pub exchanged_along : (n i j : ℕ) (f : ℕ → ℕ) → ((b c : ℕ) → b < n → c < n → f b ≡ f c → b ≡ c) → i + 1 < n → f i ≡ j → f (i + 1) ≡ j + 1 → (z : ℕ) → z < n → f (exchanged i z) ≡ exchanged j (f z)
+pub exchanged_along : (n i j : ℕ) (f : ℕ → ℕ) → ((b c : ℕ) → b < n → c < n → f b ≡ f c → b ≡ c) → i + 1 < n → f i ≡ j → f (i + 1) ≡ j + 1 → (z : ℕ) → z < n
+    → f (exchanged i z) ≡ exchanged j (f z)
 exchanged_along n i j f same inside first second z lt = elim (cases_eq z i) [
   | inl e ↦
       ap f (let is : exchanged i z ≡ i + 1 = grind (arith, nat_tests) in is) ∙ second
@@ -52,22 +53,27 @@ exchanged_along n i j f same inside first second z lt = elim (cases_eq z i) [
     stays w a b = grind (arith, nat_tests)
 
 -- a doubled column, seen from another place: the others follow it round the circle
-pub grown_brought : (m p c b : ℕ) → p < m → c < m → b < m → b ≢ c → shifted (m + 1) (shifted (m + 1) p c) (grown c b) ≡ grown p (shifted m (shifted m p c) b)
-grown_brought m p c b hp hc hb ne =
+pub lifted_brought : (m p c b : ℕ) → p < m → c < m → b < m → b ≢ c
+    → shifted (m + 1) (shifted (m + 1) p c) (lifted (c + 1) b) ≡ lifted (p + 1) (shifted m (shifted m p c) b)
+lifted_brought m p c b hp hc hb ne =
     let k = shifted_cases m p c hp hc in
     let k' = shifted_cases (m + 1) p c (omega (arith, hp)) (omega (arith, hc)) in
     let one = shifted_cases m (shifted m p c) b (shifted_below m p c hp hc) hb in
-    let low : grown c b < m + 1 = grind (arith, nat_tests) in
-    let two = shifted_cases (m + 1) (shifted (m + 1) p c) (grown c b) (shifted_below (m + 1) p c (omega (arith, hp)) (omega (arith, hc))) low in
+    let low : lifted (c + 1) b < m + 1 = grind (arith, nat_tests) in
+    let two = shifted_cases (m + 1) (shifted (m + 1) p c) (lifted (c + 1) b) (shifted_below (m + 1) p c (omega (arith, hp)) (omega (arith, hc))) low in
     grind (arith, nat_tests)
 
 -- the two columns of a block, brought to another place
 pub brought_by : (n p c j : ℕ) → j ≤ 1 → p + 1 < n → c + 1 < n → shifted n (shifted n p c) (c + j) ≡ p + j
 brought_by n p c j le hp hc = elim (cases_eq j 0) [
-  | inl e ↦ ap (λ (z : ℕ). shifted n (shifted n p c) z) (let is : c + j ≡ c = omega (arith, e) in is) ∙ brought n p c (omega (arith, hp)) (omega (arith, hc)) ∙ omega (arith, e)
-  | inr ne ↦ ap (λ (z : ℕ). shifted n (shifted n p c) z) (let is : c + j ≡ c + 1 = omega (arith, ne, le) in is) ∙ brought_next n p c hp hc ∙ omega (arith, ne, le)
+  | inl e ↦
+      ap (λ (z : ℕ). shifted n (shifted n p c) z) (let is : c + j ≡ c = omega (arith, e) in is) ∙ brought n p c (omega (arith, hp)) (omega (arith, hc))
+      ∙ omega (arith, e)
+  | inr ne ↦
+      ap (λ (z : ℕ). shifted n (shifted n p c) z) (let is : c + j ≡ c + 1 = omega (arith, ne, le) in is) ∙ brought_next n p c hp hc ∙ omega (arith, ne, le)
 ]
 
 pub brought_other : (n p c j : ℕ) → j ≤ 1 → p + 1 < n → c + 1 < n → shifted n (shifted n p c) (c + 1 - j) ≡ p + 1 - j
 brought_other n p c j le hp hc =
-    ap (λ (z : ℕ). shifted n (shifted n p c) z) (let is : c + 1 - j ≡ c + (1 - j) = omega (arith, le) in is) ∙ brought_by n p c (1 - j) (omega arith) hp hc ∙ omega (arith, le)
+    ap (λ (z : ℕ). shifted n (shifted n p c) z) (let is : c + 1 - j ≡ c + (1 - j) = omega (arith, le) in is) ∙ brought_by n p c (1 - j) (omega arith) hp hc
+    ∙ omega (arith, le)

@@ -3,95 +3,119 @@ use Rattle.std.proofs.Common.{List, [], ◌∷◌, ◌≡◌, ◌≢◌, ◌<◌
 use Rattle.std.proofs.lemmas.Bool.{cases_eq, eq-eqb, ne_eqb}
 use Rattle.std.proofs.lemmas.Bool.Decides.{nat_tests}
 use Rattle.grid_moves.specs.Shift.{shifted}
-use Rattle.grid_canon.proofs.Turned.{origin, origin_cases, origin-shifted}
+use Rattle.grid_canon.proofs.Translated.{origin, origin_cases, origin-shifted}
 use Rattle.grid_moves.specs.declared.step.Move.TheVariants.{ExchangeColumns, ExchangeRows, SlideColumns, SlideRows, Destabilise}
-use Rattle.next_moves.specs.Tries.{Try, turn, place, column_trades, row_trades, destabilisation}
+use Rattle.next_moves.specs.Tries.{Try, shift_before, place_after_shift, column_trades, row_trades, destabilisation}
 use Rattle.next_moves.specs.Extends.{next, first_of_pair, counted, passed}
 
 -- the last, or any other
-pub turn_cases : (n c : ℕ) → c < n → ((c + 1 ≡ n) × (turn n c ≡ 1) × (place n c ≡ n - 2) × (next n c ≡ 0)) ⊎ ((c + 1 < n) × (turn n c ≡ 0) × (place n c ≡ c) × (next n c ≡ c + 1))
-turn_cases n c lt = elim (cases_eq (c + 1) n) [
-  | inl last ↦ inl (last, ap (λ t. cond t 1 0) (eq-eqb (c + 1) n last), ap (λ t. cond t (n - 2) c) (eq-eqb (c + 1) n last), ap (λ t. cond t 0 (c + 1)) (eq-eqb (c + 1) n last))
-  | inr other ↦ inr (omega (arith, lt, other), ap (λ t. cond t 1 0) (ne_eqb (c + 1) n other), ap (λ t. cond t (n - 2) c) (ne_eqb (c + 1) n other), ap (λ t. cond t 0 (c + 1)) (ne_eqb (c + 1) n other))
+pub shift_before_cases : (n c : ℕ) → c < n → ((c + 1 ≡ n) × (shift_before n c ≡ 1) × (place_after_shift n c ≡ n - 2) × (next n
+    c ≡ 0)) ⊎ ((c + 1 < n) × (shift_before n c ≡ 0) × (place_after_shift n c ≡ c) × (next n c ≡ c + 1))
+shift_before_cases n c lt = elim (cases_eq (c + 1) n) [
+  | inl last ↦
+      inl (
+        last,
+        ap (λ t. cond t 1 0) (eq-eqb (c + 1) n last),
+        ap (λ t. cond t (n - 2) c) (eq-eqb (c + 1) n last),
+        ap (λ t. cond t 0 (c + 1))
+            (eq-eqb (c + 1) n last),
+      )
+  | inr other ↦
+      inr (
+        omega (arith, lt, other),
+        ap (λ t. cond t 1 0) (ne_eqb (c + 1) n other),
+        ap (λ t. cond t (n - 2) c)
+            (ne_eqb (c + 1) n other),
+        ap (λ t. cond t 0 (c + 1)) (ne_eqb (c + 1) n other),
+      )
 ]
 
-pub turn-below : (n c : ℕ) → 2 ≤ n → c < n → turn n c < n
-turn-below n c least lt = elim (turn_cases n c lt) [ inl last ↦ omega (arith, last.1, least) | inr other ↦ omega (arith, other.1, least) ]
+pub shift_before-below : (n c : ℕ) → 2 ≤ n → c < n → shift_before n c < n
+shift_before-below n c least lt = elim (shift_before_cases n c lt) [ inl last ↦ omega (arith, last.1, least) | inr other ↦ omega (arith, other.1, least) ]
 
-pub turn-le : (n c : ℕ) → 2 ≤ n → c < n → turn n c ≤ c
-turn-le n c least lt = elim (turn_cases n c lt) [ inl last ↦ omega (arith, last.0, last.1, least) | inr other ↦ omega (arith, other.1) ]
+pub shift_before-le : (n c : ℕ) → 2 ≤ n → c < n → shift_before n c ≤ c
+shift_before-le n c least lt = elim (shift_before_cases n c lt) [ inl last ↦ omega (arith, last.0, last.1, least) | inr other ↦ omega (arith, other.1) ]
 
-pub place_is : (n c : ℕ) → 2 ≤ n → c < n → place n c ≡ c - turn n c
-place_is n c least lt = elim (turn_cases n c lt) [ inl last ↦ omega (arith, last.0, last.1, last.2, least) | inr other ↦ omega (arith, other.1, other.2) ]
+pub place_after_shift_is : (n c : ℕ) → 2 ≤ n → c < n → place_after_shift n c ≡ c - shift_before n c
+place_after_shift_is n c least lt = elim (shift_before_cases n c lt)
+    [ inl last ↦ omega (arith, last.0, last.1, last.2, least) | inr other ↦ omega (arith, other.1, other.2) ]
 
-pub place-below : (n c : ℕ) → 2 ≤ n → c < n → place n c + 1 < n
-place-below n c least lt = elim (turn_cases n c lt) [ inl last ↦ omega (arith, last.2, least) | inr other ↦ omega (arith, other.0, other.2) ]
+pub place_after_shift-below : (n c : ℕ) → 2 ≤ n → c < n → place_after_shift n c + 1 < n
+place_after_shift-below n c least lt = elim (shift_before_cases n c lt)
+    [ inl last ↦ omega (arith, last.2, least) | inr other ↦ omega (arith, other.0, other.2) ]
 
 pub next-below : (n c : ℕ) → c < n → next n c < n
-next-below n c lt = elim (turn_cases n c lt) [ inl last ↦ omega (arith, last.3, lt) | inr other ↦ omega (arith, other.0, other.3) ]
+next-below n c lt = elim (shift_before_cases n c lt) [ inl last ↦ omega (arith, last.3, lt) | inr other ↦ omega (arith, other.0, other.3) ]
 
 -- where the two stood
-pub first_origin : (n c : ℕ) → 2 ≤ n → c < n → origin n (turn n c) (place n c) ≡ c
+pub first_origin : (n c : ℕ) → 2 ≤ n → c < n → origin n (shift_before n c) (place_after_shift n c) ≡ c
 first_origin n c least lt =
-    let cases = origin_cases n (turn n c) (place n c) (turn-below n c least lt) (omega (arith, place-below n c least lt)) in
-    elim (turn_cases n c lt) [
-      | inl last ↦ elim cases [ inl low ↦ omega (arith, last.0, last.1, last.2, least, low.1) | inr high ↦ absurd (omega (arith, last.0, last.1, last.2, least, high.0)) ]
+    let cases =
+    origin_cases n (shift_before n c) (place_after_shift n c) (shift_before-below n c least lt) (omega (arith, place_after_shift-below n c least lt)) in
+    elim (shift_before_cases n c lt) [
+      | inl last ↦ elim cases [
+        | inl low ↦ omega (arith, last.0, last.1, last.2, least, low.1)
+        | inr high ↦
+            absurd (omega (arith, last.0, last.1, last.2, least, high.0))
+      ]
       | inr other ↦ elim cases [ inl low ↦ omega (arith, other.1, other.2, low.1) | inr high ↦ absurd (omega (arith, other.0, other.1, other.2, high.0)) ]
     ]
 
-pub second_origin : (n c : ℕ) → 2 ≤ n → c < n → origin n (turn n c) (place n c + 1) ≡ next n c
+pub second_origin : (n c : ℕ) → 2 ≤ n → c < n → origin n (shift_before n c) (place_after_shift n c + 1) ≡ next n c
 second_origin n c least lt =
-    let cases = origin_cases n (turn n c) (place n c + 1) (turn-below n c least lt) (place-below n c least lt) in
-    elim (turn_cases n c lt) [
-      | inl last ↦ elim cases [ inl low ↦ absurd (omega (arith, last.0, last.1, last.2, least, low.0)) | inr high ↦ omega (arith, last.0, last.1, last.2, last.3, least, high.1) ]
-      | inr other ↦ elim cases [ inl low ↦ omega (arith, other.1, other.2, other.3, low.1) | inr high ↦ absurd (omega (arith, other.0, other.1, other.2, high.0)) ]
+    let cases = origin_cases n (shift_before n c) (place_after_shift n c + 1) (shift_before-below n c least lt) (place_after_shift-below n c least lt) in
+    elim (shift_before_cases n c lt) [
+      | inl last ↦ elim cases [
+        | inl low ↦ absurd (omega (arith, last.0, last.1, last.2, least, low.0))
+        | inr high ↦
+            omega (arith, last.0, last.1, last.2, last.3, least, high.1)
+      ]
+      | inr other ↦ elim cases [
+        | inl low ↦ omega (arith, other.1, other.2, other.3, low.1)
+        | inr high ↦
+            absurd (omega (arith, other.0, other.1, other.2, high.0))
+      ]
     ]
 
 -- what comes to the first place or to the second one
-pub from_first : (n c z : ℕ) → 2 ≤ n → c < n → z < n → shifted n (turn n c) z ≡ place n c → z ≡ c
-from_first n c z least lt lz e = sym (origin-shifted n (turn n c) z (turn-below n c least lt) lz) ∙ ap (λ (w : ℕ). origin n (turn n c) w) e ∙ first_origin n c least lt
+pub from_first : (n c z : ℕ) → 2 ≤ n → c < n → z < n → shifted n (shift_before n c) z ≡ place_after_shift n c → z ≡ c
+from_first n c z least lt lz e =
+    sym (origin-shifted n (shift_before n c) z (shift_before-below n c least lt) lz) ∙ ap (λ (w : ℕ). origin n (shift_before n c) w) e
+    ∙ first_origin n c least lt
 
-pub from_second : (n c z : ℕ) → 2 ≤ n → c < n → z < n → shifted n (turn n c) z ≡ place n c + 1 → z ≡ next n c
-from_second n c z least lt lz e = sym (origin-shifted n (turn n c) z (turn-below n c least lt) lz) ∙ ap (λ (w : ℕ). origin n (turn n c) w) e ∙ second_origin n c least lt
+pub from_second : (n c z : ℕ) → 2 ≤ n → c < n → z < n → shifted n (shift_before n c) z ≡ place_after_shift n c + 1 → z ≡ next n c
+from_second n c z least lt lz e =
+    sym (origin-shifted n (shift_before n c) z (shift_before-below n c least lt) lz) ∙ ap (λ (w : ℕ). origin n (shift_before n c) w) e
+    ∙ second_origin n c least lt
 
 -- two rows of a block
 pub pair_of_rows : (n r x o : ℕ) → 3 ≤ n → r < n → (x ≡ r) ⊎ (x ≡ next n r) → (o ≡ r) ⊎ (o ≡ next n r) → x ≢ o → first_of_pair n x o ≡ r
 pair_of_rows n r x o least lt ex eo ne = grind (arith, nat_tests)
 
--- a block by its turns
-pub block_made : (n c r a b : ℕ) → 2 ≤ n → c < n → r < n → a ≡ turn n c → b ≡ turn n r → ◌≡◌ {A = Try} (record { before = (a, b); step = Destabilise (c - a) (r - b) }) (destabilisation n c r)
+-- a block by the shifts before it
+pub block_made : (n c r a b : ℕ) → 2 ≤ n → c < n → r < n → a ≡ shift_before n c → b ≡ shift_before n r
+    → ◌≡◌ {A = Try} (record { before = (a, b); step = Destabilise (c - a) (r - b) }) (destabilisation n c r)
 block_made n c r a b least hc hr ea eb =
     ap₂ (λ (z w : ℕ). made z w (c - z) (r - w)) ea eb
-    ∙ ap₂ (λ (z w : ℕ). made (turn n c) (turn n r) z w) (sym (place_is n c least hc)) (sym (place_is n r least hr))
+    ∙ ap₂ (λ (z w : ℕ). made (shift_before n c) (shift_before n r) z w) (sym (place_after_shift_is n c least hc)) (sym (place_after_shift_is n r least hr))
   where
     made : ℕ → ℕ → ℕ → ℕ → Try
     made a b c r = record { before = (a, b); step = Destabilise c r }
 
--- an exchange and a slide by their turn
-pub column_made : (n c a q : ℕ) → a ≡ turn n c → q ≡ place n c → ◌≡◌ {A = List Try} (record { before = (a, 0); step = ExchangeColumns q } ∷ record { before = (a, 0); step = SlideColumns q } ∷ []) (column_trades n c)
+-- an exchange and a slide by the shift before them
+pub column_made : (n c a q : ℕ) → a ≡ shift_before n c → q ≡ place_after_shift n c
+    → ◌≡◌ {A = List Try} (record { before = (a, 0); step = ExchangeColumns q } ∷ record { before = (a, 0); step = SlideColumns q } ∷ []) (column_trades n c)
 column_made n c a q ea eq = ap₂ (λ (z w : ℕ). made z w) ea eq
   where
     made : ℕ → ℕ → List Try
     made a q = record { before = (a, 0); step = ExchangeColumns q } ∷ record { before = (a, 0); step = SlideColumns q } ∷ []
 
-pub row_made : (n r b q : ℕ) → b ≡ turn n r → q ≡ place n r → ◌≡◌ {A = List Try} (record { before = (0, b); step = ExchangeRows q } ∷ record { before = (0, b); step = SlideRows q } ∷ []) (row_trades n r)
+pub row_made : (n r b q : ℕ) → b ≡ shift_before n r → q ≡ place_after_shift n r
+    → ◌≡◌ {A = List Try} (record { before = (0, b); step = ExchangeRows q } ∷ record { before = (0, b); step = SlideRows q } ∷ []) (row_trades n r)
 row_made n r b q eb eq = ap₂ (λ (z w : ℕ). made z w) eb eq
   where
     made : ℕ → ℕ → List Try
     made b q = record { before = (0, b); step = ExchangeRows q } ∷ record { before = (0, b); step = SlideRows q } ∷ []
-
--- all but the last stand side by side as they are
-pub inner_turn : (n c : ℕ) → c + 1 < n → 0 ≡ turn n c
-inner_turn n c lt = elim (turn_cases n c (omega (arith, lt))) [ inl last ↦ absurd (omega (arith, last.0, lt)) | inr other ↦ sym other.1 ]
-
-pub inner_place : (n c : ℕ) → c + 1 < n → c ≡ place n c
-inner_place n c lt = elim (turn_cases n c (omega (arith, lt))) [ inl last ↦ absurd (omega (arith, last.0, lt)) | inr other ↦ sym other.2 ]
-
-pub last_turn : (n c : ℕ) → c + 1 ≡ n → 1 ≡ turn n c
-last_turn n c e = elim (turn_cases n c (omega (arith, e))) [ inl last ↦ sym last.1 | inr other ↦ absurd (omega (arith, other.0, e)) ]
-
-pub last_place : (n c q : ℕ) → c + 1 ≡ n → q ≡ n - 2 → q ≡ place n c
-last_place n c q e is = elim (turn_cases n c (omega (arith, e))) [ inl last ↦ is ∙ sym last.2 | inr other ↦ absurd (omega (arith, other.0, e)) ]
 
 -- at most one row is counted
 pub passed_more : (a r : ℕ) → passed a (r + 1) ≡ passed a r + counted a r

@@ -11,9 +11,9 @@ use Rattle.grid_moves.specs.declared.step.Move.TheVariants.{ExchangeColumns, Exc
 use Rattle.grid_moves.specs.declared.step.MoveFault.{MoveFault}
 use Rattle.grid_moves.specs.declared.step.MoveFault.TheVariants.{Range, Touching, Interleaved, Apart}
 use Rattle.grid_moves.specs.MoveFault.{first_fault, exchange_fault, slide_fault}
-use Rattle.grid_canon.specs.Translate.{translate}
-use Rattle.next_moves.specs.declared.offer.Offer.{Offer}
-use Rattle.next_moves.specs.Tries.{Try, place, column_exchange, column_slide, row_exchange, row_slide}
+use Rattle.grid_canon.specs.Translation.{translate}
+use Rattle.next_moves.specs.declared.links.Offer.{Offer}
+use Rattle.next_moves.specs.Tries.{Try, place_after_shift, column_exchange, column_slide, row_exchange, row_slide}
 use Rattle.next_moves.specs.Offers.{size_after, is_offered}
 use Rattle.next_moves.specs.Extends.{Extends, column_trade, row_trade}
 use Rattle.next_moves.proofs.Extended.{extends_then, extends_skip}
@@ -27,50 +27,61 @@ parted_by true = refl
 parted_by false = refl
 
 parted : (s t : Span) → share_an_end s t ≡ false → is_none (slide_fault s t) ≡ false
-parted s t apart = ap (λ o. is_none (cond (share_both_ends s t) (Some Touching) o)) (cond-false (share_an_end s t) None (Some Apart) apart) ∙ parted_by (share_both_ends s t)
+parted s t apart =
+    ap (λ o. is_none (cond (share_both_ends s t) (Some Touching) o)) (cond-false (share_an_end s t) None (Some Apart) apart) ∙ parted_by (share_both_ends s t)
 
 refused : (b : Bool) (fault : Option MoveFault) → is_none fault ≡ false → is_none (cond b fault (Some Range)) ≡ false
 refused true fault e = e
 refused false fault e = refl
 
-not_offered : (d : Diagram) (cap : ℕ) (before : ℕ × ℕ) (turned : Diagram) (step : Move) → turned ≡ translate d before.0 before.1 → is_none (first_fault turned step) ≡ false → is_offered d cap (record { before = before; step = step }) ≡ false
-not_offered d cap before turned step is e = ap (λ b. b && nat_le (size_after step (size d)) cap) (ap (λ f. is_none (first_fault f step)) (sym is) ∙ e)
+not_offered : (d : Diagram) (cap : ℕ) (before : ℕ × ℕ) (translated : Diagram) (step : Move) → translated ≡ translate d before.0 before.1
+    → is_none (first_fault translated step) ≡ false → is_offered d cap (record { before = before; step = step }) ≡ false
+not_offered d cap before translated step is e = ap (λ b. b && nat_le (size_after step (size d)) cap) (ap (λ f. is_none (first_fault f step)) (sym is) ∙ e)
 
 -- of two tries one that is not offered
-extends_second : (d : Diagram) (cap : ℕ) (s t : Try) (old new : List Offer) → is_offered d cap s ≡ false → Extends d cap (t ∷ []) old new → Extends d cap (s ∷ t ∷ []) old new
+extends_second : (d : Diagram) (cap : ℕ) (s t : Try) (old new : List Offer) → is_offered d cap s ≡ false → Extends d cap (t ∷ []) old new
+    → Extends d cap (s ∷ t ∷ []) old new
 extends_second d cap s t old new e one = extends_then d cap (s ∷ []) (t ∷ []) old old new (extends_skip d cap s old old refl e) one
 
-extends_first : (d : Diagram) (cap : ℕ) (s t : Try) (old new : List Offer) → is_offered d cap t ≡ false → Extends d cap (s ∷ []) old new → Extends d cap (s ∷ t ∷ []) old new
+extends_first : (d : Diagram) (cap : ℕ) (s t : Try) (old new : List Offer) → is_offered d cap t ≡ false → Extends d cap (s ∷ []) old new
+    → Extends d cap (s ∷ t ∷ []) old new
 extends_first d cap s t old new e one = extends_then d cap (s ∷ []) (t ∷ []) old new new one (extends_skip d cap t new new refl e)
 
 -- columns: of the exchange and the slide the one that is not taken has a fault
-column_exchange_refused : (d : Diagram) (c : ℕ) → share_an_end (column_span d c) (column_span d (c + 1)) ≡ true → is_none (first_fault d (ExchangeColumns c)) ≡ false
-column_exchange_refused d c shared = refused (nat_lt (c + 1) (size d)) (exchange_fault (column_span d c) (column_span d (c + 1))) (touching (column_span d c) (column_span d (c + 1)) shared)
+column_exchange_refused : (d : Diagram) (c : ℕ) → share_an_end (column_span d c) (column_span d (c + 1)) ≡ true
+    → is_none (first_fault d (ExchangeColumns c)) ≡ false
+column_exchange_refused d c shared =
+    refused (nat_lt (c + 1) (size d)) (exchange_fault (column_span d c) (column_span d (c + 1))) (touching (column_span d c) (column_span d (c + 1)) shared)
 
 column_slide_refused : (d : Diagram) (c : ℕ) → share_an_end (column_span d c) (column_span d (c + 1)) ≡ false → is_none (first_fault d (SlideColumns c)) ≡ false
-column_slide_refused d c apart = refused (nat_lt (c + 1) (size d)) (slide_fault (column_span d c) (column_span d (c + 1))) (parted (column_span d c) (column_span d (c + 1)) apart)
+column_slide_refused d c apart =
+    refused (nat_lt (c + 1) (size d)) (slide_fault (column_span d c) (column_span d (c + 1))) (parted (column_span d c) (column_span d (c + 1)) apart)
 
-pub extends_columns : (d : Diagram) (cap : ℕ) (before : ℕ × ℕ) (turned : Diagram) (c : ℕ) (old new : List Offer) → turned ≡ translate d before.0 before.1
-    → Extends d cap (record { before = before; step = column_trade turned c } ∷ []) old new → Extends d cap (record { before = before; step = ExchangeColumns c } ∷ record { before = before; step = SlideColumns c } ∷ []) old new
-extends_columns d cap before turned c old new is one = elim (cases_Bool (share_an_end (column_span turned c) (column_span turned (c + 1)))) [
+pub extends_columns : (d : Diagram) (cap : ℕ) (before : ℕ × ℕ) (translated : Diagram) (c : ℕ) (old new : List Offer)
+    → translated ≡ translate d before.0 before.1
+    → Extends d cap (record { before = before; step = column_trade translated c } ∷ []) old new
+    → Extends d cap (record { before = before; step = ExchangeColumns c } ∷ record { before = before; step = SlideColumns c } ∷ []) old new
+extends_columns d cap before translated c old new is one = elim (cases_Bool (share_an_end (column_span translated c) (column_span translated (c + 1)))) [
   | inl shared ↦
       extends_second d cap (record { before = before; step = ExchangeColumns c }) (record { before = before; step = SlideColumns c }) old new
-      (not_offered d cap before turned (ExchangeColumns c) is (column_exchange_refused turned c shared))
-      (subst (λ m. Extends d cap (record { before = before; step = m } ∷ []) old new) (cond-true (share_an_end (column_span turned c) (column_span turned (c + 1))) (SlideColumns c) (ExchangeColumns c) shared) one)
+      (not_offered d cap before translated (ExchangeColumns c) is (column_exchange_refused translated c shared))
+      (subst (λ m. Extends d cap (record { before = before; step = m } ∷ []) old new)
+      (cond-true (share_an_end (column_span translated c) (column_span translated (c + 1))) (SlideColumns c) (ExchangeColumns c) shared) one)
   | inr apart ↦
       extends_first d cap (record { before = before; step = ExchangeColumns c }) (record { before = before; step = SlideColumns c }) old new
-      (not_offered d cap before turned (SlideColumns c) is (column_slide_refused turned c apart))
-      (subst (λ m. Extends d cap (record { before = before; step = m } ∷ []) old new) (cond-false (share_an_end (column_span turned c) (column_span turned (c + 1))) (SlideColumns c) (ExchangeColumns c) apart) one)
+      (not_offered d cap before translated (SlideColumns c) is (column_slide_refused translated c apart))
+      (subst (λ m. Extends d cap (record { before = before; step = m } ∷ []) old new)
+      (cond-false (share_an_end (column_span translated c) (column_span translated (c + 1))) (SlideColumns c) (ExchangeColumns c) apart) one)
 ]
 
 pub columns_once : (d : Diagram) (cap n c : ℕ) → (is_offered d cap (column_exchange n c) ≡ false) ⊎ (is_offered d cap (column_slide n c) ≡ false)
 columns_once d cap n c =
     let before : ℕ × ℕ = (column_exchange n c).before in
-    let p : ℕ = place n c in
-    let turned : Diagram = translate d before.0 before.1 in
-    elim (cases_Bool (share_an_end (column_span turned p) (column_span turned (p + 1)))) [
-      | inl shared ↦ inl (not_offered d cap before turned (ExchangeColumns p) refl (column_exchange_refused turned p shared))
-      | inr apart ↦ inr (not_offered d cap before turned (SlideColumns p) refl (column_slide_refused turned p apart))
+    let p : ℕ = place_after_shift n c in
+    let translated : Diagram = translate d before.0 before.1 in
+    elim (cases_Bool (share_an_end (column_span translated p) (column_span translated (p + 1)))) [
+      | inl shared ↦ inl (not_offered d cap before translated (ExchangeColumns p) refl (column_exchange_refused translated p shared))
+      | inr apart ↦ inr (not_offered d cap before translated (SlideColumns p) refl (column_slide_refused translated p apart))
     ]
 
 -- rows: of the exchange and the slide the one that is not taken has a fault
@@ -80,25 +91,28 @@ row_exchange_refused d r shared = refused (nat_lt (r + 1) (size d)) (exchange_fa
 row_slide_refused : (d : Diagram) (r : ℕ) → share_an_end (ends d r) (ends d (r + 1)) ≡ false → is_none (first_fault d (SlideRows r)) ≡ false
 row_slide_refused d r apart = refused (nat_lt (r + 1) (size d)) (slide_fault (ends d r) (ends d (r + 1))) (parted (ends d r) (ends d (r + 1)) apart)
 
-pub extends_rows : (d : Diagram) (cap : ℕ) (before : ℕ × ℕ) (turned : Diagram) (r : ℕ) (old new : List Offer) → turned ≡ translate d before.0 before.1
-    → Extends d cap (record { before = before; step = row_trade turned r } ∷ []) old new → Extends d cap (record { before = before; step = ExchangeRows r } ∷ record { before = before; step = SlideRows r } ∷ []) old new
-extends_rows d cap before turned r old new is one = elim (cases_Bool (share_an_end (ends turned r) (ends turned (r + 1)))) [
+pub extends_rows : (d : Diagram) (cap : ℕ) (before : ℕ × ℕ) (translated : Diagram) (r : ℕ) (old new : List Offer) → translated ≡ translate d before.0 before.1
+    → Extends d cap (record { before = before; step = row_trade translated r } ∷ []) old new
+    → Extends d cap (record { before = before; step = ExchangeRows r } ∷ record { before = before; step = SlideRows r } ∷ []) old new
+extends_rows d cap before translated r old new is one = elim (cases_Bool (share_an_end (ends translated r) (ends translated (r + 1)))) [
   | inl shared ↦
       extends_second d cap (record { before = before; step = ExchangeRows r }) (record { before = before; step = SlideRows r }) old new
-      (not_offered d cap before turned (ExchangeRows r) is (row_exchange_refused turned r shared))
-      (subst (λ m. Extends d cap (record { before = before; step = m } ∷ []) old new) (cond-true (share_an_end (ends turned r) (ends turned (r + 1))) (SlideRows r) (ExchangeRows r) shared) one)
+      (not_offered d cap before translated (ExchangeRows r) is (row_exchange_refused translated r shared))
+      (subst (λ m. Extends d cap (record { before = before; step = m } ∷ []) old new)
+      (cond-true (share_an_end (ends translated r) (ends translated (r + 1))) (SlideRows r) (ExchangeRows r) shared) one)
   | inr apart ↦
       extends_first d cap (record { before = before; step = ExchangeRows r }) (record { before = before; step = SlideRows r }) old new
-      (not_offered d cap before turned (SlideRows r) is (row_slide_refused turned r apart))
-      (subst (λ m. Extends d cap (record { before = before; step = m } ∷ []) old new) (cond-false (share_an_end (ends turned r) (ends turned (r + 1))) (SlideRows r) (ExchangeRows r) apart) one)
+      (not_offered d cap before translated (SlideRows r) is (row_slide_refused translated r apart))
+      (subst (λ m. Extends d cap (record { before = before; step = m } ∷ []) old new)
+      (cond-false (share_an_end (ends translated r) (ends translated (r + 1))) (SlideRows r) (ExchangeRows r) apart) one)
 ]
 
 pub rows_once : (d : Diagram) (cap n r : ℕ) → (is_offered d cap (row_exchange n r) ≡ false) ⊎ (is_offered d cap (row_slide n r) ≡ false)
 rows_once d cap n r =
     let before : ℕ × ℕ = (row_exchange n r).before in
-    let p : ℕ = place n r in
-    let turned : Diagram = translate d before.0 before.1 in
-    elim (cases_Bool (share_an_end (ends turned p) (ends turned (p + 1)))) [
-      | inl shared ↦ inl (not_offered d cap before turned (ExchangeRows p) refl (row_exchange_refused turned p shared))
-      | inr apart ↦ inr (not_offered d cap before turned (SlideRows p) refl (row_slide_refused turned p apart))
+    let p : ℕ = place_after_shift n r in
+    let translated : Diagram = translate d before.0 before.1 in
+    elim (cases_Bool (share_an_end (ends translated p) (ends translated (p + 1)))) [
+      | inl shared ↦ inl (not_offered d cap before translated (ExchangeRows p) refl (row_exchange_refused translated p shared))
+      | inr apart ↦ inr (not_offered d cap before translated (SlideRows p) refl (row_slide_refused translated p apart))
     ]

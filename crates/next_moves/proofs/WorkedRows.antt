@@ -42,8 +42,10 @@ abbrev tried : ℕ × ℕ → Move → Try
 tried before step = record { before = before; step = step }
 
 -- all its neighbours share one row or one column, and slide
-six_slides : take 6 (filter (is_offered three 3) (tries 3)) ≡ tried (0, 0) (SlideColumns 0) ∷ tried (0, 0) (SlideColumns 1) ∷ tried (1, 0) (SlideColumns 1) ∷ tried (0, 0) (SlideRows 0) ∷ tried (0, 0) (SlideRows 1) ∷ tried (0, 1) (SlideRows 1) ∷ []
+six_slides : take 6 (filter (is_offered three 3) (tries 3)) ≡ tried (0, 0) (SlideColumns 0) ∷ tried (0, 0) (SlideColumns 1) ∷ tried (1, 0)
+    (SlideColumns 1) ∷ tried (0, 0) (SlideRows 0) ∷ tried (0, 0) (SlideRows 1) ∷ tried (0, 1) (SlideRows 1) ∷ []
 six_slides = refl
 
-six_blocks : drop 6 (filter (is_offered three 3) (tries 3)) ≡ tried (0, 0) (Destabilise 0 0) ∷ tried (0, 0) (Destabilise 0 1) ∷ tried (0, 0) (Destabilise 1 1) ∷ tried (0, 1) (Destabilise 1 1) ∷ tried (1, 0) (Destabilise 1 0) ∷ tried (1, 1) (Destabilise 1 1) ∷ []
+six_blocks : drop 6 (filter (is_offered three 3) (tries 3)) ≡ tried (0, 0) (Destabilise 0 0) ∷ tried (0, 0) (Destabilise 0 1) ∷ tried (0, 0)
+    (Destabilise 1 1) ∷ tried (0, 1) (Destabilise 1 1) ∷ tried (1, 0) (Destabilise 1 0) ∷ tried (1, 1) (Destabilise 1 1) ∷ []
 six_blocks = refl

@@ -1,12 +1,14 @@
 -- A list of offers in the making; only private clauses and proofs cite this file.
-use Rattle.std.specs.Prelude.{◌≡◌, ◌+◌, ◌==◌, ◌++◌, ℕ, List, if◌then◌else◌, nat_lt}
+use Rattle.std.specs.Prelude.{◌≡◌, ◌<◌, ◌+◌, ◌==◌, ◌++◌, ℕ, List, Option, IfSome, if◌then◌else◌, nat_lt}
 use Rattle.grid_core.specs.declared.mark.Kind.TheVariants.{Cross, Ring}
 use Rattle.grid_core.specs.Diagram.{Diagram, size, row_of}
 use Rattle.grid_core.specs.Span.{share_an_end}
 use Rattle.grid_core.specs.Parts.{column_span, ends}
 use Rattle.grid_moves.specs.declared.step.Move.{Move}
 use Rattle.grid_moves.specs.declared.step.Move.TheVariants.{ExchangeColumns, ExchangeRows, SlideColumns, SlideRows}
-use Rattle.next_moves.specs.declared.offer.Offer.{Offer}
+use Rattle.grid_canon.specs.declared.digits.TheConstants.{MAX_SHORT_SIZE}
+use Rattle.grid_canon.specs.Translation.{translate}
+use Rattle.next_moves.specs.declared.links.Offer.{Offer}
 use Rattle.next_moves.specs.Tries.{Try}
 use Rattle.next_moves.specs.Offers.{AreOffersOf}
 
@@ -15,6 +17,18 @@ pub record Extends (d : Diagram) (cap : ℕ) (list : List Try) (old new : List O
   pub more : List Offer
   pub is : new ≡ old ++ more
   pub offers : AreOffersOf d cap list more
+
+-- what contracts see of a grid that is tried: the diagram and the cap
+pub record Tried : Type 0 where
+  pub diagram : Diagram
+  pub cap : ℕ
+
+-- what the tries on d share: its translates by 1, and d again as a short grid that has room for one more column, where there is one
+pub record IsPrepared (d by_column by_row by_both : Diagram) (again : Option Diagram) : Type 0 where
+  pub column : by_column ≡ translate d 1 0
+  pub row : by_row ≡ translate d 0 1
+  pub both : by_both ≡ translate d 1 1
+  pub short : IfSome again (λ s. (s ≡ d) × (size d < MAX_SHORT_SIZE))
 
 -- the only move by which columns c and c + 1 may trade places: a slide where they share a row, else an exchange
 abbrev pub column_trade : Diagram → ℕ → Move

@@ -5,8 +5,10 @@ pub mod Links
 pub mod Extends
 pub mod Reach
 pub use Rattle.grid_core.specs.Diagram
+pub use Rattle.grid_moves.specs.Shift
 pub use Rattle.grid_moves.specs.Step
 pub use Rattle.grid_moves.specs.Joining
-pub use Rattle.grid_canon.specs.Translate
-pub use Rattle.grid_canon.specs.Canonical
+pub use Rattle.grid_moves.specs.MoveLists
+pub use Rattle.grid_canon.specs.Translation
+pub use Rattle.grid_canon.specs.CanonicalForm
 pub use Rattle.grid_canon.specs.Key

@@ -2,7 +2,7 @@
 use Rattle.std.specs.Prelude.{List, [], ◌∷◌, ◌++◌}
 use Rattle.grid_moves.specs.declared.step.Move.{Move}
 use Rattle.grid_canon.specs.Shifts.{shift_moves}
-use Rattle.next_moves.specs.declared.offer.Link.{Link}
+use Rattle.next_moves.specs.declared.links.Link.{Link}
 
 -- the shifts before, the move, and the shifts after, where a shift by 0 is left out
 abbrev pub link_moves : Link → List Move

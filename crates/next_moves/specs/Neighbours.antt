@@ -5,8 +5,8 @@ use Rattle.grid_core.specs.Diagram.{Diagram, size}
 use Rattle.grid_moves.specs.declared.step.Move.{Move}
 use Rattle.grid_moves.specs.declared.step.Move.TheVariants.{ShiftColumns, ShiftRows, ExchangeColumns, ExchangeRows, SlideColumns, SlideRows, Stabilise, Destabilise}
 use Rattle.grid_moves.specs.Step.{Step}
-use Rattle.grid_canon.specs.Translate.{translates}
-use Rattle.grid_canon.specs.Canonical.{IsCanonicalForm}
+use Rattle.grid_canon.specs.Translation.{translates}
+use Rattle.grid_canon.specs.CanonicalForm.{IsCanonicalForm}
 
 abbrev pub is_shift : Move → Bool
 is_shift (ShiftColumns k) = true

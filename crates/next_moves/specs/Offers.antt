@@ -8,12 +8,12 @@ use Rattle.grid_moves.specs.declared.step.Move.{Move}
 use Rattle.grid_moves.specs.declared.step.Move.TheVariants.{ShiftColumns, ShiftRows, ExchangeColumns, ExchangeRows, SlideColumns, SlideRows, Stabilise, Destabilise}
 use Rattle.grid_moves.specs.Step.{Step}
 use Rattle.grid_moves.specs.MoveFault.{first_fault}
-use Rattle.grid_canon.specs.declared.packed.Packed.{Packed}
-use Rattle.grid_canon.specs.Translate.{translate}
-use Rattle.grid_canon.specs.Canonical.{IsCanonical, IsLeastForm}
+use Rattle.grid_canon.specs.declared.key.Packed.{Packed}
+use Rattle.grid_canon.specs.Translation.{translate}
+use Rattle.grid_canon.specs.CanonicalForm.{IsCanonical, IsLeastForm}
 use Rattle.grid_canon.specs.Key.{key_of}
-use Rattle.next_moves.specs.declared.offer.Link.{Link}
-use Rattle.next_moves.specs.declared.offer.Offer.{Offer}
+use Rattle.next_moves.specs.declared.links.Link.{Link}
+use Rattle.next_moves.specs.declared.links.Offer.{Offer}
 use Rattle.next_moves.specs.Tries.{Try, tries, is_exchange}
 
 -- the size of the result of a move on a diagram of this size

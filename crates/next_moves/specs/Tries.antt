@@ -3,62 +3,62 @@
 use Rattle.std.specs.Prelude.{◌+◌, ◌-◌, ◌==◌, ◌++◌, ℕ, List, [], ◌∷◌, Bool, true, false, map, if◌then◌else◌}
 use Rattle.std.specs.List.{range_with_len, flat_map}
 use Rattle.grid_core.specs.declared.mark.Kind.{Kind}
-use Rattle.grid_core.specs.declared.mark.Kind.TheVariants.{Cross, Ring}
 use Rattle.grid_core.specs.declared.mark.Corner.{Corner}
-use Rattle.grid_core.specs.declared.mark.Corner.TheVariants.{LowLeft, LowRight, HighLeft, HighRight}
 use Rattle.grid_moves.specs.declared.step.Move.{Move}
 use Rattle.grid_moves.specs.declared.step.Move.TheVariants.{ShiftColumns, ShiftRows, ExchangeColumns, ExchangeRows, SlideColumns, SlideRows, Stabilise, Destabilise}
+use Rattle.grid_moves.specs.MoveLists as moves
 
 -- a move, after a shift of columns and a shift of rows, of which 0 means none
 pub record Try : Type 0 where
   pub before : ℕ × ℕ
   pub step : Move
 
--- the shift that brings c and the next one side by side, and the place of c then
-abbrev pub turn : ℕ → ℕ → ℕ
-turn n c = if c + 1 == n then 1 else 0
+-- the shift that brings c and the next one side by side, and where c stands then
+abbrev pub shift_before : ℕ → ℕ → ℕ
+shift_before n c = if c + 1 == n then 1 else 0
 
-abbrev pub place : ℕ → ℕ → ℕ
-place n c = if c + 1 == n then n - 2 else c
+abbrev pub place_after_shift : ℕ → ℕ → ℕ
+place_after_shift n c = if c + 1 == n then n - 2 else c
 
 -- column c and the next one trade places, by an exchange or by a slide: never are both legal
 abbrev pub column_exchange : ℕ → ℕ → Try
-column_exchange n c = record { before = (turn n c, 0); step = ExchangeColumns (place n c) }
+column_exchange n c = record { before = (shift_before n c, 0); step = ExchangeColumns (place_after_shift n c) }
 
 abbrev pub column_slide : ℕ → ℕ → Try
-column_slide n c = record { before = (turn n c, 0); step = SlideColumns (place n c) }
+column_slide n c = record { before = (shift_before n c, 0); step = SlideColumns (place_after_shift n c) }
 
 abbrev pub column_trades : ℕ → ℕ → List Try
 column_trades n c = column_exchange n c ∷ column_slide n c ∷ []
 
 -- row r and the next one trade places, likewise
 abbrev pub row_exchange : ℕ → ℕ → Try
-row_exchange n r = record { before = (0, turn n r); step = ExchangeRows (place n r) }
+row_exchange n r = record { before = (0, shift_before n r); step = ExchangeRows (place_after_shift n r) }
 
 abbrev pub row_slide : ℕ → ℕ → Try
-row_slide n r = record { before = (0, turn n r); step = SlideRows (place n r) }
+row_slide n r = record { before = (0, shift_before n r); step = SlideRows (place_after_shift n r) }
 
 abbrev pub row_trades : ℕ → ℕ → List Try
 row_trades n r = row_exchange n r ∷ row_slide n r ∷ []
 
 -- the block of column c and the next one, and of row r and the next one, becomes one mark
 abbrev pub destabilisation : ℕ → ℕ → ℕ → Try
-destabilisation n c r = record { before = (turn n c, turn n r); step = Destabilise (place n c) (place n r) }
+destabilisation n c r = record { before = (shift_before n c, shift_before n r); step = Destabilise (place_after_shift n c) (place_after_shift n r) }
 
 -- the blocks of column c and the next one, by row
 abbrev pub destabilisations : ℕ → ℕ → List Try
 destabilisations n c = map (destabilisation n c) (range_with_len 0 n)
 
+-- a move on the diagram as it is
+abbrev pub unshifted : Move → Try
+unshifted step = record { before = (0, 0); step = step }
+
 -- the mark of a kind in column c becomes a block of three, with the other kind in this corner
 abbrev pub stabilisation : ℕ → Kind → Corner → Try
-stabilisation c kind corner = record { before = (0, 0); step = Stabilise c kind corner }
-
-abbrev pub corners : List Corner
-corners = LowLeft ∷ LowRight ∷ HighLeft ∷ HighRight ∷ []
+stabilisation c kind corner = unshifted (Stabilise c kind corner)
 
 -- the eight stabilisations in column c
 abbrev pub stabilisations : ℕ → List Try
-stabilisations c = map (stabilisation c Cross) corners ++ map (stabilisation c Ring) corners
+stabilisations c = map unshifted (moves.stabilisations c)
 
 -- neighbouring columns, and neighbouring rows, that trade places
 abbrev pub trades : ℕ → List Try

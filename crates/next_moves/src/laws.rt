@@ -1,9 +1,15 @@
 //! Laws of neighbours and offers, over the definitions alone.
-ghost use Rattle.std.specs.Prelude.{◌≡◌, ◌≢◌, ◌<◌, ◌≤◌, ◌*◌, ℕ, List, filter, length};
+ghost use Rattle.std.specs.Prelude.{◌≡◌, ◌≢◌, ◌<◌, ◌≤◌, ◌+◌, ◌*◌, ℕ, List, filter, length};
 ghost use Rattle.std.specs.List.{All, AllPairs, Contains};
+ghost use Rattle.grid_core.specs.declared.mark.Kind.{Kind};
+ghost use Rattle.grid_core.specs.declared.mark.Corner.{Corner};
 ghost use Rattle.grid_core.specs.Diagram.{Diagram, IsGrid, size};
+ghost use Rattle.grid_moves.specs.declared.step.Move.TheVariants.{ExchangeColumns, ExchangeRows, SlideColumns, SlideRows, Stabilise, Destabilise};
+ghost use Rattle.grid_moves.specs.Shift.{shifted};
+ghost use Rattle.grid_moves.specs.Step.{Step};
 ghost use Rattle.grid_moves.specs.Joining.{Joins, JoinsWithin, WithinCap};
-ghost use Rattle.grid_canon.specs.Canonical.{IsCanonicalForm, IsCanonical};
+ghost use Rattle.grid_canon.specs.Translation.{translate, translates};
+ghost use Rattle.grid_canon.specs.CanonicalForm.{IsCanonicalForm, IsCanonical};
 ghost use Rattle.grid_canon.specs.Key.{key_of};
 ghost use Rattle.next_moves.specs.Neighbours.{IsNeighbour};
 ghost use Rattle.next_moves.specs.Tries.{trades, all_destabilisations, all_stabilisations};
@@ -11,7 +17,62 @@ ghost use Rattle.next_moves.specs.Offers.{is_offered, Leads, IsOfferList, Neighb
 ghost use Rattle.next_moves.specs.Links.{link_moves};
 ghost use Rattle.next_moves.specs.Reach.{IsReached, AreMembers, HasMembers, HasMoreMembers};
 
-use crate::offer::{Link, Offer};
+use crate::links::{Link, Offer};
+
+/// An exchange on a diagram is an exchange on each translate in which its two columns, or rows, still stand side by side, at the place
+/// to which they have come, and it leads to the result's translate by the same shifts. A shift by one is such a translate.
+pub fn an_exchange_is_one_on_each_translate()
+    ensures columns { (d e : Diagram) (c a b : ℕ)
+        → Step d (ExchangeColumns c) e
+        → a < size d
+        → b < size d
+        → shifted (size d) a (c + 1) ≡ shifted (size d) a c + 1
+        → Step (translate d a b) (ExchangeColumns (shifted (size d) a c)) (translate e a b) }
+    ensures rows { (d e : Diagram) (r a b : ℕ)
+        → Step d (ExchangeRows r) e
+        → a < size d
+        → b < size d
+        → shifted (size d) b (r + 1) ≡ shifted (size d) b r + 1
+        → Step (translate d a b) (ExchangeRows (shifted (size d) b r)) (translate e a b) }
+{}
+
+/// A slide on a diagram is likewise a slide on each such translate.
+pub fn a_slide_is_one_on_each_translate()
+    ensures columns { (d e : Diagram) (c a b : ℕ)
+        → Step d (SlideColumns c) e
+        → a < size d
+        → b < size d
+        → shifted (size d) a (c + 1) ≡ shifted (size d) a c + 1
+        → Step (translate d a b) (SlideColumns (shifted (size d) a c)) (translate e a b) }
+    ensures rows { (d e : Diagram) (r a b : ℕ)
+        → Step d (SlideRows r) e
+        → a < size d
+        → b < size d
+        → shifted (size d) b (r + 1) ≡ shifted (size d) b r + 1
+        → Step (translate d a b) (SlideRows (shifted (size d) b r)) (translate e a b) }
+{}
+
+/// A stabilisation on a diagram is on each of its translates the stabilisation of the same mark, at the column to which it has come, and
+/// leads to a translate of the result.
+pub fn a_stabilisation_is_one_on_each_translate()
+    ensures { (d e : Diagram) (c : ℕ) (kind : Kind) (corner : Corner) (a b : ℕ)
+        → Step d (Stabilise c kind corner) e
+        → a < size d
+        → b < size d
+        → (f : Diagram) × (Contains (translates e) f × Step (translate d a b) (Stabilise (shifted (size d) a c) kind corner) f) }
+{}
+
+/// A destabilisation on a diagram is on each of its translates the destabilisation of the same block, where its columns and its rows still
+/// stand side by side, and leads to a translate of the result.
+pub fn a_destabilisation_is_one_on_each_translate()
+    ensures { (d e : Diagram) (c r a b : ℕ)
+        → Step d (Destabilise c r) e
+        → a < size d
+        → b < size d
+        → shifted (size d) a (c + 1) ≡ shifted (size d) a c + 1
+        → shifted (size d) b (r + 1) ≡ shifted (size d) b r + 1
+        → (f : Diagram) × (Contains (translates e) f × Step (translate d a b) (Destabilise (shifted (size d) a c) (shifted (size d) b r)) f) }
+{}
 
 /// The key of every neighbour, over all translates and all moves but shifts, is that of some offer.
 pub fn every_neighbour_is_offered()

@@ -3,11 +3,11 @@
 #![tactic(auto)]
 
 pub mod laws;
-mod listing;
-mod offer;
+mod links;
 mod offers;
 #[cfg(test)]
 mod tests;
+mod tries;
 
-pub use offer::{Link, Offer};
+pub use links::{Link, Offer};
 pub use offers::{MAX_OFFERS, Offers};

@@ -2,12 +2,12 @@
 ghost use Rattle.std.specs.Prelude.{◌≡◌, ◌≤◌, ◌*◌, [], length};
 ghost use Rattle.grid_core.specs.declared.grid.TheConstants.{MAX_SIZE};
 ghost use Rattle.grid_core.specs.Diagram.{IsGrid, size};
-ghost use Rattle.grid_canon.specs.Canonical.{IsCanonical};
+ghost use Rattle.grid_canon.specs.CanonicalForm.{IsCanonical};
 ghost use Rattle.grid_canon.specs.Key.{key_of};
 ghost use Rattle.next_moves.specs.Offers.{IsOfferList};
 
-use crate::listing::{OfferList, destabilise, stabilise, trade_columns, trade_rows};
-use crate::offer::Offer;
+use crate::links::Offer;
+use crate::tries::{OfferList, Tries};
 use arrayvec::ArrayVec;
 use grid_canon::{LeastForm, Packed, pack};
 use grid_core::{Grid, MAX_SIZE};
@@ -106,8 +106,9 @@ fn fill(list: &mut OfferList, grid: &Grid, cap: u8)
     ensures count { length list.new.items ≤ 12 * size grid.now }
 {
     let _size = grid.size();
-    trade_columns(list, grid, cap);
-    trade_rows(list, grid, cap);
-    destabilise(list, grid, cap);
-    stabilise(list, grid, cap);
+    let tries = Tries::on(grid, cap);
+    tries.trade_columns(list);
+    tries.trade_rows(list);
+    tries.destabilise(list);
+    tries.stabilise(list);
 }

@@ -2,7 +2,7 @@
 ghost use Rattle.std.specs.Prelude.{◌≤◌, ◌<◌};
 ghost use Rattle.grid_core.specs.declared.grid.TheConstants.{MAX_SIZE};
 ghost use Rattle.grid_core.specs.Diagram.{size};
-ghost use Rattle.grid_canon.specs.Canonical.{IsCanonical};
+ghost use Rattle.grid_canon.specs.CanonicalForm.{IsCanonical};
 
 use super::leads;
 use crate::Offers;
@@ -66,9 +66,9 @@ fn neighbours(alloc: Global, grid: &Grid, cap: u8) -> Result<Vec<Packed>, Fail> 
     let mut keys = Vec::new(alloc);
     for columns in 0..size {
         for rows in 0..size {
-            let turned = translate(grid, columns, rows);
+            let translated = translate(grid, columns, rows);
             for step in &moves {
-                if let Ok(moved) = apply(&turned, *step) {
+                if let Ok(moved) = apply(&translated, *step) {
                     if moved.size() <= cap {
                         keys.push(plain_key(&moved))?;
                     }

@@ -1,0 +1,410 @@
+//! The tries one by one, in their order.
+ghost use Rattle.std.specs.Prelude.{◌≡◌, ◌<◌, ◌≤◌, ◌+◌, ◌-◌, ◌*◌, ◌∷◌, [], IfSome, length, map};
+ghost use Rattle.std.specs.List.{range_with_len, flat_map};
+ghost use Rattle.grid_core.specs.Corners.{corners};
+ghost use Rattle.grid_core.specs.Diagram.{IsGrid, size};
+ghost use Rattle.grid_canon.specs.Translation.{translate};
+ghost use Rattle.next_moves.specs.declared.offers.TheConstants.{MAX_OFFERS};
+ghost use Rattle.next_moves.specs.Tries.{shift_before, place_after_shift, column_trades, row_trades, destabilisation, destabilisations, stabilisations, stabilisation};
+ghost use Rattle.next_moves.specs.Extends.{Extends, column_trade, row_trade, next, row_of_both, counted};
+
+use crate::links::{Link, Offer};
+use crate::offers::MAX_OFFERS;
+use arrayvec::ArrayVec;
+use grid_canon::{LeastKey, MAX_SHORT_SIZE, ShortGrid, canonical_key, translate};
+use grid_core::{Corner, Grid, Kind};
+use grid_moves::{Move, apply, widening_of};
+use std::marker::Model;
+
+/// Offers in the making.
+pub(crate) type OfferList = ArrayVec<Offer, MAX_OFFERS>;
+
+/// A grid that is tried within a cap, with all that the tries share: its translates by 1, and its short grid where one more column is
+/// within the cap and a short grid has room for it. Contracts see the grid and the cap.
+#[derive(Drop)]
+pub(crate) struct Tries<'a> {
+    grid: &'a Grid,
+    cap: u8,
+    by_column: Grid,
+    by_row: Grid,
+    by_both: Grid,
+    short: Option<ShortGrid>,
+}
+
+impl<'a> Model for Tries<'a> {
+    ghost use Rattle.next_moves.specs.Extends.{Tried, IsPrepared};
+
+    ghost Value = { Tried };
+
+    ghost view = { λ t. record { diagram = t.grid.now; cap = t.cap } };
+
+    ghost invariant = { λ t. IsPrepared t.grid.now t.by_column t.by_row t.by_both t.short };
+}
+
+impl<'a> Tries<'a> {
+    /// The tries on a grid within a cap.
+    pub(crate) fn on(grid: &'a Grid, cap: u8) -> Tries<'a>
+        ensures { result ≡ record { diagram = grid.now; cap = cap } }
+    {
+        let _size = grid.size();
+        Tries {
+            grid,
+            cap,
+            by_column: translate(grid, 1, 0),
+            by_row: translate(grid, 0, 1),
+            by_both: translate(grid, 1, 1),
+            short: short_of(grid, cap),
+        }
+    }
+
+    /// The size of the grid.
+    fn size(&self) -> u8
+        ensures size { result ≡ size self.now.diagram }
+        ensures grid { IsGrid self.now.diagram }
+    {
+        self.grid.size()
+    }
+
+    /// The cap.
+    fn cap(&self) -> u8
+        ensures { result ≡ self.now.cap }
+    {
+        self.cap
+    }
+
+    /// The short grid, where there is one.
+    fn short(&self) -> &Option<ShortGrid>
+        ensures { IfSome result.now (λ s. (s ≡ self.now.diagram) × (size self.now.diagram < MAX_SHORT_SIZE)) }
+    {
+        &self.short
+    }
+
+    /// The grid.
+    fn grid(&self) -> &Grid
+        ensures { result.now ≡ self.now.diagram }
+    {
+        self.grid
+    }
+
+    /// The translate by these shifts, each of which is none or by 1.
+    fn translated(&self, before: (u8, u8)) -> &Grid
+        requires columns { before.0 ≤ 1 }
+        requires rows { before.1 ≤ 1 }
+        ensures { result.now ≡ translate self.now.diagram before.0 before.1 }
+    {
+        let _size = self.grid.size();
+        if before.0 == 0 {
+            if before.1 == 0 {
+                self.grid
+            } else {
+                &self.by_row
+            }
+        } else if before.1 == 0 {
+            &self.by_column
+        } else {
+            &self.by_both
+        }
+    }
+
+    /// Appends the offer of one move on a translate, where it is legal within the cap.
+    fn try_move(&self, list: &mut OfferList, before: (u8, u8), step: Move)
+        requires columns { before.0 ≤ 1 }
+        requires rows { before.1 ≤ 1 }
+        requires room { length list.old.items < MAX_OFFERS }
+        ensures offered { Extends self.now.diagram self.now.cap (record { before = before; step = step } ∷ []) list.old.items list.new.items }
+        ensures fits { length list.new.items ≤ length list.old.items + 1 }
+    {
+        let _size = self.size();
+        match apply(self.translated(before), step) {
+            Ok(moved) => {
+                if moved.size() <= self.cap() {
+                    list.push(offer_of(canonical_key(&moved), before, step));
+                }
+            }
+            Err(_) => {}
+        }
+    }
+
+    /// Appends the exchanges and slides of neighbouring columns.
+    pub(crate) fn trade_columns(&self, list: &mut OfferList)
+        requires room { length list.old.items + size self.now.diagram ≤ MAX_OFFERS }
+        ensures offered { Extends self.now.diagram self.now.cap (flat_map (column_trades (size self.now.diagram)) (range_with_len 0 (size self.now.diagram))) list.old.items list.new.items }
+        ensures fits { length list.new.items ≤ length list.old.items + size self.now.diagram }
+    {
+        for c in 0..self.size() {
+            self.trade_column(list, c);
+        }
+    }
+
+    /// Appends the offer of the move by which a column and the next one trade places, where there is one.
+    fn trade_column(&self, list: &mut OfferList, c: u8)
+        requires column { c < size self.now.diagram }
+        requires room { length list.old.items < MAX_OFFERS }
+        ensures offered { Extends self.now.diagram self.now.cap (column_trades (size self.now.diagram) c) list.old.items list.new.items }
+        ensures fits { length list.new.items ≤ length list.old.items + 1 }
+    {
+        let by = shift_before(c, self.size());
+        let step = column_trade(self.translated((by, 0)), c - by);
+        self.try_move(list, (by, 0), step);
+    }
+
+    /// Appends the exchanges and slides of neighbouring rows.
+    pub(crate) fn trade_rows(&self, list: &mut OfferList)
+        requires room { length list.old.items + size self.now.diagram ≤ MAX_OFFERS }
+        ensures offered { Extends self.now.diagram self.now.cap (flat_map (row_trades (size self.now.diagram)) (range_with_len 0 (size self.now.diagram))) list.old.items list.new.items }
+        ensures fits { length list.new.items ≤ length list.old.items + size self.now.diagram }
+    {
+        for r in 0..self.size() {
+            self.trade_row(list, r);
+        }
+    }
+
+    /// Appends the offer of the move by which a row and the next one trade places, where there is one.
+    fn trade_row(&self, list: &mut OfferList, r: u8)
+        requires row { r < size self.now.diagram }
+        requires room { length list.old.items < MAX_OFFERS }
+        ensures offered { Extends self.now.diagram self.now.cap (row_trades (size self.now.diagram) r) list.old.items list.new.items }
+        ensures fits { length list.new.items ≤ length list.old.items + 1 }
+    {
+        let by = shift_before(r, self.size());
+        let step = row_trade(self.translated((0, by)), r - by);
+        self.try_move(list, (0, by), step);
+    }
+
+    /// Appends the destabilisations, by column and then by row.
+    pub(crate) fn destabilise(&self, list: &mut OfferList)
+        requires room { length list.old.items + 2 * size self.now.diagram ≤ MAX_OFFERS }
+        ensures offered { Extends self.now.diagram self.now.cap (flat_map (destabilisations (size self.now.diagram)) (range_with_len 0 (size self.now.diagram))) list.old.items list.new.items }
+        ensures fits { length list.new.items ≤ length list.old.items + 2 * size self.now.diagram }
+    {
+        for c in 0..self.size() {
+            self.destabilise_column(list, c);
+        }
+    }
+
+    /// Appends the destabilisations at a column and the next one.
+    fn destabilise_column(&self, list: &mut OfferList, c: u8)
+        requires column { c < size self.now.diagram }
+        requires room { length list.old.items + 2 ≤ MAX_OFFERS }
+        ensures offered { Extends self.now.diagram self.now.cap (destabilisations (size self.now.diagram) c) list.old.items list.new.items }
+        ensures fits { length list.new.items ≤ length list.old.items + 2 }
+    {
+        let size = self.size();
+        let blocks = Blocks {
+            column: c,
+            near: row_of_both(self.grid(), c),
+            far: row_of_both(self.grid(), next(c, size)),
+        };
+        for r in 0..size {
+            self.try_block(list, blocks, r);
+        }
+    }
+
+    /// Appends the destabilisation at the block of one row, where a column has both its marks there: no other block has three marks.
+    fn try_block(&self, list: &mut OfferList, blocks: Blocks, r: u8)
+        requires column { blocks.column < size self.now.diagram }
+        requires row { r < size self.now.diagram }
+        requires near { blocks.near ≡ row_of_both self.now.diagram blocks.column }
+        requires far { blocks.far ≡ row_of_both self.now.diagram (next (size self.now.diagram) blocks.column) }
+        requires room { length list.old.items + counted blocks.near r + counted blocks.far r ≤ MAX_OFFERS }
+        ensures offered { Extends self.now.diagram self.now.cap (destabilisation (size self.now.diagram) blocks.column r ∷ []) list.old.items list.new.items }
+        ensures fits { length list.new.items ≤ length list.old.items + counted blocks.near r + counted blocks.far r }
+    {
+        let size = self.size();
+        if r == blocks.near || r == blocks.far {
+            let before = (shift_before(blocks.column, size), shift_before(r, size));
+            let step = Move::Destabilise {
+                column: blocks.column - before.0,
+                row: r - before.1,
+            };
+            self.try_move(list, before, step);
+        }
+    }
+
+    /// Appends the stabilisations, by column, kind and corner: none where the size is the cap.
+    pub(crate) fn stabilise(&self, list: &mut OfferList)
+        requires room { length list.old.items + 8 * size self.now.diagram ≤ MAX_OFFERS }
+        ensures offered { Extends self.now.diagram self.now.cap (flat_map stabilisations (range_with_len 0 (size self.now.diagram))) list.old.items list.new.items }
+        ensures fits { length list.new.items ≤ length list.old.items + 8 * size self.now.diagram }
+    {
+        let size = self.size();
+        if size >= self.cap() {
+            return;
+        }
+        for c in 0..size {
+            self.stabilise_mark(list, c, Kind::Cross);
+            self.stabilise_mark(list, c, Kind::Ring);
+        }
+    }
+
+    /// Appends the four stabilisations at the mark of a kind in a column.
+    fn stabilise_mark(&self, list: &mut OfferList, column: u8, kind: Kind)
+        requires column { column < size self.now.diagram }
+        requires cap { size self.now.diagram < self.now.cap }
+        requires room { length list.old.items + 4 ≤ MAX_OFFERS }
+        ensures offered { Extends self.now.diagram self.now.cap (map (stabilisation column kind) corners) list.old.items list.new.items }
+        ensures fits { length list.new.items ≤ length list.old.items + 4 }
+    {
+        for corner in Corner::ALL {
+            let at = Stabilisation {
+                column,
+                kind,
+                corner,
+            };
+            self.stabilise_at(list, at);
+        }
+    }
+
+    /// Appends one stabilisation.
+    fn stabilise_at(&self, list: &mut OfferList, at: Stabilisation)
+        requires column { at.column < size self.now.diagram }
+        requires cap { size self.now.diagram < self.now.cap }
+        requires room { length list.old.items < MAX_OFFERS }
+        ensures offered { Extends self.now.diagram self.now.cap (stabilisation at.column at.kind at.corner ∷ []) list.old.items list.new.items }
+        ensures fits { length list.new.items ≤ length list.old.items + 1 }
+    {
+        match self.short() {
+            Some(short) => self.push_stabilised(list, short, at),
+            None => self.try_move(list, (0, 0), at.step()),
+        }
+    }
+
+    /// Appends the offer of one stabilisation, which is made on the short grid.
+    fn push_stabilised(&self, list: &mut OfferList, short: &ShortGrid, at: Stabilisation)
+        requires column { at.column < size self.now.diagram }
+        requires cap { size self.now.diagram < self.now.cap }
+        requires short { short.now ≡ self.now.diagram }
+        requires few { size self.now.diagram < MAX_SHORT_SIZE }
+        requires room { length list.old.items < MAX_OFFERS }
+        ensures offered { Extends self.now.diagram self.now.cap (stabilisation at.column at.kind at.corner ∷ []) list.old.items list.new.items }
+        ensures fits { length list.new.items ≤ length list.old.items + 1 }
+    {
+        let _size = self.size();
+        let widening = widening_of(self.grid(), at.column, at.kind, at.corner);
+        let found = short.widened(widening).canonical_key();
+        list.push(offer_of(found, (0, 0), at.step()));
+    }
+}
+
+/// The offer that the shifts and the step lead to, by what was found of their result.
+fn offer_of(found: LeastKey, before: (u8, u8), step: Move) -> Offer
+    ensures { result ≡ record { key = found.key; link = record { before = before; step = step; after = (found.columns, found.rows) } } }
+{
+    Offer {
+        key: found.key,
+        link: Link {
+            before,
+            step,
+            after: (found.columns, found.rows),
+        },
+    }
+}
+
+/// The only move by which columns c and c + 1 may trade places: a slide where they share a row, else an exchange.
+fn column_trade(grid: &Grid, c: u8) -> Move
+    requires { c + 1 < size grid.now }
+    ensures { result ≡ column_trade grid.now c }
+{
+    let _size = grid.size();
+    if grid.column_span(c).touches(grid.column_span(c + 1)) {
+        Move::SlideColumns(c)
+    } else {
+        Move::ExchangeColumns(c)
+    }
+}
+
+/// The only move by which rows r and r + 1 may trade places: a slide where they share a column, else an exchange.
+fn row_trade(grid: &Grid, r: u8) -> Move
+    requires { r + 1 < size grid.now }
+    ensures { result ≡ row_trade grid.now r }
+{
+    let _size = grid.size();
+    if grid.row_span(r).touches(grid.row_span(r + 1)) {
+        Move::SlideRows(r)
+    } else {
+        Move::ExchangeRows(r)
+    }
+}
+
+/// The blocks of a column and the next one of which one column has both its marks: in the row `near` and the next the column itself, in
+/// the row `far` and the next the next one. A row that is the size stands for none.
+#[derive(Clone, Copy)]
+struct Blocks {
+    column: u8,
+    near: u8,
+    far: u8,
+}
+
+/// The row of a block of two rows with both marks of a column, or the size where there is none.
+fn row_of_both(grid: &Grid, c: u8) -> u8
+    requires { c < size grid.now }
+    ensures { result ≡ row_of_both grid.now c }
+{
+    let size = grid.size();
+    let cross = grid.row_of(Kind::Cross, c);
+    let ring = grid.row_of(Kind::Ring, c);
+    if next(cross, size) == ring {
+        cross
+    } else if next(ring, size) == cross {
+        ring
+    } else {
+        size
+    }
+}
+
+/// The next number, round the circle of as many as the size.
+fn next(c: u8, size: u8) -> u8
+    requires { c < size }
+    ensures next { result ≡ next size c }
+    ensures inside { result < size }
+{
+    if c + 1 == size { 0 } else { c + 1 }
+}
+
+/// The shift that brings c and the next number, round the circle, side by side: none but for the last, which then stands one lower.
+fn shift_before(c: u8, size: u8) -> u8
+    requires least { 2 ≤ size }
+    requires inside { c < size }
+    ensures shift { result ≡ shift_before size c }
+    ensures one { result ≤ 1 }
+    ensures low { result ≤ c }
+    ensures place { c - result ≡ place_after_shift size c }
+    ensures inside { c - result + 1 < size }
+{
+    if c + 1 == size { 1 } else { 0 }
+}
+
+/// A stabilisation: the mark of a kind in a column becomes a block of three, with the other kind in this corner.
+#[derive(Clone, Copy)]
+struct Stabilisation {
+    column: u8,
+    kind: Kind,
+    corner: Corner,
+}
+
+impl Stabilisation {
+    ghost use Rattle.grid_moves.specs.declared.step.Move.TheVariants.{Stabilise};
+
+    /// It as a move.
+    fn step(self) -> Move
+        ensures { result ≡ Stabilise self.column self.kind self.corner }
+    {
+        Move::Stabilise {
+            column: self.column,
+            kind: self.kind,
+            corner: self.corner,
+        }
+    }
+}
+
+/// The grid as a short one, where one more column is within the cap and a short one has room for it.
+fn short_of(grid: &Grid, cap: u8) -> Option<ShortGrid>
+    ensures { IfSome result (λ s. (s ≡ grid.now) × (size grid.now < MAX_SHORT_SIZE)) }
+{
+    let size = grid.size();
+    if size < cap && (size as usize) < MAX_SHORT_SIZE {
+        Some(ShortGrid::of(grid))
+    } else {
+        None
+    }
+}
