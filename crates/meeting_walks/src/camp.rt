@@ -2,7 +2,7 @@
 
 use crate::draws::below;
 use crate::table::{Side, Table};
-use knot_ports::OutOfMemory;
+use memory_core::OutOfMemory;
 use rand_pcg::Pcg32;
 use std::alloc::Global;
 

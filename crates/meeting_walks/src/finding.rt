@@ -3,7 +3,7 @@ ghost use Rattle.std.specs.Prelude.{◌≡◌, ◌<◌, IfOk, IfSome, IfNone, Is
 ghost use Rattle.std.specs.List.{Contains};
 ghost use Rattle.grid_core.specs.Diagram.{size};
 ghost use Rattle.grid_moves.specs.Joining.{Joins};
-ghost use Rattle.grid_canon.specs.Translate.{translate, translates};
+ghost use Rattle.grid_canon.specs.Translation.{translate, translates};
 
 use crate::seeker::seek;
 use crate::shifts::{push_shifts, shifts_to};
@@ -11,7 +11,7 @@ use crate::shortening::shortened;
 use crate::spelling::spelled;
 use grid_core::Grid;
 use grid_moves::{Move, apply_all};
-use knot_ports::OutOfMemory;
+use memory_core::OutOfMemory;
 use std::alloc::Global;
 
 /// What bounds a search, and the seed of its random words.

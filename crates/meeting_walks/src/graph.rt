@@ -5,7 +5,7 @@ use crate::torus::neighbour;
 use grid_canon::{Packed, canonical_key, unpack};
 use grid_core::{Grid, MAX_SIZE};
 use indexmap::IndexSet;
-use knot_ports::OutOfMemory;
+use memory_core::OutOfMemory;
 use rand_pcg::Pcg32;
 use std::alloc::Global;
 

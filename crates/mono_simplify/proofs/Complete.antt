@@ -10,9 +10,9 @@ use Rattle.grid_moves.specs.declared.step.Move.TheVariants.{ShiftColumns, ShiftR
 use Rattle.grid_moves.specs.Step.{Step}
 use Rattle.grid_moves.specs.Joining.{Joins}
 use Rattle.grid_moves.proofs.Within.{joins_grid}
-use Rattle.grid_canon.specs.declared.packed.Packed.{Packed}
-use Rattle.grid_canon.specs.Translate.{translates}
-use Rattle.grid_canon.specs.Canonical.{IsCanonicalForm, IsCanonical}
+use Rattle.grid_canon.specs.declared.key.Packed.{Packed}
+use Rattle.grid_canon.specs.Translation.{translates}
+use Rattle.grid_canon.specs.CanonicalForm.{IsCanonicalForm, IsCanonical}
 use Rattle.grid_canon.specs.Key.{key_of}
 use Rattle.grid_canon.proofs.Keys.{key_once}
 use Rattle.grid_canon.proofs.CanonicalForms.{translated_back, translated_size, canonical_exists, canonical_grid, canonical_once, canonical_of_translate}

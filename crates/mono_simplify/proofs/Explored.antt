@@ -7,10 +7,10 @@ use Rattle.std.proofs.lemmas.List.Elements.{All-push, All-take}
 use Rattle.std.proofs.lemmas.Option.{slice_get_within, get_or_from_slice_get}
 use Rattle.std.proofs.Math.Seq.{take-append_seam}
 use Rattle.grid_core.specs.Diagram.{Diagram, IsGrid, size}
-use Rattle.grid_canon.specs.declared.packed.Packed.{Packed}
-use Rattle.grid_canon.specs.Canonical.{IsCanonicalForm}
+use Rattle.grid_canon.specs.declared.key.Packed.{Packed}
+use Rattle.grid_canon.specs.CanonicalForm.{IsCanonicalForm}
 use Rattle.grid_canon.specs.Key.{key_of}
-use Rattle.next_moves.specs.declared.offer.Offer.{Offer}
+use Rattle.next_moves.specs.declared.links.Offer.{Offer}
 use Rattle.next_moves.specs.Tries.{is_exchange}
 use Rattle.next_moves.specs.Offers.{IsOfferList, exchanges_among}
 use Rattle.mono_simplify.specs.ExchangeClass.{IsIrreducible}

@@ -8,15 +8,15 @@ use Rattle.grid_moves.specs.declared.step.Move.{Move}
 use Rattle.grid_moves.specs.declared.step.Move.TheVariants.{ShiftColumns, ShiftRows, ExchangeColumns, ExchangeRows, SlideColumns, SlideRows, Stabilise, Destabilise}
 use Rattle.grid_moves.specs.Step.{Step}
 use Rattle.grid_moves.proofs.OneResult.{step_exists, step_legal}
-use Rattle.grid_canon.specs.declared.packed.Packed.{Packed}
-use Rattle.grid_canon.specs.Translate.{translate, translates}
-use Rattle.grid_canon.specs.Canonical.{IsCanonicalForm}
+use Rattle.grid_canon.specs.declared.key.Packed.{Packed}
+use Rattle.grid_canon.specs.Translation.{translate, translates}
+use Rattle.grid_canon.specs.CanonicalForm.{IsCanonicalForm}
 use Rattle.grid_canon.specs.Key.{key_of}
 use Rattle.grid_canon.proofs.Keys.{key_once}
 use Rattle.grid_canon.proofs.LeastTranslates.{shifts_of, translates_contains, map_contains}
 use Rattle.grid_canon.proofs.CanonicalForms.{translated_grid, translated_size, canonical_of_translate, canonical_exists, canonical_grid}
-use Rattle.grid_canon.proofs.Turned.{size-translate}
-use Rattle.next_moves.specs.declared.offer.Offer.{Offer}
+use Rattle.grid_canon.proofs.Translated.{size-translate}
+use Rattle.next_moves.specs.declared.links.Offer.{Offer}
 use Rattle.next_moves.specs.Neighbours.{is_shift}
 use Rattle.next_moves.specs.Tries.{Try, tries, exchanges, is_exchange, column_exchange, row_exchange}
 use Rattle.next_moves.specs.Offers.{size_after, is_offered, Leads, IsOfferOf, AreOffersOf, IsOfferList, try_of}

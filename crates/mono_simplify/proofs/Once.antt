@@ -8,11 +8,11 @@ use Rattle.std.proofs.lemmas.List.Folds.{list_any_at}
 use Rattle.std.proofs.lemmas.List.Quantifiers.{all_pairs_push}
 use Rattle.std.proofs.lemmas.Option.{slice_get_within}
 use Rattle.grid_core.specs.Diagram.{Diagram}
-use Rattle.grid_canon.specs.declared.packed.Packed.{Packed}
+use Rattle.grid_canon.specs.declared.key.Packed.{Packed}
 use Rattle.grid_canon.specs.Key.{key_of, same_key}
 use Rattle.grid_canon.proofs.Keys.{key_once, same_key_of}
 use Rattle.grid_canon.proofs.CanonicalForms.{canonical_once}
-use Rattle.next_moves.specs.declared.offer.Offer.{Offer}
+use Rattle.next_moves.specs.declared.links.Offer.{Offer}
 use Rattle.next_moves.specs.Offers.{IsOfferOf, try_of}
 use Rattle.next_moves.proofs.Complete.{led_by}
 use Rattle.mono_simplify.specs.Listing.{has_key, with_key, with_keys, IsExchangeList, Grows, IsListed, IsListing, HasAtMost}

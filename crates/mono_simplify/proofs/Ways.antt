@@ -10,16 +10,16 @@ use Rattle.grid_core.specs.Diagram.{Diagram, IsGrid, size}
 use Rattle.grid_moves.specs.declared.step.Move.{Move}
 use Rattle.grid_moves.specs.Joining.{JoinsWithin}
 use Rattle.grid_moves.proofs.Within.{within_append}
-use Rattle.grid_canon.specs.declared.packed.Packed.{Packed}
-use Rattle.grid_canon.specs.declared.least.LeastForm.{LeastForm}
+use Rattle.grid_canon.specs.declared.key.Packed.{Packed}
+use Rattle.grid_canon.specs.declared.canonical_form.LeastForm.{LeastForm}
 use Rattle.grid_canon.specs.Shifts.{shift_moves}
-use Rattle.grid_canon.specs.Canonical.{IsCanonicalForm, IsLeastForm}
+use Rattle.grid_canon.specs.CanonicalForm.{IsCanonicalForm, IsLeastForm}
 use Rattle.grid_canon.specs.Key.{key_of}
 use Rattle.grid_canon.proofs.Keys.{key_once}
 use Rattle.grid_canon.proofs.Joined.{shifts_joined_within}
 use Rattle.grid_canon.proofs.CanonicalForms.{canonical_once, canonical_grid}
-use Rattle.next_moves.specs.declared.offer.Link.{Link}
-use Rattle.next_moves.specs.declared.offer.Offer.{Offer}
+use Rattle.next_moves.specs.declared.links.Link.{Link}
+use Rattle.next_moves.specs.declared.links.Offer.{Offer}
 use Rattle.next_moves.specs.Tries.{is_exchange}
 use Rattle.next_moves.specs.Offers.{Leads, exchanges_among}
 use Rattle.next_moves.proofs.Members.{contains_filter}

@@ -6,7 +6,7 @@ use Rattle.grid_moves.specs.declared.step.Move.{Move}
 use Rattle.grid_moves.specs.declared.step.Move.TheVariants.{Destabilise}
 use Rattle.grid_moves.specs.MoveFault.{first_fault}
 use Rattle.grid_moves.specs.Joining.{Joins}
-use Rattle.grid_canon.specs.Canonical.{IsCanonicalForm}
+use Rattle.grid_canon.specs.CanonicalForm.{IsCanonicalForm}
 use Rattle.next_moves.specs.Neighbours.{is_shift}
 use Rattle.next_moves.specs.Tries.{is_exchange}
 

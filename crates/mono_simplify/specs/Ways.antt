@@ -2,10 +2,10 @@
 use Rattle.std.specs.Prelude.{◌≡◌, ◌<◌, ◌+◌, ◌++◌, ℕ, suc, List, Bool, true, false, length, map, take, nat_lt, slice_get, Some}
 use Rattle.std.specs.List.{All, Contains, list_any}
 use Rattle.grid_core.specs.Diagram.{Diagram, size}
-use Rattle.grid_canon.specs.declared.packed.Packed.{Packed}
-use Rattle.grid_canon.specs.Canonical.{IsCanonicalForm}
+use Rattle.grid_canon.specs.declared.key.Packed.{Packed}
+use Rattle.grid_canon.specs.CanonicalForm.{IsCanonicalForm}
 use Rattle.grid_canon.specs.Key.{key_of}
-use Rattle.next_moves.specs.declared.offer.Offer.{Offer}
+use Rattle.next_moves.specs.declared.links.Offer.{Offer}
 use Rattle.next_moves.specs.Offers.{Leads}
 use Rattle.mono_simplify.specs.declared.class.Origin.{Origin}
 use Rattle.mono_simplify.specs.declared.explore.Explored.{Explored}

@@ -13,7 +13,7 @@ use crate::way::way_to;
 use grid_canon::{LeastForm, Packed, canonical_key, unpack};
 use grid_core::Grid;
 use grid_moves::Move;
-use knot_ports::OutOfMemory;
+use memory_core::OutOfMemory;
 use next_moves::{Offer, Offers};
 use std::alloc::Global;
 

@@ -5,7 +5,7 @@ ghost use Rattle.mono_simplify.specs.Simplified.{Simplifies};
 use crate::explore::{Explored, explore};
 use grid_core::{Grid, Items};
 use grid_moves::Move;
-use knot_ports::OutOfMemory;
+use memory_core::OutOfMemory;
 use std::alloc::Global;
 
 /// Why no more was done.

@@ -3,7 +3,7 @@ ghost use Rattle.std.specs.Prelude.{◌≡◌, ◌<◌, ◌≤◌, ◌++◌, len
 ghost use Rattle.std.specs.List.{Contains};
 ghost use Rattle.grid_core.specs.Diagram.{Diagram, size};
 ghost use Rattle.grid_moves.specs.Joining.{JoinsWithin};
-ghost use Rattle.grid_canon.specs.declared.packed.Packed.{Packed};
+ghost use Rattle.grid_canon.specs.declared.key.Packed.{Packed};
 ghost use Rattle.grid_canon.specs.Shifts.{column_shift, row_shift, shift_moves};
 ghost use Rattle.next_moves.specs.Links.{link_moves};
 ghost use Rattle.next_moves.specs.Offers.{Leads};
@@ -15,7 +15,7 @@ use crate::class::Class;
 use grid_canon::canonical;
 use grid_core::Grid;
 use grid_moves::Move;
-use knot_ports::OutOfMemory;
+use memory_core::OutOfMemory;
 use next_moves::Link;
 use std::alloc::Global;
 
