@@ -9,7 +9,7 @@ use Rattle.colour_list.specs.Fits.{fits}
 use Rattle.colour_list.specs.Listing.{colourings}
 use Rattle.cert_check.specs.declared.ruling.Why.{Why}
 use Rattle.cert_check.specs.declared.ruling.Why.TheVariants as why
-use Rattle.cert_check.specs.Evidence.{TellsApart}
+use Rattle.verdict_core.specs.Evidence.{TellsApart}
 use Rattle.cert_check.specs.Cause.{first_difference, or_next, cause_of_lists}
 use Rattle.cert_check.proofs.FirstDifference.{none_of_equal, equal_of_none}
 

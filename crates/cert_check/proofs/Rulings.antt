@@ -1,5 +1,5 @@
 -- On a verdict on two diagrams there is one ruling.
-use Rattle.std.proofs.Common.{◌≡◌, ◌≢◌, ◌∙◌, ◌⊎◌, ◌↔◌, Bool, true, false, List, ℕ, Option, Some, None, Result, Ok, Err, IfOk, length, subst, ap, ap₂, sym, refl, inl, inr}
+use Rattle.std.proofs.Common.{◌≡◌, ◌≢◌, ◌∙◌, ◌⊎◌, ◌↔◌, Bool, true, false, List, ℕ, Option, Some, None, Result, Ok, Err, IfOk, subst, ap, ap₂, sym, refl, inl, inr}
 use Rattle.std.specs.Str.{bytes_eq}
 use Rattle.std.proofs.lemmas.Slice.Eq.{bytes_eq-Decides}
 use Rattle.arrayvec.specs.ArrayVec.{ArrayVec}
@@ -7,18 +7,17 @@ use Rattle.grid_core.specs.Diagram.{Diagram, IsGrid}
 use Rattle.grid_moves.specs.declared.step.Move.{Move}
 use Rattle.grid_moves.specs.declared.step.MoveFault.{MoveFault}
 use Rattle.grid_moves.proofs.Stopped.{joins_once, not_both, stops_once, joins_or_stops}
-use Rattle.grid_moves.specs.Joining.{Joins, StopsAt, Equivalent}
-use Rattle.quandle_core.specs.Quandle.{Table, IsQuandle}
+use Rattle.grid_moves.specs.Joining.{Joins, StopsAt}
+use Rattle.quandle_core.specs.Quandle.{Table}
 use Rattle.colour_list.specs.Listing.{lists_of}
-use Rattle.colour_laws.proofs.Counted.{equivalent_lengths}
-use Rattle.knot_text.specs.Names.{NamedQuandle}
-use Rattle.knot_text.specs.declared.verdict.Verdict.{Verdict}
-use Rattle.knot_text.specs.declared.verdict.Verdict.TheVariants.{Equal, Different, UnknownBudget, UnknownExhausted}
+use Rattle.verdict_core.specs.Names.{NamedQuandle}
+use Rattle.verdict_core.specs.declared.verdict.Verdict.{Verdict}
+use Rattle.verdict_core.specs.declared.verdict.Verdict.TheVariants.{Equal, Different, UnknownBudget, UnknownExhausted}
 use Rattle.cert_check.specs.declared.ruling.Ruling.{Ruling}
 use Rattle.cert_check.specs.declared.ruling.Ruling.TheVariants.{Accepted, Rejected}
 use Rattle.cert_check.specs.declared.ruling.Why.{Why}
 use Rattle.cert_check.specs.declared.ruling.Why.TheVariants as why
-use Rattle.cert_check.specs.Evidence.{TellsApart, Holds}
+use Rattle.verdict_core.specs.Evidence.{TellsApart, Holds}
 use Rattle.cert_check.specs.Cause.{LeadsElsewhere, IsCauseOfMoves, IsCause, cause_of_lists}
 use Rattle.cert_check.specs.Ruling.{RulesOn}
 use Rattle.cert_check.proofs.ListCauses.{tells_apart, no_cause_where_told_apart}
@@ -131,9 +130,3 @@ accepted_where_held d e verdict ruling rules =
 pub accepted_if_ruled : {E : Type 0} (result : Result Ruling E) (d e : Diagram) (verdict : Verdict) → IfOk result (λ ruling. RulesOn d e verdict ruling) → IfOk result (λ ruling. (ruling ≡ Accepted) ↔ Holds d e verdict)
 accepted_if_ruled (Ok ruling) d e verdict rules = accepted_where_held d e verdict ruling rules
 accepted_if_ruled (Err fault) d e verdict rules = tt
-
--- ---- what an accepted verdict means
-
-pub told_apart : (t : Table) (d e : Diagram) (one two : List (List ℕ)) → IsQuandle t → TellsApart t d e one two → Equivalent d e → ⊥
-told_apart t d e one two quandle told equivalent =
-    told.differ (ap (λ (z : List (List ℕ)). length z) told.first ∙ equivalent_lengths t quandle d e equivalent ∙ sym (ap (λ (z : List (List ℕ)). length z) told.second))

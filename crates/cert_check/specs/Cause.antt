@@ -8,8 +8,8 @@ use Rattle.grid_moves.specs.Joining.{Joins, StopsAt}
 use Rattle.quandle_core.specs.Quandle.{Table}
 use Rattle.colour_list.specs.Fits.{fits}
 use Rattle.colour_list.specs.Listing.{colourings, lists_of, is_same}
-use Rattle.knot_text.specs.declared.verdict.Verdict.{Verdict}
-use Rattle.knot_text.specs.declared.verdict.Verdict.TheVariants.{Equal, Different, UnknownBudget, UnknownExhausted}
+use Rattle.verdict_core.specs.declared.verdict.Verdict.{Verdict}
+use Rattle.verdict_core.specs.declared.verdict.Verdict.TheVariants.{Equal, Different, UnknownBudget, UnknownExhausted}
 use Rattle.cert_check.specs.declared.ruling.Why.{Why}
 use Rattle.cert_check.specs.declared.ruling.Why.TheVariants as why
 

@@ -1,4 +1,3 @@
-pub mod Evidence
 pub mod Cause
 pub mod Ruling
 pub use Rattle.grid_core.specs.Diagram
@@ -7,4 +6,5 @@ pub use Rattle.grid_moves.specs.Joining
 pub use Rattle.quandle_core.specs.Quandle
 pub use Rattle.colour_list.specs.Listing
 pub use Rattle.colour_list.specs.Fits
-pub use Rattle.knot_text.specs.Shapes
+pub use Rattle.verdict_core.specs.Diagrams
+pub use Rattle.verdict_core.specs.Evidence

@@ -4,14 +4,14 @@ ghost use Rattle.arrayvec.specs.ArrayVec.{ArrayVec};
 ghost use Rattle.grid_core.specs.Diagram.{Diagram, IsGrid};
 ghost use Rattle.grid_moves.specs.Joining.{Equivalent};
 ghost use Rattle.quandle_core.specs.Quandle.{Table, IsQuandle};
-ghost use Rattle.knot_text.specs.Names.{NamedQuandle};
-ghost use Rattle.cert_check.specs.Evidence.{Holds, TellsApart};
+ghost use Rattle.verdict_core.specs.Names.{NamedQuandle};
+ghost use Rattle.verdict_core.specs.Evidence.{Holds, TellsApart};
 ghost use Rattle.cert_check.specs.Cause.{first_difference, cause_of_lists};
 ghost use Rattle.cert_check.specs.Ruling.{RulesOn};
 
 use crate::ruling::Ruling;
 use grid_moves::Move;
-use knot_text::Verdict;
+use verdict_core::Verdict;
 
 /// On every verdict on two grids there is exactly one ruling.
 pub fn a_verdict_has_exactly_one_ruling()

@@ -3,18 +3,18 @@ ghost use Rattle.std.specs.Prelude.{◌≡◌, true, IfOk};
 ghost use Rattle.grid_core.specs.Parts.{bottoms};
 ghost use Rattle.colour_list.specs.Fits.{fits};
 ghost use Rattle.colour_list.specs.Listing.{colourings, lists_of};
-ghost use Rattle.cert_check.specs.Evidence.{Claims};
+ghost use Rattle.verdict_core.specs.Evidence.{Claims};
 ghost use Rattle.cert_check.specs.Cause.{cause_of_lists, first_difference};
 ghost use Rattle.cert_check.specs.Ruling.{RulesOn};
 
 use crate::ruling::{Ruling, Why};
-use colour_list::{ListFault, fits, list};
+use colour_list::{fits, list_fitting};
 use colour_rows::Colouring;
 use grid_core::Grid;
-use knot_ports::OutOfMemory;
-use knot_text::{Listed, Verdict};
+use memory_core::OutOfMemory;
 use quandle_core::Quandle;
 use std::alloc::Global;
+use verdict_core::{Listed, Verdict};
 
 /// The ruling on two grids, each with what is said to be its complete list of colourings by a quandle.
 pub(crate) fn check_lists(
@@ -85,11 +85,8 @@ fn difference(
     requires { fits quandle.now grid.now ≡ true }
     ensures { IfOk result (λ o. o ≡ first_difference (lists_of given.now) (colourings quandle.now grid.now)) }
 {
-    match list(alloc, grid, quandle) {
-        Ok(complete) => Ok(first_difference(given, complete.as_slice())),
-        Err(ListFault::TooWide { .. }) => unreachable!(),
-        Err(ListFault::OutOfMemory) => Err(OutOfMemory),
-    }
+    let complete = list_fitting(alloc, grid, quandle)?;
+    Ok(first_difference(given, complete.as_slice()))
 }
 
 /// The first place at which two lists differ, or at which one of them has ended. `None` where they are equal.

@@ -6,7 +6,7 @@ ghost use Rattle.cert_check.specs.Ruling.{RulesOn};
 use crate::ruling::{Ruling, Why};
 use grid_core::Grid;
 use grid_moves::{Move, apply_all};
-use knot_text::Verdict;
+use verdict_core::Verdict;
 
 /// Whether the moves join the first grid to the second: accepted exactly where they do.
 /// Else rejected, for the first move that is not legal where it is made, or, where all are legal,

@@ -1,15 +1,15 @@
 //! The ruling on a verdict.
 ghost use Rattle.std.specs.Prelude.{◌≡◌, ◌↔◌, IfOk, IsErr};
-ghost use Rattle.knot_text.specs.Shapes.{grid_of};
-ghost use Rattle.cert_check.specs.Evidence.{Holds, Claims, HasLists};
+ghost use Rattle.verdict_core.specs.Diagrams.{grid_of};
+ghost use Rattle.verdict_core.specs.Evidence.{Holds, Claims, HasLists};
 ghost use Rattle.cert_check.specs.Ruling.{RulesOn};
 
 use crate::lists::check_lists;
 use crate::moves::check_moves;
 use crate::ruling::{Ruling, Why};
-use knot_ports::OutOfMemory;
-use knot_text::{ProblemText, Verdict};
+use memory_core::OutOfMemory;
 use std::alloc::Global;
+use verdict_core::{ProblemText, Verdict};
 
 /// Whether the evidence of a verdict on two diagrams holds: accepted exactly where it does, else rejected for the first cause.
 ///

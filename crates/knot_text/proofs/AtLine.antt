@@ -4,7 +4,7 @@ use Rattle.std.specs.List.{list_any, list_all}
 use Rattle.std.specs.Str.{bytes_eq}
 use Rattle.text_lines.specs.Lines.{NumberedLine}
 use Rattle.text_lines.specs.Numbers.{number_of}
-use Rattle.knot_text.specs.declared.steps.TheConstants.{MAX_NUMBER}
+use Rattle.knot_text.specs.declared.reading.TheConstants.{MAX_NUMBER}
 use Rattle.knot_text.specs.declared.fault.TextFault.{TextFault}
 use Rattle.knot_text.specs.declared.fault.TextFault.TheVariants.{Malformed, Limit}
 use Rattle.knot_text.specs.Reading.{◌>>=◌, next_token, line_end, word, or_malformed, number, last_number, last_count, at_most, token_among, no_token_among, each_token}

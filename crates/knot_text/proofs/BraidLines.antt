@@ -18,7 +18,7 @@ use Rattle.text_lines.specs.Lines.{NumberedLine}
 use Rattle.knot_text.specs.declared.fault.TextFault.TheVariants.{Malformed, Limit}
 use Rattle.knot_text.specs.declared.braids.KeptLetters.{KeptLetters}
 use Rattle.knot_text.specs.Reading.{Fails, word, number}
-use Rattle.knot_text.specs.BraidItem.{letters, is_long_letter, exceeds, braid_of, braid_at}
+use Rattle.knot_text.specs.Braids.{letters, is_long_letter, exceeds, braid_of, braid_at}
 use Rattle.knot_text.specs.KeptLetters.{low_letter, TellsLetters, KeepsLetters, kept_exceeds, refused}
 use Rattle.grid_core.proofs.Accepted.{either_false}
 

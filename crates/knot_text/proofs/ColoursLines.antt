@@ -9,7 +9,7 @@ use Rattle.text_lines.specs.Lines.{NumberedLine}
 use Rattle.knot_text.specs.declared.fault.TextFault.TheVariants.{Malformed}
 use Rattle.knot_text.specs.Numbers.{numbers_behind}
 use Rattle.knot_text.specs.Kept.{low, CutsRead}
-use Rattle.knot_text.specs.ColoursItem.{colours_at}
+use Rattle.knot_text.specs.Colours.{colours_at}
 use Rattle.knot_text.proofs.Cuts.{all_low, same_low}
 
 colours_test : (width order : ℕ) (cut values : List ℕ) → order ≤ 255 → cut ≡ map low values → are_colours width order cut ≡ are_colours width order values

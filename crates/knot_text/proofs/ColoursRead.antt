@@ -6,13 +6,14 @@ use Rattle.colour_rows.proofs.Colourings.{colours_from}
 use Rattle.text_lines.specs.Lines.{NumberedLine, Text, first_starts}
 use Rattle.knot_text.specs.declared.fault.TextFault.TheVariants.{Malformed}
 use Rattle.knot_text.specs.declared.shapes.ReplayText.{ReplayText}
-use Rattle.knot_text.specs.Names.{NamedQuandle}
+use Rattle.verdict_core.specs.Names.{NamedQuandle}
 use Rattle.knot_text.specs.Reading.{◌>>=◌, next_line, text_end}
 use Rattle.knot_text.specs.Numbers.{numbers_behind}
-use Rattle.knot_text.specs.MovesItem.{moves_item}
-use Rattle.knot_text.specs.QuandleItem.{quandle_item}
-use Rattle.knot_text.specs.ColoursItem.{colours_at, colours_item, coloured_item, some_coloured, coloured}
-use Rattle.knot_text.specs.Shapes.{columns, diagram_item, replay_in}
+use Rattle.knot_text.specs.Moves.{moves_item}
+use Rattle.knot_text.specs.Quandles.{quandle_item}
+use Rattle.knot_text.specs.Colours.{colours_at, colours_item, coloured_item, some_coloured, coloured}
+use Rattle.verdict_core.specs.Diagrams.{columns}
+use Rattle.knot_text.specs.Shapes.{diagram_item, replay_in}
 use Rattle.knot_text.proofs.Steady.{bind_ok, ok_is}
 
 -- a quandle with colours for so many columns, if there are any

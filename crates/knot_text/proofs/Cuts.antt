@@ -7,7 +7,7 @@ use Rattle.std.proofs.lemmas.List.{length-map, take_all}
 use Rattle.grid_core.specs.declared.grid.TheConstants.{MAX_SIZE}
 use Rattle.text_lines.specs.Lines.{NumberedLine}
 use Rattle.knot_text.specs.declared.fault.TextFault.TheVariants.{Malformed, Limit}
-use Rattle.knot_text.specs.declared.rows.Kept.{Kept}
+use Rattle.knot_text.specs.declared.numbers.Kept.{Kept}
 use Rattle.knot_text.specs.Numbers.{numbers, numbers_below, is_long}
 use Rattle.knot_text.specs.Kept.{low, Tells, KeepsRead, are_kept_below}
 

@@ -2,9 +2,10 @@
 use Rattle.std.proofs.Common.{◌≡◌, ℕ, List, ◌++◌, false, Ok, sym, ap, ◌∙◌, append_assoc, codes}
 use Rattle.text_lines.specs.Lines.{are_whole_lines}
 use Rattle.text_lines.proofs.LastFeed.{feed_added, feed_ends}
-use Rattle.knot_text.specs.declared.verdict.Verdict.{Verdict}
-use Rattle.knot_text.specs.declared.shapes.ProblemText.{ProblemText}
-use Rattle.knot_text.specs.Shapes.{columns, problem_in, problem_of, check_of}
+use Rattle.verdict_core.specs.declared.verdict.Verdict.{Verdict}
+use Rattle.verdict_core.specs.declared.problem.ProblemText.{ProblemText}
+use Rattle.verdict_core.specs.Diagrams.{columns}
+use Rattle.knot_text.specs.Shapes.{problem_in, problem_of, check_of}
 use Rattle.knot_text.specs.Printed.{verdict_text, HasVerdictText}
 use Rattle.knot_text.proofs.ReadBack.{verdict_behind}
 

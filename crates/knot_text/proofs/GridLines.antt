@@ -18,7 +18,7 @@ use Rattle.text_lines.specs.Lines.{NumberedLine}
 use Rattle.knot_text.specs.declared.fault.TextFault.TheVariants.{Malformed}
 use Rattle.knot_text.specs.Kept.{low, CutsRead}
 use Rattle.knot_text.specs.Numbers.{numbers_behind}
-use Rattle.knot_text.specs.GridItem.{is_one_each, are_rows, x_at, o_at}
+use Rattle.knot_text.specs.Grids.{is_one_each, are_rows, x_at, o_at}
 use Rattle.knot_text.proofs.Cuts.{all_low, same_low}
 
 -- ---- each of 0 to n-1 once

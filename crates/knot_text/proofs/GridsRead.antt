@@ -12,15 +12,16 @@ use Rattle.braid_core.proofs.Accepted.{none_braid}
 use Rattle.braid_closure.proofs.Grids.{closure_grid}
 use Rattle.text_lines.specs.Lines.{NumberedLine, Text, first_starts}
 use Rattle.knot_text.specs.declared.fault.TextFault.TheVariants.{Malformed, Limit}
-use Rattle.knot_text.specs.declared.diagram.Diagram.{Diagram}
-use Rattle.knot_text.specs.declared.diagram.Diagram.TheVariants.{Grid, Braid}
-use Rattle.knot_text.specs.declared.shapes.ProblemText.{ProblemText}
+use Rattle.verdict_core.specs.declared.diagrams.Diagram.{Diagram}
+use Rattle.verdict_core.specs.declared.diagrams.Diagram.TheVariants.{Grid, Braid}
+use Rattle.verdict_core.specs.declared.problem.ProblemText.{ProblemText}
 use Rattle.knot_text.specs.Reading.{◌>>=◌, next_line, word, number}
 use Rattle.knot_text.specs.Numbers.{numbers_behind}
-use Rattle.knot_text.specs.GridItem.{x_at, o_at, grid_item}
-use Rattle.knot_text.specs.BraidItem.{letters, exceeds, braid_of, braid_at, braid_item}
-use Rattle.knot_text.specs.QuandleItem.{quandle_list}
-use Rattle.knot_text.specs.Shapes.{grid_of, braid_diagram, grid_diagram, diagram_item, problem_item}
+use Rattle.knot_text.specs.Grids.{x_at, o_at, grid_item}
+use Rattle.knot_text.specs.Braids.{letters, exceeds, braid_of, braid_at, braid_item}
+use Rattle.knot_text.specs.Quandles.{quandle_list}
+use Rattle.verdict_core.specs.Diagrams.{grid_of}
+use Rattle.knot_text.specs.Shapes.{braid_diagram, grid_diagram, diagram_item, problem_item}
 use Rattle.knot_text.proofs.Steady.{bind_ok, ok_is}
 
 tested : (x rows : List ℕ) (n : ℕ) (d : Marks) (f : Option GridFault) → first_fault x rows ≡ f → cond (is_none f) (Ok (record { x = x; o = rows })) (Err (Malformed n)) ≡ Ok d → IsGrid d

@@ -15,18 +15,18 @@ use Rattle.quandle_core.specs.Fault.{first_fault as table_fault}
 use Rattle.text_lines.specs.Lines.{Text}
 use Rattle.text_lines.specs.Numbers.{number_of}
 use Rattle.knot_text.specs.declared.fault.TextFault.{TextFault}
-use Rattle.knot_text.specs.declared.steps.TheConstants.{MAX_NUMBER, MAX_PLACE}
+use Rattle.knot_text.specs.declared.reading.TheConstants.{MAX_NUMBER, MAX_PLACE}
 use Rattle.knot_text.specs.declared.quandles.TheConstants.{MAX_QUANDLES}
 use Rattle.knot_text.specs.declared.quandles.Written.{Written}
 use Rattle.knot_text.specs.declared.quandles.Written.TheVariants as written
 use Rattle.knot_text.specs.Reading.{◌>>=◌, next_token, line_end, word, or_malformed, number, last_number, last_count, at_most, each_token, in_turn}
 use Rattle.knot_text.specs.Numbers.{is_long, numbers_behind, numbers_below}
-use Rattle.knot_text.specs.GridItem.{are_rows, x_at, o_at, grid_item}
-use Rattle.knot_text.specs.BraidItem.{letter_of, exceeds, braid_of, braid_at, braid_item}
-use Rattle.knot_text.specs.MovesItem.{last_place, one_place, shift, exchange, slide, kind_at, corner_at, stabilise, destabilise, move_at, next_move, moves_item}
-use Rattle.knot_text.specs.QuandleItem.{with_order, alexander_at, tetrahedral_at, written_at, is_over, meant, table_row, table_rows, table_item, quandle_of, quandle_at, quandle_item, surplus_quandle, quandles, quandle_list}
-use Rattle.knot_text.specs.ColoursItem.{colours_at, colours_item, coloured_item, coloured}
-use Rattle.knot_text.specs.VerdictItem.{equal_at, colour_line, list_item, different_at, budget_at, exhausted_at, unknown_at, unknown_item, verdict_item}
+use Rattle.knot_text.specs.Grids.{are_rows, x_at, o_at, grid_item}
+use Rattle.knot_text.specs.Braids.{letter_of, exceeds, braid_of, braid_at, braid_item}
+use Rattle.knot_text.specs.Moves.{last_place, one_place, shift, exchange, slide, kind_at, corner_at, stabilise, destabilise, move_at, next_move, moves_item}
+use Rattle.knot_text.specs.Quandles.{with_order, alexander_at, tetrahedral_at, written_at, is_over, meant, table_row, table_rows, table_item, quandle_of, quandle_at, quandle_item, surplus_quandle, quandles, quandle_list}
+use Rattle.knot_text.specs.Colours.{colours_at, colours_item, coloured_item, coloured}
+use Rattle.knot_text.specs.Verdicts.{equal_at, colour_line, list_item, different_at, budget_at, exhausted_at, unknown_at, unknown_item, verdict_item}
 use Rattle.knot_text.proofs.StepsAgain.{line_of}
 use Rattle.knot_text.proofs.Alike.{Alike, alike_ok, alike_err, alike_if, Same, SameLine, SameRest, SameText, SameLeft, same_bind, line_bind, rest_bind, text_bind, next_bind, begins_alike}
 

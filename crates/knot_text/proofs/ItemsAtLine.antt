@@ -17,19 +17,19 @@ use Rattle.grid_moves.specs.declared.step.Move.TheVariants.{ShiftColumns, ShiftR
 use Rattle.text_lines.specs.Lines.{NumberedLine}
 use Rattle.knot_text.specs.declared.fault.TextFault.{TextFault}
 use Rattle.knot_text.specs.declared.fault.TextFault.TheVariants.{Malformed, Limit}
-use Rattle.knot_text.specs.declared.steps.TheConstants.{MAX_NUMBER, MAX_PLACE}
+use Rattle.knot_text.specs.declared.reading.TheConstants.{MAX_NUMBER, MAX_PLACE}
 use Rattle.knot_text.specs.declared.quandles.Written.{Written}
 use Rattle.knot_text.specs.declared.quandles.Written.TheVariants as written
-use Rattle.knot_text.specs.declared.verdict.Verdict.{Verdict}
-use Rattle.knot_text.specs.declared.verdict.Verdict.TheVariants.{UnknownBudget, UnknownExhausted}
+use Rattle.verdict_core.specs.declared.verdict.Verdict.{Verdict}
+use Rattle.verdict_core.specs.declared.verdict.Verdict.TheVariants.{UnknownBudget, UnknownExhausted}
 use Rattle.knot_text.specs.Reading.{◌>>=◌, next_token, line_end, word, number, last_number, last_count, at_most}
 use Rattle.knot_text.specs.Numbers.{numbers, is_long, numbers_behind}
-use Rattle.knot_text.specs.GridItem.{are_rows, x_at, o_at}
-use Rattle.knot_text.specs.BraidItem.{letter_of, letters, exceeds, braid_of, braid_at}
-use Rattle.knot_text.specs.ColoursItem.{colours_at}
-use Rattle.knot_text.specs.MovesItem.{last_place, one_place, shift, exchange, slide, kind_at, corner_at, stabilise, destabilise, move_at}
-use Rattle.knot_text.specs.QuandleItem.{with_order, alexander_at, tetrahedral_at, written_at}
-use Rattle.knot_text.specs.VerdictItem.{budget_at, exhausted_at, unknown_at}
+use Rattle.knot_text.specs.Grids.{are_rows, x_at, o_at}
+use Rattle.knot_text.specs.Braids.{letter_of, letters, exceeds, braid_of, braid_at}
+use Rattle.knot_text.specs.Colours.{colours_at}
+use Rattle.knot_text.specs.Moves.{last_place, one_place, shift, exchange, slide, kind_at, corner_at, stabilise, destabilise, move_at}
+use Rattle.knot_text.specs.Quandles.{with_order, alexander_at, tetrahedral_at, written_at}
+use Rattle.knot_text.specs.Verdicts.{budget_at, exhausted_at, unknown_at}
 use Rattle.knot_text.proofs.AtLine.{At, Keeps, at_ok, at_malformed, at_limit, at_bind, at_cond, at_same, keeps_ok, keeps_err, keeps_bind, keeps_cond, keeps_same, next_token_at, next_token_keeps, line_end_at, line_end_keeps, word_at, word_keeps, number_at, number_keeps, last_number_at, last_number_keeps, at_most_at, counted_at, last_count_at, tokens_at, numbers_at}
 
 -- ---- grids

@@ -30,12 +30,12 @@ use Rattle.grid_moves.specs.declared.step.Move.TheVariants.{ShiftColumns, ShiftR
 use Rattle.text_lines.specs.Lines.{NumberedLine, Text}
 use Rattle.text_lines.specs.Numbers.{number_of}
 use Rattle.knot_text.specs.declared.fault.TextFault.{TextFault}
-use Rattle.knot_text.specs.declared.steps.TheConstants.{MAX_NUMBER, MAX_PLACE}
+use Rattle.knot_text.specs.declared.reading.TheConstants.{MAX_NUMBER, MAX_PLACE}
 use Rattle.knot_text.specs.Reading.{◌>>=◌, next_line, in_turn, each_token}
-use Rattle.knot_text.specs.GridItem.{x_at, o_at, grid_item, are_rows}
-use Rattle.knot_text.specs.BraidItem.{letter_of, is_long_letter, exceeds, braid_of, braid_at, braid_item}
-use Rattle.knot_text.specs.MovesItem.{last_place, one_place, shift, exchange, slide, kind_at, corner_at, stabilise, destabilise, move_at, next_move, move_lines, moves_item}
-use Rattle.knot_text.specs.ColoursItem.{colours_at, colours_item}
+use Rattle.knot_text.specs.Grids.{x_at, o_at, grid_item, are_rows}
+use Rattle.knot_text.specs.Braids.{letter_of, is_long_letter, exceeds, braid_of, braid_at, braid_item}
+use Rattle.knot_text.specs.Moves.{last_place, one_place, shift, exchange, slide, kind_at, corner_at, stabilise, destabilise, move_at, next_move, move_lines, moves_item}
+use Rattle.knot_text.specs.Colours.{colours_at, colours_item}
 use Rattle.knot_text.specs.Printed.{rows_tokens, grid_lines, kind_word, corner_word, move_tokens, moves_lines, HasMoveText, HaveText, letter_token, braid_lines, colours_lines}
 use Rattle.knot_text.specs.WrittenThere.{StandInFront}
 use Rattle.knot_text.proofs.Says.{Says, says_ok, says_err, says_bind, says_if, says_more, no_lines_in_front, in_front_of, in_front_is, IsNext, next_says}

@@ -8,21 +8,21 @@ use Rattle.quandle_core.specs.Fault.{first_fault}
 use Rattle.text_lines.specs.Lines.{NumberedLine, Text}
 use Rattle.knot_text.specs.declared.fault.TextFault.{TextFault}
 use Rattle.knot_text.specs.declared.fault.TextFault.TheVariants.{Malformed, Limit}
-use Rattle.knot_text.specs.declared.steps.TheConstants.{MAX_NUMBER}
-use Rattle.knot_text.specs.declared.names.QuandleName.TheVariants as name
+use Rattle.knot_text.specs.declared.reading.TheConstants.{MAX_NUMBER}
+use Rattle.verdict_core.specs.declared.names.QuandleName.TheVariants as name
 use Rattle.knot_text.specs.declared.quandles.Written.{Written}
 use Rattle.knot_text.specs.declared.quandles.Written.TheVariants as written
-use Rattle.knot_text.specs.declared.verdict.Verdict.{Verdict}
-use Rattle.knot_text.specs.declared.verdict.Verdict.TheVariants.{Equal, Different}
-use Rattle.knot_text.specs.Names.{NamedQuandle, called}
+use Rattle.verdict_core.specs.declared.verdict.Verdict.{Verdict}
+use Rattle.verdict_core.specs.declared.verdict.Verdict.TheVariants.{Equal, Different}
+use Rattle.verdict_core.specs.Names.{NamedQuandle, called}
 use Rattle.knot_text.specs.Reading.{◌>>=◌, in_turn, next_line, next_token, word, last_number, last_count, at_most, or_malformed}
 use Rattle.knot_text.specs.Numbers.{numbers_below}
-use Rattle.knot_text.specs.GridItem.{x_at, o_at, grid_item}
-use Rattle.knot_text.specs.BraidItem.{braid_at, braid_item}
-use Rattle.knot_text.specs.ColoursItem.{colours_at, colours_item, coloured_item}
-use Rattle.knot_text.specs.MovesItem.{move_at, next_move, move_lines, moves_item}
-use Rattle.knot_text.specs.QuandleItem.{written_at, is_over, meant, table_row, table_rows, table_item, quandle_of, quandle_at, quandle_item}
-use Rattle.knot_text.specs.VerdictItem.{equal_at, colour_line, list_item, different_at, unknown_at, unknown_item, verdict_item}
+use Rattle.knot_text.specs.Grids.{x_at, o_at, grid_item}
+use Rattle.knot_text.specs.Braids.{braid_at, braid_item}
+use Rattle.knot_text.specs.Colours.{colours_at, colours_item, coloured_item}
+use Rattle.knot_text.specs.Moves.{move_at, next_move, move_lines, moves_item}
+use Rattle.knot_text.specs.Quandles.{written_at, is_over, meant, table_row, table_rows, table_item, quandle_of, quandle_at, quandle_item}
+use Rattle.knot_text.specs.Verdicts.{equal_at, colour_line, list_item, different_at, unknown_at, unknown_item, verdict_item}
 use Rattle.knot_text.proofs.Steady.{Steady, Anywhere, then_read, line_steady, pure_steady, same_steady, then_steady, turns_steady}
 use Rattle.knot_text.proofs.AtLine.{At, at_ok, at_malformed, at_limit, at_bind, at_cond, at_same, word_at, word_keeps, last_count_at, numbers_below_at}
 use Rattle.knot_text.proofs.ItemsAtLine.{x_at_at, o_at_at, braid_at_at, colours_at_at, move_at_at, chosen_at, word_count_at, written_at_at, written_keeps, unknown_at_at}

@@ -4,9 +4,9 @@ use Rattle.std.proofs.lemmas.List.{append-nil}
 use Rattle.text_lines.specs.Lines.{Text, begins}
 use Rattle.knot_text.specs.declared.fault.TextFault.{TextFault}
 use Rattle.knot_text.specs.declared.fault.TextFault.TheVariants as fault
-use Rattle.knot_text.specs.Names.{NamedQuandle}
+use Rattle.verdict_core.specs.Names.{NamedQuandle}
 use Rattle.knot_text.specs.Reading.{◌>>=◌, Fails, next_line, word}
-use Rattle.knot_text.specs.QuandleItem.{written_at, quandle_item, surplus_quandle, quandles}
+use Rattle.knot_text.specs.Quandles.{written_at, quandle_item, surplus_quandle, quandles}
 use Rattle.knot_text.proofs.Turns.{with_front, regroup}
 
 pub quandle_more : (front : List NamedQuandle) (most i : ℕ) (text : Text) (q : NamedQuandle) (after : Text) (total : Result (List NamedQuandle × Text) TextFault) → i < most → begins (codes "quandle") text ≡ true → quandle_item text ≡ Ok (q, after)

@@ -10,9 +10,9 @@ use Rattle.grid_moves.specs.declared.step.Move.{Move}
 use Rattle.grid_moves.specs.declared.step.Move.TheVariants.{ShiftColumns, ShiftRows, ExchangeColumns, ExchangeRows, SlideColumns, SlideRows, Stabilise, Destabilise}
 use Rattle.text_lines.specs.Lines.{Text}
 use Rattle.text_lines.specs.Spelled.{numbered}
-use Rattle.knot_text.specs.declared.steps.TheConstants.{MAX_PLACE}
+use Rattle.knot_text.specs.declared.reading.TheConstants.{MAX_PLACE}
 use Rattle.knot_text.specs.Reading.{next_line, next_token, line_end}
-use Rattle.knot_text.specs.MovesItem.{last_place, shift, exchange, slide, kind_at, corner_at, stabilise, destabilise, move_at, next_move, move_lines, moves_item}
+use Rattle.knot_text.specs.Moves.{last_place, shift, exchange, slide, kind_at, corner_at, stabilise, destabilise, move_at, next_move, move_lines, moves_item}
 use Rattle.knot_text.specs.Printed.{kind_word, corner_word, move_tokens, moves_lines, HasMoveText, HaveText}
 use Rattle.knot_text.proofs.StepsAgain.{line_of, lines_before, word_again, number_again, last_again, most_again, count_again, turns_again}
 

@@ -13,18 +13,19 @@ use Rattle.grid_moves.specs.declared.step.Move.{Move}
 use Rattle.text_lines.specs.Lines.{text_of}
 use Rattle.text_lines.specs.Spelled.{lines_text, line_text, is_line, numbered}
 use Rattle.text_lines.proofs.Written.{lines_read}
-use Rattle.knot_text.specs.declared.diagram.Diagram.{Diagram}
-use Rattle.knot_text.specs.declared.diagram.Diagram.TheVariants.{Grid, Braid}
-use Rattle.knot_text.specs.declared.verdict.Verdict.{Verdict}
-use Rattle.knot_text.specs.declared.verdict.Verdict.TheVariants.{Different}
-use Rattle.knot_text.specs.declared.shapes.ProblemText.{ProblemText}
+use Rattle.verdict_core.specs.declared.diagrams.Diagram.{Diagram}
+use Rattle.verdict_core.specs.declared.diagrams.Diagram.TheVariants.{Grid, Braid}
+use Rattle.verdict_core.specs.declared.verdict.Verdict.{Verdict}
+use Rattle.verdict_core.specs.declared.verdict.Verdict.TheVariants.{Different}
+use Rattle.verdict_core.specs.declared.problem.ProblemText.{ProblemText}
 use Rattle.knot_text.specs.declared.shapes.ReplayText.{ReplayText}
-use Rattle.knot_text.specs.Names.{NamedQuandle}
-use Rattle.knot_text.specs.Shapes.{columns, problem_of, check_of, replay_of}
+use Rattle.verdict_core.specs.Names.{NamedQuandle}
+use Rattle.verdict_core.specs.Diagrams.{columns}
+use Rattle.knot_text.specs.Shapes.{problem_of, check_of, replay_of}
 use Rattle.knot_text.specs.Printed.{grid_lines, grid_text, moves_lines, moves_text, HaveText, quandle_lines, quandle_text, HasQuandleText, list_lines, verdict_lines, HasListText, HasVerdictText, diagram_lines, HasDiagramText, colours_lines, colours_text}
 use Rattle.knot_text.specs.WrittenThere.{tokens_by_line, said_by, listed_lines, HasProblemText, problem_lines, given_lines, HasGivenText, HasReplayText, replay_lines}
 use Rattle.knot_text.proofs.StepsAgain.{all_short}
-use Rattle.knot_text.proofs.VerdictAgain.{names_order}
+use Rattle.verdict_core.proofs.Named.{names_order}
 use Rattle.knot_text.proofs.Words.{grid_words, moves_words, verdict_words, numbers_words}
 use Rattle.knot_text.proofs.BraidAgain.{braid_words}
 use Rattle.knot_text.proofs.WrittenAgain.{numbered_tokens}

@@ -4,7 +4,7 @@ use Rattle.std.specs.Prelude.{is_none}
 use Rattle.std.specs.List.{AllByRecursion, range_with_len}
 use Rattle.std.specs.Str.{bytes_eq}
 use Rattle.std.specs.Fmt.{decimal}
-use Rattle.std.proofs.lemmas.Bool.{leb-true, ltb-true, ltb-false, and_parts}
+use Rattle.std.proofs.lemmas.Bool.{ltb-true, ltb-false, and_parts}
 use Rattle.std.proofs.lemmas.List.{append-nil, map-append, get_or_append_left, get_or-append-add}
 use Rattle.std.proofs.lemmas.List.FromFn.{fill_by_all}
 use Rattle.colour_rows.specs.Colouring.{AreColours}
@@ -16,15 +16,16 @@ use Rattle.quandle_core.specs.Fault.{first_fault}
 use Rattle.quandle_core.proofs.Accepted.{quandle_from_none}
 use Rattle.text_lines.specs.Lines.{NumberedLine, Text, begins}
 use Rattle.knot_text.specs.declared.fault.TextFault.{TextFault}
-use Rattle.knot_text.specs.declared.steps.TheConstants.{MAX_NUMBER}
-use Rattle.knot_text.specs.declared.names.QuandleName.{QuandleName}
-use Rattle.knot_text.specs.declared.names.QuandleName.TheVariants as name
+use Rattle.knot_text.specs.declared.reading.TheConstants.{MAX_NUMBER}
+use Rattle.verdict_core.specs.declared.names.QuandleName.{QuandleName}
+use Rattle.verdict_core.specs.declared.names.QuandleName.TheVariants as name
 use Rattle.knot_text.specs.declared.quandles.Written.{Written}
 use Rattle.knot_text.specs.declared.quandles.Written.TheVariants as written
-use Rattle.knot_text.specs.Names.{NamedQuandle, IsOrder, is_order, called}
+use Rattle.verdict_core.proofs.Named.{some_if, order_is}
+use Rattle.verdict_core.specs.Names.{NamedQuandle, is_order, called}
 use Rattle.knot_text.specs.Reading.{◌>>=◌, or_malformed}
 use Rattle.knot_text.specs.Numbers.{numbers_below, is_long}
-use Rattle.knot_text.specs.QuandleItem.{with_order, alexander_at, tetrahedral_at, written_at, is_over, meant, table_row, table_rows, table_item, quandle_of, quandle_at, quandle_item, surplus_quandle, quandles}
+use Rattle.knot_text.specs.Quandles.{with_order, alexander_at, tetrahedral_at, written_at, is_over, meant, table_row, table_rows, table_item, quandle_of, quandle_at, quandle_item, surplus_quandle, quandles}
 use Rattle.knot_text.specs.Printed.{name_tokens, row_tokens, table_lines, quandle_lines, HasQuandleText}
 use Rattle.knot_text.specs.WrittenThere.{StandInFront, listed_lines}
 use Rattle.knot_text.proofs.LineTexts.{map_decimals}
@@ -182,18 +183,9 @@ written_says line = says_bind (IsFirst line.tokens) (next_token_says line) (λ t
 
 -- ---- what a name means
 
-some_if : {A : Type 0} (b : Bool) (x y : A) → cond b (Some x) None ≡ Some y → (b ≡ true) × (x ≡ y)
-some_if true x y e = (refl, cc)
-some_if false x y e = absurd cc
-
 test_if : {A : Type 0} (b : Bool) (o : Option A) (y : A) → cond b o None ≡ Some y → (b ≡ true) × (o ≡ Some y)
 test_if true o y e = (refl, e)
 test_if false o y e = absurd cc
-
-order_is : (n : ℕ) → is_order n ≡ true → IsOrder n
-order_is n test =
-    let both = and_parts (nat_le 1 n) (nat_le n MAX_ORDER) test in
-    (leb-true 1 n both.0, leb-true n MAX_ORDER both.1)
 
 -- the quandle of a name without a table
 record IsNamed (w : Written) (q : NamedQuandle) : Type 0 where

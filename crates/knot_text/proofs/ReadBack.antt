@@ -8,18 +8,19 @@ use Rattle.text_lines.specs.Spelled.{numbered}
 use Rattle.text_lines.proofs.Written.{lines_read}
 use Rattle.text_lines.proofs.Parted.{text_lines_parted, text_ending_parted}
 use Rattle.knot_text.specs.declared.fault.TextFault.{TextFault}
-use Rattle.knot_text.specs.declared.diagram.Diagram.TheVariants.{Grid}
+use Rattle.verdict_core.specs.declared.diagrams.Diagram.TheVariants.{Grid}
 use Rattle.knot_text.specs.declared.quandles.TheConstants.{MAX_QUANDLES}
-use Rattle.knot_text.specs.declared.verdict.Verdict.{Verdict}
-use Rattle.knot_text.specs.declared.verdict.Verdict.TheVariants.{Equal, Different, UnknownBudget, UnknownExhausted}
-use Rattle.knot_text.specs.declared.shapes.ProblemText.{ProblemText}
-use Rattle.knot_text.specs.Names.{built_in, or_built_in}
+use Rattle.verdict_core.specs.declared.verdict.Verdict.{Verdict}
+use Rattle.verdict_core.specs.declared.verdict.Verdict.TheVariants.{Equal, Different, UnknownBudget, UnknownExhausted}
+use Rattle.verdict_core.specs.declared.problem.ProblemText.{ProblemText}
+use Rattle.knot_text.specs.Quandles.{built_in, or_built_in}
 use Rattle.knot_text.specs.Reading.{◌>>=◌, no_line_among, text_end}
-use Rattle.knot_text.specs.GridItem.{grid_item}
-use Rattle.knot_text.specs.MovesItem.{moves_item}
-use Rattle.knot_text.specs.QuandleItem.{quandle_list}
-use Rattle.knot_text.specs.VerdictItem.{verdict_item}
-use Rattle.knot_text.specs.Shapes.{grid_of, columns, diagram_item, problem_item, problem_in, check_in, problem_of, check_of}
+use Rattle.knot_text.specs.Grids.{grid_item}
+use Rattle.knot_text.specs.Moves.{moves_item}
+use Rattle.knot_text.specs.Quandles.{quandle_list}
+use Rattle.knot_text.specs.Verdicts.{verdict_item}
+use Rattle.verdict_core.specs.Diagrams.{grid_of, columns}
+use Rattle.knot_text.specs.Shapes.{diagram_item, problem_item, problem_in, check_in, problem_of, check_of}
 use Rattle.knot_text.specs.Printed.{grid_lines, grid_text, move_tokens, moves_lines, moves_text, HaveText, verdict_lines, verdict_text, HasVerdictText}
 use Rattle.knot_text.specs.FirstBadLine.{lines_then, put_behind}
 use Rattle.knot_text.proofs.Steady.{bind_ok, ok_is}

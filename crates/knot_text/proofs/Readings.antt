@@ -4,15 +4,15 @@ use Rattle.grid_core.specs.Diagram.{Diagram as Marks, IsGrid}
 use Rattle.grid_moves.specs.declared.step.Move.{Move}
 use Rattle.text_lines.specs.Lines.{Text, text_from, text_of}
 use Rattle.knot_text.specs.declared.fault.TextFault.{TextFault}
-use Rattle.knot_text.specs.declared.verdict.Verdict.{Verdict}
-use Rattle.knot_text.specs.declared.diagram.Diagram.{Diagram}
-use Rattle.knot_text.specs.declared.shapes.ProblemText.{ProblemText}
+use Rattle.verdict_core.specs.declared.verdict.Verdict.{Verdict}
+use Rattle.verdict_core.specs.declared.diagrams.Diagram.{Diagram}
+use Rattle.verdict_core.specs.declared.problem.ProblemText.{ProblemText}
 use Rattle.knot_text.specs.declared.shapes.ReplayText.{ReplayText}
 use Rattle.knot_text.specs.declared.shapes.ColourText.{ColourText}
 use Rattle.knot_text.specs.declared.shapes.CloseText.{CloseText}
-use Rattle.knot_text.specs.GridItem.{grid_item}
-use Rattle.knot_text.specs.MovesItem.{moves_item}
-use Rattle.knot_text.specs.VerdictItem.{verdict_item}
+use Rattle.knot_text.specs.Grids.{grid_item}
+use Rattle.knot_text.specs.Moves.{moves_item}
+use Rattle.knot_text.specs.Verdicts.{verdict_item}
 use Rattle.knot_text.specs.Shapes.{problem_of, check_of, replay_of, colour_of, close_of, lone_diagram_of}
 use Rattle.knot_text.specs.Printed.{grid_text, moves_text, HaveText, verdict_text, HasVerdictText}
 use Rattle.knot_text.specs.WrittenThere.{said_by, IsProblemText, IsCheckText, IsColourText, IsCloseText}

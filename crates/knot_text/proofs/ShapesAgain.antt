@@ -7,22 +7,24 @@ use Rattle.grid_core.specs.Diagram.{IsGrid}
 use Rattle.braid_closure.proofs.Grids.{closure_grid}
 use Rattle.text_lines.specs.Lines.{NumberedLine, Text, starts, first_starts, begins}
 use Rattle.knot_text.specs.declared.quandles.TheConstants.{MAX_QUANDLES}
-use Rattle.knot_text.specs.declared.diagram.Diagram.{Diagram}
-use Rattle.knot_text.specs.declared.diagram.Diagram.TheVariants.{Grid, Braid}
-use Rattle.knot_text.specs.declared.verdict.Verdict.{Verdict}
-use Rattle.knot_text.specs.declared.verdict.Verdict.TheVariants.{Equal, Different, UnknownBudget, UnknownExhausted}
-use Rattle.knot_text.specs.declared.shapes.ProblemText.{ProblemText}
+use Rattle.verdict_core.specs.declared.diagrams.Diagram.{Diagram}
+use Rattle.verdict_core.specs.declared.diagrams.Diagram.TheVariants.{Grid, Braid}
+use Rattle.verdict_core.specs.declared.verdict.Verdict.{Verdict}
+use Rattle.verdict_core.specs.declared.verdict.Verdict.TheVariants.{Equal, Different, UnknownBudget, UnknownExhausted}
+use Rattle.verdict_core.specs.declared.problem.ProblemText.{ProblemText}
 use Rattle.knot_text.specs.declared.shapes.ReplayText.{ReplayText}
 use Rattle.knot_text.specs.declared.shapes.ColourText.{ColourText}
 use Rattle.knot_text.specs.declared.shapes.CloseText.{CloseText}
-use Rattle.knot_text.specs.Names.{NamedQuandle, or_built_in}
+use Rattle.verdict_core.specs.Names.{NamedQuandle}
+use Rattle.knot_text.specs.Quandles.{or_built_in}
 use Rattle.knot_text.specs.Reading.{◌>>=◌, text_end}
-use Rattle.knot_text.specs.QuandleItem.{quandles, quandle_list}
-use Rattle.knot_text.specs.ColoursItem.{coloured_item, coloured}
-use Rattle.knot_text.specs.Shapes.{grid_of, columns, diagram_item, problem_item, problem_in, check_in, replay_in, colour_in, close_in, lone_diagram_in}
+use Rattle.knot_text.specs.Quandles.{quandles, quandle_list}
+use Rattle.knot_text.specs.Colours.{coloured_item, coloured}
+use Rattle.verdict_core.specs.Diagrams.{grid_of, columns}
+use Rattle.knot_text.specs.Shapes.{diagram_item, problem_item, problem_in, check_in, replay_in, colour_in, close_in, lone_diagram_in}
 use Rattle.knot_text.specs.Printed.{moves_lines, quandle_lines, HasQuandleText, diagram_lines, HasDiagramText, colours_lines, verdict_lines}
 use Rattle.knot_text.specs.WrittenThere.{tokens_by_line, StandInFront, AreListed, listed_lines, HasProblemText, problem_lines, IsProblemText, IsCheckText, given_lines, HasGivenText, HasReplayText, replay_lines, IsColourText, IsCloseText}
-use Rattle.knot_text.proofs.VerdictAgain.{names_order}
+use Rattle.verdict_core.proofs.Named.{names_order}
 use Rattle.knot_text.proofs.QuandlesSteady.{AtOther, ends_here}
 use Rattle.knot_text.proofs.WrittenAgain.{one_rest, grid_written, braid_written, moves_written, quandle_written, colours_written, verdict_written}
 

@@ -3,17 +3,18 @@ use Rattle.std.proofs.Common.{◌≡◌, ℕ, List, ◌++◌, Bool, true, false,
 use Rattle.arrayvec.specs.ArrayVec.{ArrayVec}
 use Rattle.text_lines.specs.Lines.{NumberedLine, Text, first_starts}
 use Rattle.knot_text.specs.declared.fault.TextFault.{TextFault}
-use Rattle.knot_text.specs.declared.diagram.Diagram.TheVariants.{Grid, Braid}
-use Rattle.knot_text.specs.declared.shapes.ProblemText.{ProblemText}
-use Rattle.knot_text.specs.Names.{NamedQuandle}
+use Rattle.verdict_core.specs.declared.diagrams.Diagram.TheVariants.{Grid, Braid}
+use Rattle.verdict_core.specs.declared.problem.ProblemText.{ProblemText}
+use Rattle.verdict_core.specs.Names.{NamedQuandle}
 use Rattle.knot_text.specs.Reading.{◌>>=◌, next_line, text_end}
-use Rattle.knot_text.specs.GridItem.{grid_item}
-use Rattle.knot_text.specs.BraidItem.{braid_item}
-use Rattle.knot_text.specs.MovesItem.{moves_item}
-use Rattle.knot_text.specs.QuandleItem.{quandle_list}
-use Rattle.knot_text.specs.ColoursItem.{coloured_item, coloured}
-use Rattle.knot_text.specs.VerdictItem.{verdict_item}
-use Rattle.knot_text.specs.Shapes.{columns, braid_diagram, grid_diagram, diagram_item, problem_item, problem_in, check_in, replay_in, colour_in, close_in, lone_diagram_in}
+use Rattle.knot_text.specs.Grids.{grid_item}
+use Rattle.knot_text.specs.Braids.{braid_item}
+use Rattle.knot_text.specs.Moves.{moves_item}
+use Rattle.knot_text.specs.Quandles.{quandle_list}
+use Rattle.knot_text.specs.Colours.{coloured_item, coloured}
+use Rattle.knot_text.specs.Verdicts.{verdict_item}
+use Rattle.verdict_core.specs.Diagrams.{columns}
+use Rattle.knot_text.specs.Shapes.{braid_diagram, grid_diagram, diagram_item, problem_item, problem_in, check_in, replay_in, colour_in, close_in, lone_diagram_in}
 use Rattle.knot_text.specs.FirstBadLine.{lines_then, put_behind, FailsFirst}
 use Rattle.knot_text.proofs.Steady.{Anywhere, Steady, then_read, then_steady, regroup}
 use Rattle.knot_text.proofs.ItemsSteady.{grid_steady, braid_steady, moves_steady, coloured_steady, verdict_steady}

@@ -6,14 +6,16 @@ use Rattle.braid_core.specs.Braid.{IsBraid}
 use Rattle.grid_core.specs.Diagram.{IsGrid}
 use Rattle.colour_rows.specs.Colouring.{AreColours}
 use Rattle.text_lines.specs.Lines.{NumberedLine, Text, begins}
-use Rattle.knot_text.specs.declared.diagram.Diagram.TheVariants.{Grid, Braid}
+use Rattle.verdict_core.specs.declared.diagrams.Diagram.TheVariants.{Grid, Braid}
 use Rattle.knot_text.specs.declared.quandles.TheConstants.{MAX_QUANDLES}
-use Rattle.knot_text.specs.declared.shapes.ProblemText.{ProblemText}
-use Rattle.knot_text.specs.Names.{NamedQuandle, or_built_in}
+use Rattle.verdict_core.specs.declared.problem.ProblemText.{ProblemText}
+use Rattle.verdict_core.specs.Names.{NamedQuandle}
+use Rattle.knot_text.specs.Quandles.{or_built_in}
 use Rattle.knot_text.specs.Reading.{no_line_among, text_end}
-use Rattle.knot_text.specs.QuandleItem.{quandle_list}
-use Rattle.knot_text.specs.ColoursItem.{coloured_item, coloured}
-use Rattle.knot_text.specs.Shapes.{columns, diagram_item, problem_item, problem_in, check_in, replay_in, colour_in, close_in, lone_diagram_in}
+use Rattle.knot_text.specs.Quandles.{quandle_list}
+use Rattle.knot_text.specs.Colours.{coloured_item, coloured}
+use Rattle.verdict_core.specs.Diagrams.{columns}
+use Rattle.knot_text.specs.Shapes.{diagram_item, problem_item, problem_in, check_in, replay_in, colour_in, close_in, lone_diagram_in}
 use Rattle.knot_text.specs.Printed.{grid_lines, moves_lines, HaveText, quandle_lines, HasQuandleText, verdict_lines, HasVerdictText, braid_lines, diagram_lines, HasDiagramText, colours_lines}
 use Rattle.knot_text.specs.WrittenThere.{tokens_by_line, StandInFront, AreListed, listed_lines, HasProblemText, problem_lines, IsProblemText, IsCheckText, given_lines, HasGivenText, HasReplayText, replay_lines, IsColourText, IsCloseText}
 use Rattle.knot_text.proofs.Says.{Says, says_ok, says_err, says_bind, says_if, no_lines_in_front, in_front_of}

@@ -10,7 +10,7 @@ use Rattle.text_lines.specs.Spelled.{numbered}
 use Rattle.text_lines.specs.Numbers.{number_of}
 use Rattle.text_lines.proofs.NumberTexts.{decimal_read}
 use Rattle.knot_text.specs.declared.fault.TextFault.{TextFault}
-use Rattle.knot_text.specs.declared.steps.TheConstants.{MAX_NUMBER}
+use Rattle.knot_text.specs.declared.reading.TheConstants.{MAX_NUMBER}
 use Rattle.knot_text.specs.Reading.{in_turn, next_token, line_end, word, number, last_number, last_count, at_most, each_token}
 use Rattle.knot_text.specs.Numbers.{is_long, numbers_below}
 

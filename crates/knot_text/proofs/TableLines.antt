@@ -6,7 +6,7 @@ use Rattle.text_lines.specs.Lines.{Text}
 use Rattle.knot_text.specs.declared.fault.TextFault.{TextFault}
 use Rattle.knot_text.specs.declared.fault.TextFault.TheVariants as fault
 use Rattle.knot_text.specs.Reading.{◌>>=◌, Fails}
-use Rattle.knot_text.specs.QuandleItem.{table_row, table_rows}
+use Rattle.knot_text.specs.Quandles.{table_row, table_rows}
 use Rattle.knot_text.proofs.Turns.{with_front}
 
 regroup_rows : (front row : List ℕ) (read : Result (List ℕ × Text) TextFault) → with_front front (read >>= λ x. Ok (row ++ x.0, x.1)) ≡ with_front (front ++ row) read

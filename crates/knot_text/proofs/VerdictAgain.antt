@@ -1,23 +1,20 @@
 -- A verdict that was printed is read again.
-use Rattle.std.proofs.Common.{◌≡◌, ℕ, ◌<◌, ◌≤◌, ◌+◌, List, [], ◌∷◌, ◌++◌, length, map, Ok, refl, sym, ap, subst, ◌∙◌, arith, codes, append_assoc}
+use Rattle.std.proofs.Common.{◌≡◌, ℕ, ◌<◌, ◌≤◌, ◌+◌, List, [], ◌∷◌, ◌++◌, length, map, Ok, refl, ap, ◌∙◌, arith, codes, append_assoc}
 use Rattle.std.specs.Fmt.{decimal}
 use Rattle.std.proofs.lemmas.List.Elements.{recursion_from_All}
 use Rattle.arrayvec.specs.ArrayVec.{ArrayVec}
 use Rattle.colour_list.specs.declared.limits.TheConstants.{MAX_COLOURINGS}
 use Rattle.colour_rows.specs.Colouring.{AreColours}
-use Rattle.quandle_core.specs.declared.quandle.TheConstants.{MAX_ORDER}
-use Rattle.quandle_core.specs.Quandle.{Table}
 use Rattle.grid_moves.specs.declared.step.Move.{Move}
 use Rattle.text_lines.specs.Lines.{NumberedLine, Text}
 use Rattle.text_lines.specs.Spelled.{numbered}
-use Rattle.knot_text.specs.declared.steps.TheConstants.{MAX_NUMBER}
-use Rattle.knot_text.specs.declared.names.QuandleName.{QuandleName}
-use Rattle.knot_text.specs.declared.names.QuandleName.TheVariants as name
-use Rattle.knot_text.specs.declared.verdict.Verdict.{Verdict}
-use Rattle.knot_text.specs.declared.verdict.Verdict.TheVariants.{Equal, Different, UnknownBudget, UnknownExhausted}
-use Rattle.knot_text.specs.Names.{NamedQuandle, Names}
+use Rattle.knot_text.specs.declared.reading.TheConstants.{MAX_NUMBER}
+use Rattle.verdict_core.specs.declared.verdict.Verdict.{Verdict}
+use Rattle.verdict_core.specs.declared.verdict.Verdict.TheVariants.{Equal, Different, UnknownBudget, UnknownExhausted}
+use Rattle.verdict_core.proofs.Named.{names_order}
+use Rattle.verdict_core.specs.Names.{NamedQuandle}
 use Rattle.knot_text.specs.Reading.{next_line, next_token}
-use Rattle.knot_text.specs.VerdictItem.{equal_at, colour_line, list_item, different_at, budget_at, exhausted_at, unknown_at, unknown_item, verdict_item}
+use Rattle.knot_text.specs.Verdicts.{equal_at, colour_line, list_item, different_at, budget_at, exhausted_at, unknown_at, unknown_item, verdict_item}
 use Rattle.knot_text.specs.Printed.{move_tokens, name_tokens, table_lines, list_lines, verdict_lines, HaveText, HasListText, HasVerdictText}
 use Rattle.knot_text.proofs.StepsAgain.{line_of, lines_before, word_again, number_again, last_again, most_again, count_again, below_again, turns_again}
 use Rattle.knot_text.proofs.MovesAgain.{move_lines_again}
@@ -38,13 +35,6 @@ parted n xs ys text =
     ap (λ (ls : List NumberedLine). record { lines = ls; ending = text.ending }) lines
 
 -- ---- lists of colourings
-
-pub names_order : (called_so : QuandleName) (t : Table) → Names called_so t → t.order ≤ MAX_ORDER
-names_order (name.Trivial n) t names = subst (λ (s : Table). s.order ≤ MAX_ORDER) (sym names.1) names.0.1
-names_order (name.Dihedral n) t names = subst (λ (s : Table). s.order ≤ MAX_ORDER) (sym names.1) names.0.1
-names_order name.Tetrahedral t names = subst (λ (s : Table). s.order ≤ MAX_ORDER) (sym names) (omega arith)
-names_order (name.Alexander n a) t names = subst (λ (s : Table). s.order ≤ MAX_ORDER) (sym names.2) names.0.1
-names_order name.Table t names = names.most
 
 colours_again : (width order : ℕ) → order ≤ 255 → (k : ℕ) (c : ArrayVec ℕ) (rest : Text) → AreColours width order c.items → colour_line width order (lines_before (line_of (k + 1) (map decimal c.items) ∷ []) rest) ≡ Ok (c, rest)
 unfolding colour_line next_line

@@ -21,15 +21,15 @@ use Rattle.grid_moves.specs.declared.step.Move.{Move}
 use Rattle.grid_moves.specs.declared.step.Move.TheVariants.{ShiftColumns, ShiftRows, ExchangeColumns, ExchangeRows, SlideColumns, SlideRows, Stabilise, Destabilise}
 use Rattle.quandle_core.specs.Quandle.{Table, IsQuandle, over}
 use Rattle.text_lines.specs.Spelled.{is_plain, is_word, is_line}
-use Rattle.knot_text.specs.declared.steps.TheConstants.{MAX_NUMBER}
-use Rattle.knot_text.specs.declared.names.QuandleName.{QuandleName}
-use Rattle.knot_text.specs.declared.names.QuandleName.TheVariants as name
-use Rattle.knot_text.specs.declared.verdict.Verdict.{Verdict}
-use Rattle.knot_text.specs.declared.verdict.Verdict.TheVariants.{Equal, Different, UnknownBudget, UnknownExhausted}
-use Rattle.knot_text.specs.Names.{Names}
+use Rattle.knot_text.specs.declared.reading.TheConstants.{MAX_NUMBER}
+use Rattle.verdict_core.specs.declared.names.QuandleName.{QuandleName}
+use Rattle.verdict_core.specs.declared.names.QuandleName.TheVariants as name
+use Rattle.verdict_core.specs.declared.verdict.Verdict.{Verdict}
+use Rattle.verdict_core.specs.declared.verdict.Verdict.TheVariants.{Equal, Different, UnknownBudget, UnknownExhausted}
+use Rattle.verdict_core.specs.Names.{Names}
 use Rattle.knot_text.specs.Printed.{grid_lines, kind_word, corner_word, move_tokens, moves_lines, HasMoveText, HaveText, name_tokens, row_tokens, table_lines, quandle_lines, HasFactor, list_lines, verdict_lines, HasListText, HasVerdictText}
 use Rattle.knot_text.proofs.StepsAgain.{IsShort, all_short}
-use Rattle.knot_text.proofs.VerdictAgain.{names_order}
+use Rattle.verdict_core.proofs.Named.{names_order}
 
 -- ---- numbers
 

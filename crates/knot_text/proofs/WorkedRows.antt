@@ -4,19 +4,20 @@ use Rattle.grid_core.specs.declared.mark.Kind.TheVariants.{Cross}
 use Rattle.grid_core.specs.declared.mark.Corner.TheVariants.{LowLeft}
 use Rattle.grid_moves.specs.declared.step.Move.TheVariants.{Stabilise, Destabilise}
 use Rattle.knot_text.specs.declared.fault.TextFault.TheVariants.{Malformed, Limit}
-use Rattle.knot_text.specs.declared.diagram.Diagram.TheVariants.{Grid, Braid}
-use Rattle.knot_text.specs.declared.verdict.Verdict.TheVariants.{UnknownExhausted}
+use Rattle.verdict_core.specs.declared.diagrams.Diagram.TheVariants.{Grid, Braid}
+use Rattle.verdict_core.specs.declared.verdict.Verdict.TheVariants.{UnknownExhausted}
 use Rattle.quandle_core.specs.Tables.{trivial}
-use Rattle.knot_text.specs.declared.names.QuandleName.TheVariants as name
-use Rattle.knot_text.specs.Names.{built_in, called}
+use Rattle.verdict_core.specs.declared.names.QuandleName.TheVariants as name
+use Rattle.verdict_core.specs.Names.{called}
+use Rattle.knot_text.specs.Quandles.{built_in}
 use Rattle.knot_text.specs.Reading.{next_line, text_end, in_turn, next_token, line_end, word, number, last_number, last_count, each_token}
 use Rattle.knot_text.specs.Numbers.{numbers_below, numbers_behind}
-use Rattle.knot_text.specs.GridItem.{x_at, o_at, grid_item}
-use Rattle.knot_text.specs.BraidItem.{braid_at, braid_item}
-use Rattle.knot_text.specs.ColoursItem.{colours_at, colours_item, coloured_item, coloured}
-use Rattle.knot_text.specs.MovesItem.{last_place, shift, kind_at, corner_at, stabilise, destabilise, move_at, next_move, moves_item}
-use Rattle.knot_text.specs.QuandleItem.{written_at, table_row, table_rows, table_item, quandle_at, quandle_item, quandles, quandle_list}
-use Rattle.knot_text.specs.VerdictItem.{exhausted_at, unknown_at, unknown_item, verdict_item}
+use Rattle.knot_text.specs.Grids.{x_at, o_at, grid_item}
+use Rattle.knot_text.specs.Braids.{braid_at, braid_item}
+use Rattle.knot_text.specs.Colours.{colours_at, colours_item, coloured_item, coloured}
+use Rattle.knot_text.specs.Moves.{last_place, shift, kind_at, corner_at, stabilise, destabilise, move_at, next_move, moves_item}
+use Rattle.knot_text.specs.Quandles.{written_at, table_row, table_rows, table_item, quandle_at, quandle_item, quandles, quandle_list}
+use Rattle.knot_text.specs.Verdicts.{exhausted_at, unknown_at, unknown_item, verdict_item}
 use Rattle.knot_text.specs.Shapes.{diagram_item, problem_item, problem_in, check_in, replay_in, close_in, lone_diagram_in, problem_of, check_of, replay_of, close_of, lone_diagram_of}
 
 -- ---- grids: no line, one number, a number twice, both marks in a cell

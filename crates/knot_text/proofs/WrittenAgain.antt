@@ -12,15 +12,15 @@ use Rattle.grid_moves.specs.declared.step.Move.{Move}
 use Rattle.text_lines.specs.Lines.{NumberedLine, Text}
 use Rattle.text_lines.specs.Spelled.{numbered}
 use Rattle.knot_text.specs.declared.fault.TextFault.{TextFault}
-use Rattle.knot_text.specs.declared.verdict.Verdict.{Verdict}
-use Rattle.knot_text.specs.Names.{NamedQuandle}
+use Rattle.verdict_core.specs.declared.verdict.Verdict.{Verdict}
+use Rattle.verdict_core.specs.Names.{NamedQuandle}
 use Rattle.knot_text.specs.Reading.{next_line}
-use Rattle.knot_text.specs.GridItem.{grid_item}
-use Rattle.knot_text.specs.BraidItem.{braid_item}
-use Rattle.knot_text.specs.MovesItem.{moves_item}
-use Rattle.knot_text.specs.QuandleItem.{quandle_item}
-use Rattle.knot_text.specs.ColoursItem.{colours_item}
-use Rattle.knot_text.specs.VerdictItem.{verdict_item}
+use Rattle.knot_text.specs.Grids.{grid_item}
+use Rattle.knot_text.specs.Braids.{braid_item}
+use Rattle.knot_text.specs.Moves.{moves_item}
+use Rattle.knot_text.specs.Quandles.{quandle_item}
+use Rattle.knot_text.specs.Colours.{colours_item}
+use Rattle.knot_text.specs.Verdicts.{verdict_item}
 use Rattle.knot_text.specs.Printed.{grid_lines, braid_lines, moves_lines, HaveText, name_tokens, quandle_lines, HasQuandleText, colours_lines, verdict_lines, HasVerdictText}
 use Rattle.knot_text.specs.WrittenThere.{tokens_by_line, StandInFront}
 use Rattle.knot_text.proofs.StepsAgain.{lines_before, word_again}

@@ -5,12 +5,12 @@ use Rattle.std.proofs.lemmas.Fmt.{decimal_digit}
 use Rattle.quandle_core.specs.Tables.{trivial}
 use Rattle.text_lines.specs.Spelled.{lines_text}
 use Rattle.knot_text.specs.declared.fault.TextFault.TheVariants.{Malformed}
-use Rattle.knot_text.specs.declared.names.QuandleName.TheVariants as name
-use Rattle.knot_text.specs.Names.{called}
+use Rattle.verdict_core.specs.declared.names.QuandleName.TheVariants as name
+use Rattle.verdict_core.specs.Names.{called}
 use Rattle.knot_text.specs.Reading.{next_line, next_token, line_end, word, number, last_number, last_count, in_turn, each_token}
 use Rattle.knot_text.specs.Numbers.{numbers_behind}
-use Rattle.knot_text.specs.GridItem.{x_at, o_at, grid_item}
-use Rattle.knot_text.specs.MovesItem.{kind_at, corner_at, stabilise, exchange, move_at, next_move, moves_item}
+use Rattle.knot_text.specs.Grids.{x_at, o_at, grid_item}
+use Rattle.knot_text.specs.Moves.{kind_at, corner_at, stabilise, exchange, move_at, next_move, moves_item}
 use Rattle.knot_text.specs.Shapes.{diagram_item, replay_in, replay_of}
 use Rattle.knot_text.specs.Printed.{grid_lines, braid_lines, quandle_text, colours_text}
 use Rattle.knot_text.specs.WrittenThere.{said_by}

@@ -4,7 +4,7 @@ use Rattle.std.specs.List.{list_all, list_any}
 use Rattle.arrayvec.specs.ArrayVec.{ArrayVec}
 use Rattle.grid_core.specs.declared.grid.TheConstants.{MAX_SIZE}
 use Rattle.knot_text.specs.declared.fault.TextFault.{TextFault}
-use Rattle.knot_text.specs.declared.rows.Kept.{Kept}
+use Rattle.knot_text.specs.declared.numbers.Kept.{Kept}
 use Rattle.knot_text.specs.Reading.{Fails}
 use Rattle.knot_text.specs.Numbers.{is_long}
 

@@ -9,7 +9,7 @@ use Rattle.knot_text.specs.declared.fault.TextFault.{TextFault}
 use Rattle.knot_text.specs.declared.fault.TextFault.TheVariants.{Malformed, OutOfMemory}
 use Rattle.knot_text.specs.declared.braids.KeptLetters.{KeptLetters}
 use Rattle.knot_text.specs.Reading.{Fails}
-use Rattle.knot_text.specs.BraidItem.{is_long_letter}
+use Rattle.knot_text.specs.Braids.{is_long_letter}
 
 -- the letter, or 127 where its absolute value is larger
 abbrev pub low_letter : ℤ → ℤ

@@ -1,14 +1,13 @@
 pub mod Reading
 pub mod Numbers
 pub mod Kept
-pub mod GridItem
-pub mod BraidItem
+pub mod Grids
+pub mod Braids
 pub mod KeptLetters
-pub mod MovesItem
-pub mod Names
-pub mod QuandleItem
-pub mod ColoursItem
-pub mod VerdictItem
+pub mod Moves
+pub mod Quandles
+pub mod Colours
+pub mod Verdicts
 pub mod Shapes
 pub mod Printed
 pub mod WrittenThere
@@ -16,3 +15,5 @@ pub mod FirstBadLine
 pub use Rattle.text_lines.specs.Lines
 pub use Rattle.text_lines.specs.Tokens
 pub use Rattle.text_lines.specs.Spelled
+pub use Rattle.verdict_core.specs.Diagrams
+pub use Rattle.verdict_core.specs.Names

@@ -6,7 +6,7 @@ use Rattle.text_lines.specs.Lines.{NumberedLine}
 use Rattle.text_lines.specs.Numbers.{number_of}
 use Rattle.knot_text.specs.declared.fault.TextFault.{TextFault}
 use Rattle.knot_text.specs.declared.fault.TextFault.TheVariants.{Malformed, Limit}
-use Rattle.knot_text.specs.declared.steps.TheConstants.{MAX_NUMBER}
+use Rattle.knot_text.specs.declared.reading.TheConstants.{MAX_NUMBER}
 use Rattle.knot_text.specs.Reading.{◌>>=◌, word, each_token}
 
 -- all tokens that are left of a line, as numbers of any size

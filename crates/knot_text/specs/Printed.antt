@@ -7,7 +7,7 @@ use Rattle.grid_core.specs.declared.mark.Kind.{Kind}
 use Rattle.grid_core.specs.declared.mark.Kind.TheVariants.{Cross, Ring}
 use Rattle.grid_core.specs.declared.mark.Corner.{Corner}
 use Rattle.grid_core.specs.declared.mark.Corner.TheVariants.{LowLeft, LowRight, HighLeft, HighRight}
-use Rattle.grid_core.specs.Diagram.{Diagram, IsGrid}
+use Rattle.grid_core.specs.Diagram.{Diagram as Marks, IsGrid}
 use Rattle.braid_core.specs.Braid.{Word, IsBraid}
 use Rattle.grid_moves.specs.declared.step.Move.{Move}
 use Rattle.grid_moves.specs.declared.step.Move.TheVariants.{ShiftColumns, ShiftRows, ExchangeColumns, ExchangeRows, SlideColumns, SlideRows, Stabilise, Destabilise}
@@ -15,14 +15,14 @@ use Rattle.quandle_core.specs.Quandle.{Table, over}
 use Rattle.colour_list.specs.declared.limits.TheConstants.{MAX_COLOURINGS}
 use Rattle.colour_rows.specs.Colouring.{AreColours}
 use Rattle.text_lines.specs.Spelled.{lines_text}
-use Rattle.knot_text.specs.declared.steps.TheConstants.{MAX_NUMBER, MAX_PLACE}
-use Rattle.knot_text.specs.declared.names.QuandleName.{QuandleName}
-use Rattle.knot_text.specs.declared.names.QuandleName.TheVariants as name
-use Rattle.knot_text.specs.declared.diagram.Diagram.{Diagram as Given}
-use Rattle.knot_text.specs.declared.diagram.Diagram.TheVariants.{Grid, Braid}
-use Rattle.knot_text.specs.declared.verdict.Verdict.{Verdict}
-use Rattle.knot_text.specs.declared.verdict.Verdict.TheVariants.{Equal, Different, UnknownBudget, UnknownExhausted}
-use Rattle.knot_text.specs.Names.{NamedQuandle, Names}
+use Rattle.knot_text.specs.declared.reading.TheConstants.{MAX_NUMBER, MAX_PLACE}
+use Rattle.verdict_core.specs.declared.names.QuandleName.{QuandleName}
+use Rattle.verdict_core.specs.declared.names.QuandleName.TheVariants as name
+use Rattle.verdict_core.specs.declared.diagrams.Diagram.{Diagram}
+use Rattle.verdict_core.specs.declared.diagrams.Diagram.TheVariants.{Grid, Braid}
+use Rattle.verdict_core.specs.declared.verdict.Verdict.{Verdict}
+use Rattle.verdict_core.specs.declared.verdict.Verdict.TheVariants.{Equal, Different, UnknownBudget, UnknownExhausted}
+use Rattle.verdict_core.specs.Names.{NamedQuandle, Names}
 
 -- ---- grids
 
@@ -30,10 +30,10 @@ use Rattle.knot_text.specs.Names.{NamedQuandle, Names}
 abbrev pub rows_tokens : List ℕ → List ℕ → List (List ℕ)
 rows_tokens letter rows = letter ∷ map decimal rows
 
-abbrev pub grid_lines : Diagram → List (List (List ℕ))
+abbrev pub grid_lines : Marks → List (List (List ℕ))
 grid_lines d = rows_tokens (codes "x") d.x ∷ rows_tokens (codes "o") d.o ∷ []
 
-abbrev pub grid_text : Diagram → List ℕ
+abbrev pub grid_text : Marks → List ℕ
 grid_text d = lines_text (grid_lines d)
 
 -- ---- braids, which no call prints
@@ -157,12 +157,12 @@ HasVerdictText one two (UnknownExhausted cap admitted) = (cap ≤ MAX_NUMBER) ×
 
 -- ---- diagrams
 
-abbrev pub diagram_lines : Given → List (List (List ℕ))
+abbrev pub diagram_lines : Diagram → List (List (List ℕ))
 diagram_lines (Grid d) = grid_lines d
 diagram_lines (Braid b) = braid_lines b
 
 -- the diagram is a grid, or a braid
-abbrev pub HasDiagramText : Given → Type 0
+abbrev pub HasDiagramText : Diagram → Type 0
 HasDiagramText (Grid d) = IsGrid d
 HasDiagramText (Braid b) = IsBraid b
 

@@ -1,32 +1,22 @@
 -- The whole text of a problem, a check, a replay, a listing of colourings, a closure and a lone diagram.
 use Rattle.std.specs.Prelude.{ℕ, List, codes, Result, Ok, if◌then◌else◌}
-use Rattle.grid_core.specs.Diagram.{Diagram as Marks, size}
-use Rattle.braid_closure.specs.Closure.{closure}
 use Rattle.text_lines.specs.Lines.{Text, text_of, begins}
 use Rattle.knot_text.specs.declared.fault.TextFault.{TextFault}
-use Rattle.knot_text.specs.declared.diagram.Diagram.{Diagram}
-use Rattle.knot_text.specs.declared.diagram.Diagram.TheVariants.{Grid, Braid}
-use Rattle.knot_text.specs.declared.verdict.Verdict.{Verdict}
-use Rattle.knot_text.specs.declared.shapes.ProblemText.{ProblemText}
+use Rattle.verdict_core.specs.declared.diagrams.Diagram.{Diagram}
+use Rattle.verdict_core.specs.declared.diagrams.Diagram.TheVariants.{Grid, Braid}
+use Rattle.verdict_core.specs.declared.verdict.Verdict.{Verdict}
+use Rattle.verdict_core.specs.declared.problem.ProblemText.{ProblemText}
 use Rattle.knot_text.specs.declared.shapes.ReplayText.{ReplayText}
 use Rattle.knot_text.specs.declared.shapes.ColourText.{ColourText}
 use Rattle.knot_text.specs.declared.shapes.CloseText.{CloseText}
+use Rattle.verdict_core.specs.Diagrams.{columns}
 use Rattle.knot_text.specs.Reading.{◌>>=◌, text_end}
-use Rattle.knot_text.specs.GridItem.{grid_item}
-use Rattle.knot_text.specs.BraidItem.{braid_item}
-use Rattle.knot_text.specs.MovesItem.{moves_item}
-use Rattle.knot_text.specs.QuandleItem.{quandle_list}
-use Rattle.knot_text.specs.ColoursItem.{coloured}
-use Rattle.knot_text.specs.VerdictItem.{verdict_item}
-
--- the grid of a diagram: a braid stands for its closure
-abbrev pub grid_of : Diagram → Marks
-grid_of (Grid d) = d
-grid_of (Braid b) = closure b
-
--- the number of its columns
-abbrev pub columns : Diagram → ℕ
-columns d = size (grid_of d)
+use Rattle.knot_text.specs.Grids.{grid_item}
+use Rattle.knot_text.specs.Braids.{braid_item}
+use Rattle.knot_text.specs.Moves.{moves_item}
+use Rattle.knot_text.specs.Quandles.{quandle_list}
+use Rattle.knot_text.specs.Colours.{coloured}
+use Rattle.knot_text.specs.Verdicts.{verdict_item}
 
 abbrev pub braid_diagram : Text → Result (Diagram × Text) TextFault
 braid_diagram text = do

@@ -5,15 +5,16 @@ use Rattle.arrayvec.specs.ArrayVec.{ArrayVec}
 use Rattle.braid_core.specs.Braid.{IsBraid}
 use Rattle.colour_rows.specs.Colouring.{AreColours}
 use Rattle.text_lines.specs.Lines.{NumberedLine, Text, text_of}
-use Rattle.knot_text.specs.declared.verdict.Verdict.{Verdict}
+use Rattle.verdict_core.specs.declared.verdict.Verdict.{Verdict}
 use Rattle.knot_text.specs.declared.quandles.TheConstants.{MAX_QUANDLES}
-use Rattle.knot_text.specs.declared.shapes.ProblemText.{ProblemText}
+use Rattle.verdict_core.specs.declared.problem.ProblemText.{ProblemText}
 use Rattle.knot_text.specs.declared.shapes.ReplayText.{ReplayText}
 use Rattle.knot_text.specs.declared.shapes.ColourText.{ColourText}
 use Rattle.knot_text.specs.declared.shapes.CloseText.{CloseText}
-use Rattle.knot_text.specs.Names.{NamedQuandle, or_built_in}
+use Rattle.verdict_core.specs.Names.{NamedQuandle}
+use Rattle.knot_text.specs.Quandles.{or_built_in}
 use Rattle.knot_text.specs.Printed.{moves_lines, HaveText, quandle_lines, HasQuandleText, verdict_lines, HasVerdictText, braid_lines, diagram_lines, HasDiagramText, colours_lines}
-use Rattle.knot_text.specs.Shapes.{columns}
+use Rattle.verdict_core.specs.Diagrams.{columns}
 
 -- the tokens of each line
 abbrev pub tokens_by_line : List NumberedLine → List (List (List ℕ))

@@ -1,11 +1,11 @@
 //! Braids, by one line.
 ghost use Rattle.std.specs.Prelude.{◌≡◌, ◌++◌, [], ◌∷◌, ℤ, List};
 ghost use Rattle.knot_text.specs.Reading.{Gives};
-ghost use Rattle.knot_text.specs.BraidItem.{letter_of, letters, is_long_letter, braid_at, braid_item};
+ghost use Rattle.knot_text.specs.Braids.{letter_of, letters, is_long_letter, braid_at, braid_item};
 ghost use Rattle.knot_text.specs.KeptLetters.{low_letter, TellsLetters, KeepsLettersOrFails, kept_exceeds, refused};
 
 use crate::fault::TextFault;
-use crate::steps::{MAX_NUMBER, next_line, number, word};
+use crate::reading::{MAX_NUMBER, next_line, number, word};
 use arrayvec::ArrayVec;
 use braid_core::{Braid, BraidFault, MAX_STRANDS};
 use grid_core::MAX_SIZE;
@@ -100,7 +100,7 @@ fn exceeds(strands: u32, kept: &KeptLetters) -> bool
 }
 
 /// The braid of a line. Takes memory for the letters of the braid alone.
-#[tactic(auto, unfolding(crate::specs::BraidItem::braid_at))]
+#[tactic(auto, unfolding(crate::specs::Braids::braid_at))]
 fn braid_at(alloc: Global, line: &mut Line) -> Result<Braid, TextFault>
     ensures { Gives (λ b. b) result (braid_at line.old) }
 {
@@ -130,7 +130,7 @@ fn refused(at: usize, fault: BraidFault) -> TextFault
 }
 
 /// A braid item.
-#[tactic(auto, unfolding(crate::specs::BraidItem::braid_item))]
+#[tactic(auto, unfolding(crate::specs::Braids::braid_item))]
 pub(crate) fn braid_item(alloc: Global, lines: &mut Lines) -> Result<Braid, TextFault>
     ensures { Gives (λ b. (b, lines.new)) result (braid_item lines.old) }
 {

@@ -2,18 +2,18 @@
 ghost use Rattle.std.specs.Prelude.{◌≡◌};
 ghost use Rattle.knot_text.specs.Reading.{Gives};
 ghost use Rattle.colour_rows.specs.Colouring.{are_colours};
-ghost use Rattle.knot_text.specs.ColoursItem.{colours_at, colours_item, coloured_item, coloured};
+ghost use Rattle.knot_text.specs.Colours.{colours_at, colours_item, coloured_item, coloured};
 
 use crate::fault::TextFault;
-use crate::names::Listed;
+use crate::numbers::{all_below, numbers_behind};
 use crate::quandles::quandle_item;
-use crate::rows::{all_below, numbers_behind};
-use crate::steps::next_line;
+use crate::reading::next_line;
 use colour_rows::Colouring;
 use text_lines::{Line, Lines};
+use verdict_core::Listed;
 
 /// The word `colours`, and a colour below the order, which is at most 255, for each of so many columns.
-#[tactic(auto, unfolding(crate::specs::ColoursItem::colours_at))]
+#[tactic(auto, unfolding(crate::specs::Colours::colours_at))]
 fn colours_at(width: u8, order: u8, line: &mut Line) -> Result<Colouring, TextFault>
     ensures { Gives (λ c. c) result (colours_at width order line.old) }
 {
@@ -33,7 +33,7 @@ fn are_colours(colours: &[u8], width: u8, order: u8) -> bool
 }
 
 /// The item `colours`.
-#[tactic(auto, unfolding(crate::specs::ColoursItem::colours_item))]
+#[tactic(auto, unfolding(crate::specs::Colours::colours_item))]
 fn colours_item(width: u8, order: u8, lines: &mut Lines) -> Result<Colouring, TextFault>
     ensures { Gives (λ c. (c, lines.new)) result (colours_item width order lines.old) }
 {
@@ -42,7 +42,7 @@ fn colours_item(width: u8, order: u8, lines: &mut Lines) -> Result<Colouring, Te
 }
 
 /// A quandle, and colours below its order.
-#[tactic(auto, unfolding(crate::specs::ColoursItem::coloured_item))]
+#[tactic(auto, unfolding(crate::specs::Colours::coloured_item))]
 fn coloured_item(width: u8, lines: &mut Lines) -> Result<(Listed, Colouring), TextFault>
     ensures { Gives (λ q. (q, lines.new)) result (coloured_item width lines.old) }
 {
@@ -53,7 +53,7 @@ fn coloured_item(width: u8, lines: &mut Lines) -> Result<(Listed, Colouring), Te
 }
 
 /// A quandle and colours where a line that begins with `quandle` is next, else nothing. Takes no memory.
-#[tactic(auto, unfolding(crate::specs::ColoursItem::coloured))]
+#[tactic(auto, unfolding(crate::specs::Colours::coloured))]
 pub(crate) fn coloured(
     width: u8,
     lines: &mut Lines,

@@ -1,19 +1,19 @@
 //! Grids, by two lines.
-ghost use Rattle.std.specs.Prelude.{◌≡◌, ◌<◌, ◌≤◌, ◌==◌, length};
+ghost use Rattle.std.specs.Prelude.{◌≡◌, ◌≤◌, length};
 ghost use Rattle.grid_core.specs.declared.grid.TheConstants.{MAX_SIZE};
 ghost use Rattle.std.specs.List.{list_any, range_with_len};
 ghost use Rattle.grid_core.specs.Fault.{is_repeated};
 ghost use Rattle.knot_text.specs.Reading.{Gives};
-ghost use Rattle.knot_text.specs.GridItem.{are_rows, x_at, o_at, grid_item};
+ghost use Rattle.knot_text.specs.Grids.{are_rows, x_at, o_at, grid_item};
 
 use crate::fault::TextFault;
-use crate::rows::{all_below, numbers_behind};
-use crate::steps::next_line;
-use grid_core::{Grid, Rows};
+use crate::numbers::{all_below, numbers_behind};
+use crate::reading::next_line;
+use grid_core::{Grid, Rows, is_repeated};
 use text_lines::{Line, Lines};
 
 /// Two or more numbers, each of 0 to n-1 once.
-#[tactic(auto, unfolding(crate::specs::GridItem::x_at))]
+#[tactic(auto, unfolding(crate::specs::Grids::x_at))]
 fn x_at(line: &mut Line) -> Result<Rows, TextFault>
     ensures { Gives (λ r. r.items) result (x_at line.old) }
 {
@@ -26,7 +26,7 @@ fn x_at(line: &mut Line) -> Result<Rows, TextFault>
 }
 
 /// Numbers that make a grid with those of the line before.
-#[tactic(auto, unfolding(crate::specs::GridItem::o_at))]
+#[tactic(auto, unfolding(crate::specs::Grids::o_at))]
 fn o_at(x: &Rows, line: &mut Line) -> Result<Grid, TextFault>
     ensures { Gives (λ g. g) result (o_at x.now.items line.old) }
 {
@@ -42,7 +42,7 @@ fn o_at(x: &Rows, line: &mut Line) -> Result<Grid, TextFault>
 }
 
 /// The two lines of a grid.
-#[tactic(auto, unfolding(crate::specs::GridItem::grid_item))]
+#[tactic(auto, unfolding(crate::specs::Grids::grid_item))]
 pub(crate) fn grid_item(lines: &mut Lines) -> Result<Grid, TextFault>
     ensures { Gives (λ g. (g, lines.new)) result (grid_item lines.old) }
 {
@@ -70,20 +70,4 @@ fn has_repeat(rows: &[u8]) -> bool
         }
     }
     false
-}
-
-/// Whether the number in a place stands in an earlier one.
-fn is_repeated(rows: &[u8], c: usize) -> bool
-    requires { c < length rows.now }
-    ensures { result ≡ is_repeated rows.now c }
-{
-    let (front, _) = rows.split_at(c);
-    has_row(front, rows[c])
-}
-
-/// Whether a row is in the list.
-fn has_row(rows: &[u8], row: u8) -> bool
-    ensures { result ≡ list_any (λ r. r == row) rows.now }
-{
-    rows.iter().any(|r| *r == row)
 }

@@ -9,24 +9,25 @@ ghost use Rattle.braid_core.specs.Braid.{Word, IsBraid};
 ghost use Rattle.braid_closure.specs.Closure.{closure_size};
 ghost use Rattle.text_lines.specs.Lines.{NumberedLine, Text, first_starts, are_whole_lines, text_from};
 ghost use Rattle.text_lines.specs.Spelled.{lines_text};
-ghost use Rattle.knot_text.specs.declared.diagram.Diagram.TheVariants as diagram;
-ghost use Rattle.knot_text.specs.Names.{NamedQuandle, built_in};
-ghost use Rattle.knot_text.specs.GridItem.{grid_item};
-ghost use Rattle.knot_text.specs.BraidItem.{braid_item};
-ghost use Rattle.knot_text.specs.MovesItem.{moves_item};
-ghost use Rattle.knot_text.specs.QuandleItem.{quandle_item};
-ghost use Rattle.knot_text.specs.ColoursItem.{colours_item};
-ghost use Rattle.knot_text.specs.VerdictItem.{verdict_item};
-ghost use Rattle.knot_text.specs.Shapes.{grid_of, columns, diagram_item, problem_item, problem_in, check_in, replay_in, colour_in, close_in, lone_diagram_in, problem_of, check_of, replay_of, colour_of, close_of, lone_diagram_of};
+ghost use Rattle.verdict_core.specs.declared.diagrams.Diagram.TheVariants as diagram;
+ghost use Rattle.verdict_core.specs.Names.{NamedQuandle};
+ghost use Rattle.knot_text.specs.Quandles.{built_in};
+ghost use Rattle.knot_text.specs.Grids.{grid_item};
+ghost use Rattle.knot_text.specs.Braids.{braid_item};
+ghost use Rattle.knot_text.specs.Moves.{moves_item};
+ghost use Rattle.knot_text.specs.Quandles.{quandle_item};
+ghost use Rattle.knot_text.specs.Colours.{colours_item};
+ghost use Rattle.knot_text.specs.Verdicts.{verdict_item};
+ghost use Rattle.verdict_core.specs.Diagrams.{grid_of, columns};
+ghost use Rattle.knot_text.specs.Shapes.{diagram_item, problem_item, problem_in, check_in, replay_in, colour_in, close_in, lone_diagram_in, problem_of, check_of, replay_of, colour_of, close_of, lone_diagram_of};
 ghost use Rattle.knot_text.specs.Printed.{grid_text, braid_text, moves_text, verdict_lines, verdict_text, HaveText, HasVerdictText};
 ghost use Rattle.knot_text.specs.Printed.{grid_lines, moves_lines, quandle_lines, quandle_text, braid_lines, diagram_lines, colours_lines, colours_text, HasQuandleText, HasDiagramText};
 ghost use Rattle.knot_text.specs.WrittenThere.{StandInFront, said_by, HasProblemText, problem_lines, IsProblemText, IsCheckText, HasReplayText, replay_lines, IsColourText, IsCloseText};
 ghost use Rattle.knot_text.specs.FirstBadLine.{put_behind, IsStable, FailsFirst};
 
-use crate::diagram::Diagram;
-use crate::shapes::{CloseText, ColourText, ProblemText, ReplayText};
-use crate::verdict::Verdict;
+use crate::shapes::{CloseText, ColourText, ReplayText};
 use grid_moves::Move;
+use verdict_core::{Diagram, ProblemText, Verdict};
 
 /// A printed grid is read back, whatever stands behind it.
 pub fn a_printed_grid_is_read()

@@ -4,29 +4,24 @@
 
 mod braids;
 mod colours;
-mod diagram;
 mod fault;
 mod grids;
 pub mod laws;
 mod moves;
-mod names;
-mod printing;
+mod numbers;
+mod printed;
 mod quandles;
-mod rows;
+mod reading;
 mod shapes;
-mod steps;
 #[cfg(test)]
 mod tests;
-mod verdict;
 mod verdicts;
 
-pub use diagram::Diagram;
 pub use fault::TextFault;
-pub use names::{Listed, QuandleName};
-pub use printing::{print_grid, print_moves, print_verdict, push_list, push_quandle};
+pub use printed::{print_grid, print_moves, print_verdict, push_list, push_quandle};
 pub use quandles::MAX_QUANDLES;
 pub use shapes::{
-    CloseText, ColourText, ProblemText, ReplayText, read_check, read_close, read_colour,
-    read_diagram, read_problem, read_replay,
+    CloseText, ColourText, ReplayText, read_check, read_close, read_colour, read_diagram,
+    read_problem, read_replay,
 };
-pub use verdict::Verdict;
+pub use verdict_core::{Diagram, Listed, ProblemText, QuandleName, Verdict};

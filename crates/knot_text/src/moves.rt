@@ -1,17 +1,19 @@
 //! Moves, a line each, and the item of several.
 ghost use Rattle.std.specs.Prelude.{◌≡◌};
 ghost use Rattle.knot_text.specs.Reading.{Gives};
-ghost use Rattle.knot_text.specs.MovesItem.{last_place, shift, exchange, slide, kind_at, corner_at, stabilise, destabilise, move_at, next_move, move_lines, moves_item};
+ghost use Rattle.knot_text.specs.Moves.{last_place, shift, exchange, slide, kind_at, corner_at, stabilise, destabilise, move_at, next_move, move_lines, moves_item};
 
 use crate::fault::TextFault;
-use crate::steps::{last_count, last_number, line_end, next_line, next_token, number, place, word};
+use crate::reading::{
+    last_count, last_number, line_end, next_line, next_token, number, place, word,
+};
 use grid_core::{Corner, Kind};
 use grid_moves::Move;
 use std::alloc::Global;
 use text_lines::{Line, Lines};
 
 /// The one place of a move that ends its line.
-#[tactic(auto, unfolding(crate::specs::MovesItem::last_place))]
+#[tactic(auto, unfolding(crate::specs::Moves::last_place))]
 fn last_place(line: &mut Line) -> Result<u8, TextFault>
     ensures { Gives (λ n. n) result (last_place line.old) }
 {
@@ -20,7 +22,7 @@ fn last_place(line: &mut Line) -> Result<u8, TextFault>
 }
 
 /// Columns or rows, behind `shift`.
-#[tactic(auto, unfolding(crate::specs::MovesItem::shift))]
+#[tactic(auto, unfolding(crate::specs::Moves::shift))]
 fn shift(line: &mut Line) -> Result<Move, TextFault>
     ensures { Gives (λ m. m) result (shift line.old) }
 {
@@ -37,7 +39,7 @@ fn shift(line: &mut Line) -> Result<Move, TextFault>
 }
 
 /// Columns or rows, behind `exchange`.
-#[tactic(auto, unfolding(crate::specs::MovesItem::exchange))]
+#[tactic(auto, unfolding(crate::specs::Moves::exchange))]
 fn exchange(line: &mut Line) -> Result<Move, TextFault>
     ensures { Gives (λ m. m) result (exchange line.old) }
 {
@@ -54,7 +56,7 @@ fn exchange(line: &mut Line) -> Result<Move, TextFault>
 }
 
 /// Columns or rows, behind `slide`.
-#[tactic(auto, unfolding(crate::specs::MovesItem::slide))]
+#[tactic(auto, unfolding(crate::specs::Moves::slide))]
 fn slide(line: &mut Line) -> Result<Move, TextFault>
     ensures { Gives (λ m. m) result (slide line.old) }
 {
@@ -71,7 +73,7 @@ fn slide(line: &mut Line) -> Result<Move, TextFault>
 }
 
 /// The kind of a mark.
-#[tactic(auto, unfolding(crate::specs::MovesItem::kind_at))]
+#[tactic(auto, unfolding(crate::specs::Moves::kind_at))]
 fn kind_at(line: &mut Line) -> Result<Kind, TextFault>
     ensures { Gives (λ k. (k, line.new)) result (kind_at line.old) }
 {
@@ -88,7 +90,7 @@ fn kind_at(line: &mut Line) -> Result<Kind, TextFault>
 }
 
 /// A corner of a block.
-#[tactic(auto, unfolding(crate::specs::MovesItem::corner_at))]
+#[tactic(auto, unfolding(crate::specs::Moves::corner_at))]
 fn corner_at(line: &mut Line) -> Result<Corner, TextFault>
     ensures { Gives (λ k. (k, line.new)) result (corner_at line.old) }
 {
@@ -109,7 +111,7 @@ fn corner_at(line: &mut Line) -> Result<Corner, TextFault>
 }
 
 /// A column, a kind of mark and a corner, behind `stabilise`.
-#[tactic(auto, unfolding(crate::specs::MovesItem::stabilise))]
+#[tactic(auto, unfolding(crate::specs::Moves::stabilise))]
 fn stabilise(line: &mut Line) -> Result<Move, TextFault>
     ensures { Gives (λ m. m) result (stabilise line.old) }
 {
@@ -125,7 +127,7 @@ fn stabilise(line: &mut Line) -> Result<Move, TextFault>
 }
 
 /// A column and a row, behind `destabilise`.
-#[tactic(auto, unfolding(crate::specs::MovesItem::destabilise))]
+#[tactic(auto, unfolding(crate::specs::Moves::destabilise))]
 fn destabilise(line: &mut Line) -> Result<Move, TextFault>
     ensures { Gives (λ m. m) result (destabilise line.old) }
 {
@@ -138,7 +140,7 @@ fn destabilise(line: &mut Line) -> Result<Move, TextFault>
 }
 
 /// A move line.
-#[tactic(auto, unfolding(crate::specs::MovesItem::move_at))]
+#[tactic(auto, unfolding(crate::specs::Moves::move_at))]
 fn move_at(line: &mut Line) -> Result<Move, TextFault>
     ensures { Gives (λ m. m) result (move_at line.old) }
 {
@@ -161,7 +163,7 @@ fn move_at(line: &mut Line) -> Result<Move, TextFault>
 }
 
 /// The next move line.
-#[tactic(auto, unfolding(crate::specs::MovesItem::next_move))]
+#[tactic(auto, unfolding(crate::specs::Moves::next_move))]
 fn next_move(lines: &mut Lines) -> Result<Move, TextFault>
     ensures { Gives (λ m. (m, lines.new)) result (next_move lines.old) }
 {
@@ -185,7 +187,7 @@ pub(crate) fn move_lines(
 }
 
 /// The item `moves`.
-#[tactic(auto, unfolding(crate::specs::MovesItem::moves_item))]
+#[tactic(auto, unfolding(crate::specs::Moves::moves_item))]
 pub(crate) fn moves_item(alloc: Global, lines: &mut Lines) -> Result<Vec<Move>, TextFault>
     ensures { Gives (λ v. (v.items, lines.new)) result (moves_item lines.old) }
 {

@@ -4,18 +4,18 @@ ghost use Rattle.arrayvec.specs.ArrayVec.{array_vec_len};
 ghost use Rattle.quandle_core.specs.declared.quandle.TheConstants.{MAX_TABLE};
 ghost use Rattle.quandle_core.specs.declared.quandle.TheConstants.{MAX_ORDER};
 ghost use Rattle.knot_text.specs.Reading.{Gives, Fails};
-ghost use Rattle.knot_text.specs.QuandleItem.{written_at, alexander_at, tetrahedral_at, is_over, meant, table_row, table_rows, table_item, quandle_of, quandle_at, quandle_item, surplus_quandle, quandles, quandle_list};
-ghost use Rattle.knot_text.specs.Names.{built_in};
+ghost use Rattle.knot_text.specs.Quandles.{written_at, alexander_at, tetrahedral_at, is_over, meant, table_row, table_rows, table_item, quandle_of, quandle_at, quandle_item, surplus_quandle, quandles, quandle_list};
+ghost use Rattle.knot_text.specs.Quandles.{built_in};
 
 use crate::fault::TextFault;
-use crate::names::{Listed, QuandleName};
-use crate::rows::numbers_below;
-use crate::steps::{MAX_NUMBER, last_number, line_end, next_line, next_token, number, word};
+use crate::numbers::numbers_below;
+use crate::reading::{MAX_NUMBER, last_number, line_end, next_line, next_token, number, word};
 use arrayvec::ArrayVec;
 use grid_core::{Items, Rows};
 use quandle_core::{MAX_ORDER, MAX_TABLE, Quandle};
 use std::alloc::Global;
 use text_lines::{Line, Lines};
+use verdict_core::{Listed, QuandleName};
 
 /// How many quandle items a text may have. The quandle of a verdict is not counted.
 pub const MAX_QUANDLES: usize = 64;
@@ -31,7 +31,7 @@ pub enum Written {
 }
 
 /// Order and factor of an Alexander quandle.
-#[tactic(auto, unfolding(crate::specs::QuandleItem::alexander_at))]
+#[tactic(auto, unfolding(crate::specs::Quandles::alexander_at))]
 fn alexander_at(line: &mut Line) -> Result<Written, TextFault>
     ensures { Gives (λ w. (w, line.new)) result (alexander_at line.old) }
 {
@@ -41,7 +41,7 @@ fn alexander_at(line: &mut Line) -> Result<Written, TextFault>
 }
 
 /// The end of the line of the tetrahedral quandle.
-#[tactic(auto, unfolding(crate::specs::QuandleItem::tetrahedral_at))]
+#[tactic(auto, unfolding(crate::specs::Quandles::tetrahedral_at))]
 fn tetrahedral_at(line: &mut Line) -> Result<Written, TextFault>
     ensures { Gives (λ w. (w, line.new)) result (tetrahedral_at line.old) }
 {
@@ -50,7 +50,7 @@ fn tetrahedral_at(line: &mut Line) -> Result<Written, TextFault>
 }
 
 /// A name at the end of a line.
-#[tactic(auto, unfolding(crate::specs::QuandleItem::written_at))]
+#[tactic(auto, unfolding(crate::specs::Quandles::written_at))]
 fn written_at(line: &mut Line) -> Result<Written, TextFault>
     ensures { Gives (λ w. (w, line.new)) result (written_at line.old) }
 {
@@ -100,7 +100,7 @@ fn meant(written: Written) -> Option<Listed>
 }
 
 /// A line of a table.
-#[tactic(auto, unfolding(crate::specs::QuandleItem::table_row))]
+#[tactic(auto, unfolding(crate::specs::Quandles::table_row))]
 fn table_row(order: u8, lines: &mut Lines) -> Result<Rows, TextFault>
     requires { order ≤ MAX_ORDER }
     ensures row { Gives (λ r. (r.items, lines.new)) result (table_row order lines.old) }
@@ -133,7 +133,7 @@ fn table_front(order: u8, lines: &mut Lines) -> Result<ArrayVec<u8, MAX_TABLE>, 
 }
 
 /// The lines of a table, which has the three laws of a quandle, or is malformed at its last line.
-#[tactic(auto, unfolding(crate::specs::QuandleItem::table_item))]
+#[tactic(auto, unfolding(crate::specs::Quandles::table_item))]
 fn table_item(order: u8, lines: &mut Lines) -> Result<Listed, TextFault>
     requires { (1 ≤ order) × (order ≤ MAX_ORDER) }
     ensures { Gives (λ q. (q, lines.new)) result (table_item order lines.old) }
@@ -167,7 +167,7 @@ fn quandle_of(at: usize, written: Written, lines: &mut Lines) -> Result<Listed, 
 }
 
 /// A name at the end of a line, with the lines behind it that a table takes.
-#[tactic(auto, unfolding(crate::specs::QuandleItem::quandle_at))]
+#[tactic(auto, unfolding(crate::specs::Quandles::quandle_at))]
 pub(crate) fn quandle_at(line: &mut Line, lines: &mut Lines) -> Result<Listed, TextFault>
     ensures { Gives (λ q. (q, lines.new)) result (quandle_at line.old lines.old) }
 {
@@ -180,7 +180,7 @@ pub(crate) fn quandle_at(line: &mut Line, lines: &mut Lines) -> Result<Listed, T
 }
 
 /// A quandle item.
-#[tactic(auto, unfolding(crate::specs::QuandleItem::quandle_item))]
+#[tactic(auto, unfolding(crate::specs::Quandles::quandle_item))]
 pub(crate) fn quandle_item(lines: &mut Lines) -> Result<Listed, TextFault>
     ensures { Gives (λ q. (q, lines.new)) result (quandle_item lines.old) }
 {
@@ -190,7 +190,7 @@ pub(crate) fn quandle_item(lines: &mut Lines) -> Result<Listed, TextFault>
 }
 
 /// The fault of one quandle more than a text may have.
-#[tactic(auto, unfolding(crate::specs::QuandleItem::surplus_quandle))]
+#[tactic(auto, unfolding(crate::specs::Quandles::surplus_quandle))]
 fn surplus_quandle(lines: &mut Lines) -> Result<Vec<Listed>, TextFault>
     ensures { Gives (λ v. (v.items, lines.new)) result (surplus_quandle lines.old) }
 {
@@ -243,7 +243,7 @@ fn built_in(alloc: Global) -> Result<Vec<Listed>, TextFault>
 }
 
 /// All quandle items, or the built-in list where there are none.
-#[tactic(auto, unfolding(crate::specs::QuandleItem::quandle_list))]
+#[tactic(auto, unfolding(crate::specs::Quandles::quandle_list))]
 pub(crate) fn quandle_list(alloc: Global, lines: &mut Lines) -> Result<Items<Listed>, TextFault>
     ensures { Gives (λ q. (q, lines.new)) result (quandle_list lines.old) }
 {

@@ -5,14 +5,11 @@ ghost use Rattle.knot_text.specs.Shapes.{diagram_item, problem_item, problem_of,
 
 use crate::braids::braid_item;
 use crate::colours::coloured;
-use crate::diagram::Diagram;
 use crate::fault::TextFault;
 use crate::grids::grid_item;
 use crate::moves::moves_item;
-use crate::names::Listed;
 use crate::quandles::quandle_list;
-use crate::steps::text_end;
-use crate::verdict::Verdict;
+use crate::reading::text_end;
 use crate::verdicts::verdict_item;
 use braid_core::Braid;
 use colour_rows::Colouring;
@@ -20,14 +17,7 @@ use grid_core::Items;
 use grid_moves::Move;
 use std::alloc::Global;
 use text_lines::Lines;
-
-/// Two diagrams, and the quandles by which they are to be compared, in the listed order.
-#[derive(Drop)]
-pub struct ProblemText {
-    pub first: Diagram,
-    pub second: Diagram,
-    pub quandles: Items<Listed>,
-}
+use verdict_core::{Diagram, Listed, ProblemText, Verdict};
 
 /// A diagram, moves to be made on it, and perhaps a quandle with a colour below its order for each column of the diagram,
 /// which are to be carried.

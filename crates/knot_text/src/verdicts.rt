@@ -2,24 +2,24 @@
 ghost use Rattle.std.specs.Prelude.{◌≡◌, ◌≤◌};
 ghost use Rattle.grid_core.specs.declared.grid.TheConstants.{MAX_SIZE};
 ghost use Rattle.knot_text.specs.Reading.{Gives, in_turn};
-ghost use Rattle.knot_text.specs.VerdictItem.{equal_at, colour_line, list_item, different_at, budget_at, exhausted_at, unknown_at, unknown_item, verdict_item};
+ghost use Rattle.knot_text.specs.Verdicts.{equal_at, colour_line, list_item, different_at, budget_at, exhausted_at, unknown_at, unknown_item, verdict_item};
 
 use crate::fault::TextFault;
 use crate::moves::move_lines;
+use crate::numbers::numbers_below;
 use crate::quandles::quandle_at;
-use crate::rows::numbers_below;
-use crate::steps::{
+use crate::reading::{
     MAX_NUMBER, at_most, last_count, last_number, next_line, next_token, number, word,
 };
-use crate::verdict::Verdict;
 use colour_list::MAX_COLOURINGS;
 use colour_rows::Colouring;
 use grid_core::Items;
 use std::alloc::Global;
 use text_lines::{Line, Lines};
+use verdict_core::Verdict;
 
 /// A number of moves, and the moves.
-#[tactic(auto, unfolding(crate::specs::VerdictItem::equal_at))]
+#[tactic(auto, unfolding(crate::specs::Verdicts::equal_at))]
 fn equal_at(alloc: Global, line: &mut Line, lines: &mut Lines) -> Result<Verdict, TextFault>
     ensures { Gives (λ v. (v, lines.new)) result (equal_at line.old lines.old) }
 {
@@ -29,7 +29,7 @@ fn equal_at(alloc: Global, line: &mut Line, lines: &mut Lines) -> Result<Verdict
 }
 
 /// A line of colours.
-#[tactic(auto, unfolding(crate::specs::VerdictItem::colour_line))]
+#[tactic(auto, unfolding(crate::specs::Verdicts::colour_line))]
 fn colour_line(width: u8, order: u8, lines: &mut Lines) -> Result<Colouring, TextFault>
     requires { width ≤ MAX_SIZE }
     ensures { Gives (λ c. (c, lines.new)) result (colour_line width order lines.old) }
@@ -57,7 +57,7 @@ fn colour_lines(
 }
 
 /// A number of lines of colours, and the lines.
-#[tactic(auto, unfolding(crate::specs::VerdictItem::list_item))]
+#[tactic(auto, unfolding(crate::specs::Verdicts::list_item))]
 fn list_item(
     alloc: Global,
     width: u8,
@@ -75,7 +75,7 @@ fn list_item(
 }
 
 /// A quandle, and a list for each of two diagrams with so many columns.
-#[tactic(auto, unfolding(crate::specs::VerdictItem::different_at))]
+#[tactic(auto, unfolding(crate::specs::Verdicts::different_at))]
 fn different_at(
     alloc: Global,
     first_width: u8,
@@ -98,7 +98,7 @@ fn different_at(
 }
 
 /// A budget.
-#[tactic(auto, unfolding(crate::specs::VerdictItem::budget_at))]
+#[tactic(auto, unfolding(crate::specs::Verdicts::budget_at))]
 fn budget_at(line: &mut Line) -> Result<Verdict, TextFault>
     ensures { Gives (λ v. v) result (budget_at line.old) }
 {
@@ -108,7 +108,7 @@ fn budget_at(line: &mut Line) -> Result<Verdict, TextFault>
 }
 
 /// A cap, and a number of diagrams.
-#[tactic(auto, unfolding(crate::specs::VerdictItem::exhausted_at))]
+#[tactic(auto, unfolding(crate::specs::Verdicts::exhausted_at))]
 fn exhausted_at(line: &mut Line) -> Result<Verdict, TextFault>
     ensures { Gives (λ v. v) result (exhausted_at line.old) }
 {
@@ -121,7 +121,7 @@ fn exhausted_at(line: &mut Line) -> Result<Verdict, TextFault>
 }
 
 /// Why a search said nothing.
-#[tactic(auto, unfolding(crate::specs::VerdictItem::unknown_at))]
+#[tactic(auto, unfolding(crate::specs::Verdicts::unknown_at))]
 fn unknown_at(line: &mut Line) -> Result<Verdict, TextFault>
     ensures { Gives (λ v. v) result (unknown_at line.old) }
 {
@@ -138,7 +138,7 @@ fn unknown_at(line: &mut Line) -> Result<Verdict, TextFault>
 }
 
 /// A verdict on two diagrams with so many columns.
-#[tactic(auto, unfolding(crate::specs::VerdictItem::verdict_item, crate::specs::VerdictItem::unknown_item))]
+#[tactic(auto, unfolding(crate::specs::Verdicts::verdict_item, crate::specs::Verdicts::unknown_item))]
 pub(crate) fn verdict_item(
     alloc: Global,
     first_width: u8,

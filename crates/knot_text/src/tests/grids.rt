@@ -1,11 +1,11 @@
 //! Grids, by texts of problems and listings.
 use crate::fault::TextFault;
-use crate::names::QuandleName;
 use crate::shapes::{read_colour, read_problem};
 use crate::tests::{limit, malformed};
 use std::alloc::Global;
 use std::process::Abort;
 use std::test::Fail;
+use verdict_core::QuandleName;
 
 /// The fault of a text of a problem.
 fn problem_fault(alloc: Global, text: &[u8]) -> Option<TextFault> {

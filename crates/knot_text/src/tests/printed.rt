@@ -1,13 +1,12 @@
 //! Printed texts, and what is read of them.
-use crate::names::{Listed, QuandleName};
-use crate::printing::{print_grid, print_moves, print_verdict};
+use crate::printed::{print_grid, print_moves, print_verdict};
 use crate::shapes::read_check;
-use crate::verdict::Verdict;
 use grid_core::{Corner, Grid, Kind};
 use grid_moves::Move;
-use knot_ports::OutOfMemory;
+use memory_core::OutOfMemory;
 use std::alloc::Global;
 use std::test::Fail;
+use verdict_core::{Listed, QuandleName, Verdict};
 
 /// Whether a text was printed, and is this one.
 fn is_text(printed: Result<Vec<u8>, OutOfMemory>, wanted: &[u8]) -> bool {

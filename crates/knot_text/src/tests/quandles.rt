@@ -1,10 +1,10 @@
 //! Quandle items, behind the unknot.
 use crate::fault::TextFault;
-use crate::names::QuandleName;
 use crate::shapes::{read_colour, read_problem};
 use crate::tests::{limit, malformed};
 use std::alloc::Global;
 use std::test::Fail;
+use verdict_core::QuandleName;
 
 /// The unknot, in two lines.
 const UNKNOT: &[u8] = b"x 0 1\no 1 0\n";

@@ -1,12 +1,12 @@
 //! Moves, behind the unknot.
 use crate::fault::TextFault;
-use crate::names::QuandleName;
 use crate::shapes::read_replay;
 use crate::tests::{limit, malformed};
 use grid_core::{Corner, Kind};
 use grid_moves::Move;
 use std::alloc::Global;
 use std::test::Fail;
+use verdict_core::QuandleName;
 
 /// The fault of a replay of the unknot, whose moves stand from line 3 on.
 fn fault_behind(alloc: Global, tail: &[u8]) -> Result<Option<TextFault>, Fail> {

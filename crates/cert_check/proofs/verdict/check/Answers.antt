@@ -1,5 +1,5 @@
 use Rattle.std.proofs.Common.{rules}
-use Rattle.knot_text.specs.Shapes.{grid_of}
+use Rattle.verdict_core.specs.Diagrams.{grid_of}
 use Rattle.cert_check.proofs.Rulings.{accepted_if_ruled}
 use Rattle.cert_check.proofs.verdict.check.Goals as goal
 

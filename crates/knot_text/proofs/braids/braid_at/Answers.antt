@@ -4,7 +4,7 @@ use Rattle.braid_core.specs.Fault.{first_fault}
 use Rattle.braid_core.specs.declared.fault.BraidFault.TheVariants.{OutOfMemory}
 use Rattle.knot_text.specs.declared.fault.TextFault.{TextFault}
 use Rattle.knot_text.specs.Reading.{Fails}
-use Rattle.knot_text.specs.BraidItem.{braid_at}
+use Rattle.knot_text.specs.Braids.{braid_at}
 use Rattle.knot_text.specs.KeptLetters.{refused}
 use Rattle.knot_text.proofs.BraidLines.{word_of, IsRead, braid_good, braid_refused}
 use Rattle.knot_text.proofs.braids.braid_at.Goals as goal

@@ -1,7 +1,7 @@
 use Rattle.std.proofs.Common.{◌≡◌, ◌<◌, ◌||◌, ◌++◌, [], ◌∷◌, length, refl, arith, rules}
 use Rattle.grid_core.specs.declared.grid.TheConstants.{MAX_SIZE}
 use Rattle.knot_text.specs.declared.braids.KeptLetters.{KeptLetters}
-use Rattle.knot_text.specs.BraidItem.{is_long_letter}
+use Rattle.knot_text.specs.Braids.{is_long_letter}
 use Rattle.knot_text.specs.KeptLetters.{low_letter}
 use Rattle.knot_text.proofs.BraidLines.{kept_more}
 use Rattle.knot_text.proofs.braids.keep.Goals as goal

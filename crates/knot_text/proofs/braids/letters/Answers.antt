@@ -1,7 +1,7 @@
 use Rattle.std.proofs.Common.{◌≡◌, ℤ, List, [], ◌∷◌, ◌++◌, Some, None, Err, ap, sym, ◌∙◌, rules}
 use Rattle.text_lines.specs.Lines.{NumberedLine}
 use Rattle.knot_text.specs.declared.fault.TextFault.TheVariants.{Malformed}
-use Rattle.knot_text.specs.BraidItem.{letter_of, letters}
+use Rattle.knot_text.specs.Braids.{letter_of, letters}
 use Rattle.knot_text.specs.KeptLetters.{TellsLetters}
 use Rattle.knot_text.proofs.Values.{value_more, value_fails, values_done}
 use Rattle.knot_text.proofs.braids.letters.Goals as goal

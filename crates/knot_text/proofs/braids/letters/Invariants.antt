@@ -1,5 +1,5 @@
 use Rattle.std.proofs.Common.{length}
-use Rattle.knot_text.specs.BraidItem.{letter_of, letters}
+use Rattle.knot_text.specs.Braids.{letter_of, letters}
 use Rattle.knot_text.specs.KeptLetters.{TellsLetters}
 use Rattle.knot_text.proofs.Values.{GoesOn}
 use Rattle.knot_text.proofs.braids.letters.Given as goal

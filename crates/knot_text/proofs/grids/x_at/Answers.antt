@@ -1,7 +1,7 @@
 use Rattle.std.proofs.Common.{◌≡◌, ◌≤◌, List, ℕ, length, false, true, Err, ap, sym, subst, ◌∙◌}
 use Rattle.grid_core.specs.declared.grid.TheConstants.{MAX_SIZE}
 use Rattle.knot_text.specs.declared.fault.TextFault.TheVariants.{Malformed}
-use Rattle.knot_text.specs.GridItem.{are_rows}
+use Rattle.knot_text.specs.Grids.{are_rows}
 use Rattle.knot_text.proofs.GridLines.{x_bad, x_good}
 use Rattle.knot_text.proofs.grids.x_at.Goals as goal
 

@@ -1,9 +1,9 @@
-use Rattle.knot_text.specs.GridItem.{grid_item}
-use Rattle.knot_text.specs.BraidItem.{braid_item}
-use Rattle.knot_text.specs.MovesItem.{moves_item}
-use Rattle.knot_text.specs.QuandleItem.{quandle_item}
-use Rattle.knot_text.specs.ColoursItem.{colours_item}
-use Rattle.knot_text.specs.VerdictItem.{verdict_item}
+use Rattle.knot_text.specs.Grids.{grid_item}
+use Rattle.knot_text.specs.Braids.{braid_item}
+use Rattle.knot_text.specs.Moves.{moves_item}
+use Rattle.knot_text.specs.Quandles.{quandle_item}
+use Rattle.knot_text.specs.Colours.{colours_item}
+use Rattle.knot_text.specs.Verdicts.{verdict_item}
 use Rattle.knot_text.specs.Shapes.{diagram_item}
 use Rattle.knot_text.proofs.Steady.{stable}
 use Rattle.knot_text.proofs.ItemsSteady.{grid_steady, braid_steady, moves_steady, quandle_steady, colours_steady, verdict_steady}

@@ -1,6 +1,6 @@
 use Rattle.std.proofs.lemmas.Result.{err_from_is_err_and}
 use Rattle.knot_text.specs.Reading.{in_turn}
-use Rattle.knot_text.specs.MovesItem.{next_move}
+use Rattle.knot_text.specs.Moves.{next_move}
 use Rattle.knot_text.proofs.Turns.{turn_more, turn_fails, turns_done}
 use Rattle.knot_text.proofs.moves.move_lines.Goals as goal
 

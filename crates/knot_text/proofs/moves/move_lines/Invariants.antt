@@ -1,6 +1,6 @@
 use Rattle.std.proofs.Common.{◌≡◌, ◌-◌}
 use Rattle.knot_text.specs.Reading.{in_turn}
-use Rattle.knot_text.specs.MovesItem.{next_move}
+use Rattle.knot_text.specs.Moves.{next_move}
 use Rattle.knot_text.proofs.Turns.{with_front}
 use Rattle.knot_text.proofs.moves.move_lines.Given as goal
 

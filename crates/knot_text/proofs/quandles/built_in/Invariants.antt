@@ -1,6 +1,6 @@
 use Rattle.std.proofs.Common.{◌≡◌, take}
 use Rattle.std.specs.List.{filter_map}
-use Rattle.knot_text.specs.Names.{quandle_named}
+use Rattle.verdict_core.specs.Names.{quandle_named}
 use Rattle.knot_text.proofs.quandles.built_in.Given as goal
 
 abbrev pub invariant-loop-name : goal.invariant-loop-name

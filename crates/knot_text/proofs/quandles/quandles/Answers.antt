@@ -1,7 +1,7 @@
 use Rattle.std.proofs.Common.{◌-◌, sym, ◌∙◌}
 use Rattle.std.proofs.lemmas.Result.{err_from_is_err_and}
 use Rattle.knot_text.specs.declared.quandles.TheConstants.{MAX_QUANDLES}
-use Rattle.knot_text.specs.QuandleItem.{quandles}
+use Rattle.knot_text.specs.Quandles.{quandles}
 use Rattle.knot_text.proofs.Lists.{quandle_more, quandle_fails, quandles_end, quandles_over}
 use Rattle.knot_text.proofs.quandles.quandles.Goals as goal
 

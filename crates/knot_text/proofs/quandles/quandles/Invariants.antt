@@ -1,6 +1,6 @@
 use Rattle.std.proofs.Common.{◌≡◌, ◌-◌}
 use Rattle.knot_text.specs.declared.quandles.TheConstants.{MAX_QUANDLES}
-use Rattle.knot_text.specs.QuandleItem.{quandles}
+use Rattle.knot_text.specs.Quandles.{quandles}
 use Rattle.knot_text.proofs.Turns.{with_front}
 use Rattle.knot_text.proofs.quandles.quandles.Given as goal
 

@@ -1,6 +1,6 @@
 use Rattle.std.proofs.Common.{◌≡◌, ◌+◌, ◌-◌, ◌++◌, List, ℕ, length, ap, ◌∙◌, arith, length-append}
 use Rattle.std.proofs.lemmas.Result.{err_from_is_err_and}
-use Rattle.knot_text.specs.QuandleItem.{table_rows}
+use Rattle.knot_text.specs.Quandles.{table_rows}
 use Rattle.knot_text.proofs.TableLines.{row_more, row_fails, rows_done, row_fits, row_adds}
 use Rattle.knot_text.proofs.quandles.table_front.Goals as goal
 

@@ -1,5 +1,5 @@
 use Rattle.std.proofs.Common.{◌≡◌, ◌-◌, ◌*◌, length}
-use Rattle.knot_text.specs.QuandleItem.{table_rows}
+use Rattle.knot_text.specs.Quandles.{table_rows}
 use Rattle.knot_text.proofs.Turns.{with_front}
 use Rattle.knot_text.proofs.quandles.table_front.Given as goal
 

@@ -1,6 +1,6 @@
 use Rattle.std.proofs.lemmas.Result.{err_from_is_err_and}
 use Rattle.knot_text.specs.Reading.{in_turn}
-use Rattle.knot_text.specs.VerdictItem.{colour_line}
+use Rattle.knot_text.specs.Verdicts.{colour_line}
 use Rattle.knot_text.proofs.Turns.{turn_more, turn_fails, turns_done}
 use Rattle.knot_text.proofs.verdicts.colour_lines.Goals as goal
 

@@ -1,6 +1,6 @@
 use Rattle.std.proofs.Common.{◌≡◌, ◌-◌}
 use Rattle.knot_text.specs.Reading.{in_turn}
-use Rattle.knot_text.specs.VerdictItem.{colour_line}
+use Rattle.knot_text.specs.Verdicts.{colour_line}
 use Rattle.knot_text.proofs.Turns.{with_front}
 use Rattle.knot_text.proofs.verdicts.colour_lines.Given as goal
 

@@ -1,0 +1,82 @@
+-- Verdicts as a text.
+use Rattle.std.specs.Prelude.{ℕ, List, codes, Result, Ok, Err, if◌then◌else◌}
+use Rattle.std.specs.Str.{bytes_eq}
+use Rattle.arrayvec.specs.ArrayVec.{ArrayVec}
+use Rattle.colour_list.specs.declared.limits.TheConstants.{MAX_COLOURINGS}
+use Rattle.text_lines.specs.Lines.{NumberedLine, Text}
+use Rattle.knot_text.specs.declared.fault.TextFault.{TextFault}
+use Rattle.knot_text.specs.declared.fault.TextFault.TheVariants.{Malformed}
+use Rattle.verdict_core.specs.declared.verdict.Verdict.{Verdict}
+use Rattle.verdict_core.specs.declared.verdict.Verdict.TheVariants.{Equal, Different, UnknownBudget, UnknownExhausted}
+use Rattle.knot_text.specs.declared.reading.TheConstants.{MAX_NUMBER}
+use Rattle.knot_text.specs.Reading.{◌>>=◌, in_turn, next_line, next_token, word, number, last_number, last_count, at_most}
+use Rattle.knot_text.specs.Numbers.{numbers_below}
+use Rattle.knot_text.specs.Moves.{move_lines}
+use Rattle.knot_text.specs.Quandles.{quandle_at}
+
+-- `equal`, a number, and so many move lines
+unfoldable pub equal_at : NumberedLine → Text → Result (Verdict × Text) TextFault
+equal_at line text = do
+  count ← last_count line
+  moves ← move_lines count text
+  Ok (Equal moves.0, moves.1)
+
+-- a line of colours, one below the order for each column
+unfoldable pub colour_line : ℕ → ℕ → Text → Result (ArrayVec ℕ × Text) TextFault
+colour_line width order text = do
+  line ← next_line text
+  colours ← numbers_below width order line.0
+  Ok (record { items = colours }, line.1)
+
+-- `list`, a number, and so many lines of colours
+unfoldable pub list_item : ℕ → ℕ → Text → Result (List (ArrayVec ℕ) × Text) TextFault
+list_item width order text = do
+  line ← next_line text
+  rest ← word (codes "list") line.0
+  count ← last_number rest
+  few ← at_most MAX_COLOURINGS count.1.number count.0
+  in_turn (colour_line width order) few line.1
+
+-- `different`, the name of a quandle, and a list for each of two diagrams with so many columns
+unfoldable pub different_at : ℕ → ℕ → NumberedLine → Text → Result (Verdict × Text) TextFault
+different_at first second line text = do
+  quandle ← quandle_at line text
+  one ← list_item first quandle.0.table.order quandle.1
+  two ← list_item second quandle.0.table.order one.1
+  Ok (Different quandle.0 one.0 two.0, two.1)
+
+unfoldable pub budget_at : NumberedLine → Result Verdict TextFault
+budget_at line = do
+  budget ← last_count line
+  Ok (UnknownBudget budget)
+
+unfoldable pub exhausted_at : NumberedLine → Result Verdict TextFault
+exhausted_at line = do
+  cap ← number line
+  admitted ← last_number cap.1
+  most ← at_most MAX_NUMBER admitted.1.number cap.0
+  entries ← at_most MAX_NUMBER admitted.1.number admitted.0
+  Ok (UnknownExhausted most entries)
+
+-- `unknown`, and `budget` with one number or `exhausted` with two
+unfoldable pub unknown_at : NumberedLine → Result Verdict TextFault
+unknown_at line = do
+  cause ← next_token line
+  if bytes_eq cause.0 (codes "budget") then budget_at cause.1
+      else if bytes_eq cause.0 (codes "exhausted") then exhausted_at cause.1
+      else Err (Malformed cause.1.number)
+
+unfoldable pub unknown_item : NumberedLine → Text → Result (Verdict × Text) TextFault
+unknown_item line text = do
+  verdict ← unknown_at line
+  Ok (verdict, text)
+
+-- a verdict on two diagrams with so many columns
+unfoldable pub verdict_item : ℕ → ℕ → Text → Result (Verdict × Text) TextFault
+verdict_item first second text = do
+  line ← next_line text
+  kind ← next_token line.0
+  if bytes_eq kind.0 (codes "equal") then equal_at kind.1 line.1
+      else if bytes_eq kind.0 (codes "different") then different_at first second kind.1 line.1
+      else if bytes_eq kind.0 (codes "unknown") then unknown_item kind.1 line.1
+      else Err (Malformed kind.1.number)

@@ -1,0 +1,237 @@
+//! The texts of grids, moves and verdicts.
+ghost use Rattle.std.specs.Prelude.{◌≡◌, ◌<◌, ◌++◌, codes, map, length, IfOk, OnOk};
+ghost use Rattle.std.specs.List.{range_with_len};
+ghost use Rattle.std.specs.Fmt.{decimal};
+ghost use Rattle.quandle_core.specs.Quandle.{over};
+ghost use Rattle.text_lines.specs.Spelled.{line_text, lines_text};
+ghost use Rattle.verdict_core.specs.Names.{NamedQuandle};
+ghost use Rattle.knot_text.specs.Printed.{kind_word, corner_word, grid_text, move_tokens, moves_lines, moves_text, row_tokens, table_lines, quandle_lines, name_tokens, list_lines, verdict_text};
+
+use arrayvec::ArrayVec;
+use colour_rows::Colouring;
+use grid_core::{Corner, Grid, Kind};
+use grid_moves::Move;
+use memory_core::OutOfMemory;
+use quandle_core::{MAX_ORDER, Quandle};
+use std::alloc::{AllocError, Global};
+use text_lines::{push_counted, push_number, push_number_line, push_paired, push_word_line};
+use verdict_core::{Listed, QuandleName, Verdict};
+
+/// The text of a grid: the line `x` with the rows of its Xs by column, and the line `o` with those of its Os; or want of memory.
+pub fn print_grid(alloc: Global, grid: &Grid) -> Result<Vec<u8>, OutOfMemory>
+    ensures { IfOk result (λ v. v.items ≡ grid_text grid.now) }
+{
+    let mut out = Vec::new(alloc);
+    push_word_line(&mut out, b"x", grid.rows(Kind::Cross))?;
+    push_word_line(&mut out, b"o", grid.rows(Kind::Ring))?;
+    Ok(out)
+}
+
+/// The text of moves: the line `moves` with how many there are, and a line for each; or want of memory.
+/// It is read back wherever there are at most `MAX_NUMBER` moves.
+pub fn print_moves(alloc: Global, moves: &[Move]) -> Result<Vec<u8>, OutOfMemory>
+    ensures { IfOk result (λ v. v.items ≡ moves_text moves.now) }
+{
+    let mut out = Vec::new(alloc);
+    push_counted(&mut out, b"moves ", moves.len() as u64)?;
+    push_moves(&mut out, moves)?;
+    Ok(out)
+}
+
+/// The text of a verdict, with its evidence; or want of memory.
+///
+/// It is read back behind two diagrams wherever its numbers are at most `MAX_NUMBER`, a list has at most `MAX_COLOURINGS`
+/// members, each with a colour below the order for each column of its diagram, and an Alexander quandle's factor is below
+/// its order.
+pub fn print_verdict(alloc: Global, verdict: &Verdict) -> Result<Vec<u8>, OutOfMemory>
+    ensures { IfOk result (λ v. v.items ≡ verdict_text verdict.now) }
+{
+    let mut out = Vec::new(alloc);
+    push_verdict(&mut out, verdict)?;
+    Ok(out)
+}
+
+/// Appends a verdict.
+fn push_verdict(out: &mut Vec<u8>, verdict: &Verdict) -> Result<(), AllocError>
+    ensures { OnOk result (out.new.items ≡ out.old.items ++ verdict_text verdict.now) }
+{
+    match verdict {
+        Verdict::Equal(moves) => push_equal(out, moves.as_slice()),
+        Verdict::Different {
+            listed,
+            first,
+            second,
+        } => push_different(out, listed, first.as_slice(), second.as_slice()),
+        Verdict::UnknownBudget { budget } => {
+            push_counted(out, b"unknown budget ", u64::from(*budget))
+        }
+        Verdict::UnknownExhausted { cap, admitted } => {
+            push_paired(
+                out,
+                b"unknown exhausted ",
+                u64::from(*cap),
+                u64::from(*admitted),
+            )
+        }
+    }
+}
+
+/// Appends the verdict `equal`.
+fn push_equal(out: &mut Vec<u8>, moves: &[Move]) -> Result<(), AllocError>
+    ensures { OnOk result (out.new.items ≡ out.old.items ++ lines_text (moves_lines (codes "equal") moves.now)) }
+{
+    push_counted(out, b"equal ", moves.len() as u64)?;
+    push_moves(out, moves)
+}
+
+/// Appends the verdict `different`.
+fn push_different(
+    out: &mut Vec<u8>,
+    listed: &Listed,
+    first: &[Colouring],
+    second: &[Colouring],
+) -> Result<(), AllocError>
+    ensures { OnOk result (out.new.items ≡ out.old.items ++ lines_text (quandle_lines (codes "different") listed.now ++ (list_lines first.now ++ list_lines second.now))) }
+{
+    push_quandle(out, b"different", listed)?;
+    push_list(out, first)?;
+    push_list(out, second)
+}
+
+/// Appends a line for each move.
+fn push_moves(out: &mut Vec<u8>, moves: &[Move]) -> Result<(), AllocError>
+    ensures { OnOk result (out.new.items ≡ out.old.items ++ lines_text (map move_tokens moves.now)) }
+{
+    for step in moves {
+        push_move(out, *step)?;
+    }
+    Ok(())
+}
+
+/// Appends the line of a move.
+fn push_move(out: &mut Vec<u8>, step: Move) -> Result<(), AllocError>
+    ensures { OnOk result (out.new.items ≡ out.old.items ++ line_text (move_tokens step)) }
+{
+    match step {
+        Move::ShiftColumns(k) => push_counted(out, b"shift columns ", u64::from(k)),
+        Move::ShiftRows(k) => push_counted(out, b"shift rows ", u64::from(k)),
+        Move::ExchangeColumns(c) => push_counted(out, b"exchange columns ", u64::from(c)),
+        Move::ExchangeRows(r) => push_counted(out, b"exchange rows ", u64::from(r)),
+        Move::SlideColumns(c) => push_counted(out, b"slide columns ", u64::from(c)),
+        Move::SlideRows(r) => push_counted(out, b"slide rows ", u64::from(r)),
+        Move::Stabilise {
+            column,
+            kind,
+            corner,
+        } => push_stabilise(out, column, kind, corner),
+        Move::Destabilise { column, row } => {
+            push_paired(out, b"destabilise ", u64::from(column), u64::from(row))
+        }
+    }
+}
+
+/// Appends the line of a stabilisation.
+fn push_stabilise(
+    out: &mut Vec<u8>,
+    column: u8,
+    kind: Kind,
+    corner: Corner,
+) -> Result<(), AllocError>
+    ensures { OnOk result (out.new.items ≡ out.old.items ++ (codes "stabilise " ++ (decimal column ++ (codes " " ++ (kind_word kind ++ (codes " " ++ (corner_word corner ++ codes "\n"))))))) }
+{
+    out.extend_from_slice(b"stabilise ")?;
+    push_number(out, u64::from(column))?;
+    out.extend_from_slice(b" ")?;
+    out.extend_from_slice(kind_word(kind))?;
+    out.extend_from_slice(b" ")?;
+    out.extend_from_slice(corner_word(corner))?;
+    out.extend_from_slice(b"\n")
+}
+
+/// The word of a kind of mark.
+fn kind_word(kind: Kind) -> &'static [u8]
+    ensures { result.now ≡ kind_word kind }
+{
+    match kind {
+        Kind::Cross => b"x",
+        Kind::Ring => b"o",
+    }
+}
+
+/// The word of a corner.
+fn corner_word(corner: Corner) -> &'static [u8]
+    ensures { result.now ≡ corner_word corner }
+{
+    match corner {
+        Corner::LowLeft => b"lowleft",
+        Corner::LowRight => b"lowright",
+        Corner::HighLeft => b"highleft",
+        Corner::HighRight => b"highright",
+    }
+}
+
+/// Appends a line of a word and the name of a quandle, and behind it the lines of a table.
+/// Where memory is wanting, a part of it may have been appended.
+pub fn push_quandle(out: &mut Vec<u8>, word: &[u8], listed: &Listed) -> Result<(), AllocError>
+    ensures { OnOk result (out.new.items ≡ out.old.items ++ lines_text (quandle_lines word.now listed.now)) }
+{
+    out.extend_from_slice(word)?;
+    match listed.name() {
+        QuandleName::Trivial(n) => push_counted(out, b" trivial ", u64::from(n)),
+        QuandleName::Dihedral(n) => push_counted(out, b" dihedral ", u64::from(n)),
+        QuandleName::Tetrahedral => out.extend_from_slice(b" tetrahedral\n"),
+        QuandleName::Alexander(n, factor) => {
+            push_paired(out, b" alexander ", u64::from(n), u64::from(factor))
+        }
+        QuandleName::Table => push_table(out, listed.quandle()),
+    }
+}
+
+/// Appends `table` with the order of a quandle behind a word, and its lines.
+fn push_table(out: &mut Vec<u8>, quandle: &Quandle) -> Result<(), AllocError>
+    ensures { OnOk result (out.new.items ≡ out.old.items ++ ((codes " table " ++ (decimal quandle.now.order ++ codes "\n")) ++ lines_text (map (row_tokens quandle.now) (range_with_len 0 quandle.now.order)))) }
+{
+    push_counted(out, b" table ", u64::from(quandle.order()))?;
+    push_rows(out, quandle)
+}
+
+/// Appends a line for each row of a table.
+fn push_rows(out: &mut Vec<u8>, quandle: &Quandle) -> Result<(), AllocError>
+    ensures { OnOk result (out.new.items ≡ out.old.items ++ lines_text (map (row_tokens quandle.now) (range_with_len 0 quandle.now.order))) }
+{
+    for x in 0..quandle.order() {
+        push_number_line(out, row_of(quandle, x).as_slice())?;
+    }
+    Ok(())
+}
+
+/// A row of a table.
+fn row_of(quandle: &Quandle, x: u8) -> ArrayVec<u8, MAX_ORDER>
+    requires { x < quandle.now.order }
+    ensures { result.items ≡ map (over quandle.now x) (range_with_len 0 quandle.now.order) }
+{
+    let mut row = ArrayVec::new();
+    for y in 0..quandle.order() {
+        row.push(quandle.over(x, y));
+    }
+    row
+}
+
+/// Appends `list` with how many colourings there are, and a line of colours by column for each.
+/// Where memory is wanting, a part of it may have been appended.
+pub fn push_list(out: &mut Vec<u8>, colourings: &[Colouring]) -> Result<(), AllocError>
+    ensures { OnOk result (out.new.items ≡ out.old.items ++ lines_text (list_lines colourings.now)) }
+{
+    push_counted(out, b"list ", colourings.len() as u64)?;
+    push_colourings(out, colourings)
+}
+
+/// Appends a line of colours for each colouring.
+fn push_colourings(out: &mut Vec<u8>, colourings: &[Colouring]) -> Result<(), AllocError>
+    ensures { OnOk result (out.new.items ≡ out.old.items ++ lines_text (map (λ c. map decimal c.items) colourings.now)) }
+{
+    for colours in colourings {
+        push_number_line(out, colours.as_slice())?;
+    }
+    Ok(())
+}

@@ -1,0 +1,10 @@
+pub mod Diagrams
+pub mod Names
+pub mod Evidence
+pub use Rattle.grid_core.specs.Diagram
+pub use Rattle.grid_moves.specs.Joining
+pub use Rattle.braid_closure.specs.Closure
+pub use Rattle.quandle_core.specs.Quandle
+pub use Rattle.quandle_core.specs.Tables
+pub use Rattle.colour_list.specs.Listing
+pub use Rattle.colour_list.specs.Fits

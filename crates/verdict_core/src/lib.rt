@@ -1,0 +1,16 @@
+//! What is said of two diagrams, and when the evidence for it holds: diagrams, quandles by name, problems and verdicts,
+//! below the texts that they are read from and the checker that rules on them.
+#![tactic(auto)]
+
+mod diagrams;
+pub mod laws;
+mod names;
+mod problem;
+#[cfg(test)]
+mod tests;
+mod verdict;
+
+pub use diagrams::Diagram;
+pub use names::{Listed, QuandleName};
+pub use problem::ProblemText;
+pub use verdict::Verdict;

@@ -1,0 +1,13 @@
+//! What is asked of two diagrams.
+
+use crate::diagrams::Diagram;
+use crate::names::Listed;
+use grid_core::Items;
+
+/// Two diagrams, and the quandles by which they are to be compared, in the listed order.
+#[derive(Drop)]
+pub struct ProblemText {
+    pub first: Diagram,
+    pub second: Diagram,
+    pub quandles: Items<Listed>,
+}
