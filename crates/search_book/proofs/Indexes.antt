@@ -12,16 +12,16 @@ use Rattle.std.proofs.lemmas.Map.Entries.{place_from_lookup}
 use Rattle.std.proofs.lemmas.Option.{get_or_from_slice_get, slice_get-get_or, slice_get-map, slice_get_within}
 use Rattle.grid_core.specs.Diagram.{IsOneEach}
 use Rattle.grid_core.proofs.OneEach.{each_below, each_length, range_more}
-use Rattle.grid_canon.specs.declared.packed.Packed.{Packed}
+use Rattle.grid_canon.specs.declared.key.Packed.{Packed}
 use Rattle.grid_canon.specs.Key.{same_key}
 use Rattle.grid_canon.proofs.Keys.{same_key_true, same_key_false}
 use Rattle.search_book.specs.declared.entry.Entry.{Entry}
-use Rattle.search_book.specs.Machine.{id_of}
-use Rattle.search_book.specs.Sound.{keys}
+use Rattle.search_book.specs.Entries.{id_of}
+use Rattle.search_book.specs.Entries.{keys}
 use Rattle.search_book.specs.Index.{Indexed, IsIndexOf, paired_ids}
 use Rattle.search_book.proofs.Appended.{stands_before, stands_last}
 use Rattle.search_book.proofs.Restaged.{SameButStages, same_keys}
-use Rattle.search_book.proofs.Lookups.{IsKeptAt, id_of_some, id_of_none}
+use Rattle.search_book.proofs.Lookups.{HasKeyAt, id_of_some, id_of_none}
 use Rattle.grid_canon.proofs.LeastTranslates.{range_contains}
 
 -- where a look-up finds nothing no key passes the test
@@ -29,7 +29,9 @@ none_at : (test : Packed → Bool) (ps : List (Packed × ℕ)) (k : ℕ) (p : Pa
 none_at test [] k p none at = cc
 none_at test (q ∷ qs) k p none at = by k (test q.0) refl none at (λ i rest there. none_at test qs i p rest there)
   where
-    by : (k : ℕ) (t : Bool) → test q.0 ≡ t → cond t (Some q.1) (lookup test qs) ≡ None → slice_get (q ∷ qs) k ≡ Some p → ((i : ℕ) → lookup test qs ≡ None → slice_get qs i ≡ Some p → test p.0 ≡ false) → test p.0 ≡ false
+    by : (k : ℕ) (t : Bool)
+        → test q.0 ≡ t → cond t (Some q.1) (lookup test qs) ≡ None → slice_get (q ∷ qs) k ≡ Some p
+        → ((i : ℕ) → lookup test qs ≡ None → slice_get qs i ≡ Some p → test p.0 ≡ false) → test p.0 ≡ false
     by k true is none at deeper = cc
     by zero false is none at deeper =
         let same : q ≡ p = cc in
@@ -37,7 +39,9 @@ none_at test (q ∷ qs) k p none at = by k (test q.0) refl none at (λ i rest th
     by (suc k) false is none at deeper = deeper k none at
 
 -- an id among the pairs has its pair there
-pair_of : (ps : List (Packed × ℕ)) (k id : ℕ) → k < length (map (λ (p : Packed × ℕ). p.1) ps) → get_or (map (λ (p : Packed × ℕ). p.1) ps) k id ≡ id → (p : Packed × ℕ) × ((slice_get ps k ≡ Some p) × (p.1 ≡ id))
+pair_of : (ps : List (Packed × ℕ)) (k id : ℕ)
+    → k < length (map (λ (p : Packed × ℕ). p.1) ps) → get_or (map (λ (p : Packed × ℕ). p.1) ps) k id ≡ id
+    → (p : Packed × ℕ) × ((slice_get ps k ≡ Some p) × (p.1 ≡ id))
 pair_of [] k id lt is = absurd (omega (arith, lt))
 pair_of (p ∷ ps) zero id lt is = (p, (refl, is))
 pair_of (p ∷ ps) (suc k) id lt is = pair_of ps k id (omega (arith, lt)) is
@@ -76,15 +80,20 @@ module _ (ks : List Packed) (index : Indexed) (is : IsIndexOf ks index) where
       by (Some id) found = absurd (no_place ks key id new (place_of_pair key id found))
 
   -- a key that is not looked up and stands at none of the spilled ids has no place
-  pub absent_key : (key : Packed) → lookup (same_key key) index.paired ≡ None → All (λ id. slice_get ks id ≢ Some key) index.spilled → (id : ℕ) → slice_get ks id ≢ Some key
+  pub absent_key : (key : Packed)
+      → lookup (same_key key) index.paired ≡ None → All (λ id. slice_get ks id ≢ Some key) index.spilled → (id : ℕ)
+      → slice_get ks id ≢ Some key
   absent_key key none apart id stands =
       let somewhere : Contains (paired_ids index) id ⊎ Contains index.spilled id =
-      Contains-append_cases (paired_ids index) index.spilled id (Contains-permutation (range_with_len 0 (length ks)) (paired_ids index ++ index.spilled) id is.once (range_contains (length ks) id (slice_get_within ks id key stands))) in
+      Contains-append_cases (paired_ids index) index.spilled id
+      (Contains-permutation (range_with_len 0 (length ks)) (paired_ids index ++ index.spilled) id is.once (range_contains (length ks) id (slice_get_within ks id key stands))) in
       elim somewhere [
         | inl paired ↦
             let found = pair_of index.paired paired.0 id paired.1 paired.2 in
             let p : Packed × ℕ = found.0 in
-            let own : slice_get ks id ≡ Some p.0 = subst (λ i. slice_get ks i ≡ Some p.0) found.1.1 (pair_all (λ (q : Packed × ℕ). slice_get ks q.1 ≡ Some q.0) index.paired paired.0 p is.own_keys found.1.0) in
+            let own : slice_get ks id ≡ Some p.0 =
+            subst (λ i. slice_get ks i ≡ Some p.0) found.1.1
+            (pair_all (λ (q : Packed × ℕ). slice_get ks q.1 ≡ Some q.0) index.paired paired.0 p is.own_keys found.1.0) in
             let same : Some key ≡ Some p.0 = sym stands ∙ own in
             let key_is : key ≡ p.0 = cc in
             same_key_false key p.0 (none_at (same_key key) index.paired paired.0 p none found.1.0) key_is
@@ -93,7 +102,10 @@ module _ (ks : List Packed) (index : Indexed) (is : IsIndexOf ks index) where
 
   -- each spilled id is a place
   pub spilled_inside : All (λ id. id < length ks) index.spilled
-  spilled_inside k d lt = All-contains (λ i. i < length ks) (paired_ids index ++ index.spilled) (get_or index.spilled k d) (each_below (length ks) (paired_ids index ++ index.spilled) is.once) (Contains-append_right (paired_ids index) index.spilled (get_or index.spilled k d) (Contains-get_or index.spilled k d lt))
+  spilled_inside k d lt =
+      All-contains (λ i. i < length ks) (paired_ids index ++ index.spilled) (get_or index.spilled k d)
+      (each_below (length ks) (paired_ids index ++ index.spilled) is.once)
+      (Contains-append_right (paired_ids index) index.spilled (get_or index.spilled k d) (Contains-get_or index.spilled k d lt))
 
   -- there are at most as many spilled ids as keys
   pub spilled_count : length index.spilled ≤ length ks
@@ -113,10 +125,13 @@ module _ (ks : List Packed) (index : Indexed) (is : IsIndexOf ks index) where
         ap (λ (z : ℕ). range_with_len 0 (length ks) ++ z ∷ []) here
         ∙ sym (range_more (length ks) 0)
         ∙ ap (range_with_len 0) count in
-        subst (λ (ys : List ℕ). IsPermutation ys ((paired_ids index ++ index.spilled) ++ id ∷ [])) range (IsPermutation-append_left (id ∷ []) (range_with_len 0 (length ks)) (paired_ids index ++ index.spilled) is.once)
+        subst (λ (ys : List ℕ). IsPermutation ys ((paired_ids index ++ index.spilled) ++ id ∷ [])) range
+        (IsPermutation-append_left (id ∷ []) (range_with_len 0 (length ks)) (paired_ids index ++ index.spilled) is.once)
 
     own_more : All (λ (p : Packed × ℕ). slice_get (ks ++ key ∷ []) p.1 ≡ Some p.0) index.paired
-    own_more = All-weaker (λ (p : Packed × ℕ). slice_get ks p.1 ≡ Some p.0) (λ (p : Packed × ℕ). slice_get (ks ++ key ∷ []) p.1 ≡ Some p.0) (λ p. stands_before ks (key ∷ []) p.1 p.0) index.paired is.own_keys
+    own_more =
+        All-weaker (λ (p : Packed × ℕ). slice_get ks p.1 ≡ Some p.0) (λ (p : Packed × ℕ). slice_get (ks ++ key ∷ []) p.1 ≡ Some p.0)
+        (λ p. stands_before ks (key ∷ []) p.1 p.0) index.paired is.own_keys
 
     -- beside its key
     pub paired_more : IsIndexOf (ks ++ key ∷ []) (record { room = index.room; paired = index.paired ++ (key, id) ∷ []; spilled = index.spilled })
@@ -125,12 +140,15 @@ module _ (ks : List Packed) (index : Indexed) (is : IsIndexOf ks index) where
       once =
           subst (λ (ids : List ℕ). IsOneEach (length (ks ++ key ∷ [])) (ids ++ index.spilled)) (sym (map_push (λ (p : Packed × ℕ). p.1) index.paired (key, id)))
           (IsPermutation-trans (range_with_len 0 (length (ks ++ key ∷ []))) ((paired_ids index ++ index.spilled) ++ id ∷ []) ((paired_ids index ++ id ∷ []) ++ index.spilled) once_more moved);
-      own_keys = All-push (λ (p : Packed × ℕ). slice_get (ks ++ key ∷ []) p.1 ≡ Some p.0) index.paired (key, id) own_more (subst (λ (i : ℕ). slice_get (ks ++ key ∷ []) i ≡ Some key) (sym place) (stands_last ks key));
+      own_keys =
+          All-push (λ (p : Packed × ℕ). slice_get (ks ++ key ∷ []) p.1 ≡ Some p.0) index.paired (key, id) own_more
+          (subst (λ (i : ℕ). slice_get (ks ++ key ∷ []) i ≡ Some key) (sym place) (stands_last ks key));
     }
       where
         moved : IsPermutation ((paired_ids index ++ index.spilled) ++ id ∷ []) ((paired_ids index ++ id ∷ []) ++ index.spilled)
         moved =
-            subst (λ (ys : List ℕ). IsPermutation ((paired_ids index ++ index.spilled) ++ id ∷ []) ys) (sym (append_assoc (paired_ids index) (id ∷ []) index.spilled))
+            subst (λ (ys : List ℕ). IsPermutation ((paired_ids index ++ index.spilled) ++ id ∷ []) ys)
+            (sym (append_assoc (paired_ids index) (id ∷ []) index.spilled))
             (subst (λ (ys : List ℕ). IsPermutation ys (paired_ids index ++ (id ∷ [] ++ index.spilled))) (sym (append_assoc (paired_ids index) index.spilled (id ∷ [])))
             (IsPermutation-append_right (paired_ids index) (index.spilled ++ id ∷ []) (id ∷ [] ++ index.spilled) (IsPermutation-append_comm index.spilled (id ∷ []))))
 
@@ -143,14 +161,16 @@ module _ (ks : List Packed) (index : Indexed) (is : IsIndexOf ks index) where
     }
 
 -- the place of a key among those of the entries is the id of its entry
-pub found_id : (es : List Entry) (key : Packed) (id : ℕ) → AllPairs (λ (p q : Packed). p ≢ q) (keys es) → slice_get (keys es) id ≡ Some key → id_of es key ≡ Some id
+pub found_id : (es : List Entry) (key : Packed) (id : ℕ)
+    → AllPairs (λ (p q : Packed). p ≢ q) (keys es) → slice_get (keys es) id ≡ Some key → id_of es key ≡ Some id
 found_id es key id differ stands = by (id_of es key) refl
   where
     by : (o : Option ℕ) → id_of es key ≡ o → o ≡ Some id
     by None is = absurd (no_place (keys es) key id (id_of_none es key is) stands)
     by (Some other) is =
-        let at : IsKeptAt es key other = id_of_some es key other is in
-        let there : slice_get (keys es) other ≡ Some key = slice_get-map (λ (e : Entry). e.key) es other ∙ ap (option_map (λ (e : Entry). e.key)) at.stands ∙ ap Some at.has_key in
+        let at : HasKeyAt es key other = id_of_some es key other is in
+        let there : slice_get (keys es) other ≡ Some key =
+        slice_get-map (λ (e : Entry). e.key) es other ∙ ap (option_map (λ (e : Entry). e.key)) at.stands ∙ ap Some at.has_key in
         ap Some (one_place (keys es) other id key differ there stands)
 
 -- a key without a place is that of no entry
@@ -160,29 +180,37 @@ absent_id es key absent = by (id_of es key) refl
     by : (o : Option ℕ) → id_of es key ≡ o → o ≡ None
     by None is = refl
     by (Some other) is =
-        let at : IsKeptAt es key other = id_of_some es key other is in
+        let at : HasKeyAt es key other = id_of_some es key other is in
         absurd (absent other (slice_get-map (λ (e : Entry). e.key) es other ∙ ap (option_map (λ (e : Entry). e.key)) at.stands ∙ ap Some at.has_key))
 
 -- an entry with another key
 pub other_key : (es : List Entry) (id : ℕ) (z : Entry) (key : Packed) → same_key (get_or es id z).key key ≡ false → slice_get (keys es) id ≢ Some key
 other_key es id z key other stands =
     let within : id < length es = omega (arith, slice_get_within (keys es) id key stands, length-map es (λ (e : Entry). e.key)) in
-    let there : slice_get (keys es) id ≡ Some (get_or es id z).key = slice_get-map (λ (e : Entry). e.key) es id ∙ ap (option_map (λ (e : Entry). e.key)) (slice_get-get_or es id z within) in
+    let there : slice_get (keys es) id ≡ Some (get_or es id z).key =
+    slice_get-map (λ (e : Entry). e.key) es id ∙ ap (option_map (λ (e : Entry). e.key)) (slice_get-get_or es id z within) in
     let same : Some (get_or es id z).key ≡ Some key = sym there ∙ stands in
     let key_is : (get_or es id z).key ≡ key = cc in
     same_key_false (get_or es id z).key key other key_is
 
 -- what is found among the spilled ids, where the look-up finds nothing
-pub spilled_or_none : (es : List Entry) (index : Indexed) (key : Packed) (o : Option ℕ) → IsIndexOf (keys es) index → lookup (same_key key) index.paired ≡ None → IfSome o (λ id. slice_get (keys es) id ≡ Some key) → IfNone o (All (λ id. slice_get (keys es) id ≢ Some key) index.spilled) → o ≡ id_of es key
+pub spilled_or_none : (es : List Entry) (index : Indexed) (key : Packed) (o : Option ℕ)
+    → IsIndexOf (keys es) index → lookup (same_key key) index.paired ≡ None
+    → IfSome o (λ id. slice_get (keys es) id ≡ Some key)
+    → IfNone o (All (λ id. slice_get (keys es) id ≢ Some key) index.spilled) → o ≡ id_of es key
 spilled_or_none es index key None is none some apart = sym (absent_id es key (absent_key (keys es) index is key none apart))
 spilled_or_none es index key (Some id) is none some apart = sym (found_id es key id is.differ some)
 
 -- the index of the entries at other stages
-pub index_kept : (old new : List Entry) (index : Indexed) → SameButStages old new → IsIndexOf (keys old) index → IsIndexOf (keys new) index
-index_kept old new index same is = subst (λ (ks : List Packed). IsIndexOf ks index) (sym (same_keys old new same)) is
+pub index_restaged : (old new : List Entry) (index : Indexed) → SameButStages old new → IsIndexOf (keys old) index → IsIndexOf (keys new) index
+index_restaged old new index same is = subst (λ (ks : List Packed). IsIndexOf ks index) (sym (same_keys old new same)) is
 
 -- the index of one entry more
-pub index_more : (es : List Entry) (e : Entry) (id : ℕ) (old new : Indexed) (fs : List Entry) → IsIndexOf (keys es) old → id_of es e.key ≡ None → id ≡ 0 + length es → fs ≡ es ++ e ∷ [] → ((known : List Packed) → IsIndexOf known old → All (λ (k : Packed). k ≢ e.key) known → id ≡ length known → IsIndexOf (known ++ e.key ∷ []) new) → IsIndexOf (keys fs) new
+pub index_more : (es : List Entry) (e : Entry) (id : ℕ) (old new : Indexed) (fs : List Entry)
+    → IsIndexOf (keys es) old → id_of es e.key ≡ None → id ≡ 0 + length es → fs ≡ es ++ e ∷ []
+    → ((known : List Packed) → IsIndexOf known old → All (λ (k : Packed). k ≢ e.key) known → id ≡ length known → IsIndexOf (known ++ e.key ∷ []) new)
+    → IsIndexOf (keys fs) new
 index_more es e id old new fs is none place pushed adds =
     let behind : id ≡ length (keys es) = omega (arith, place, length-map es (λ (f : Entry). f.key)) in
-    subst (λ (ks : List Packed). IsIndexOf ks new) (sym (map_push (λ (f : Entry). f.key) es e) ∙ ap keys (sym pushed)) (adds (keys es) is (id_of_none es e.key none) behind)
+    subst (λ (ks : List Packed). IsIndexOf ks new) (sym (map_push (λ (f : Entry). f.key) es e) ∙ ap keys (sym pushed))
+    (adds (keys es) is (id_of_none es e.key none) behind)

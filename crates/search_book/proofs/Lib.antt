@@ -24,9 +24,10 @@ mod OneAfter
 mod Opened
 mod Standing
 mod AfterSettling
-mod KeptEntries
+mod LaterEntries
+mod OncePerRun
+mod Accounts
 pub mod Recorded
 mod WaysDown
-mod TurnedBack
 mod SidesMet
 mod WorkedPaths

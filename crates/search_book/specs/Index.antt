@@ -2,7 +2,7 @@
 use Rattle.std.specs.Prelude.{◌≡◌, ◌≢◌, ◌++◌, ℕ, List, Some, length, map, slice_get}
 use Rattle.std.specs.List.{All, AllPairs}
 use Rattle.grid_core.specs.Diagram.{IsOneEach}
-use Rattle.grid_canon.specs.declared.packed.Packed.{Packed}
+use Rattle.grid_canon.specs.declared.key.Packed.{Packed}
 
 -- the ids that stand beside their keys, those that stand alone, and for how many of these there is room
 pub record Indexed : Type 0 where

@@ -1,15 +1,15 @@
 //! The ids of the entries by their keys.
 ghost use Rattle.std.specs.Prelude.{◌≡◌, ◌≢◌, ◌<◌, ◌≤◌, ◌++◌, ◌∷◌, [], List, length, slice_get, IfOk, IfSome, IfNone, Some};
 ghost use Rattle.std.specs.List.{All};
-ghost use Rattle.grid_canon.specs.declared.packed.Packed.{Packed};
-ghost use Rattle.search_book.specs.Machine.{id_of};
-ghost use Rattle.search_book.specs.Sound.{keys};
+ghost use Rattle.grid_canon.specs.declared.key.Packed.{Packed};
+ghost use Rattle.search_book.specs.Entries.{id_of};
+ghost use Rattle.search_book.specs.Entries.{keys};
 ghost use Rattle.search_book.specs.Index.{IsIndexOf};
 
 use crate::entry::Entry;
-use frontier_core::OutOfMemory;
 use grid_canon::Packed;
 use indexmap::IndexMap;
+use memory_core::OutOfMemory;
 use std::alloc::Global;
 use std::marker::Model;
 

@@ -6,7 +6,7 @@ use Rattle.search_book.specs.declared.answer.Claim.TheVariants.{Work, Later, Ove
 use Rattle.search_book.specs.declared.answer.Settled.{Settled}
 use Rattle.search_book.specs.declared.answer.Settled.TheVariants.{Done, Late, Stranger}
 use Rattle.search_book.specs.declared.event.Event.TheVariants.{Claim, Settle}
-use Rattle.search_book.specs.Machine.{State}
+use Rattle.search_book.specs.State.{State}
 use Rattle.search_book.specs.Answers.{AnswersClaim, AnswersSettle}
 use Rattle.search_pool.specs.Holding.{IsHolding}
 

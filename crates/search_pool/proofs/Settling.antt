@@ -3,7 +3,7 @@ use Rattle.std.proofs.Common.{◌≡◌, ◌∙◌, ap, ap₂, refl, sym, ℕ, �
 use Rattle.std.proofs.lemmas.List.Elements.{All-contains}
 use Rattle.std.proofs.lemmas.Option.{slice_get_within, get_or_from_slice_get}
 use Rattle.grid_core.specs.Diagram.{size}
-use Rattle.grid_canon.specs.declared.packed.Packed.{Packed}
+use Rattle.grid_canon.specs.declared.key.Packed.{Packed}
 use Rattle.grid_canon.specs.Key.{key_of, size_of, same_key}
 use Rattle.grid_canon.proofs.Keys.{size_of_key}
 use Rattle.grid_canon.proofs.LeastTranslates.{map_contains}
@@ -16,13 +16,17 @@ use Rattle.search_book.specs.declared.problem.Problem.{Problem}
 use Rattle.search_book.specs.declared.entry.Entry.{Entry}
 use Rattle.search_book.specs.declared.entry.Stage.TheVariants as stage
 use Rattle.search_book.specs.declared.event.Event.TheVariants.{Claim, Settle}
-use Rattle.search_book.specs.Machine.{State, Begins, Claims, opened}
-use Rattle.search_book.specs.Sound.{IsSound, keys}
+use Rattle.search_book.specs.State.{State}
+use Rattle.search_book.specs.Begin.{Begins, opened}
+use Rattle.search_book.specs.Claim.{Claims}
+use Rattle.search_book.specs.Entries.{keys}
+use Rattle.search_book.specs.Sound.{IsSound}
 use Rattle.search_book.specs.Answers.{AnswersSettle, IsTicket, IsDone, held, held_entry, asked_by}
 use Rattle.search_book.proofs.Restaged.{set_stands}
 use Rattle.search_book.proofs.Recorded.{settled_history, settled_problem}
 
-module _ (s t u : State) (worker : ℕ) (ticket : Ticket) (offers : Neighbourhood) (claims : Claims s worker ticket.id t) (is_ticket : IsTicket s ticket) (origin : offers.origin ≡ key_of ticket.form.grid) (cap : offers.cap ≡ s.problem.cap) where
+module _ (s t u : State) (worker : ℕ) (ticket : Ticket) (offers : Neighbourhood) (claims : Claims s worker ticket.id t)
+    (is_ticket : IsTicket s ticket) (origin : offers.origin ≡ key_of ticket.form.grid) (cap : offers.cap ≡ s.problem.cap) where
   -- the entry of the ticket is in flight for the worker, with the key of the offers
   held_now : held t ticket.id ≡ Some (asked_by worker offers)
   held_now =
@@ -58,7 +62,9 @@ module _ (s t u : State) (worker : ℕ) (ticket : Ticket) (offers : Neighbourhoo
 -- the diagram of a ticket is within the cap
 pub ticket_small : (s : State) (ticket : Ticket) → IsSound s → IsTicket s ticket → size ticket.form.grid ≤ s.problem.cap
 ticket_small s ticket sound is =
-    let key : size_of is.entry.key ≤ s.problem.cap = All-contains (λ (k : Packed). size_of k ≤ s.problem.cap) (keys s.entries) is.entry.key sound.within_cap (map_contains (λ (e : Entry). e.key) s.entries is.entry (ticket.id, slice_get_within s.entries ticket.id is.entry is.stands, get_or_from_slice_get s.entries ticket.id is.entry is.entry is.stands)) in
+    let key : size_of is.entry.key ≤ s.problem.cap =
+    All-contains (λ (k : Packed). size_of k ≤ s.problem.cap) (keys s.entries) is.entry.key sound.bounds.cap
+    (map_contains (λ (e : Entry). e.key) s.entries is.entry (ticket.id, slice_get_within s.entries ticket.id is.entry is.stands, get_or_from_slice_get s.entries ticket.id is.entry is.entry is.stands)) in
     omega (arith, key, sym (size_of_key ticket.form.grid is.form.grid) ∙ ap size_of is.form.named)
 
 pub begun_problem : (p : Problem) (s : State) → Begins p s → s.problem ≡ p

@@ -1,20 +1,17 @@
 -- What lies under the lock before and after a claim or a settlement.
-use Rattle.std.proofs.Common.{◌≡◌, ◌≢◌, ◌∙◌, ap, sym, subst, refl, ℕ, ◌<◌, ◌≤◌, ◌+◌, ◌-◌, ◌^◌, not, arith, None}
-use Rattle.std.proofs.lemmas.List.Sums.{count_by-le-length}
+use Rattle.std.proofs.Common.{◌≡◌, ◌≢◌, sym, subst, refl, ℕ, ◌<◌, ◌≤◌, ◌+◌, ◌-◌, ◌^◌, arith, None}
 use Rattle.grid_core.specs.declared.grid.TheConstants.{MAX_SIZE}
 use Rattle.grid_core.specs.Diagram.{size}
 use Rattle.next_moves.specs.Offers.{Neighbourhood}
 use Rattle.search_book.specs.declared.answer.Settled.{Settled}
 use Rattle.search_book.specs.declared.answer.Settled.TheVariants.{Done, Late, Stranger}
-use Rattle.search_book.specs.declared.event.Event.TheVariants.{Settle}
-use Rattle.search_book.specs.declared.event.Event.{Event}
-use Rattle.search_book.specs.Machine.{State}
-use Rattle.search_book.specs.Sound.{IsSound, is_claim}
+use Rattle.search_book.specs.State.{State}
+use Rattle.search_book.specs.Sound.{IsSound}
 use Rattle.search_book.specs.Answers.{AnswersSettle}
-use Rattle.search_book.proofs.Histories.{count_more}
-use Rattle.search_book.proofs.Recorded.{settled_history, settle_when_over}
+use Rattle.search_book.proofs.Histories.{as_many_events}
+use Rattle.search_book.proofs.Recorded.{done_adds_one, settle_when_over}
 use Rattle.search_pool.specs.declared.locked.Task.{Task}
-use Rattle.search_pool.specs.Finding.{settlements}
+use Rattle.search_book.specs.Events.{settlements}
 use Rattle.search_pool.specs.Task.{AllowsOffers, IsTaskOf, Counts}
 use Rattle.search_pool.proofs.Settling.{ticket_small}
 
@@ -29,35 +26,30 @@ allows_offers s t worker task sound is =
 -- a sound book has far fewer settlements than a counter can count
 pub few_settlements : (s : State) → IsSound s → settlements s.history < 2 ^ 64 - 1
 few_settlements s sound =
-    omega (arith, count_by-le-length (λ (event : Event). not (is_claim event)) s.history, sound.events, sound.within_budget, sound.problem.most)
+    omega (arith, as_many_events s.history, sound.events.most, sound.bounds.budget, sound.problem.most)
 
 -- taken offers are one settlement more
-pub done_adds_one : (s t : State) (worker id : ℕ) (offers : Neighbourhood) (answer : Settled) → answer ≡ Done → AnswersSettle s worker id offers answer t → settlements t.history ≡ settlements s.history + 1
-done_adds_one s t worker id offers Done same is =
-    ap (λ (u : State). settlements u.history) is.after
-    ∙ ap settlements (settled_history s worker id is.entry offers.offers)
-    ∙ count_more (λ (event : Event). not (is_claim event)) s.history (Settle worker id)
-done_adds_one s t worker id offers Late same is = cc
-done_adds_one s t worker id offers (Stranger asked kept) same is = cc
-
--- and any other answer changes nothing
-pub unless_done : (s t : State) (worker id : ℕ) (offers : Neighbourhood) (answer : Settled) → answer ≢ Done → AnswersSettle s worker id offers answer t → t ≡ s
-unless_done s t worker id offers Done other is = absurd (other refl)
-unless_done s t worker id offers Late other is = is.1
-unless_done s t worker id offers (Stranger asked kept) other is = is.unchanged
+pub one_more_where_done : (s t : State) (worker id : ℕ) (offers : Neighbourhood) (answer : Settled)
+    → answer ≡ Done → AnswersSettle s worker id offers answer t → settlements t.history ≡ settlements s.history + 1
+one_more_where_done s t worker id offers answer same is =
+    done_adds_one s t worker id offers (subst (λ (a : Settled). AnswersSettle s worker id offers a t) same is)
 
 -- what is over stays over
-pub over_after : (s t : State) (worker id : ℕ) (offers : Neighbourhood) (answer : Settled) → AnswersSettle s worker id offers answer t → s.end ≢ None → t.end ≢ None
+pub over_after : (s t : State) (worker id : ℕ) (offers : Neighbourhood) (answer : Settled)
+    → AnswersSettle s worker id offers answer t → s.end ≢ None → t.end ≢ None
 over_after s t worker id offers answer is over = subst (λ (u : State). u.end ≢ None) (sym (settle_when_over s t worker id offers answer over is)) over
 
 -- the seat counts one more where the offers were taken
-pub counts_done : (s t : State) (worker id : ℕ) (offers : Neighbourhood) (answer : Settled) (before after : ℕ) → answer ≡ Done → after ≡ before + 1 → AnswersSettle s worker id offers answer t → Counts s worker id offers t before after
+pub counts_done : (s t : State) (worker id : ℕ) (offers : Neighbourhood) (answer : Settled) (before after : ℕ)
+    → answer ≡ Done → after ≡ before + 1 → AnswersSettle s worker id offers answer t
+    → Counts s worker id offers t before after
 counts_done s t worker id offers Done before after same more is = record { answer = Done; answers = is; counts = more }
 counts_done s t worker id offers Late before after same more is = cc
 counts_done s t worker id offers (Stranger asked kept) before after same more is = cc
 
 -- and else nothing happened
-pub counts_none : (s t : State) (worker id : ℕ) (offers : Neighbourhood) (answer : Settled) (made : ℕ) → answer ≢ Done → AnswersSettle s worker id offers answer t → Counts s worker id offers t made made
+pub counts_none : (s t : State) (worker id : ℕ) (offers : Neighbourhood) (answer : Settled) (made : ℕ)
+    → answer ≢ Done → AnswersSettle s worker id offers answer t → Counts s worker id offers t made made
 counts_none s t worker id offers Done made other is = absurd (other refl)
 counts_none s t worker id offers Late made other is = record { answer = Late; answers = is; counts = omega arith }
 counts_none s t worker id offers (Stranger asked kept) made other is = record { answer = Stranger asked kept; answers = is; counts = omega arith }

@@ -2,7 +2,8 @@
 use Rattle.std.specs.Prelude.{◌≡◌, ◌⊎◌, ℕ}
 use Rattle.search_book.specs.declared.event.Event.{Event}
 use Rattle.search_book.specs.declared.event.Event.TheVariants.{Claim, Settle}
-use Rattle.search_book.specs.Machine.{State, After}
+use Rattle.search_book.specs.State.{State}
+use Rattle.search_book.specs.Machine.{After}
 
 -- the worker whose claim or settlement it is
 abbrev pub worker_of : Event → ℕ

@@ -2,9 +2,10 @@
 use Rattle.std.specs.Prelude.{◌≡◌, ◌≢◌, ◌≤◌, ◌+◌, ℕ, None}
 use Rattle.grid_core.specs.declared.grid.TheConstants.{MAX_SIZE}
 use Rattle.grid_core.specs.Diagram.{size}
-use Rattle.grid_canon.specs.Canonical.{IsCanonical}
+use Rattle.grid_canon.specs.CanonicalForm.{IsCanonical}
 use Rattle.next_moves.specs.Offers.{Neighbourhood}
-use Rattle.search_book.specs.Machine.{State, Claims}
+use Rattle.search_book.specs.State.{State}
+use Rattle.search_book.specs.Claim.{Claims}
 use Rattle.search_book.specs.declared.answer.Settled.{Settled}
 use Rattle.search_book.specs.declared.answer.Settled.TheVariants.{Done, Late, Stranger}
 use Rattle.search_book.specs.Answers.{IsAllClaimed, IsTicket, AnswersSettle}

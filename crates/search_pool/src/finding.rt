@@ -1,7 +1,8 @@
 //! What a search leaves.
 ghost use Rattle.std.specs.Prelude.{◌≡◌, ◌≢◌, None};
 ghost use Rattle.search_book.specs.Ended.{Shows};
-ghost use Rattle.search_pool.specs.Finding.{IsFinding, settlements};
+ghost use Rattle.search_book.specs.Events.{settlements};
+ghost use Rattle.search_pool.specs.Finding.{IsFinding};
 
 use search_book::{Book, End, Problem};
 
@@ -25,19 +26,6 @@ impl Finding {
         ensures shows { (end : End) → book.end ≡ Some end → Shows book end }
     {
         let settled = book.settles();
-        Finding::counted(book, settled)
-    }
-
-    /// The finding of a book that is over, whose settlements were counted, of its own problem and with no stray.
-    pub(crate) fn counted(book: Book, settled: u64) -> Finding
-        requires over { book.end ≢ None }
-        requires settled { settled ≡ settlements book.history }
-        ensures book { result.book ≡ book }
-        ensures stray { result.stray ≡ None }
-        ensures finding { IsFinding book.problem result }
-        ensures shows { (end : End) → book.end ≡ Some end → Shows book end }
-    {
-        let _problem = book.problem();
         Finding {
             book,
             settled,

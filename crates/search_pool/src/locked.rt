@@ -1,6 +1,6 @@
 //! What lies under the lock of a shared book.
 ghost use Rattle.std.specs.Prelude.{◌≡◌, ◌≢◌, ◌<◌, ◌≤◌, ◌+◌, [], None, true, vec_len};
-ghost use Rattle.search_pool.specs.Finding.{settlements};
+ghost use Rattle.search_book.specs.Events.{settlements};
 ghost use Rattle.search_pool.specs.Holding.{IsHolding};
 ghost use Rattle.search_pool.specs.Seats.{SeatState, all_made, how_many_saw_end};
 ghost use Rattle.search_pool.specs.Task.{AllowsOffers, Hands, Counts};
@@ -81,7 +81,7 @@ impl<L: Ledger, M: Ledger> Locked<L, M> {
 
     /// One claim of the book, the one call of its holding. The seat notes the end, and a worker that finds nothing is
     /// counted as waiting.
-    #[tactic(auto, using(crate::proofs::Holdings::claim_holds))]
+    #[tactic(auto, using(crate::proofs::Holdings::claim_holds, search_book::proofs::Recorded::claim_keeps_settlements))]
     pub fn claim(&mut self, _call: OneCall, seat: &mut Seat<L, M>) -> Handed
         ensures book { IsHolding seat.old.worker self.old.book self.new.book }
         ensures handed { Hands self.old.book seat.old.worker result self.new.book }
@@ -197,7 +197,6 @@ fn settle_counted<L: Ledger, M: Ledger>(
     ensures made { seat.old.made ≤ seat.new.made }
     ensures saw_end { seat.new.saw_end ≡ seat.old.saw_end }
 {
-    let _problem = book.problem();
     if book.settle(seat.worker(), id, offers) == Settled::Done {
         seat.count(made_ledger);
     }

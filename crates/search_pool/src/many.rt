@@ -5,7 +5,8 @@ ghost use Rattle.grid_core.specs.Diagram.{size};
 ghost use Rattle.search_book.specs.declared.problem.TheConstants.{MAX_BUDGET};
 ghost use Rattle.search_book.specs.Ended.{Shows};
 ghost use Rattle.search_book.specs.Sound.{IsProblem};
-ghost use Rattle.search_pool.specs.Finding.{IsFinding, settlements};
+ghost use Rattle.search_book.specs.Events.{settlements};
+ghost use Rattle.search_pool.specs.Finding.{IsFinding};
 ghost use Rattle.search_pool.specs.InTurn.{AreInTurn};
 ghost use Rattle.search_pool.specs.Seats.{SeatState};
 
@@ -14,7 +15,7 @@ use crate::gate::Gate;
 use crate::searcher::alone;
 use crate::seat::Seat;
 use crate::shared::SharedBook;
-use frontier_core::OutOfMemory;
+use memory_core::OutOfMemory;
 use search_book::{Book, End, Problem};
 use std::alloc::Global;
 use std::marker::Brand;
@@ -82,7 +83,11 @@ fn compared(
     ensures shows { IfOk result (λ f. (end : End) → f.book.end ≡ Some end → Shows f.book end) }
 {
     if book.problem().same_as(&problem) {
-        return Ok(Finding::counted(book, settled));
+        return Ok(Finding {
+            book,
+            settled,
+            stray: None,
+        });
     }
     let stray = book.problem().copy();
     drop(book);

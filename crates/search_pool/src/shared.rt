@@ -1,7 +1,7 @@
 //! A book that many workers share.
 ghost use Rattle.std.specs.Prelude.{◌≡◌, ◌≢◌, ◌<◌, ◌≤◌, ◌+◌, [], None, true, vec_len, IfOk, IfSome, IfNone};
 ghost use Rattle.search_pool.specs.declared.many.TheConstants.{MAX_WORKERS};
-ghost use Rattle.search_pool.specs.Finding.{settlements};
+ghost use Rattle.search_book.specs.Events.{settlements};
 ghost use Rattle.search_pool.specs.Seats.{SeatState, fresh_seats, all_made, how_many_saw_end};
 ghost use Rattle.search_pool.specs.Task.{AllowsOffers};
 
@@ -9,7 +9,7 @@ use crate::gate::Gate;
 use crate::holding::{hold, hold_again};
 use crate::locked::{Handed, Locked, Task, Waking};
 use crate::seat::Seat;
-use frontier_core::OutOfMemory;
+use memory_core::OutOfMemory;
 use next_moves::Offers;
 use search_book::Book;
 use std::alloc::Global;

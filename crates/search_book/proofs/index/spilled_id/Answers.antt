@@ -1,15 +1,18 @@
 use Rattle.std.proofs.Common.{◌≢◌, ◌∙◌, sym, subst, ℕ, List, Some, All, get_or, slice_get}
 use Rattle.std.proofs.lemmas.List.{take_all}
 use Rattle.std.proofs.lemmas.List.Elements.{All-more}
-use Rattle.search_book.specs.Sound.{keys}
+use Rattle.search_book.specs.Entries.{keys}
 use Rattle.search_book.proofs.Indexes.{other_key}
 use Rattle.search_book.proofs.index.spilled_id.Goals as goal
 
 pub loop-id-preserved : goal.loop-id-preserved
 loop-id-preserved c =
     let id : ℕ = get_or c.args.ids.now c.loop-id.id-index 0 in
-    All-more (λ (i : ℕ). slice_get (keys c.args.entries.now) i ≢ Some c.args.key) c.args.ids.now c.loop-id.id-index 0 c.loop-id-test.true c.loop-id.invariant (other_key c.args.entries.now id _ c.args.key (sym c.eq.ensures ∙ c.if-eq.false))
+    All-more
+    (λ (i : ℕ). slice_get (keys c.args.entries.now) i ≢ Some c.args.key) c.args.ids.now c.loop-id.id-index 0 c.loop-id-test.true c.loop-id.invariant
+    (other_key c.args.entries.now id _ c.args.key (sym c.eq.ensures ∙ c.if-eq.false))
 
 pub returns-clause-none : goal.returns-clause-none
 returns-clause-none c =
-    subst (λ (ids : List ℕ). All (λ (i : ℕ). slice_get (keys c.args.entries.now) i ≢ Some c.args.key) ids) (take_all c.loop-id.id-index c.args.ids.now c.loop-id-test.false) c.loop-id.invariant
+    subst (λ (ids : List ℕ). All (λ (i : ℕ). slice_get (keys c.args.entries.now) i ≢ Some c.args.key) ids)
+    (take_all c.loop-id.id-index c.args.ids.now c.loop-id-test.false) c.loop-id.invariant

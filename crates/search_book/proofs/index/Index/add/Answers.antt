@@ -1,6 +1,6 @@
 use Rattle.std.proofs.Common.{◌≡◌, ◌∙◌, ◌++◌, ◌∷◌, [], sym, subst, ℕ, List, vec_capacity}
 use Rattle.indexmap.proofs.CallerLemmas.{insert_entry-new}
-use Rattle.grid_canon.specs.declared.packed.Packed.{Packed}
+use Rattle.grid_canon.specs.declared.key.Packed.{Packed}
 use Rattle.grid_canon.specs.Key.{same_key}
 use Rattle.search_book.specs.Index.{Indexed, IsIndexOf}
 use Rattle.search_book.proofs.Indexes.{new_key, paired_more, spilled_more}
@@ -10,8 +10,10 @@ pub returns-in-Ok-clause-index : goal.returns-in-Ok-clause-index
 returns-in-Ok-clause-index c = λ known is new place.
     let old : Indexed = record { room = vec_capacity c.self.inside.spilled; paired = c.self.inside.by_key.entries; spilled = c.self.inside.spilled.items } in
     let was : IsIndexOf known old = subst (λ (index : Indexed). IsIndexOf known index) (sym c.self.view_is) is in
-    let entries : c.insert.new.self.entries ≡ old.paired ++ (c.args.key, c.args.id) ∷ [] = c.in-Ok.ensures.entries ∙ insert_entry-new same_key c.self.inside.by_key c.args.key c.args.id (new_key known old was c.args.key new) in
-    subst (λ (paired : List (Packed × ℕ)). IsIndexOf (known ++ c.args.key ∷ []) (record { room = old.room; paired = paired; spilled = old.spilled })) (sym entries) (paired_more known old was c.args.key c.args.id new place)
+    let entries : c.insert.new.self.entries ≡ old.paired ++ (c.args.key, c.args.id) ∷ [] =
+    c.in-Ok.ensures.entries ∙ insert_entry-new same_key c.self.inside.by_key c.args.key c.args.id (new_key known old was c.args.key new) in
+    subst (λ (paired : List (Packed × ℕ)). IsIndexOf (known ++ c.args.key ∷ []) (record { room = old.room; paired = paired; spilled = old.spilled }))
+    (sym entries) (paired_more known old was c.args.key c.args.id new place)
 
 pub returns-in-Err-clause-index : goal.returns-in-Err-clause-index
 returns-in-Err-clause-index c = λ known is new place.

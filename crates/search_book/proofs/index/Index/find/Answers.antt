@@ -3,7 +3,7 @@ use Rattle.std.specs.Map.{lookup}
 use Rattle.std.proofs.lemmas.List.{length-map}
 use Rattle.grid_canon.specs.Key.{same_key}
 use Rattle.search_book.specs.declared.entry.Entry.{Entry}
-use Rattle.search_book.specs.Sound.{keys}
+use Rattle.search_book.specs.Entries.{keys}
 use Rattle.search_book.specs.Index.{Indexed, IsIndexOf}
 use Rattle.search_book.proofs.Indexes.{place_of_pair, spilled_inside, spilled_or_none, found_id}
 use Rattle.search_book.proofs.index.Index.find.Goals as goal

@@ -1,0 +1,122 @@
+//! The offers of an entry are taken, and the entry is settled.
+ghost use Rattle.std.specs.Prelude.{◌≡◌, ◌≤◌, ◌<◌, length, slice_get, Some, IsTrue, true, ◌↔◌};
+ghost use Rattle.std.specs.List.{All};
+ghost use Rattle.frontier_core.specs.declared.sizes.TheConstants.{SIZES};
+ghost use Rattle.grid_canon.specs.Key.{size_of};
+ghost use Rattle.next_moves.specs.declared.links.Offer.{Offer};
+ghost use Rattle.search_book.specs.Entries.{StandsAt};
+ghost use Rattle.search_book.specs.declared.entry.Entry.{Entry};
+ghost use Rattle.search_book.specs.Settle.{met_or_passed_over, weighed, taken_all, finished, settled_entries};
+ghost use Rattle.search_book.specs.Roll.{is_in_flight};
+
+use crate::answer::Held;
+use crate::entry::{Entry, Origin, Stage};
+use crate::event::{End, Meeting};
+use crate::problem::Side;
+use crate::roll::Roll;
+use next_moves::Offer;
+
+/// Whether what is in flight is what was asked.
+pub fn is_held(held: Option<Held>, asked: Held) -> bool
+    ensures { IsTrue result ↔ (held ≡ Some asked) }
+{
+    held == Some(asked)
+}
+
+/// Takes the offers of an entry in flight, and settles it where none of them ends the book; answers why the book is over
+/// where it now is.
+pub fn settle_entry(roll: &mut Roll, budget: u32, id: u32, offers: &[Offer]) -> Option<End>
+    requires room { budget ≤ roll.old.room }
+    requires sizes { All (λ (o : Offer). size_of o.key < SIZES) offers.now }
+    requires inside { id < length roll.old.entries }
+    requires in_flight { (e : Entry) → StandsAt roll.old.entries id e → is_in_flight e ≡ true }
+    ensures room { roll.new.room ≡ roll.old.room }
+    ensures settled { (e : Entry)
+        → StandsAt roll.old.entries id e
+        → settled_entries budget id e roll.old.entries offers.now ≡ record { entries = roll.new.entries; end = result } }
+{
+    let side = roll.entries()[id as usize].side;
+    let end = take_all(roll, budget, id, side, offers);
+    if end.is_some() {
+        return end;
+    }
+    finish(roll, id)
+}
+
+/// Takes the offers of an entry in order, and answers why the book is over where one of them ends it.
+fn take_all(roll: &mut Roll, budget: u32, id: u32, side: Side, offers: &[Offer]) -> Option<End>
+    requires room { budget ≤ roll.old.room }
+    requires sizes { All (λ (o : Offer). size_of o.key < SIZES) offers.now }
+    ensures room { roll.new.room ≡ roll.old.room }
+    ensures taken { taken_all budget id side roll.old.entries offers.now
+        ≡ record { entries = roll.new.entries; end = result } }
+{
+    for offer in offers {
+        let end = take(roll, budget, id, side, *offer);
+        if end.is_some() {
+            return end;
+        }
+    }
+    None
+}
+
+/// Takes one offer of an entry: it is passed over, admitted, or ends the book.
+fn take(roll: &mut Roll, budget: u32, id: u32, side: Side, offer: Offer) -> Option<End>
+    requires room { budget ≤ roll.old.room }
+    requires size { size_of offer.key < SIZES }
+    ensures room { roll.new.room ≡ roll.old.room }
+    ensures taken { weighed budget id side roll.old.entries offer ≡ record { entries = roll.new.entries; end = result } }
+{
+    match roll.find(offer.key) {
+        Some(other) => met_or_passed_over(roll, id, side, offer, other),
+        None => {
+            if roll.len() < budget {
+                roll.admit(Entry {
+                    key: offer.key,
+                    side,
+                    origin: Origin::Child {
+                        parent: id,
+                        link: offer.link,
+                    },
+                    stage: Stage::Unclaimed,
+                });
+                None
+            } else {
+                Some(End::Spent { refused: offer.key })
+            }
+        }
+    }
+}
+
+/// An offered entry of the other side ends the book, and one of this side is passed over.
+fn met_or_passed_over(roll: &Roll, id: u32, side: Side, offer: Offer, other: u32) -> Option<End>
+    requires { other < length roll.now.entries }
+    ensures { result ≡ met_or_passed_over id side offer other (slice_get roll.now.entries other) }
+{
+    if roll.entries()[other as usize].side == side {
+        None
+    } else {
+        Some(End::Met(Meeting::Offered {
+            id,
+            other,
+            link: offer.link,
+        }))
+    }
+}
+
+/// Settles an entry all of whose offers were taken, and answers whether the book is exhausted.
+fn finish(roll: &mut Roll, id: u32) -> Option<End>
+    requires inside { id < length roll.old.entries }
+    requires in_flight { (e : Entry) → StandsAt roll.old.entries id e → is_in_flight e ≡ true }
+    ensures room { roll.new.room ≡ roll.old.room }
+    ensures finished { (e : Entry)
+        → StandsAt roll.old.entries id e
+        → finished id e roll.old.entries ≡ record { entries = roll.new.entries; end = result } }
+{
+    roll.settle(id);
+    if roll.all_settled() {
+        Some(End::Exhausted)
+    } else {
+        None
+    }
+}
