@@ -1,25 +1,24 @@
 -- The kind of a verdict, by what moves reach and by the budget.
 use Rattle.std.proofs.Common.{◌≡◌, Bool, ◌≤◌, ◌⊎◌, ◌∙◌, inl, inr, ap, sym, refl, subst, ℕ, List, Option, Some, None, arith}
-use Rattle.std.specs.List.{All, find}
+use Rattle.std.specs.List.{All, find, position_or_len}
 use Rattle.std.proofs.lemmas.List.Folds.{find_at}
-use Rattle.std.specs.List.{position_or_len}
 use Rattle.std.proofs.lemmas.Option.{slice_get_within, get_or_from_slice_get}
 use Rattle.grid_core.specs.Diagram.{Diagram}
 use Rattle.grid_moves.specs.declared.step.Move.{Move}
 use Rattle.grid_moves.specs.Joining.{WithinCap}
 use Rattle.quandle_core.specs.Quandle.{IsQuandle}
 use Rattle.colour_list.specs.Listing.{lists_of}
-use Rattle.cert_check.specs.Evidence.{Claims, Holds, TellsApart}
-use Rattle.cert_check.proofs.Rulings.{told_apart}
-use Rattle.knot_text.specs.Names.{NamedQuandle}
-use Rattle.knot_text.specs.declared.verdict.Verdict.{Verdict}
-use Rattle.knot_text.specs.declared.verdict.Verdict.TheVariants.{Equal, Different, UnknownBudget, UnknownExhausted}
+use Rattle.verdict_core.specs.Evidence.{Claims, Holds, TellsApart, HasEvidence}
+use Rattle.verdict_core.proofs.ToldApart.{told_apart}
+use Rattle.verdict_core.specs.Names.{NamedQuandle}
+use Rattle.verdict_core.specs.declared.verdict.Verdict.{Verdict}
+use Rattle.verdict_core.specs.declared.verdict.Verdict.TheVariants.{Equal, Different, UnknownBudget, UnknownExhausted}
 use Rattle.next_moves.specs.Reach.{IsReached, HasMembers, HasMoreMembers}
 use Rattle.next_moves.proofs.HowMany.{one_number, more_excluded}
 use Rattle.search_book.specs.declared.problem.Problem.{Problem}
 use Rattle.search_pool.specs.declared.finding.Finding.{Finding}
 use Rattle.pair_verdict.specs.Separates.{separates, first_separating, IsDifferentBy}
-use Rattle.pair_verdict.specs.Decided.{Decides, IsToldApart, IsTrueWithin, HasEvidence}
+use Rattle.pair_verdict.specs.Decided.{Decides, IsToldApart, IsTrueWithin}
 use Rattle.pair_verdict.proofs.FirstFound.{find_passes, holds_by}
 use Rattle.pair_verdict.proofs.Verdicts.{claims_within, holds_within}
 

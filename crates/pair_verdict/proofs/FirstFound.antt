@@ -7,9 +7,9 @@ use Rattle.std.proofs.lemmas.List.{take-append-drop, take_more, drop_more}
 use Rattle.grid_core.specs.Diagram.{Diagram}
 use Rattle.colour_list.specs.Fits.{fits}
 use Rattle.colour_list.specs.Listing.{colourings}
-use Rattle.cert_check.specs.Evidence.{Holds}
-use Rattle.knot_text.specs.Names.{NamedQuandle}
-use Rattle.knot_text.specs.declared.verdict.Verdict.{Verdict}
+use Rattle.verdict_core.specs.Evidence.{Holds}
+use Rattle.verdict_core.specs.Names.{NamedQuandle}
+use Rattle.verdict_core.specs.declared.verdict.Verdict.{Verdict}
 use Rattle.pair_verdict.specs.Separates.{separates, first_separating, IsDifferentBy, IsSeparation}
 
 -- ---- finding

@@ -1,4 +1,3 @@
-mod FirstFound
+pub mod FirstFound
 mod Verdicts
 mod AnswerKinds
-mod PrintedVerdicts

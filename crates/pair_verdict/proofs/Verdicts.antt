@@ -1,20 +1,20 @@
 -- What a verdict of a search is worth.
 use Rattle.std.proofs.Common.{rules, ◌≡◌, refl, ◌≤◌, sym, subst, List, Option, Some, None, length}
 use Rattle.grid_moves.proofs.Within.{within_joins}
-use Rattle.cert_check.specs.Evidence.{Claims, Holds}
-use Rattle.knot_text.specs.Names.{NamedQuandle}
-use Rattle.knot_text.specs.declared.verdict.Verdict.{Verdict}
-use Rattle.knot_text.specs.declared.verdict.Verdict.TheVariants.{Equal, Different, UnknownBudget, UnknownExhausted}
+use Rattle.verdict_core.specs.Evidence.{Claims, Holds, HasEvidence}
+use Rattle.verdict_core.specs.Names.{NamedQuandle}
+use Rattle.verdict_core.specs.declared.verdict.Verdict.{Verdict}
+use Rattle.verdict_core.specs.declared.verdict.Verdict.TheVariants.{Equal, Different, UnknownBudget, UnknownExhausted}
 use Rattle.search_book.specs.declared.problem.Problem.{Problem}
 use Rattle.search_book.specs.declared.event.End.{End}
 use Rattle.search_book.specs.declared.event.End.TheVariants.{Met, Spent, Exhausted}
-use Rattle.search_book.specs.Machine.{State}
+use Rattle.search_book.specs.State.{State}
 use Rattle.search_book.specs.Ended.{Shows}
 use Rattle.search_pool.specs.Finding.{IsFinding}
 use Rattle.search_pool.specs.InTurn.{AreInTurn}
 use Rattle.search_pool.specs.declared.finding.Finding.{Finding}
 use Rattle.pair_verdict.specs.Separates.{first_separating}
-use Rattle.pair_verdict.specs.Decided.{IsVerdictAt, IsTrueWithin, JoinsWhereEqual, HasEvidence, IsSearched}
+use Rattle.pair_verdict.specs.Decided.{IsVerdictAt, IsTrueWithin, JoinsWhereEqual, IsSearched}
 
 -- by the end of the book
 pub true_within : (s : State) (end : Option End) (v : Verdict) → length s.entries ≤ s.problem.budget → ((e : End) → end ≡ Some e → Shows s e) → IsVerdictAt s end v → JoinsWhereEqual s.problem v → IsTrueWithin s.problem v
@@ -48,5 +48,5 @@ searched p qs f v none found no_stray turn shows at joins = record {
   no_stray = no_stray;
   in_turn = turn;
   verdict = at;
-  true_within = subst (λ (q : Problem). IsTrueWithin q v) found.problem (true_within f.book f.book.end v found.sound.within_budget shows at joins);
+  true_within = subst (λ (q : Problem). IsTrueWithin q v) found.problem (true_within f.book f.book.end v found.sound.bounds.budget shows at joins);
 }

@@ -2,16 +2,15 @@
 use Rattle.std.specs.Prelude.{◌≡◌, ◌≤◌, ◌⊎◌, List, Option, Some, None, length}
 use Rattle.grid_moves.specs.declared.step.Move.{Move}
 use Rattle.grid_moves.specs.Joining.{JoinsWithin, WithinCap}
-use Rattle.knot_text.specs.declared.steps.TheConstants.{MAX_NUMBER}
-use Rattle.knot_text.specs.Names.{NamedQuandle}
-use Rattle.knot_text.specs.declared.verdict.Verdict.{Verdict}
-use Rattle.knot_text.specs.declared.verdict.Verdict.TheVariants.{Equal, Different, UnknownBudget, UnknownExhausted}
+use Rattle.verdict_core.specs.Names.{NamedQuandle}
+use Rattle.verdict_core.specs.declared.verdict.Verdict.{Verdict}
+use Rattle.verdict_core.specs.declared.verdict.Verdict.TheVariants.{Equal, Different, UnknownBudget, UnknownExhausted}
 use Rattle.next_moves.specs.Reach.{IsReached, HasMembers, HasMoreMembers}
 use Rattle.search_book.specs.declared.problem.Problem.{Problem}
 use Rattle.search_book.specs.declared.event.End.{End}
 use Rattle.search_book.specs.declared.event.End.TheVariants.{Met, Spent, Exhausted}
-use Rattle.search_book.specs.Machine.{State}
-use Rattle.search_book.specs.Joined.{IsJoining}
+use Rattle.search_book.specs.State.{State}
+use Rattle.search_book.specs.Joining.{IsJoining}
 use Rattle.search_pool.specs.declared.finding.Finding.{Finding}
 use Rattle.search_pool.specs.Finding.{IsFinding}
 use Rattle.search_pool.specs.InTurn.{AreInTurn}
@@ -61,17 +60,3 @@ pub record IsSearched (p : Problem) (quandles : List NamedQuandle) (v : Verdict)
 -- the verdict on the two diagrams of a problem by these quandles, and the search that is kept
 abbrev pub Decides : Problem → List NamedQuandle → Verdict → Option Finding → Type 0
 Decides p quandles v kept = IsToldApart p quandles v kept ⊎ IsSearched p quandles v kept
-
--- the verdict has evidence
-abbrev pub HasEvidence : Verdict → Type 0
-HasEvidence (Equal moves) = Unit {0}
-HasEvidence (Different listed one two) = Unit {0}
-HasEvidence (UnknownBudget budget) = ⊥
-HasEvidence (UnknownExhausted cap k) = ⊥
-
--- its moves are not too many for a text
-abbrev pub IsShort : Verdict → Type 0
-IsShort (Equal moves) = length moves ≤ MAX_NUMBER
-IsShort (Different listed one two) = Unit {0}
-IsShort (UnknownBudget budget) = Unit {0}
-IsShort (UnknownExhausted cap k) = Unit {0}

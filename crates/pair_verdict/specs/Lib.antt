@@ -2,4 +2,4 @@ pub mod Separates
 pub mod Decided
 pub use Rattle.search_pool.specs.Finding
 pub use Rattle.next_moves.specs.Reach
-pub use Rattle.cert_check.specs.Evidence
+pub use Rattle.verdict_core.specs.Evidence

@@ -1,15 +1,14 @@
 -- Quandles that tell two diagrams apart by their numbers of colourings.
-use Rattle.std.specs.Prelude.{◌≡◌, ◌≤◌, ◌==◌, ◌&&◌, not, ℕ, Bool, List, Option, Some, None, length}
+use Rattle.std.specs.Prelude.{◌≡◌, ◌==◌, ◌&&◌, not, ℕ, Bool, List, Option, Some, None, length}
 use Rattle.std.specs.List.{find}
 use Rattle.arrayvec.specs.ArrayVec.{ArrayVec}
 use Rattle.grid_core.specs.Diagram.{Diagram}
 use Rattle.quandle_core.specs.Quandle.{Table}
 use Rattle.colour_list.specs.Fits.{fits}
-use Rattle.colour_list.specs.declared.limits.TheConstants.{MAX_COLOURINGS}
 use Rattle.colour_list.specs.Listing.{colourings, lists_of}
-use Rattle.knot_text.specs.Names.{NamedQuandle}
-use Rattle.knot_text.specs.declared.verdict.Verdict.{Verdict}
-use Rattle.knot_text.specs.declared.verdict.Verdict.TheVariants.{Equal, Different, UnknownBudget, UnknownExhausted}
+use Rattle.verdict_core.specs.Names.{NamedQuandle}
+use Rattle.verdict_core.specs.declared.verdict.Verdict.{Verdict}
+use Rattle.verdict_core.specs.declared.verdict.Verdict.TheVariants.{Different}
 
 -- the quandle fits both diagrams, and they have different numbers of colourings
 abbrev pub separates : Diagram → Diagram → Table → Bool
@@ -33,10 +32,3 @@ IsSeparation d e None None = Unit {0}
 IsSeparation d e None (Some v) = ⊥
 IsSeparation d e (Some q) None = ⊥
 IsSeparation d e (Some q) (Some v) = IsDifferentBy d e q v
-
--- its lists are those of a quandle that fits
-abbrev pub HasFewColourings : Verdict → Type 0
-HasFewColourings (Different listed one two) = (length one ≤ MAX_COLOURINGS) × (length two ≤ MAX_COLOURINGS)
-HasFewColourings (Equal moves) = Unit {0}
-HasFewColourings (UnknownBudget budget) = Unit {0}
-HasFewColourings (UnknownExhausted cap k) = Unit {0}

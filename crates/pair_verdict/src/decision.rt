@@ -2,19 +2,17 @@
 ghost use Rattle.std.specs.Prelude.{◌≡◌, ◌≤◌, ◌≢◌, None, IfOk};
 ghost use Rattle.grid_core.specs.declared.grid.TheConstants.{MAX_SIZE};
 ghost use Rattle.grid_core.specs.Diagram.{size};
-ghost use Rattle.std.specs.List.{AllByRecursion};
-ghost use Rattle.knot_text.specs.Printed.{HasQuandleText, HasVerdictText};
-ghost use Rattle.cert_check.specs.Evidence.{Claims, Holds};
+ghost use Rattle.verdict_core.specs.Evidence.{Claims, Holds, HasEvidence};
 ghost use Rattle.search_book.specs.declared.problem.TheConstants.{MAX_BUDGET};
-ghost use Rattle.pair_verdict.specs.Decided.{Decides, IsVerdictAt, JoinsWhereEqual, HasEvidence, IsShort};
+ghost use Rattle.pair_verdict.specs.Decided.{Decides, IsVerdictAt, JoinsWhereEqual};
 
 use crate::separating::told_apart;
 use grid_core::Items;
-use knot_ports::OutOfMemory;
-use knot_text::{Listed, Verdict};
+use memory_core::OutOfMemory;
 use search_book::{Book, End, Problem};
 use search_pool::{Finding, alone};
 use std::alloc::Global;
+use verdict_core::{Listed, Verdict};
 
 /// A verdict, and the search that it came from, if there was one.
 #[derive(Drop)]
@@ -39,7 +37,6 @@ pub fn decide(alloc: Global, problem: Problem, quandles: &[Listed]) -> Result<De
     ensures decides { IfOk result (λ d. Decides problem quandles.now d.verdict d.kept) }
     ensures claims { IfOk result (λ d. Claims problem.first problem.second d.verdict) }
     ensures holds { IfOk result (λ d. HasEvidence d.verdict → Holds problem.first problem.second d.verdict) }
-    ensures text { IfOk result (λ d. AllByRecursion HasQuandleText quandles.now → IsShort d.verdict → HasVerdictText (size problem.first) (size problem.second) d.verdict) }
 {
     if let Some(verdict) = told_apart(alloc, &problem.first, &problem.second, quandles)? {
         return Ok(Decision {
@@ -47,13 +44,11 @@ pub fn decide(alloc: Global, problem: Problem, quandles: &[Listed]) -> Result<De
             kept: None,
         });
     }
-    match alone(alloc, problem) {
-        Ok(finding) => Ok(Decision {
-            verdict: verdict_of(alloc, &finding.book)?,
-            kept: Some(finding),
-        }),
-        Err(_) => Err(OutOfMemory),
-    }
+    let finding = alone(alloc, problem)?;
+    Ok(Decision {
+        verdict: verdict_of(alloc, &finding.book)?,
+        kept: Some(finding),
+    })
 }
 
 /// What the end of a book comes to.
@@ -63,10 +58,9 @@ fn verdict_of(alloc: Global, book: &Book) -> Result<Verdict, OutOfMemory>
     ensures joins { IfOk result (λ v. JoinsWhereEqual book.now.problem v) }
 {
     match book.end() {
-        Some(End::Met(_)) => match book.joined(alloc) {
-            Ok(Some(moves)) => Ok(Verdict::Equal(Items::from_vec(moves))),
-            Ok(None) => unreachable!(),
-            Err(_) => Err(OutOfMemory),
+        Some(End::Met(_)) => match book.joined(alloc)? {
+            Some(moves) => Ok(Verdict::Equal(Items::from_vec(moves))),
+            None => unreachable!(),
         },
         Some(End::Spent { .. }) => Ok(Verdict::UnknownBudget {
             budget: book.problem().budget,

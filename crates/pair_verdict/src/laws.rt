@@ -4,16 +4,16 @@ ghost use Rattle.std.specs.List.{All};
 ghost use Rattle.grid_moves.specs.declared.step.Move.{Move};
 ghost use Rattle.grid_moves.specs.Joining.{WithinCap};
 ghost use Rattle.quandle_core.specs.Quandle.{IsQuandle};
-ghost use Rattle.knot_text.specs.Names.{NamedQuandle};
-ghost use Rattle.knot_text.specs.declared.verdict.Verdict.{Verdict};
-ghost use Rattle.cert_check.specs.Evidence.{Claims, Holds};
+ghost use Rattle.verdict_core.specs.Names.{NamedQuandle};
+ghost use Rattle.verdict_core.specs.declared.verdict.Verdict.{Verdict};
+ghost use Rattle.verdict_core.specs.Evidence.{Claims, Holds, HasEvidence};
 ghost use Rattle.next_moves.specs.Reach.{IsReached, HasMembers, HasMoreMembers};
 ghost use Rattle.search_book.specs.declared.problem.Problem.{Problem};
 ghost use Rattle.search_pool.specs.declared.finding.Finding.{Finding};
 ghost use Rattle.pair_verdict.specs.Separates.{first_separating};
-ghost use Rattle.pair_verdict.specs.Decided.{Decides, HasEvidence};
+ghost use Rattle.pair_verdict.specs.Decided.{Decides};
 
-use knot_text::Verdict;
+use verdict_core::Verdict;
 
 /// The table of answers. Where no listed quandle separates the diagrams, two things decide the kind of the verdict: whether
 /// moves join them within the cap, and whether moves within the cap reach more canonical diagrams from them than the budget.

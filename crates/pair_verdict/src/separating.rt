@@ -1,18 +1,17 @@
 //! The first listed quandle that separates two diagrams.
-ghost use Rattle.std.specs.Prelude.{◌≡◌, ◌≤◌, true, Some, None, if◌then◌else◌, length, IfOk, IfSome};
+ghost use Rattle.std.specs.Prelude.{◌≡◌, ◌≤◌, true, Some, None, if◌then◌else◌, IfOk, IfSome};
 ghost use Rattle.colour_list.specs.Fits.{fits};
 ghost use Rattle.colour_list.specs.Listing.{colourings, lists_of};
-ghost use Rattle.colour_list.specs.declared.limits.TheConstants.{MAX_COLOURINGS};
-ghost use Rattle.cert_check.specs.Evidence.{Claims};
-ghost use Rattle.pair_verdict.specs.Separates.{separates, first_separating, IsSeparation, HasFewColourings};
+ghost use Rattle.verdict_core.specs.Evidence.{Claims};
+ghost use Rattle.pair_verdict.specs.Separates.{separates, first_separating, IsSeparation};
 
-use colour_list::{ListFault, fits, list};
+use colour_list::{fits, list_fitting};
 use colour_rows::Colouring;
 use grid_core::{Grid, Items};
-use knot_ports::OutOfMemory;
-use knot_text::{Listed, Verdict};
+use memory_core::OutOfMemory;
 use quandle_core::Quandle;
 use std::alloc::Global;
+use verdict_core::{Listed, Verdict};
 
 /// The verdict `different` by the first listed quandle that separates two grids, or None where none does. A quandle that
 /// does not fit both is passed over.
@@ -24,7 +23,6 @@ pub(crate) fn told_apart(
 ) -> Result<Option<Verdict>, OutOfMemory>
     ensures verdict { IfOk result (λ o. IsSeparation first.now second.now (first_separating first.now second.now quandles.now) o) }
     ensures claim { IfOk result (λ o. IfSome o (λ v. Claims first.now second.now v)) }
-    ensures few { IfOk result (λ o. IfSome o HasFewColourings) }
 {
     for listed in quandles {
         let verdict = separation(alloc, first, second, listed)?;
@@ -44,15 +42,14 @@ fn separation(
 ) -> Result<Option<Verdict>, OutOfMemory>
     ensures verdict { IfOk result (λ o. IsSeparation first.now second.now (if separates first.now second.now listed.now.table then Some listed.now else None) o) }
     ensures claim { IfOk result (λ o. IfSome o (λ v. Claims first.now second.now v)) }
-    ensures few { IfOk result (λ o. IfSome o HasFewColourings) }
 {
     let quandle = listed.quandle();
     let _order = quandle.order();
     if !fits(first, quandle) || !fits(second, quandle) {
         return Ok(None);
     }
-    let one = complete(alloc, first, quandle)?;
-    let two = complete(alloc, second, quandle)?;
+    let one = list_fitting(alloc, first, quandle)?;
+    let two = list_fitting(alloc, second, quandle)?;
     if one.len() == two.len() {
         return Ok(None);
     }
@@ -61,17 +58,4 @@ fn separation(
         first: Items::from_vec(one),
         second: Items::from_vec(two),
     }))
-}
-
-/// The complete list of colourings of a grid by a quandle that fits it.
-fn complete(alloc: Global, grid: &Grid, quandle: &Quandle) -> Result<Vec<Colouring>, OutOfMemory>
-    requires { fits quandle.now grid.now ≡ true }
-    ensures complete { IfOk result (λ v. lists_of v.items ≡ colourings quandle.now grid.now) }
-    ensures few { IfOk result (λ v. length v.items ≤ MAX_COLOURINGS) }
-{
-    match list(alloc, grid, quandle) {
-        Ok(colourings) => Ok(colourings),
-        Err(ListFault::TooWide { .. }) => unreachable!(),
-        Err(ListFault::OutOfMemory) => Err(OutOfMemory),
-    }
 }

@@ -6,11 +6,11 @@ mod steps;
 
 use crate::Decision;
 use grid_core::{Grid, MAX_SIZE};
-use knot_ports::OutOfMemory;
-use knot_text::Listed;
+use memory_core::OutOfMemory;
 use search_book::Problem;
 use std::alloc::Global;
 use std::test::Fail;
+use verdict_core::Listed;
 
 /// A budget that no search here spends.
 const BUDGET: u32 = 1_000;

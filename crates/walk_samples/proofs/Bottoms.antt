@@ -1,20 +1,17 @@
 -- A diagram has at most half as many bottoms as columns, since both columns of a bottom begin there.
-use Rattle.std.proofs.Common.{◌≡◌, ◌≢◌, ◌<◌, ◌≤◌, ◌+◌, ◌*◌, ◌^◌, ◌==◌, ◌∷◌, ◌∙◌, [], ℕ, zero, suc, List, Bool, true, false, cond, count_by, get_or, length, nat_lt, arith, sym, refl, ap, subst, ◌⊎◌, inl, inr}
+use Rattle.std.proofs.Common.{◌≡◌, ◌≢◌, ◌<◌, ◌≤◌, ◌+◌, ◌*◌, ◌^◌, ◌==◌, ◌∷◌, ◌∙◌, [], ℕ, zero, suc, List, Bool, true, false, cond, count_by, get_or, length, nat_lt, arith, sym, refl, ap, subst, inl, inr}
 use Rattle.std.specs.List.{range_with_len}
 use Rattle.std.proofs.lemmas.Bool.{and_parts, le-leb, cases_lt}
 use Rattle.std.proofs.lemmas.Bool.Decides.{nat_tests}
-use Rattle.std.proofs.lemmas.List.Sums.{sum_by-cons, sum_by_push, count_by-le-length}
+use Rattle.std.proofs.lemmas.List.Sums.{sum_by-cons, count_by-le-length}
 use Rattle.std.proofs.lemmas.List.FromFn.{length-range_with_len, get_or-range_with_len}
 use Rattle.std.proofs.Math.Nat.{pow-le-pow_left, pow-le-pow_right}
 use Rattle.grid_core.specs.declared.mark.Kind.TheVariants.{Cross, Ring}
 use Rattle.grid_core.specs.Diagram.{Diagram, IsGrid, size, row_of}
 use Rattle.grid_core.specs.Parts.{column_of, column_span, is_bottom, bottoms}
 use Rattle.grid_core.proofs.Marks.{column_mark, no_cell_twice}
-use Rattle.colour_rows.proofs.Ranges.{range_longer}
 use Rattle.quandle_core.specs.Quandle.{Table}
 use Rattle.colour_list.specs.declared.limits.TheConstants.{MAX_COLOURINGS}
-use Rattle.colour_list.specs.declared.limits.ListFault.{ListFault}
-use Rattle.colour_list.specs.declared.limits.ListFault.TheVariants as fault
 use Rattle.colour_list.specs.Fits.{fits}
 use Rattle.walk_samples.specs.declared.walk.TheConstants.{LARGEST}
 use Rattle.walk_samples.specs.declared.text.TheConstants.{LARGEST_ORDER}
@@ -121,11 +118,3 @@ power_small q b order few =
 pub small_fits : (t : Table) (d : Diagram) → IsGrid d → size d ≤ LARGEST → t.order ≤ LARGEST_ORDER → fits t d ≡ true
 small_fits t d grid small order =
     le-leb (t.order ^ bottoms d) MAX_COLOURINGS (power_small t.order (bottoms d) order (omega (arith, half_are_bottoms d grid, small)))
-
-pub fitting_list : (t : Table) (d : Diagram) (found : ListFault) (b : ℕ) → IsGrid d → size d ≤ LARGEST → t.order ≤ LARGEST_ORDER → found ≡ fault.TooWide b → found ≡ fault.OutOfMemory ⊎ (fits t d ≡ false) × (found ≡ fault.TooWide (bottoms d)) → ⊥
-fitting_list t d found b grid small order wide why =
-    let fit = small_fits t d grid small order in
-    elim why [
-      | inl memory ↦ (let e : fault.TooWide b ≡ fault.OutOfMemory = sym wide ∙ memory in cc)
-      | inr too_wide ↦ (let e : true ≡ false = sym fit ∙ too_wide.0 in cc)
-    ]

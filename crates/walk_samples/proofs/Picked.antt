@@ -18,7 +18,8 @@ use Rattle.next_moves.proofs.Extended.{step_size}
 use Rattle.next_moves.proofs.Members.{contains_filter, filter_contains, contains_first}
 use Rattle.walk_samples.specs.declared.walk.TheConstants.{LARGEST}
 use Rattle.walk_samples.specs.declared.candidates.Candidate.{Candidate}
-use Rattle.walk_samples.specs.Candidates.{is_candidate, candidates, tries, column_shift, row_shift, column_exchange, row_exchange, destabilisations, stabilisations}
+use Rattle.grid_moves.specs.MoveLists.{all_but_slides, column_shift, row_shift, column_exchange, row_exchange, destabilisations, stabilisations}
+use Rattle.walk_samples.specs.Candidates.{is_candidate, candidates}
 use Rattle.walk_samples.specs.Listed.{steps_of}
 use Rattle.walk_samples.specs.Walk.{Picks}
 
@@ -28,7 +29,7 @@ none_both None b is = (refl, is)
 none_both (Some fault) b is = cc
 
 pub candidate_legal : (d : Diagram) (move : Move) → Contains (candidates d) move → first_fault d move ≡ None
-candidate_legal d move c = (none_both (first_fault d move) (nat_le (size_after move (size d)) LARGEST) (filter_contains (is_candidate d) (tries (size d)) move c).1).0
+candidate_legal d move c = (none_both (first_fault d move) (nat_le (size_after move (size d)) LARGEST) (filter_contains (is_candidate d) (all_but_slides (size d)) move c).1).0
 
 pub candidate_fault : (d : Diagram) (move : Move) (fault : MoveFault) → Contains (candidates d) move → Some fault ≡ first_fault d move → ⊥
 candidate_fault d move fault c found =
@@ -37,14 +38,14 @@ candidate_fault d move fault c found =
 
 pub candidate_small : (d : Diagram) (move : Move) (e : Diagram) → Contains (candidates d) move → Step d move e → size e ≤ LARGEST
 candidate_small d move e c step =
-    let fits = leb-true (size_after move (size d)) LARGEST (none_both (first_fault d move) (nat_le (size_after move (size d)) LARGEST) (filter_contains (is_candidate d) (tries (size d)) move c).1).1 in
+    let fits = leb-true (size_after move (size d)) LARGEST (none_both (first_fault d move) (nat_le (size_after move (size d)) LARGEST) (filter_contains (is_candidate d) (all_but_slides (size d)) move c).1).1 in
     omega (arith, fits, step_size move d e step)
 
 -- the shift of columns by 1 is tried first, and it is a candidate
 shifts_by_one : (n k : ℕ) → n ≡ suc k → Contains (map column_shift (range_with_len 1 n)) (ShiftColumns 1)
 shifts_by_one n k e = subst (λ (m : ℕ). Contains (map column_shift (range_with_len 1 m)) (ShiftColumns 1)) (sym e) (contains_first (ShiftColumns 1) (map column_shift (range_with_len 2 k)))
 
-tried_first : (n : ℕ) → 2 ≤ n → Contains (tries n) (ShiftColumns 1)
+tried_first : (n : ℕ) → 2 ≤ n → Contains (all_but_slides n) (ShiftColumns 1)
 tried_first n least =
     let a : List Move = map column_shift (range_with_len 1 (n - 1)) in
     let b : List Move = map row_shift (range_with_len 1 (n - 1)) in
@@ -67,7 +68,7 @@ shift_is_candidate d least most = by (size d) least most
 
 pub a_candidate : (d : Diagram) → IsGrid d → size d ≤ LARGEST → Contains (candidates d) (ShiftColumns 1)
 a_candidate d grid most =
-    contains_filter (is_candidate d) (tries (size d)) (ShiftColumns 1) (tried_first (size d) grid.least) (shift_is_candidate d grid.least most)
+    contains_filter (is_candidate d) (all_but_slides (size d)) (ShiftColumns 1) (tried_first (size d) grid.least) (shift_is_candidate d grid.least most)
 
 pub some_candidates : (d : Diagram) → IsGrid d → size d ≤ LARGEST → 0 < length (candidates d)
 some_candidates d grid most = let c = a_candidate d grid most in omega (arith, c.1)

@@ -18,12 +18,13 @@ use Rattle.grid_moves.specs.MoveFault.{first_fault, shift_fault}
 use Rattle.grid_moves.specs.Step.{Step}
 use Rattle.grid_moves.proofs.OneResult.{step_exists, step_legal}
 use Rattle.grid_canon.proofs.LeastTranslates.{map_contains, flat_map_contains, range_contains}
-use Rattle.next_moves.specs.Tries.{corners}
+use Rattle.grid_core.specs.Corners.{corners}
 use Rattle.next_moves.specs.Offers.{size_after}
 use Rattle.next_moves.proofs.Extended.{step_size}
 use Rattle.next_moves.proofs.Members.{contains_filter, filter_contains}
 use Rattle.walk_samples.specs.declared.walk.TheConstants.{LARGEST}
-use Rattle.walk_samples.specs.Candidates.{is_slide, is_candidate, candidates, tries, column_shift, row_shift, column_exchange, row_exchange, destabilisation, destabilisations, stabilisation, stabilisations}
+use Rattle.grid_moves.specs.MoveLists.{is_slide, all_but_slides, column_shift, row_shift, column_exchange, row_exchange, destabilisation, destabilisations, stabilisation, stabilisations}
+use Rattle.walk_samples.specs.Candidates.{is_candidate, candidates}
 use Rattle.walk_samples.proofs.Picked.{candidate_legal, candidate_small}
 
 range_contains_from : (a n k : ℕ) → a ≤ k → k < a + n → Contains (range_with_len a n) k
@@ -65,7 +66,7 @@ module _ (n : ℕ) where
   abbrev marks : List Move
   marks = flat_map stabilisations (range_with_len 0 n)
 
-  tried_column_shift : (k : ℕ) → 0 < k → k < n → Contains (tries n) (ShiftColumns k)
+  tried_column_shift : (k : ℕ) → 0 < k → k < n → Contains (all_but_slides n) (ShiftColumns k)
   tried_column_shift k some lt =
       Contains-append_left (column_shifts ++ row_shifts ++ column_exchanges ++ row_exchanges ++ blocks) marks (ShiftColumns k)
       (Contains-append_left (column_shifts ++ row_shifts ++ column_exchanges ++ row_exchanges) blocks (ShiftColumns k)
@@ -73,7 +74,7 @@ module _ (n : ℕ) where
       (Contains-append_left (column_shifts ++ row_shifts) column_exchanges (ShiftColumns k)
       (Contains-append_left column_shifts row_shifts (ShiftColumns k) (map_contains column_shift (range_with_len 1 (n - 1)) k (range_contains_from 1 (n - 1) k (omega arith) (omega arith)))))))
 
-  tried_row_shift : (k : ℕ) → 0 < k → k < n → Contains (tries n) (ShiftRows k)
+  tried_row_shift : (k : ℕ) → 0 < k → k < n → Contains (all_but_slides n) (ShiftRows k)
   tried_row_shift k some lt =
       Contains-append_left (column_shifts ++ row_shifts ++ column_exchanges ++ row_exchanges ++ blocks) marks (ShiftRows k)
       (Contains-append_left (column_shifts ++ row_shifts ++ column_exchanges ++ row_exchanges) blocks (ShiftRows k)
@@ -81,27 +82,27 @@ module _ (n : ℕ) where
       (Contains-append_left (column_shifts ++ row_shifts) column_exchanges (ShiftRows k)
       (Contains-append_right column_shifts row_shifts (ShiftRows k) (map_contains row_shift (range_with_len 1 (n - 1)) k (range_contains_from 1 (n - 1) k (omega arith) (omega arith)))))))
 
-  tried_column_exchange : (c : ℕ) → c + 1 < n → Contains (tries n) (ExchangeColumns c)
+  tried_column_exchange : (c : ℕ) → c + 1 < n → Contains (all_but_slides n) (ExchangeColumns c)
   tried_column_exchange c lt =
       Contains-append_left (column_shifts ++ row_shifts ++ column_exchanges ++ row_exchanges ++ blocks) marks (ExchangeColumns c)
       (Contains-append_left (column_shifts ++ row_shifts ++ column_exchanges ++ row_exchanges) blocks (ExchangeColumns c)
       (Contains-append_left (column_shifts ++ row_shifts ++ column_exchanges) row_exchanges (ExchangeColumns c)
       (Contains-append_right (column_shifts ++ row_shifts) column_exchanges (ExchangeColumns c) (map_contains column_exchange (range_with_len 0 (n - 1)) c (range_contains (n - 1) c (omega arith))))))
 
-  tried_row_exchange : (r : ℕ) → r + 1 < n → Contains (tries n) (ExchangeRows r)
+  tried_row_exchange : (r : ℕ) → r + 1 < n → Contains (all_but_slides n) (ExchangeRows r)
   tried_row_exchange r lt =
       Contains-append_left (column_shifts ++ row_shifts ++ column_exchanges ++ row_exchanges ++ blocks) marks (ExchangeRows r)
       (Contains-append_left (column_shifts ++ row_shifts ++ column_exchanges ++ row_exchanges) blocks (ExchangeRows r)
       (Contains-append_right (column_shifts ++ row_shifts ++ column_exchanges) row_exchanges (ExchangeRows r) (map_contains row_exchange (range_with_len 0 (n - 1)) r (range_contains (n - 1) r (omega arith)))))
 
-  tried_block : (c r : ℕ) → c + 1 < n → r + 1 < n → Contains (tries n) (Destabilise c r)
+  tried_block : (c r : ℕ) → c + 1 < n → r + 1 < n → Contains (all_but_slides n) (Destabilise c r)
   tried_block c r column row =
       Contains-append_left (column_shifts ++ row_shifts ++ column_exchanges ++ row_exchanges ++ blocks) marks (Destabilise c r)
       (Contains-append_right (column_shifts ++ row_shifts ++ column_exchanges ++ row_exchanges) blocks (Destabilise c r)
       (flat_map_contains (destabilisations n) (range_with_len 0 (n - 1)) c (Destabilise c r) (range_contains (n - 1) c (omega arith))
       (map_contains (destabilisation c) (range_with_len 0 (n - 1)) r (range_contains (n - 1) r (omega arith)))))
 
-  tried_mark : (c : ℕ) (kind : Kind) (corner : Corner) → c < n → Contains (tries n) (Stabilise c kind corner)
+  tried_mark : (c : ℕ) (kind : Kind) (corner : Corner) → c < n → Contains (all_but_slides n) (Stabilise c kind corner)
   tried_mark c kind corner lt =
       Contains-append_right (column_shifts ++ row_shifts ++ column_exchanges ++ row_exchanges ++ blocks) marks (Stabilise c kind corner)
       (flat_map_contains stabilisations (range_with_len 0 n) c (Stabilise c kind corner) (range_contains n c lt) (of_kind kind))
@@ -116,7 +117,7 @@ module _ (n : ℕ) where
       of_kind Cross = Contains-append_left (map (stabilisation c Cross) corners) (map (stabilisation c Ring) corners) (Stabilise c Cross corner) (map_contains (stabilisation c Cross) corners corner (each corner))
       of_kind Ring = Contains-append_right (map (stabilisation c Cross) corners) (map (stabilisation c Ring) corners) (Stabilise c Ring corner) (map_contains (stabilisation c Ring) corners corner (each corner))
 
-legal_tried : (d : Diagram) (move : Move) → is_slide move ≡ false → first_fault d move ≡ None → Contains (tries (size d)) move
+legal_tried : (d : Diagram) (move : Move) → is_slide move ≡ false → first_fault d move ≡ None → Contains (all_but_slides (size d)) move
 legal_tried d (ShiftColumns k) six legal = let inside = between k (size d) legal in tried_column_shift (size d) k inside.0 inside.1
 legal_tried d (ShiftRows k) six legal = let inside = between k (size d) legal in tried_row_shift (size d) k inside.0 inside.1
 legal_tried d (ExchangeColumns c) six legal = tried_column_exchange (size d) c (ltb-true (c + 1) (size d) (passed_test (nat_lt (c + 1) (size d)) _ legal))
@@ -132,7 +133,7 @@ small_candidate : (d : Diagram) (move : Move) (e : Diagram) → is_slide move �
 small_candidate d move e six step small =
     let legal = step_legal d move e step in
     let fits : nat_le (size_after move (size d)) LARGEST ≡ true = le-leb (size_after move (size d)) LARGEST (omega (arith, small, step_size move d e step)) in
-    contains_filter (is_candidate d) (tries (size d)) move (legal_tried d move six legal) (ap (λ (fault : Option MoveFault). is_none fault && nat_le (size_after move (size d)) LARGEST) legal ∙ fits)
+    contains_filter (is_candidate d) (all_but_slides (size d)) move (legal_tried d move six legal) (ap (λ (fault : Option MoveFault). is_none fault && nat_le (size_after move (size d)) LARGEST) legal ∙ fits)
 
 -- no slide is tried
 abbrev IsNoSlide : Move → Type 0
@@ -146,8 +147,8 @@ all_flat : (f : ℕ → List Move) (xs : List ℕ) → ((x : ℕ) → All IsNoSl
 all_flat f [] each = All-nil IsNoSlide
 all_flat f (x ∷ xs) each = All-append IsNoSlide (f x) (flat_map f xs) (each x) (all_flat f xs each)
 
-tries_slide_not : (n : ℕ) → All IsNoSlide (tries n)
-tries_slide_not n =
+slides_are_left_out : (n : ℕ) → All IsNoSlide (all_but_slides n)
+slides_are_left_out n =
     All-append IsNoSlide (column_shifts n ++ row_shifts n ++ column_exchanges n ++ row_exchanges n ++ blocks n) (marks n)
     (All-append IsNoSlide (column_shifts n ++ row_shifts n ++ column_exchanges n ++ row_exchanges n) (blocks n)
     (All-append IsNoSlide (column_shifts n ++ row_shifts n ++ column_exchanges n) (row_exchanges n)
@@ -160,7 +161,7 @@ tries_slide_not n =
     All-append IsNoSlide (map (stabilisation c Cross) corners) (map (stabilisation c Ring) corners) (all_mapped (stabilisation c Cross) corners (λ corner. refl)) (all_mapped (stabilisation c Ring) corners (λ corner. refl))))
 
 no_slide : (d : Diagram) (move : Move) → Contains (candidates d) move → is_slide move ≡ false
-no_slide d move among = All-contains IsNoSlide (tries (size d)) move (tries_slide_not (size d)) (filter_contains (is_candidate d) (tries (size d)) move among).0
+no_slide d move among = All-contains IsNoSlide (all_but_slides (size d)) move (slides_are_left_out (size d)) (filter_contains (is_candidate d) (all_but_slides (size d)) move among).0
 
 pub candidates_are : (d : Diagram) (move : Move) → IsGrid d → Contains (candidates d) move ↔ ((is_slide move ≡ false) × ((e : Diagram) × (Step d move e × (size e ≤ LARGEST))))
 candidates_are d move grid = (

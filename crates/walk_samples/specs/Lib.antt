@@ -6,7 +6,7 @@ pub use Rattle.grid_core.specs.Diagram
 pub use Rattle.grid_core.specs.Parts
 pub use Rattle.grid_moves.specs.Step
 pub use Rattle.grid_moves.specs.Joining
-pub use Rattle.next_moves.specs.Tries
+pub use Rattle.grid_moves.specs.MoveLists
 pub use Rattle.colour_list.specs.Fits
 pub use Rattle.colour_list.specs.Listing
 pub use Rattle.text_lines.specs.Spelled

@@ -2,10 +2,11 @@
 ghost use Rattle.std.specs.Prelude.{◌≡◌, ◌<◌, ◌≤◌, ◌+◌, ◌-◌, ◌*◌, ◌∷◌, [], length, map};
 ghost use Rattle.std.specs.List.{range_with_len, flat_map};
 ghost use Rattle.grid_core.specs.Diagram.{size};
-ghost use Rattle.next_moves.specs.Tries.{corners};
+ghost use Rattle.grid_core.specs.Corners.{corners};
 ghost use Rattle.walk_samples.specs.declared.walk.TheConstants.{LARGEST};
 ghost use Rattle.walk_samples.specs.declared.candidates.TheConstants.{MOST_TRIES};
-ghost use Rattle.walk_samples.specs.Candidates.{is_candidate, candidates, column_shift, row_shift, column_exchange, row_exchange, destabilisation, destabilisations, stabilisation, stabilisations};
+ghost use Rattle.grid_moves.specs.MoveLists.{column_shift, row_shift, column_exchange, row_exchange, destabilisation, destabilisations, stabilisation, stabilisations};
+ghost use Rattle.walk_samples.specs.Candidates.{is_candidate, candidates};
 ghost use Rattle.walk_samples.specs.Listed.{Adds, steps_of};
 
 use crate::walk::LARGEST;
@@ -17,13 +18,6 @@ use grid_moves::{Move, apply};
 pub(crate) const MOST_TRIES: usize = 4 * (LARGEST - 1)
     + (LARGEST - 1) * (LARGEST - 1)
     + 8 * LARGEST;
-
-const CORNERS: [Corner; 4] = [
-    Corner::LowLeft,
-    Corner::LowRight,
-    Corner::HighLeft,
-    Corner::HighRight,
-];
 
 /// A move that may be picked.
 #[derive(Clone, Copy)]
@@ -171,7 +165,7 @@ fn stabilise_mark(list: &mut CandidateList, grid: &Grid, column: u8, kind: Kind)
     ensures added { Adds grid.now (map (stabilisation column kind) corners) list.old.items list.new.items }
     ensures fits { length list.new.items ≤ length list.old.items + 4 }
 {
-    for corner in CORNERS {
+    for corner in Corner::ALL {
         let step = Move::Stabilise {
             column,
             kind,

@@ -8,10 +8,10 @@ ghost use Rattle.walk_samples.specs.Text.{counts_text, walk_text, sample_text, T
 
 use crate::walk::{LARGEST, right_trefoil, sample_walk};
 use cert_check::{Ruling, check_moves};
-use colour_list::{ListFault, list};
+use colour_list::list_fitting;
 use grid_core::Grid;
 use grid_moves::{Move, apply_all};
-use knot_ports::OutOfMemory;
+use memory_core::OutOfMemory;
 use quandle_core::Quandle;
 use std::alloc::Global;
 use text_lines::{push_counted, push_paired};
@@ -149,9 +149,5 @@ fn count(alloc: Global, quandle: &Quandle, grid: &Grid) -> Result<usize, OutOfMe
     ensures { IfOk result (λ n. n ≡ length (colourings quandle.now grid.now)) }
 {
     let _size = grid.size();
-    match list(alloc, grid, quandle) {
-        Ok(colourings) => Ok(colourings.len()),
-        Err(ListFault::OutOfMemory) => Err(OutOfMemory),
-        Err(ListFault::TooWide { .. }) => unreachable!(),
-    }
+    Ok(list_fitting(alloc, grid, quandle)?.len())
 }

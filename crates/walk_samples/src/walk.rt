@@ -10,7 +10,7 @@ ghost use Rattle.walk_samples.specs.Walk.{right_trefoil, words, Picks, Walks};
 use crate::candidates::candidates;
 use grid_core::Grid;
 use grid_moves::{Move, apply};
-use knot_ports::OutOfMemory;
+use memory_core::OutOfMemory;
 use rand_core::utils::NextWord;
 use rand_pcg::Pcg32;
 use std::alloc::Global;

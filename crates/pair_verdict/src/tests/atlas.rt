@@ -5,7 +5,7 @@ use super::keep;
 use super::steps::neighbours;
 use grid_canon::translate;
 use grid_core::{Grid, Kind};
-use knot_ports::OutOfMemory;
+use memory_core::OutOfMemory;
 use std::alloc::Global;
 
 /// The size of the greatest diagrams.

@@ -5,11 +5,11 @@ use super::{decision, keep};
 use crate::Decision;
 use grid_core::Grid;
 use grid_moves::{Move, apply, apply_all};
-use knot_ports::OutOfMemory;
-use knot_text::{Listed, QuandleName, Verdict};
+use memory_core::OutOfMemory;
 use std::alloc::Global;
 use std::process::Abort;
 use std::test::Fail;
+use verdict_core::{Listed, QuandleName, Verdict};
 
 /// The size of the greatest diagrams of a pair.
 const GREATEST_OF_PAIR: u8 = 4;

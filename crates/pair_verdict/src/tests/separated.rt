@@ -1,9 +1,9 @@
 //! Verdicts that a listed quandle decides.
 use super::decision;
 use grid_core::Grid;
-use knot_text::{Listed, QuandleName, Verdict};
 use std::alloc::Global;
 use std::test::Fail;
+use verdict_core::{Listed, QuandleName, Verdict};
 
 /// The rows of a grid: of the Xs, and of the Os.
 type Rows = (&'static [u8], &'static [u8]);

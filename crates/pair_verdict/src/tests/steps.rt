@@ -4,7 +4,7 @@ use super::keep;
 use grid_canon::translate;
 use grid_core::{Corner, Grid, Kind};
 use grid_moves::{Move, apply};
-use knot_ports::OutOfMemory;
+use memory_core::OutOfMemory;
 use std::alloc::Global;
 
 /// The places of the diagrams that one move leads to from the translates of a grid, each once.

@@ -1,6 +1,6 @@
 use Rattle.std.proofs.Common.{arith}
 use Rattle.grid_core.specs.Diagram.{size}
-use Rattle.walk_samples.specs.Candidates.{destabilisations}
+use Rattle.grid_moves.specs.MoveLists.{destabilisations}
 use Rattle.walk_samples.proofs.Adding.{adds_flat_more}
 use Rattle.walk_samples.proofs.candidates.destabilise.Goals as goal
 

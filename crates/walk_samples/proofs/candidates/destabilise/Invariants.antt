@@ -2,7 +2,7 @@ use Rattle.std.proofs.Common.{◌≤◌, ◌+◌, ◌-◌, ◌*◌, length}
 use Rattle.std.specs.List.{range_with_len, flat_map}
 use Rattle.grid_core.specs.Diagram.{size}
 use Rattle.walk_samples.specs.declared.walk.TheConstants.{LARGEST}
-use Rattle.walk_samples.specs.Candidates.{destabilisations}
+use Rattle.grid_moves.specs.MoveLists.{destabilisations}
 use Rattle.walk_samples.specs.Listed.{Adds}
 use Rattle.walk_samples.proofs.candidates.destabilise.Given as goal
 

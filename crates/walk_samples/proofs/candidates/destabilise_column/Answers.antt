@@ -1,5 +1,5 @@
 use Rattle.std.proofs.Common.{arith}
-use Rattle.walk_samples.specs.Candidates.{destabilisation}
+use Rattle.grid_moves.specs.MoveLists.{destabilisation}
 use Rattle.walk_samples.proofs.Adding.{adds_more}
 use Rattle.walk_samples.proofs.candidates.destabilise_column.Goals as goal
 

@@ -1,5 +1,5 @@
 use Rattle.std.proofs.Common.{arith}
-use Rattle.walk_samples.specs.Candidates.{column_exchange}
+use Rattle.grid_moves.specs.MoveLists.{column_exchange}
 use Rattle.walk_samples.proofs.Adding.{adds_more}
 use Rattle.walk_samples.proofs.candidates.exchange_columns.Goals as goal
 

@@ -1,6 +1,6 @@
 use Rattle.std.proofs.Common.{◌≤◌, ◌+◌, ◌-◌, length, map}
 use Rattle.std.specs.List.{range_with_len}
-use Rattle.walk_samples.specs.Candidates.{column_shift}
+use Rattle.grid_moves.specs.MoveLists.{column_shift}
 use Rattle.walk_samples.specs.Listed.{Adds}
 use Rattle.walk_samples.proofs.candidates.shift_columns.Given as goal
 

@@ -1,5 +1,5 @@
 use Rattle.std.proofs.Common.{arith}
-use Rattle.walk_samples.specs.Candidates.{row_shift}
+use Rattle.grid_moves.specs.MoveLists.{row_shift}
 use Rattle.walk_samples.proofs.Adding.{adds_more_from_one}
 use Rattle.walk_samples.proofs.candidates.shift_rows.Goals as goal
 

@@ -1,7 +1,7 @@
 use Rattle.std.proofs.Common.{map, arith}
 use Rattle.grid_core.specs.declared.mark.Kind.TheVariants.{Cross, Ring}
-use Rattle.next_moves.specs.Tries.{corners}
-use Rattle.walk_samples.specs.Candidates.{stabilisation, stabilisations}
+use Rattle.grid_core.specs.Corners.{corners}
+use Rattle.grid_moves.specs.MoveLists.{stabilisation, stabilisations}
 use Rattle.walk_samples.proofs.Adding.{adds_then, adds_flat_more}
 use Rattle.walk_samples.proofs.candidates.stabilise.Goals as goal
 

@@ -1,6 +1,6 @@
 use Rattle.std.proofs.Common.{◌≤◌, ◌+◌, ◌*◌, length}
 use Rattle.std.specs.List.{range_with_len, flat_map}
-use Rattle.walk_samples.specs.Candidates.{stabilisations}
+use Rattle.grid_moves.specs.MoveLists.{stabilisations}
 use Rattle.walk_samples.specs.Listed.{Adds}
 use Rattle.walk_samples.proofs.candidates.stabilise.Given as goal
 

@@ -1,8 +1,8 @@
 use Rattle.std.proofs.Common.{arith}
 use Rattle.std.proofs.lemmas.List.{get_or_default}
 use Rattle.grid_core.specs.declared.mark.Corner.TheVariants.{LowLeft}
-use Rattle.next_moves.specs.Tries.{corners}
-use Rattle.walk_samples.specs.Candidates.{stabilisation}
+use Rattle.grid_core.specs.Corners.{corners}
+use Rattle.grid_moves.specs.MoveLists.{stabilisation}
 use Rattle.walk_samples.proofs.Adding.{adds_taken}
 use Rattle.walk_samples.proofs.candidates.stabilise_mark.Goals as goal
 

@@ -1,6 +1,6 @@
 use Rattle.std.proofs.Common.{◌≤◌, ◌+◌, length, map, take}
-use Rattle.next_moves.specs.Tries.{corners}
-use Rattle.walk_samples.specs.Candidates.{stabilisation}
+use Rattle.grid_core.specs.Corners.{corners}
+use Rattle.grid_moves.specs.MoveLists.{stabilisation}
 use Rattle.walk_samples.specs.Listed.{Adds}
 use Rattle.walk_samples.proofs.candidates.stabilise_mark.Given as goal
 
