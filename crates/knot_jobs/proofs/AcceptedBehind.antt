@@ -1,27 +1,37 @@
 -- What is decided is accepted behind its problem.
-use Rattle.std.proofs.Common.{rules, ◌≡◌, ◌≤◌, ◌++◌, ◌∷◌, [], sym, refl, subst, ℕ, List, Bool, true, false, Result, Ok, codes, if◌then◌else◌, length, arith}
+use Rattle.std.proofs.Common.{rules, ◌≡◌, ◌≤◌, ◌++◌, ◌∷◌, [], sym, refl, subst, ℕ, List, Bool, true, false, Option, Result, Ok, codes, if◌then◌else◌, length, arith}
 use Rattle.std.specs.List.{AllByRecursion}
 use Rattle.std.proofs.lemmas.List.{length-append, length-map}
 use Rattle.text_lines.specs.Lines.{text_of, are_whole_lines}
 use Rattle.text_lines.specs.Spelled.{line_bytes, line_text, lines_text}
 use Rattle.knot_text.specs.declared.fault.TextFault.{TextFault}
-use Rattle.knot_text.specs.declared.shapes.ProblemText.{ProblemText}
-use Rattle.knot_text.specs.declared.verdict.Verdict.{Verdict}
-use Rattle.knot_text.specs.declared.verdict.Verdict.TheVariants.{Equal, Different, UnknownBudget, UnknownExhausted}
-use Rattle.knot_text.specs.declared.steps.TheConstants.{MAX_NUMBER}
-use Rattle.knot_text.specs.Names.{NamedQuandle, built_in, or_built_in}
+use Rattle.verdict_core.specs.declared.problem.ProblemText.{ProblemText}
+use Rattle.verdict_core.specs.declared.verdict.Verdict.{Verdict}
+use Rattle.verdict_core.specs.declared.verdict.Verdict.TheVariants.{Equal, Different, UnknownBudget, UnknownExhausted}
+use Rattle.knot_text.specs.declared.reading.TheConstants.{MAX_NUMBER}
+use Rattle.verdict_core.specs.Names.{NamedQuandle}
+use Rattle.knot_text.specs.Quandles.{built_in, or_built_in}
 use Rattle.knot_text.specs.Printed.{move_tokens, moves_lines, verdict_text, HasQuandleText, HasVerdictText}
-use Rattle.knot_text.specs.Shapes.{grid_of, columns, problem_of, check_of}
+use Rattle.verdict_core.specs.Diagrams.{grid_of, columns}
+use Rattle.knot_text.specs.Shapes.{problem_of, check_of}
 use Rattle.knot_text.proofs.ShapesSay.{problem_in_says}
 use Rattle.knot_text.proofs.ReadBack.{verdict_behind}
 use Rattle.knot_text.proofs.FeedBetween.{verdict_behind_feed}
-use Rattle.cert_check.specs.Evidence.{Holds}
+use Rattle.verdict_core.specs.Evidence.{Holds}
 use Rattle.cert_check.specs.declared.ruling.Ruling.TheVariants.{Accepted}
-use Rattle.pair_verdict.specs.Decided.{IsShort}
+use Rattle.grid_core.specs.Diagram.{IsGrid, size}
+use Rattle.search_book.specs.declared.problem.Problem.{Problem}
+use Rattle.search_pool.specs.declared.finding.Finding.{Finding}
+use Rattle.pair_verdict.specs.Decided.{Decides}
+use Rattle.knot_jobs.specs.declared.words.Asked.{Asked}
+use Rattle.knot_jobs.specs.Jobs.Decide.{problem_for, IsShort}
 use Rattle.knot_jobs.specs.declared.words.Job.TheVariants.{Check}
-use Rattle.knot_jobs.specs.declared.status.Status.TheVariants as status
 use Rattle.knot_jobs.specs.Lines.{ruling_line}
-use Rattle.knot_jobs.specs.Answer.{limit_of, AnswersCheck, AnswersRead, put_behind, IsAcceptedBehind}
+use Rattle.knot_jobs.specs.Reply.{done, AnswersRead}
+use Rattle.knot_jobs.specs.Jobs.Check.{AnswersCheck}
+use Rattle.knot_jobs.specs.Answer.{limit_of, IsWithin}
+use Rattle.knot_jobs.specs.Truth.{put_behind, IsAcceptedBehind}
+use Rattle.knot_jobs.proofs.Grids.{grids_of_problem}
 
 -- ---- the quandles of a problem have texts
 
@@ -44,11 +54,26 @@ listed_text : (listed : List NamedQuandle) → AllByRecursion HasQuandleText lis
 listed_text [] all = built_in_text
 listed_text (q ∷ qs) all = all
 
-pub quandles_text : (bytes : List ℕ) (p : ProblemText) → problem_of bytes ≡ Ok p → AllByRecursion HasQuandleText p.quandles
+quandles_text : (bytes : List ℕ) (p : ProblemText) → problem_of bytes ≡ Ok p → AllByRecursion HasQuandleText p.quandles
 quandles_text bytes p is =
     let said = (problem_in_says (text_of bytes)).of p is in
     let are = said.1.quandles in
     subst (AllByRecursion HasQuandleText) (sym are.stand) (listed_text said.0 are.each)
+
+-- ---- the verdict on a problem that was read has a text
+
+-- the law that a decision has a text
+abbrev pub HaveTexts : Type 0
+HaveTexts = (p : Problem) (quandles : List NamedQuandle) (v : Verdict) (kept : Option Finding) → IsGrid p.first → IsGrid p.second
+    → AllByRecursion HasQuandleText quandles → Decides p quandles v kept → IsShort v → HasVerdictText (size p.first) (size p.second) v
+
+pub has_text : HaveTexts → (bytes : List ℕ) (asked : Asked) (input : ProblemText) (v : Verdict) (kept : Option Finding) → problem_of bytes ≡ Ok input
+    → Decides (problem_for asked (grid_of input.first) (grid_of input.second)) input.quandles v kept
+    → IsShort v → HasVerdictText (columns input.first) (columns input.second) v
+has_text texts bytes asked input v kept read decides short =
+    let p = problem_for asked (grid_of input.first) (grid_of input.second) in
+    let grids = grids_of_problem bytes input read in
+    texts p input.quandles v kept grids.0 grids.1 (quandles_text bytes input read) decides short
 
 -- ---- a verdict has a line for each of its moves
 
@@ -62,10 +87,11 @@ lines_length (line ∷ lines) =
     omega (arith, rest, all, one, feed)
 
 -- a text that fits into an input has few moves
-pub short : (bytes : List ℕ) (v : Verdict) → length (put_behind bytes (verdict_text v)) ≤ limit_of Check → IsShort v
+pub short : (bytes : List ℕ) (v : Verdict) → IsWithin (limit_of Check) (put_behind bytes (verdict_text v)) → IsShort v
 short bytes (Equal moves) fits = by (are_whole_lines bytes) fits
   where
-    by : (t : Bool) → length (if t then bytes ++ verdict_text (Equal moves) else bytes ++ (codes "\n" ++ verdict_text (Equal moves))) ≤ limit_of Check → length moves ≤ MAX_NUMBER
+    by : (t : Bool) → IsWithin (limit_of Check) (if t then bytes ++ verdict_text (Equal moves) else bytes ++ (codes "\n" ++ verdict_text (Equal moves)))
+        → length moves ≤ MAX_NUMBER
     by true fits =
         let lines = lines_length (moves_lines (codes "equal") moves) in
         let each = length-map moves move_tokens in
@@ -83,14 +109,23 @@ short bytes (UnknownExhausted cap k) fits = search rules
 
 -- ---- the ruling
 
-accepted_read : (p : ProblemText) (v : Verdict) (read : Result (ProblemText × Verdict) TextFault) → read ≡ Ok (p, v) → Holds (grid_of p.first) (grid_of p.second) v → AnswersRead AnswersCheck read status.Done (ruling_line Accepted)
-accepted_read p v read is holds =
-    subst (λ (r : Result (ProblemText × Verdict) TextFault). AnswersRead AnswersCheck r status.Done (ruling_line Accepted)) (sym is) (record { ruling = Accepted; rules = holds; status_is = refl; text_is = refl })
+-- what is read so is accepted
+abbrev IsAccepted : Result (ProblemText × Verdict) TextFault → Type 0
+IsAccepted read = AnswersRead AnswersCheck read (done (ruling_line Accepted))
 
-by_lines : (bytes : List ℕ) (p : ProblemText) (v : Verdict) (t : Bool) → are_whole_lines bytes ≡ t → problem_of bytes ≡ Ok p → HasVerdictText (columns p.first) (columns p.second) v → check_of (if t then bytes ++ verdict_text v else bytes ++ (codes "\n" ++ verdict_text v)) ≡ Ok (p, v)
+accepted_read : (p : ProblemText) (v : Verdict) (read : Result (ProblemText × Verdict) TextFault) → read ≡ Ok (p, v)
+    → Holds (grid_of p.first) (grid_of p.second) v → IsAccepted read
+accepted_read p v read is holds = subst IsAccepted (sym is) (record { ruling = Accepted; rules = holds; is = refl })
+
+by_lines : (bytes : List ℕ) (p : ProblemText) (v : Verdict) (t : Bool) → are_whole_lines bytes ≡ t → problem_of bytes ≡ Ok p
+    → HasVerdictText (columns p.first) (columns p.second) v
+    → check_of (if t then bytes ++ verdict_text v else bytes ++ (codes "\n" ++ verdict_text v)) ≡ Ok (p, v)
 by_lines bytes p v true whole is text = verdict_behind bytes p v whole is text
 by_lines bytes p v false lacks is text = verdict_behind_feed bytes p v lacks is text
 
-pub accepted_behind : (bytes : List ℕ) (p : ProblemText) (v : Verdict) → problem_of bytes ≡ Ok p → (IsShort v → HasVerdictText (columns p.first) (columns p.second) v) → Holds (grid_of p.first) (grid_of p.second) v → IsAcceptedBehind bytes (verdict_text v)
+pub accepted_behind : (bytes : List ℕ) (p : ProblemText) (v : Verdict) → problem_of bytes ≡ Ok p
+    → (IsShort v → HasVerdictText (columns p.first) (columns p.second) v) → Holds (grid_of p.first) (grid_of p.second) v
+    → IsAcceptedBehind bytes (verdict_text v)
 accepted_behind bytes p v is text holds = λ fits.
-    accepted_read p v (check_of (put_behind bytes (verdict_text v))) (by_lines bytes p v (are_whole_lines bytes) refl is (text (short bytes v fits))) holds
+    let read = by_lines bytes p v (are_whole_lines bytes) refl is (text (short bytes v fits)) in
+    accepted_read p v (check_of (put_behind bytes (verdict_text v))) read holds

@@ -10,7 +10,7 @@ use Rattle.quandle_core.specs.Quandle.{Table, IsQuandle}
 use Rattle.colour_rows.specs.Colouring.{IsColouring}
 use Rattle.colour_laws.proofs.Steps.{step_carries}
 use Rattle.colour_laws.specs.Carried.{carried}
-use Rattle.knot_jobs.specs.Replayed.{Carries}
+use Rattle.knot_jobs.specs.Jobs.Replay.{Carries}
 
 carries_push : (t : Table) (moves : List Move) (move : Move) (d e f : Diagram) (colours last : List ℕ)
     → Carries t d colours moves e last → Step e move f → Carries t d colours (moves ++ move ∷ []) f (carried t e move last)
@@ -46,7 +46,8 @@ carried_along t (m ∷ moves) d e colours joined =
     (rest.0, (joined.0, (joined.1.0, rest.1)))
 
 -- a colouring is carried to a colouring
-pub colouring_along : (t : Table) (moves : List Move) (d e : Diagram) (colours last : List ℕ) → IsQuandle t → Carries t d colours moves e last → IsColouring t d colours → IsColouring t e last
+pub colouring_along : (t : Table) (moves : List Move) (d e : Diagram) (colours last : List ℕ) → IsQuandle t → Carries t d colours moves e last
+    → IsColouring t d colours → IsColouring t e last
 colouring_along t [] d e colours last q c is = subst (IsColouring t e) c.1 (subst (λ f. IsColouring t f colours) c.0 is)
 colouring_along t (m ∷ moves) d e colours last q c is =
     colouring_along t moves c.0 e (carried t d m colours) last q c.1.1 ((step_carries t q d c.0 m c.1.0).into colours is)

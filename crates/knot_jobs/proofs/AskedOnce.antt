@@ -11,7 +11,15 @@ use Rattle.knot_jobs.proofs.KnotReads.{one_number}
 
 -- the job that is called so
 abbrev job_of : List ℕ → Job
-job_of word = if bytes_eq word (job_word Check) then Check else (if bytes_eq word (job_word Replay) then Replay else (if bytes_eq word (job_word Colour) then Colour else (if bytes_eq word (job_word Close) then Close else (if bytes_eq word (job_word Code) then Code else (if bytes_eq word (job_word Decide) then Decide else Sample)))))
+job_of word = if bytes_eq word (job_word Check) then Check else (
+    if bytes_eq word (job_word Replay) then Replay else (
+    if bytes_eq word (job_word Colour) then Colour else (
+    if bytes_eq word (job_word Close) then Close else (
+    if bytes_eq word (job_word Code) then Code else (if bytes_eq word (job_word Decide) then Decide else Sample)
+    )
+    )
+    )
+    )
 
 job_of_word : (job : Job) → job_of (job_word job) ≡ job
 job_of_word Decide = refl

@@ -1,33 +1,57 @@
 -- The diagrams of an input are grids.
-use Rattle.std.proofs.Common.{◌≡◌, ℕ, List, Ok, subst}
+use Rattle.std.proofs.Common.{◌≡◌, ℕ, List, Ok, subst, ap}
 use Rattle.grid_core.specs.Diagram.{IsGrid}
 use Rattle.text_lines.specs.Lines.{text_of}
-use Rattle.knot_text.specs.declared.shapes.ProblemText.{ProblemText}
+use Rattle.verdict_core.specs.declared.problem.ProblemText.{ProblemText}
 use Rattle.knot_text.specs.declared.shapes.ReplayText.{ReplayText}
-use Rattle.knot_text.specs.declared.verdict.Verdict.{Verdict}
+use Rattle.verdict_core.specs.declared.verdict.Verdict.{Verdict}
 use Rattle.knot_text.specs.Reading.{◌>>=◌, text_end}
-use Rattle.knot_text.specs.MovesItem.{moves_item}
-use Rattle.knot_text.specs.VerdictItem.{verdict_item}
-use Rattle.knot_text.specs.ColoursItem.{coloured}
-use Rattle.knot_text.specs.Shapes.{grid_of, columns, diagram_item, problem_item, check_in, check_of, replay_in, replay_of}
+use Rattle.knot_text.specs.Moves.{moves_item}
+use Rattle.knot_text.specs.Verdicts.{verdict_item}
+use Rattle.knot_text.specs.Colours.{coloured}
+use Rattle.verdict_core.specs.Diagrams.{grid_of, columns}
+use Rattle.knot_text.specs.Shapes.{diagram_item, problem_item, problem_in, problem_of, check_in, check_of, replay_in, replay_of}
 use Rattle.knot_text.proofs.Steady.{bind_ok, ok_is}
 use Rattle.knot_text.proofs.GridsRead.{diagram_is, problem_grids}
+
+pub grids_of_problem : (bytes : List ℕ) (p : ProblemText) → problem_of bytes ≡ Ok p → IsGrid (grid_of p.first) × IsGrid (grid_of p.second)
+unfolding problem_in
+grids_of_problem bytes p is =
+    let a = bind_ok (problem_item (text_of bytes)) (λ problem. text_end problem.1 >>= λ end. Ok problem.0) p is in
+    let b = bind_ok (text_end a.0.1) (λ end. Ok a.0.0) p a.2 in
+    let same = ok_is a.0.0 p b.2 in
+    subst (λ (y : ProblemText). IsGrid (grid_of y.first) × IsGrid (grid_of y.second)) same (problem_grids (text_of bytes) a.0.0 a.0.1 a.1)
 
 pub check_grids : (bytes : List ℕ) (p : ProblemText) (v : Verdict) → check_of bytes ≡ Ok (p, v) → IsGrid (grid_of p.first) × IsGrid (grid_of p.second)
 unfolding check_in
 check_grids bytes p v is =
-    let a = bind_ok (problem_item (text_of bytes)) (λ problem. verdict_item (columns problem.0.first) (columns problem.0.second) problem.1 >>= λ verdict. text_end verdict.1 >>= λ end. Ok (problem.0, verdict.0)) (p, v) is in
-    let b = bind_ok (verdict_item (columns a.0.0.first) (columns a.0.0.second) a.0.1) (λ verdict. text_end verdict.1 >>= λ end. Ok (a.0.0, verdict.0)) (p, v) a.2 in
-    let c = bind_ok (text_end b.0.1) (λ end. Ok (a.0.0, b.0.0)) (p, v) b.2 in
-    let same = ok_is (a.0.0, b.0.0) (p, v) c.2 in
-    subst (λ (y : ProblemText × Verdict). IsGrid (grid_of y.0.first) × IsGrid (grid_of y.0.second)) {x = (a.0.0, b.0.0)} same (problem_grids (text_of bytes) a.0.0 a.0.1 a.1)
+    let text = text_of bytes in
+    let a = bind_ok (problem_item text)
+    (λ problem. verdict_item (columns problem.0.first) (columns problem.0.second) problem.1
+    >>= λ verdict. text_end verdict.1 >>= λ end. Ok (problem.0, verdict.0)) (p, v) is in
+    let q = a.0.0 in
+    let b = bind_ok (verdict_item (columns q.first) (columns q.second) a.0.1) (λ verdict. text_end verdict.1 >>= λ end. Ok (q, verdict.0)) (p, v) a.2 in
+    let c = bind_ok (text_end b.0.1) (λ end. Ok (q, b.0.0)) (p, v) b.2 in
+    let same : q ≡ p = ap (λ (y : ProblemText × Verdict). y.0) (ok_is (q, b.0.0) (p, v) c.2) in
+    subst (λ (y : ProblemText). IsGrid (grid_of y.first) × IsGrid (grid_of y.second)) {x = q} same (problem_grids text q a.0.1 a.1)
 
 pub replay_grid : (bytes : List ℕ) (r : ReplayText) → replay_of bytes ≡ Ok r → IsGrid (grid_of r.diagram)
 unfolding replay_in
 replay_grid bytes r is =
-    let a = bind_ok (diagram_item (text_of bytes)) (λ diagram. moves_item diagram.1 >>= λ moves. coloured (columns diagram.0) moves.1 >>= λ colours. text_end colours.1 >>= λ end. Ok (record { diagram = diagram.0; moves = moves.0; colours = colours.0 })) r is in
-    let b = bind_ok (moves_item a.0.1) (λ moves. coloured (columns a.0.0) moves.1 >>= λ colours. text_end colours.1 >>= λ end. Ok (record { diagram = a.0.0; moves = moves.0; colours = colours.0 })) r a.2 in
-    let c = bind_ok (coloured (columns a.0.0) b.0.1) (λ colours. text_end colours.1 >>= λ end. Ok (record { diagram = a.0.0; moves = b.0.0; colours = colours.0 })) r b.2 in
-    let e = bind_ok (text_end c.0.1) (λ end. Ok (record { diagram = a.0.0; moves = b.0.0; colours = c.0.0 })) r c.2 in
-    let same = ok_is (record { diagram = a.0.0; moves = b.0.0; colours = c.0.0 }) r e.2 in
-    subst (λ (y : ReplayText). IsGrid (grid_of y.diagram)) same (diagram_is (text_of bytes) a.0.0 a.0.1 a.1)
+    let text = text_of bytes in
+    let a = bind_ok (diagram_item text)
+    (λ diagram. moves_item diagram.1
+    >>= λ moves. coloured (columns diagram.0) moves.1
+    >>= λ colours. text_end colours.1
+    >>= λ end. Ok (record { diagram = diagram.0; moves = moves.0; colours = colours.0 })) r is in
+    let d = a.0.0 in
+    let b = bind_ok (moves_item a.0.1)
+    (λ moves. coloured (columns d) moves.1
+    >>= λ colours. text_end colours.1
+    >>= λ end. Ok (record { diagram = d; moves = moves.0; colours = colours.0 })) r a.2 in
+    let moves = b.0.0 in
+    let c = bind_ok (coloured (columns d) b.0.1)
+    (λ colours. text_end colours.1 >>= λ end. Ok (record { diagram = d; moves = moves; colours = colours.0 })) r b.2 in
+    let made : ReplayText = record { diagram = d; moves = moves; colours = c.0.0 } in
+    let e = bind_ok (text_end c.0.1) (λ end. Ok made) r c.2 in
+    subst (λ (y : ReplayText). IsGrid (grid_of y.diagram)) {x = made} (ok_is made r e.2) (diagram_is text d a.0.1 a.1)

@@ -12,7 +12,8 @@ use Rattle.clap.specs.Facts.{args_of, least_values, unwrap_or_range}
 use Rattle.clap.specs.Lexer.{without_minus}
 use Rattle.clap.specs.Matches.{ReadsOne, first_value, found_of, one_text}
 use Rattle.clap.specs.Values.{Accepts, IsSignedIn, IsUnsignedIn, read_as, reading_of}
-use Rattle.clap.specs.Walk.{Rule, Text, rule_of}
+use Rattle.clap.specs.Simple.{matches_of}
+use Rattle.clap.specs.Walk.{Rule, Text, one_of, rows_of, rule_of}
 use Rattle.clap.specs.declared.builder.action.ArgAction.TheVariants.{Set}
 use Rattle.clap.specs.declared.builder.arg.Arg.{Arg}
 use Rattle.clap.specs.declared.builder.value_parser.ValueParser.{ValueParser}
@@ -23,9 +24,13 @@ use Rattle.clap.proofs.CallerReads.{signed_reads}
 use Rattle.clap.proofs.SimpleLemmas.{HasPlainFields, is_false, is_nil, plain_fields}
 use Rattle.clap.proofs.TakesLemmas.{each_rule}
 use Rattle.clap.proofs.WalkLemmas.{both, one_text-rows}
-use Rattle.knot_jobs.specs.Matched.{AreMatchesBy, HasNumber}
-use Rattle.knot_jobs.specs.Words.{budget_rule, job_rule, knot_app, number_of, seed_rule, spare_rule, workers_rule}
+use Rattle.knot_jobs.specs.Matched.{AreMatchesBy}
+use Rattle.knot_jobs.specs.Words.{budget_rule, job_rule, knot_app, number_given, number_of, seed_rule, spare_rule, workers_rule}
 use Rattle.knot_jobs.proofs.OptionReads.{IsOption, option_reads}
+
+-- the number of this name
+abbrev HasNumber : ArgMatches → Text → ℕ → Type 0
+HasNumber matches name n = option_map number_of (one_of name (rows_of (found_of matches))) ≡ Some n
 
 abbrev knot_rules : List Rule
 knot_rules = job_rule ∷ workers_rule ∷ budget_rule ∷ spare_rule ∷ seed_rule ∷ []
@@ -176,6 +181,10 @@ number_read m name k r gives t is n read =
     let one : FromText k t (Ok n) = subst (λ (x : Option ℕ). ReadsOne (FromText k) t x) read (gives t is) in
     ap (option_map number_of) (sym (one_text-rows (found_of m) name) ∙ is) ∙ ap (λ (x : ℕ). Some x) (sym one.0.1)
 
+-- an answer is one number
+pub one_number : (r : Option ℕ) (n k : ℕ) → r ≡ Some n → r ≡ Some k → n ≡ k
+one_number r n k a b = ap (λ (o : Option ℕ). unwrap_or o n) (sym a ∙ b)
+
 signed_number : (m : ArgMatches) (name : Text) (k low high : ℕ) (r : Option ℕ) → Answers m name k r → high < 2 ^ k
     → (t : Text) × (one_text (found_of m) name ≡ Some (without_minus t)) × IsSignedIn (pos low) (pos high) t
     → (n : ℕ) × (r ≡ Some n) × HasNumber m name n × (low ≤ n) × (n ≤ high)
@@ -183,28 +192,47 @@ signed_number m name k low high r gives fits text =
     let got = signed_reads ParseIntError (FromText k) k low high text.0 r (gives (without_minus text.0) text.1) (λ u x g. g.0) fits text.2 in
     (got.0, got.1, number_read m name k r gives (without_minus text.0) text.1 got.0 got.1, got.2, got.3)
 
--- a getter of each option answers with its number
-module _ (m : ArgMatches) (h : AreMatchesBy knot_app m) (r : Option ℕ) where
-  pub workers_number : Answers m (codes "workers") 32 r → (n : ℕ) × (r ≡ Some n) × HasNumber m (codes "workers") n × (1 ≤ n) × (n ≤ 64)
-  workers_number gives = signed_number m (codes "workers") 32 1 64 r gives (omega arith) (workers_text m h)
+-- a getter of the option finds a number, and what it finds is the given number, within its bounds
+pub record IsRead (m : ArgMatches) (name : Text) (k : ℕ) (Within : ℕ → Type 0) : Type 0 where
+  pub there : (r : Option ℕ) → Answers m name k r → is_some r ≡ true
+  pub number : (n : ℕ) → Answers m name k (Some n) → HasNumber m name n × Within n
 
-  pub budget_number : Answers m (codes "budget") 32 r → (n : ℕ) × (r ≡ Some n) × HasNumber m (codes "budget") n × (2 ≤ n) × (n ≤ 500000)
-  budget_number gives = signed_number m (codes "budget") 32 2 500000 r gives (omega arith) (budget_text m h)
+signed_read : (m : ArgMatches) (name : Text) (k low high : ℕ) → high < 2 ^ k
+    → (t : Text) × (one_text (found_of m) name ≡ Some (without_minus t)) × IsSignedIn (pos low) (pos high) t
+    → IsRead m name k (λ n. (low ≤ n) × (n ≤ high))
+signed_read m name k low high fits text = record {
+  there = λ r gives. ap (λ o. is_some o) (signed_number m name k low high r gives fits text).1;
+  number = λ n gives.
+      let got = signed_number m name k low high (Some n) gives fits text in
+      let same = one_number (Some n) got.0 n got.1 refl in
+      subst (λ x. HasNumber m name x × ((low ≤ x) × (x ≤ high))) same (got.2, (got.3, got.4));
+}
 
-  pub spare_number : Answers m (codes "spare") 8 r → (n : ℕ) × (r ≡ Some n) × HasNumber m (codes "spare") n × (0 ≤ n) × (n ≤ 4)
-  spare_number gives = signed_number m (codes "spare") 8 0 4 r gives (omega arith) (spare_text m h)
+module _ (m : ArgMatches) (h : AreMatchesBy knot_app m) where
+  pub workers_read : IsRead m (codes "workers") 32 (λ n. (1 ≤ n) × (n ≤ 64))
+  workers_read = signed_read m (codes "workers") 32 1 64 (omega arith) (workers_text m h)
 
-  pub seed_number : Answers m (codes "seed") 64 r → (n : ℕ) × (r ≡ Some n) × HasNumber m (codes "seed") n
-  seed_number gives = go r (gives text.0 text.1) (number_read m (codes "seed") 64 r gives text.0 text.1)
+  pub budget_read : IsRead m (codes "budget") 32 (λ n. (2 ≤ n) × (n ≤ 500000))
+  budget_read = signed_read m (codes "budget") 32 2 500000 (omega arith) (budget_text m h)
+
+  pub spare_read : IsRead m (codes "spare") 8 (λ n. (0 ≤ n) × (n ≤ 4))
+  spare_read = signed_read m (codes "spare") 8 0 4 (omega arith) (spare_text m h)
+
+  -- a seed has no bounds but those of its 64 bits
+  pub seed_read : IsRead m (codes "seed") 64 (λ n. Unit {0})
+  seed_read = record {
+    there = λ r gives. go r (gives text.0 text.1);
+    number = λ n gives. (number_read m (codes "seed") 64 (Some n) gives text.0 text.1 n refl, tt);
+  }
     where
       text : (t : Text) × (one_text (found_of m) (codes "seed") ≡ Some t) × IsUnsignedIn 0 (2 ^ 64 - 1) t
       text = seed_text m h
 
-      go : (o : Option ℕ) → ReadsOne (FromText 64) text.0 o → ((n : ℕ) → o ≡ Some n → HasNumber m (codes "seed") n)
-          → (n : ℕ) × (o ≡ Some n) × HasNumber m (codes "seed") n
-      go None given rest = absurd (given.1.0 (text.2.0, text.2.1))
-      go (Some n) given rest = (n, refl, rest n refl)
+      go : (o : Option ℕ) → ReadsOne (FromText 64) text.0 o → is_some o ≡ true
+      go None given = absurd (given.1.0 (text.2.0, text.2.1))
+      go (Some n) given = refl
 
--- an answer is one number
-pub one_number : (r : Option ℕ) (n k : ℕ) → r ≡ Some n → r ≡ Some k → n ≡ k
-one_number r n k a b = ap (λ (o : Option ℕ). unwrap_or o n) (sym a ∙ b)
+-- the number that a getter finds is the one that the words give
+pub number_is_given : (m : ArgMatches) (name : Text) (words : List Text) (n : ℕ) → rows_of (found_of m) ≡ matches_of knot_app words
+    → HasNumber m name n → number_given name words ≡ Some n
+number_is_given m name words n rows has = subst (λ rs. option_map number_of (one_of name rs) ≡ Some n) rows has

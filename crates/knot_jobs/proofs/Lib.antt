@@ -6,7 +6,8 @@ mod Listed
 mod Along
 mod Grids
 mod AskedOnce
-mod Answered
+mod OneAnswer
 mod Endings
 mod Decisions
+mod PrintedVerdicts
 mod AcceptedBehind

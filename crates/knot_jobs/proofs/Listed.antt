@@ -6,7 +6,7 @@ use Rattle.std.proofs.lemmas.Simd.{map-map}
 use Rattle.arrayvec.specs.ArrayVec.{ArrayVec}
 use Rattle.colour_list.specs.Listing.{lists_of}
 use Rattle.knot_text.specs.Printed.{list_lines}
-use Rattle.knot_jobs.specs.Listings.{listing_lines}
+use Rattle.knot_jobs.specs.Lines.{listing_lines}
 
 pub list_is_listing : (lists : List (ArrayVec ℕ)) → list_lines lists ≡ listing_lines (lists_of lists)
 list_is_listing lists =

@@ -1,9 +1,11 @@
 pub mod Words
 pub mod Matched
+pub mod Status
 pub mod Lines
-pub mod Listings
-pub mod Closing
-pub mod Coding
-pub mod Replayed
+pub mod Reply
+pub mod Jobs
 pub mod Answer
-pub mod Outcome
+pub mod Call
+pub mod Ending
+pub mod Truth
+pub mod Delivered

@@ -1,5 +1,5 @@
 -- The lines in which the jobs answer, as tokens, which are printed with one space between them.
-use Rattle.std.specs.Prelude.{ℕ, List, [], ◌∷◌, codes}
+use Rattle.std.specs.Prelude.{ℕ, List, [], ◌∷◌, codes, length, map}
 use Rattle.std.specs.Fmt.{decimal}
 use Rattle.grid_moves.specs.declared.step.MoveFault.{MoveFault}
 use Rattle.grid_moves.specs.declared.step.MoveFault.TheVariants as fault
@@ -48,3 +48,13 @@ limit_line n = line_text (codes "limit" ∷ codes "line" ∷ decimal n ∷ [])
 -- too many bytes
 abbrev pub limit_bytes : List ℕ
 limit_bytes = line_text (codes "limit" ∷ codes "bytes" ∷ [])
+
+-- ---- lists
+
+-- `list` with how many lists there are, and a line of numbers for each
+abbrev pub listing_lines : List (List ℕ) → List (List (List ℕ))
+listing_lines lists = (codes "list" ∷ decimal (length lists) ∷ []) ∷ map (λ (numbers : List ℕ). map decimal numbers) lists
+
+-- the number of bottoms or strands, in place of a list
+abbrev pub wide_lines : ℕ → List (List (List ℕ))
+wide_lines count = (codes "wide" ∷ decimal count ∷ []) ∷ []

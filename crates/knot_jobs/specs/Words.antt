@@ -7,6 +7,7 @@ use Rattle.clap.specs.Walk.{Rule, Text, first_of, one_of}
 use Rattle.clap.specs.Simple.{App, new_app, new_rule, with_rule, matches_of}
 use Rattle.clap.specs.Faults.{fault_of}
 use Rattle.clap.specs.declared.builder.action.ArgAction.TheVariants.{Set}
+use Rattle.clap.specs.declared.builder.value_parser.ValueParser.{ValueParser}
 use Rattle.clap.specs.declared.builder.value_parser.ValueParser.TheVariants as parser
 use Rattle.knot_jobs.specs.declared.words.Asked.{Asked}
 use Rattle.knot_jobs.specs.declared.words.Job.{Job}
@@ -18,32 +19,27 @@ use Rattle.knot_jobs.specs.declared.words.Job.TheVariants.{Decide, Check, Replay
 abbrev pub job_rule : Rule
 job_rule = record (new_rule (codes "job")) { required = true; action = Some Set }
 
--- an option with a whole number from the least to the most, and the default where it is not given
-abbrev pub number_rule : Text → ℕ → ℕ → Text → Rule
-number_rule name least most default = record (new_rule name) {
+-- an option with a whole number: its parser, and its default where it is not given
+abbrev pub number_rule : Text → ValueParser → Text → Rule
+number_rule name how default = record (new_rule name) {
   long = Some name;
   action = Some Set;
-  parser = Some (parser.Signed (pos least) (pos most));
+  parser = Some how;
   defaults = default ∷ [];
 }
 
 abbrev pub workers_rule : Rule
-workers_rule = number_rule (codes "workers") 1 64 (codes "1")
+workers_rule = number_rule (codes "workers") (parser.Signed (pos 1) (pos 64)) (codes "1")
 
 abbrev pub budget_rule : Rule
-budget_rule = number_rule (codes "budget") 2 500000 (codes "20000")
+budget_rule = number_rule (codes "budget") (parser.Signed (pos 2) (pos 500000)) (codes "20000")
 
 abbrev pub spare_rule : Rule
-spare_rule = number_rule (codes "spare") 0 4 (codes "1")
+spare_rule = number_rule (codes "spare") (parser.Signed (pos 0) (pos 4)) (codes "1")
 
 -- the seed is any number of 64 bits
 abbrev pub seed_rule : Rule
-seed_rule = record (new_rule (codes "seed")) {
-  long = Some (codes "seed");
-  action = Some Set;
-  parser = Some (parser.Unsigned 0 (2 ^ 64 - 1));
-  defaults = codes "1" ∷ [];
-}
+seed_rule = number_rule (codes "seed") (parser.Unsigned 0 (2 ^ 64 - 1)) (codes "1")
 
 abbrev pub knot_app : App
 knot_app =

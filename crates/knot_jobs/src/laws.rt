@@ -1,19 +1,29 @@
 //! Laws of words, answers and endings, over the definitions alone.
-ghost use Rattle.std.specs.Prelude.{◌≡◌, ◌≤◌, ◌⊎◌, ℕ, List, Option, Some, None, length};
+ghost use Rattle.std.specs.Prelude.{◌≡◌, ◌⊎◌, ℕ, List, Option, Some, None};
 ghost use Rattle.clap.specs.Walk.{Text};
-ghost use Rattle.knot_ports.specs.Faults.{Rose};
-ghost use Rattle.knot_jobs.specs.Words.{Asks, AsksNothing};
-ghost use Rattle.knot_jobs.specs.Answer.{limit_of, Answers, IsInShape};
-ghost use Rattle.knot_jobs.specs.Outcome.{Call, what_is_read, IsDue, Ends};
-ghost use Rattle.search_pool.specs.declared.finding.Finding.{Finding};
-ghost use Rattle.knot_jobs.specs.Replayed.{Carries};
-ghost use Rattle.grid_core.specs.Diagram.{Diagram};
+ghost use Rattle.std.specs.List.{AllByRecursion};
+ghost use Rattle.grid_core.specs.Diagram.{Diagram, IsGrid, size};
 ghost use Rattle.grid_moves.specs.Joining.{Joins};
 ghost use Rattle.quandle_core.specs.Quandle.{Table, IsQuandle};
 ghost use Rattle.colour_rows.specs.Colouring.{IsColouring};
+ghost use Rattle.verdict_core.specs.declared.verdict.Verdict.{Verdict};
+ghost use Rattle.verdict_core.specs.Names.{NamedQuandle};
+ghost use Rattle.knot_text.specs.Printed.{HasQuandleText, HasVerdictText};
+ghost use Rattle.search_book.specs.declared.problem.Problem.{Problem};
+ghost use Rattle.search_pool.specs.declared.finding.Finding.{Finding};
+ghost use Rattle.pair_verdict.specs.Decided.{Decides};
+ghost use Rattle.knot_jobs.specs.Words.{Asks, AsksNothing};
+ghost use Rattle.knot_jobs.specs.Status.{IsOfDefinedAnswer, IsOfAnswer};
+ghost use Rattle.knot_jobs.specs.Answer.{limit_of, part_for, IsWithin, IsInShape, Answers};
+ghost use Rattle.knot_jobs.specs.Call.{Call, Failed};
+ghost use Rattle.knot_jobs.specs.Ending.{IsDue, Ends};
+ghost use Rattle.knot_jobs.specs.Jobs.Decide.{IsShort};
+ghost use Rattle.knot_jobs.specs.Jobs.Replay.{Carries};
 
+use crate::reply::Reply;
 use crate::status::Status;
 use crate::words::{Asked, Job};
+use colour_list::laws::no_more_colourings_than_choices;
 use grid_moves::Move;
 
 /// Words ask for at most one thing, and no words both ask for something and ask for nothing.
@@ -22,30 +32,34 @@ pub fn words_ask_for_one_thing()
     ensures never_both { (words : List Text) (a : Asked) → Asks words a → AsksNothing words → ⊥ }
 {}
 
-/// A job other than `decide` has one answer to each input: there is one, and no other. Of `decide` no such law is stated.
+/// A job other than `decide` has one answer to each input: there is one, which keeps no search, and no other. `decide` may
+/// have several.
 pub fn an_input_has_one_answer()
-    ensures some { (asked : Asked) (bytes : List ℕ)
-        → (asked.job ≡ Job.Decide → ⊥)
-        → (s : Status) × ((text : List ℕ) × Answers asked bytes s text None) }
-    ensures one { (asked : Asked) (bytes : List ℕ) (s other : Status) (text written : List ℕ) (kept found : Option Finding)
-        → (asked.job ≡ Job.Decide → ⊥)
-        → Answers asked bytes s text kept
-        → Answers asked bytes other written found
-        → (s ≡ other) × (text ≡ written) }
+    ensures some { (asked : Asked) (bytes : List ℕ) → (asked.job ≡ Job.Decide → ⊥)
+        → (reply : Reply) × ((reply.kept ≡ None) × Answers asked bytes reply) }
+    ensures one { (asked : Asked) (bytes : List ℕ) (reply other : Reply) → (asked.job ≡ Job.Decide → ⊥)
+        → Answers asked bytes reply
+        → Answers asked bytes other
+        → reply ≡ other }
 {}
 
-/// Where the source tells its bytes, the words and these bytes decide the status and the text that a call of a job other than
-/// `decide` ends with, but for a counted fault and want of memory.
+/// No answer to an input has the status of refused words, of a fault or of want of memory.
+pub fn an_answer_has_its_own_status()
+    ensures { (asked : Asked) (bytes : List ℕ) (reply : Reply) → Answers asked bytes reply → IsOfAnswer reply.status }
+{}
+
+/// Where the source tells its bytes, the words and these bytes decide the reply of a call of a job other than `decide`, but for
+/// a counted fault and want of memory.
 pub fn the_words_and_the_input_decide()
-    ensures { (input : List ℕ) (call again : Call) (asked : Asked) (s other : Status) (text written : List ℕ) (kept found : Option Finding)
+    ensures { (input : List ℕ) (call again : Call) (asked : Asked) (reply other : Reply)
         → call.words ≡ again.words
-        → call.left_before ≡ Some input
-        → again.left_before ≡ Some input
+        → call.source.before ≡ Some input
+        → again.source.before ≡ Some input
         → Asks call.words asked
         → (asked.job ≡ Job.Decide → ⊥)
-        → IsDue call s text kept
-        → IsDue again other written found
-        → (s ≡ other) × (text ≡ written) }
+        → IsDue call reply
+        → IsDue again other
+        → reply ≡ other }
 {}
 
 /// Where no count of faults rose, a call ends with the status of an answer that the job has to its input, and keeps the search
@@ -53,23 +67,24 @@ pub fn the_words_and_the_input_decide()
 pub fn a_call_without_faults_ends_with_what_is_due()
     ensures answer { (call : Call) (asked : Asked) (bytes : List ℕ) (s : Status) (kept : Option Finding) → Ends call s kept
         → Asks call.words asked
-        → call.left_before ≡ Some bytes
-        → (Rose call.read_faults_before call.read_faults_after → ⊥)
-        → (Rose call.write_faults_before call.write_faults_after → ⊥)
-        → ((text : List ℕ) × Answers asked (what_is_read asked.job bytes) s text kept) ⊎ (s ≡ Status.OutOfMemory) }
+        → call.source.before ≡ Some bytes
+        → (Failed call.source → ⊥)
+        → (Failed call.sink → ⊥)
+        → ((text : List ℕ) × Answers asked (part_for asked.job bytes) (record { status = s; text = text; kept = kept }))
+        ⊎ (s ≡ Status.OutOfMemory) }
     ensures usage { (call : Call) (s : Status) (kept : Option Finding) → Ends call s kept
         → AsksNothing call.words
-        → (Rose call.write_faults_before call.write_faults_after → ⊥)
+        → (Failed call.sink → ⊥)
         → (s ≡ Status.Usage) ⊎ (s ≡ Status.OutOfMemory) }
 {}
 
 /// An input of the job's shape within its limit has the job's defined answer: `Done`, `Unknown` or `Rejected`.
 pub fn an_input_in_shape_has_a_defined_answer()
-    ensures { (asked : Asked) (bytes : List ℕ) (s : Status) (text : List ℕ) (kept : Option Finding)
-        → length bytes ≤ limit_of asked.job
-        → IsInShape asked.job bytes
-        → Answers asked bytes s text kept
-        → (s ≡ Status.Done) ⊎ ((s ≡ Status.Unknown) ⊎ (s ≡ Status.Rejected)) }
+    ensures { (asked : Asked) (bytes : List ℕ) (reply : Reply)
+        → IsWithin (limit_of asked.job) bytes
+        → IsInShape asked bytes
+        → Answers asked bytes reply
+        → IsOfDefinedAnswer reply.status }
 {}
 
 /// Moves that carry colours join the diagrams, and carry each colouring of the first to one of the last.
@@ -79,3 +94,17 @@ pub fn a_replay_carries_a_colouring_to_a_colouring()
         → IsColouring t d colours
         → IsColouring t e last }
 {}
+
+/// A decision has a text behind its two diagrams, where the listed quandles have texts, and its moves, if any, are not too many
+/// for one: so what is printed is read back.
+pub fn a_decision_has_a_text()
+    ensures { (p : Problem) (quandles : List NamedQuandle) (v : Verdict) (kept : Option Finding)
+        → IsGrid p.first
+        → IsGrid p.second
+        → AllByRecursion HasQuandleText quandles
+        → Decides p quandles v kept
+        → IsShort v
+        → HasVerdictText (size p.first) (size p.second) v }
+{
+    no_more_colourings_than_choices();
+}

@@ -3,20 +3,17 @@
 #![tactic(auto)]
 
 mod answer;
-mod closing;
-mod coding;
-mod deciding;
+mod call;
+mod jobs;
 pub mod laws;
 mod lines;
-mod listings;
-mod replay;
+mod reply;
 mod status;
 #[cfg(test)]
 mod tests;
-mod top_call;
 mod words;
 
+pub use call::run;
 pub use status::Status;
-pub use top_call::run;
 pub use walk_samples::sample_walk;
 pub use words::{Asked, Job, WordsFault, read_words};

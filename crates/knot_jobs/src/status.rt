@@ -1,6 +1,6 @@
 //! How a call ends.
 ghost use Rattle.std.specs.Prelude.{◌≡◌};
-ghost use Rattle.knot_jobs.specs.Answer.{status_number};
+ghost use Rattle.knot_jobs.specs.Status.{status_number};
 
 /// How a call of `run` ended.
 #[derive(Clone, Copy, Debug, PartialEq, Eq)]

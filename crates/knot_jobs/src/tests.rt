@@ -3,8 +3,8 @@ mod calls;
 mod decisions;
 mod words;
 
+use crate::call::run;
 use crate::status::Status;
-use crate::top_call::run;
 use knot_ports::{MemSink, MemSource};
 use std::alloc::{AllocError, Global};
 use std::test::Fail;
@@ -27,7 +27,7 @@ struct Outside<'a> {
 }
 
 /// The status and the written bytes of a call that reads in pieces of 4 bytes and writes in pieces of 3.
-fn ran(
+fn run_line(
     alloc: Global,
     line: &str,
     input: &[u8],

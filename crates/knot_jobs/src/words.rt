@@ -1,15 +1,17 @@
 //! The words of a command line, read by `clap`.
-ghost use Rattle.std.specs.Prelude.{◌≡◌, ◌≢◌, ◌≤◌, false, Some, IfOk, IfSome, IsNone, OnOk, IsErrOf, codes};
+ghost use Rattle.std.specs.Prelude.{◌≡◌, ◌≢◌, false, true, Option, Some, is_some, IfOk, IfSome, IsNone, OnOk, IsErrOf, codes};
 ghost use Rattle.clap.specs.Simple.{app_of, matches_of};
 ghost use Rattle.clap.specs.Matches.{found_of};
 ghost use Rattle.clap.specs.Walk.{rows_of, rule_of};
-ghost use Rattle.knot_jobs.specs.Words.{job_rule, workers_rule, budget_rule, spare_rule, seed_rule, knot_app};
+ghost use Rattle.knot_jobs.specs.Words.{job_rule, number_rule, workers_rule, budget_rule, spare_rule, seed_rule, knot_app};
 ghost use Rattle.knot_jobs.specs.Words.{texts_of, AreTaken, Asks, AsksNothing, IsWithinBounds, job_word};
-ghost use Rattle.knot_jobs.specs.Matched.{AreMatchesBy, HasNumber, HasText};
+ghost use Rattle.knot_jobs.specs.Matched.{AreMatchesBy, HasText, IsReadAs};
 
+use clap::builder::ValueParser;
 use clap::error::ErrorKind;
 use clap::{Arg, ArgAction, ArgMatches, Command};
 use std::alloc::{AllocError, Global};
+use std::str::FromStr;
 
 /// What the program can be asked to do.
 #[derive(Clone, Copy, Debug, PartialEq, Eq)]
@@ -61,16 +63,30 @@ fn job_arg<'a>(alloc: Global) -> Arg<'a>
     Arg::new(alloc, "job").required(true).action(ArgAction::Set)
 }
 
+/// An option with a whole number: its parser and its default.
+fn number_arg<'a>(
+    alloc: Global,
+    name: &'a str,
+    parser: ValueParser<'a>,
+    default: &'a str,
+) -> Arg<'a>
+    ensures rule { rule_of result ≡ number_rule name.entry.now parser.entry default.entry.now }
+    ensures local { result.global ≡ false }
+{
+    Arg::new(alloc, name)
+        .long(name)
+        .action(ArgAction::Set)
+        .value_parser(parser)
+        .default_value(default)
+}
+
 /// How many workers.
 fn workers_arg<'a>(alloc: Global) -> Arg<'a>
     ensures rule { rule_of result ≡ workers_rule }
     ensures local { result.global ≡ false }
 {
-    Arg::new(alloc, "workers")
-        .long("workers")
-        .action(ArgAction::Set)
-        .value_parser(clap::value_parser!(u32).range(1..=64))
-        .default_value("1")
+    let parser = clap::value_parser!(u32).range(1..=64);
+    number_arg(alloc, "workers", parser, "1")
 }
 
 /// How many entries.
@@ -78,11 +94,8 @@ fn budget_arg<'a>(alloc: Global) -> Arg<'a>
     ensures rule { rule_of result ≡ budget_rule }
     ensures local { result.global ≡ false }
 {
-    Arg::new(alloc, "budget")
-        .long("budget")
-        .action(ArgAction::Set)
-        .value_parser(clap::value_parser!(u32).range(2..=500_000))
-        .default_value("20000")
+    let parser = clap::value_parser!(u32).range(2..=500_000);
+    number_arg(alloc, "budget", parser, "20000")
 }
 
 /// How much larger.
@@ -90,11 +103,8 @@ fn spare_arg<'a>(alloc: Global) -> Arg<'a>
     ensures rule { rule_of result ≡ spare_rule }
     ensures local { result.global ≡ false }
 {
-    Arg::new(alloc, "spare")
-        .long("spare")
-        .action(ArgAction::Set)
-        .value_parser(clap::value_parser!(u8).range(0..=4))
-        .default_value("1")
+    let parser = clap::value_parser!(u8).range(0..=4);
+    number_arg(alloc, "spare", parser, "1")
 }
 
 /// The seed of a walk.
@@ -102,11 +112,7 @@ fn seed_arg<'a>(alloc: Global) -> Arg<'a>
     ensures rule { rule_of result ≡ seed_rule }
     ensures local { result.global ≡ false }
 {
-    Arg::new(alloc, "seed")
-        .long("seed")
-        .action(ArgAction::Set)
-        .value_parser(clap::value_parser!(u64))
-        .default_value("1")
+    number_arg(alloc, "seed", clap::value_parser!(u64), "1")
 }
 
 /// The simple command: one job and four options with whole numbers.
@@ -176,48 +182,14 @@ fn job_named(word: &str) -> Option<Job>
     }
 }
 
-/// The number of workers.
-fn workers_of(matches: &ArgMatches) -> u32
-    requires { AreMatchesBy knot_app matches.now }
-    ensures given { HasNumber matches.now (codes "workers") result }
-    ensures bounds { (1 ≤ result) × (result ≤ 64) }
+/// The number of an option: it is there and can be read, as every option has a default and a parser.
+fn number_given<T: FromStr>(matches: &ArgMatches, name: &str) -> T
+where
+    T::Err: Drop,
+    requires { (r : Option T) → IsReadAs T.from_str_gives matches.now name.now r → is_some r ≡ true }
+    ensures { IsReadAs T.from_str_gives matches.now name.now (Some result) }
 {
-    match matches.get_one::<u32>("workers") {
-        Some(number) => number,
-        None => unreachable!(),
-    }
-}
-
-/// The number of diagrams that the search may admit.
-fn budget_of(matches: &ArgMatches) -> u32
-    requires { AreMatchesBy knot_app matches.now }
-    ensures given { HasNumber matches.now (codes "budget") result }
-    ensures bounds { (2 ≤ result) × (result ≤ 500000) }
-{
-    match matches.get_one::<u32>("budget") {
-        Some(number) => number,
-        None => unreachable!(),
-    }
-}
-
-/// How far the search may grow.
-fn spare_of(matches: &ArgMatches) -> u8
-    requires { AreMatchesBy knot_app matches.now }
-    ensures given { HasNumber matches.now (codes "spare") result }
-    ensures bounds { result ≤ 4 }
-{
-    match matches.get_one::<u8>("spare") {
-        Some(number) => number,
-        None => unreachable!(),
-    }
-}
-
-/// The seed of a walk.
-fn seed_of(matches: &ArgMatches) -> u64
-    requires { AreMatchesBy knot_app matches.now }
-    ensures { HasNumber matches.now (codes "seed") result }
-{
-    match matches.get_one::<u64>("seed") {
+    match matches.get_one::<T>(name) {
         Some(number) => number,
         None => unreachable!(),
     }
@@ -237,9 +209,9 @@ pub fn read_words(alloc: Global, words: &[String]) -> Result<Asked, WordsFault>
     };
     Ok(Asked {
         job,
-        workers: workers_of(&matches),
-        budget: budget_of(&matches),
-        spare: spare_of(&matches),
-        seed: seed_of(&matches),
+        workers: number_given(&matches, "workers"),
+        budget: number_given(&matches, "budget"),
+        spare: number_given(&matches, "spare"),
+        seed: number_given(&matches, "seed"),
     })
 }

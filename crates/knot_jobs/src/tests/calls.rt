@@ -1,7 +1,7 @@
 //! Whole calls: worked examples, faults at each call of the source and the sink, and inputs of the greatest length.
-use super::{Outside, ran, words_of};
+use super::{Outside, run_line, words_of};
+use crate::call::run;
 use crate::status::Status;
-use crate::top_call::run;
 use knot_ports::{QuietSink, QuietSource};
 use std::alloc::{AllocError, Global};
 use std::process::Abort;
@@ -23,7 +23,7 @@ const SHIFTED: &[u8] = b"x 0 1\no 1 0\nx 1 0\no 0 1\nequal 1\nshift rows 1\n";
 /// Whether a call has what is expected of it.
 fn compare(rt: &impl Abort, alloc: Global, row: &Row) -> Result<(), Fail> {
     let (line, input, status, text) = *row;
-    let (ended, written) = ran(alloc, line, input, &CALM)?;
+    let (ended, written) = run_line(alloc, line, input, &CALM)?;
     assert_eq!(rt; ended, status, "{line}");
     assert_eq!(rt; written.as_slice(), text, "{line}");
     Ok(())
@@ -250,7 +250,7 @@ fn calls_end_at_each_fault(rt: HostRuntime) -> Result<(), Fail> {
             writing: &[],
             room: 100,
         };
-        let (status, written) = ran(rt.alloc(), "knot check", SHIFTED, &outside)?;
+        let (status, written) = run_line(rt.alloc(), "knot check", SHIFTED, &outside)?;
         assert_eq!(rt; status, Status::ReadFault, "call {failing}");
         assert_eq!(rt; written.as_slice(), b"".as_slice());
     }
@@ -276,7 +276,7 @@ fn calls_end_at_each_fault(rt: HostRuntime) -> Result<(), Fail> {
             writing: &[writing],
             room,
         };
-        let (status, written) = ran(rt.alloc(), line, SHIFTED, &outside)?;
+        let (status, written) = run_line(rt.alloc(), line, SHIFTED, &outside)?;
         assert_eq!(rt; status, ended, "call {writing} of {line}");
         assert_eq!(rt; written.as_slice(), front, "call {writing} of {line}");
     }
@@ -287,7 +287,7 @@ fn calls_end_at_each_fault(rt: HostRuntime) -> Result<(), Fail> {
         writing: &[],
         room: 100,
     };
-    let (status, written) = ran(rt.alloc(), "knot close", long.as_slice(), &outside)?;
+    let (status, written) = run_line(rt.alloc(), "knot close", long.as_slice(), &outside)?;
     assert_eq!(rt; status, Status::Limit);
     assert_eq!(rt; written.as_slice(), b"limit bytes\n".as_slice());
     Ok(())

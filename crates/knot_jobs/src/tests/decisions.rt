@@ -1,7 +1,7 @@
 //! Decisions: worked verdicts, the searches that are kept, and certificates that `check` accepts behind their problems.
-use super::{Outside, ran, words_of};
+use super::{Outside, run_line, words_of};
+use crate::call::run;
 use crate::status::Status;
-use crate::top_call::run;
 use knot_ports::{MemSink, MemSource, QuietSink, QuietSource};
 use search_book::End;
 use search_pool::Finding;
@@ -22,7 +22,7 @@ struct Ended {
 }
 
 /// A call on an input.
-fn called(alloc: Global, line: &str, input: &[u8]) -> Result<Ended, Fail> {
+fn call(alloc: Global, line: &str, input: &[u8]) -> Result<Ended, Fail> {
     let words = words_of(alloc, line)?;
     let mut source = MemSource::new(Vec::from_slice(alloc, input)?, 4096, Vec::new(alloc));
     let mut sink = MemSink::new(alloc, 4096, 65_536, Vec::new(alloc))?;
@@ -104,16 +104,16 @@ fn pairs_have_their_verdicts(rt: HostRuntime) -> Result<(), Fail> {
         ),
     ];
     for (line, input, status, text) in rows {
-        let call = called(rt.alloc(), line, input)?;
-        assert_eq!(rt; call.status, status, "{line}");
-        assert_eq!(rt; call.text.as_slice(), text, "{line}");
+        let ended = call(rt.alloc(), line, input)?;
+        assert_eq!(rt; ended.status, status, "{line}");
+        assert_eq!(rt; ended.text.as_slice(), text, "{line}");
     }
     Ok(())
 }
 
 /// The search that a call kept.
-fn kept_by(alloc: Global, line: &str, input: &[u8]) -> Result<Finding, Fail> {
-    let Ended { kept, .. } = called(alloc, line, input)?;
+fn search_of(alloc: Global, line: &str, input: &[u8]) -> Result<Finding, Fail> {
+    let Ended { kept, .. } = call(alloc, line, input)?;
     match kept {
         Some(finding) => Ok(finding),
         None => Err(Fail::from("no search")),
@@ -122,13 +122,13 @@ fn kept_by(alloc: Global, line: &str, input: &[u8]) -> Result<Finding, Fail> {
 
 #[test]
 fn a_search_is_kept_where_there_was_one(rt: HostRuntime) -> Result<(), Fail> {
-    let spent = kept_by(rt.alloc(), "knot decide --spare 1 --budget 2", TREFOILS)?;
+    let spent = search_of(rt.alloc(), "knot decide --spare 1 --budget 2", TREFOILS)?;
     assert_eq!(rt; spent.book.len(), 2);
     assert!(rt; matches!(spent.book.end(), Some(End::Spent { .. })));
-    let exhausted = kept_by(rt.alloc(), "knot decide --spare 0", TREFOILS)?;
+    let exhausted = search_of(rt.alloc(), "knot decide --spare 0", TREFOILS)?;
     assert!(rt; matches!(exhausted.book.end(), Some(End::Exhausted)));
     assert_eq!(rt; exhausted.settled, 2);
-    let told_apart = called(
+    let told_apart = call(
         rt.alloc(),
         "knot decide",
         b"x 4 3 2 1 0\no 2 1 0 4 3\nx 0 1\no 1 0\n",
@@ -139,7 +139,7 @@ fn a_search_is_kept_where_there_was_one(rt: HostRuntime) -> Result<(), Fail> {
 
 #[test]
 fn an_earlier_search_is_let_go(rt: HostRuntime) -> Result<(), Fail> {
-    let mut kept = Some(kept_by(rt.alloc(), "knot decide --spare 0", TREFOILS)?);
+    let mut kept = Some(search_of(rt.alloc(), "knot decide --spare 0", TREFOILS)?);
     let words = words_of(rt.alloc(), "knot decode")?;
     let status = run(
         rt.alloc(),
@@ -160,7 +160,7 @@ fn a_sample_reads_nothing(rt: HostRuntime) -> Result<(), Fail> {
         writing: &[],
         room: 200,
     };
-    let (status, written) = ran(rt.alloc(), "knot sample --seed 7", b"x 0 1\n", &outside)?;
+    let (status, written) = run_line(rt.alloc(), "knot sample --seed 7", b"x 0 1\n", &outside)?;
     assert_eq!(rt; status, Status::Done);
     assert!(rt;
         written
@@ -172,11 +172,11 @@ fn a_sample_reads_nothing(rt: HostRuntime) -> Result<(), Fail> {
 
 /// Whether `check` accepts what a call of `decide` wrote, behind its input.
 fn is_accepted(alloc: Global, line: &str, input: &[u8]) -> Result<bool, Fail> {
-    let call = called(alloc, line, input)?;
+    let ended = call(alloc, line, input)?;
     let mut both = Vec::from_slice(alloc, input)?;
-    both.extend_from_slice(call.text.as_slice())?;
-    let ruled = called(alloc, "knot check", both.as_slice())?;
-    Ok(call.status == Status::Done && ruled.status == Status::Done)
+    both.extend_from_slice(ended.text.as_slice())?;
+    let ruled = call(alloc, "knot check", both.as_slice())?;
+    Ok(ended.status == Status::Done && ruled.status == Status::Done)
 }
 
 #[test]

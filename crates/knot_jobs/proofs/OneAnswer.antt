@@ -1,0 +1,265 @@
+-- An input of a job other than `decide` has one answer.
+use Rattle.std.proofs.Common.{◌≡◌, ◌∷◌, ℕ, List, [], Bool, Option, Some, None, Result, Ok, Err, IsOk, true, false, codes, arith, refl, sym, ap, ap₂, ◌∙◌, inl, inr, ◌⊎◌, length}
+use Rattle.std.proofs.lemmas.Bool.{cases_lt}
+use Rattle.arrayvec.specs.ArrayVec.{ArrayVec}
+use Rattle.grid_core.specs.Diagram.{Diagram, IsGrid}
+use Rattle.grid_moves.specs.declared.step.Move.{Move}
+use Rattle.grid_moves.proofs.Stopped.{joins_once, not_both, stops_once, joins_or_stops}
+use Rattle.colour_rows.specs.Colouring.{is_colouring}
+use Rattle.text_lines.specs.Lines.{Text, text_of}
+use Rattle.knot_text.specs.declared.fault.TextFault.{TextFault}
+use Rattle.knot_text.specs.declared.fault.TextFault.TheVariants as bad
+use Rattle.verdict_core.specs.declared.problem.ProblemText.{ProblemText}
+use Rattle.verdict_core.specs.declared.verdict.Verdict.{Verdict}
+use Rattle.verdict_core.specs.declared.verdict.Verdict.TheVariants.{Equal, Different, UnknownBudget, UnknownExhausted}
+use Rattle.verdict_core.specs.Names.{NamedQuandle}
+use Rattle.knot_text.specs.Printed.{grid_text}
+use Rattle.verdict_core.specs.Diagrams.{grid_of}
+use Rattle.knot_text.specs.Shapes.{problem_in, check_in, replay_in, colour_in, close_in, lone_diagram_in}
+use Rattle.knot_text.specs.FirstBadLine.{FailsFirst}
+use Rattle.knot_text.proofs.ShapesFail.{problem_fails, check_fails, replay_fails, colour_fails, close_fails, lone_diagram_fails}
+use Rattle.cert_check.specs.declared.ruling.Ruling.{Ruling}
+use Rattle.cert_check.specs.declared.ruling.Ruling.TheVariants.{Accepted, Rejected}
+use Rattle.cert_check.proofs.Rulings.{ruled_once, some_ruling}
+use Rattle.knot_jobs.specs.declared.reply.Reply.{Reply}
+use Rattle.knot_jobs.specs.declared.status.Status.{Status}
+use Rattle.knot_jobs.specs.declared.status.Status.TheVariants as status
+use Rattle.knot_jobs.specs.declared.words.Job.{Job}
+use Rattle.knot_jobs.specs.declared.words.Job.TheVariants.{Decide, Check, Replay, Colour, Close, Code, Sample}
+use Rattle.knot_jobs.specs.declared.words.Asked.{Asked}
+use Rattle.knot_jobs.specs.Status.{IsOfDefinedAnswer, IsOfAnswer}
+use Rattle.knot_jobs.specs.Lines.{ruling_line, step_tokens, malformed_line, limit_line}
+use Rattle.knot_jobs.specs.Reply.{without_search, done, rejected, too_long, AnswersRead}
+use Rattle.knot_jobs.specs.Jobs.Decide.{verdict_status}
+use Rattle.knot_jobs.specs.Jobs.Check.{ruling_status, AnswersCheck}
+use Rattle.knot_jobs.specs.Jobs.Replay.{coloured_text, Replays, ReplaysColoured, Stops, AnswersMoves}
+use Rattle.knot_jobs.specs.Jobs.Colour.{colour_text}
+use Rattle.knot_jobs.specs.Jobs.Close.{close_text}
+use Rattle.knot_jobs.specs.Jobs.Code.{code_text}
+use Rattle.walk_samples.specs.Text.{sample_text}
+use Rattle.knot_jobs.specs.Answer.{limit_of, IsOver, IsWithin, task_of, IsInShape, Answers}
+use Rattle.knot_jobs.proofs.Along.{carries_once, carried_along, joins_along}
+use Rattle.knot_jobs.proofs.Grids.{check_grids, replay_grid}
+
+abbrev status_of : Reply → Status
+status_of r = r.status
+
+-- ---- the status of an answer
+
+ruling_defined : (ruling : Ruling) → IsOfDefinedAnswer (ruling_status ruling)
+ruling_defined Accepted = inl refl
+ruling_defined (Rejected cause) = inr (inr refl)
+
+verdict_defined : (v : Verdict) → IsOfDefinedAnswer (verdict_status v)
+verdict_defined (Equal moves) = inl refl
+verdict_defined (Different listed one two) = inl refl
+verdict_defined (UnknownBudget budget) = inr (inl refl)
+verdict_defined (UnknownExhausted cap admitted) = inr (inl refl)
+
+moves_defined : (d : Diagram) (moves : List Move) (colours : Option (NamedQuandle × ArrayVec ℕ)) (r : Reply)
+    → AnswersMoves d moves colours r → IsOfDefinedAnswer r.status
+moves_defined d moves None r a = elim a [ inl last ↦ inl (ap status_of last.is) | inr stop ↦ inr (inr (ap status_of stop.is)) ]
+moves_defined d moves (Some (q, colours)) r a = elim a [
+  | inl none ↦ inr (inr (ap status_of none.is))
+  | inr some ↦ elim some.answer [ inl last ↦ inl (ap status_of last.is) | inr stop ↦ inr (inr (ap status_of stop.is)) ]
+]
+
+-- what was read has a defined answer
+replies_defined : (job : Job) (asked : Asked) (i : (task_of job asked).Input) (r : Reply) → (task_of job asked).Replies i r → IsOfDefinedAnswer r.status
+replies_defined Decide asked i r a = rw a.status_is (verdict_defined a.verdict)
+replies_defined Check asked i r a = rw (ap status_of a.is) (ruling_defined a.ruling)
+replies_defined Replay asked i r a = moves_defined (grid_of i.diagram) i.moves i.colours r a
+replies_defined Colour asked i r a = inl (ap status_of a)
+replies_defined Close asked i r a = inl (ap status_of a)
+replies_defined Code asked i r a = inl (ap status_of a)
+replies_defined Sample asked i r a = inl (ap status_of a)
+
+read_status : {A : Type 0} (answers : A → Reply → Type 0) (read : Result A TextFault) (r : Reply)
+    → ((i : A) → answers i r → IsOfDefinedAnswer r.status) → AnswersRead answers read r → IsOfAnswer r.status
+read_status answers (Ok i) r each a = inl (each i a)
+read_status answers (Err (bad.Malformed n)) r each a = inr (inl (ap status_of a))
+read_status answers (Err (bad.Limit n)) r each a = inr (inr (ap status_of a))
+read_status answers (Err bad.OutOfMemory) r each a = absurd a
+
+pub answer_status : (asked : Asked) (bytes : List ℕ) (r : Reply) → Answers asked bytes r → IsOfAnswer r.status
+answer_status asked bytes r a = elim a [
+  | inl long ↦ inr (inr (ap status_of long.1))
+  | inr text ↦
+      let task = task_of asked.job asked in
+      read_status task.Replies (task.read bytes) r (λ i. replies_defined asked.job asked i r) text.1
+]
+
+-- ---- one answer
+
+check_once : (i : ProblemText × Verdict) (r r' : Reply) → AnswersCheck i r → AnswersCheck i r' → r ≡ r'
+check_once i r r' one two =
+    let same = ruled_once (grid_of i.0.first) (grid_of i.0.second) i.1 one.ruling two.ruling one.rules two.rules in
+    one.is ∙ ap (λ ruling. without_search (ruling_status ruling) (ruling_line ruling)) same ∙ sym two.is
+
+stop_once : (d : Diagram) (moves : List Move) (r r' : Reply) → Stops d moves r → Stops d moves r' → r ≡ r'
+stop_once d moves r r' a b =
+    let same = stops_once moves d a.place b.place a.fault b.fault a.stops b.stops in
+    a.is ∙ ap₂ (λ p f. rejected (step_tokens p f)) same.0 same.1 ∙ sym b.is
+
+replay_once : (d : Diagram) (moves : List Move) (r r' : Reply) → Replays d moves r ⊎ Stops d moves r → Replays d moves r' ⊎ Stops d moves r' → r ≡ r'
+replay_once d moves r r' one two = elim one [
+  | inl a ↦ elim two [
+    | inl b ↦ a.is ∙ ap (λ e. done (grid_text e)) (joins_once moves d a.last b.last a.joins b.joins) ∙ sym b.is
+    | inr b ↦ absurd (not_both moves d a.last b.place b.fault b.stops a.joins)
+  ]
+  | inr a ↦ elim two [
+    | inl b ↦ absurd (not_both moves d b.last a.place a.fault a.stops b.joins)
+    | inr b ↦ stop_once d moves r r' a b
+  ]
+]
+
+carry_once : (d : Diagram) (moves : List Move) (q : NamedQuandle) (colours : List ℕ) (r r' : Reply)
+    → ReplaysColoured d moves q colours r ⊎ Stops d moves r → ReplaysColoured d moves q colours r' ⊎ Stops d moves r' → r ≡ r'
+carry_once d moves q colours r r' one two = elim one [
+  | inl a ↦ elim two [
+    | inl b ↦
+        let same = carries_once q.table moves d a.last b.last colours a.last_colours b.last_colours a.carries b.carries in
+        a.is ∙ ap₂ (λ (e : Diagram) (last : List ℕ). done (coloured_text e last)) same.0 same.1 ∙ sym b.is
+    | inr b ↦ absurd (not_both moves d a.last b.place b.fault b.stops (joins_along q.table moves d a.last colours a.last_colours a.carries))
+  ]
+  | inr a ↦ elim two [
+    | inl b ↦ absurd (not_both moves d b.last a.place a.fault a.stops (joins_along q.table moves d b.last colours b.last_colours b.carries))
+    | inr b ↦ stop_once d moves r r' a b
+  ]
+]
+
+moves_once : (d : Diagram) (moves : List Move) (colours : Option (NamedQuandle × ArrayVec ℕ)) (r r' : Reply)
+    → AnswersMoves d moves colours r → AnswersMoves d moves colours r' → r ≡ r'
+moves_once d moves None r r' one two = replay_once d moves r r' one two
+moves_once d moves (Some (q, colours)) r r' one two = elim one [
+  | inl a ↦ elim two [ inl b ↦ a.is ∙ sym b.is | inr b ↦ absurd (let wrong = sym a.none ∙ b.colouring in cc) ]
+  | inr a ↦ elim two [
+    | inl b ↦ absurd (let wrong = sym b.none ∙ a.colouring in cc)
+    | inr b ↦ carry_once d moves q colours.items r r' a.answer b.answer
+  ]
+]
+
+replies_once : (job : Job) (asked : Asked) → (job ≡ Decide → ⊥) → (i : (task_of job asked).Input) (r r' : Reply)
+    → (task_of job asked).Replies i r → (task_of job asked).Replies i r' → r ≡ r'
+replies_once Decide asked other i r r' one two = absurd (other refl)
+replies_once Check asked other i r r' one two = check_once i r r' one two
+replies_once Replay asked other i r r' one two = moves_once (grid_of i.diagram) i.moves i.colours r r' one two
+replies_once Colour asked other i r r' one two = one ∙ sym two
+replies_once Close asked other i r r' one two = one ∙ sym two
+replies_once Code asked other i r r' one two = one ∙ sym two
+replies_once Sample asked other i r r' one two = one ∙ sym two
+
+read_once : {A : Type 0} (answers : A → Reply → Type 0) (read : Result A TextFault) (r r' : Reply)
+    → ((i : A) → answers i r → answers i r' → r ≡ r') → AnswersRead answers read r → AnswersRead answers read r' → r ≡ r'
+read_once answers (Ok i) r r' each one two = each i one two
+read_once answers (Err (bad.Malformed n)) r r' each one two = one ∙ sym two
+read_once answers (Err (bad.Limit n)) r r' each one two = one ∙ sym two
+read_once answers (Err bad.OutOfMemory) r r' each one two = absurd one
+
+-- an input is too long or is not
+pub not_over : (limit : Option ℕ) (bytes : List ℕ) → IsOver limit bytes → IsWithin limit bytes → ⊥
+not_over (Some limit) bytes over within = omega (arith, over, within)
+not_over None bytes over within = over
+
+over_or_within : (limit : Option ℕ) (bytes : List ℕ) → IsOver limit bytes ⊎ IsWithin limit bytes
+over_or_within (Some limit) bytes = cases_lt limit (length bytes)
+over_or_within None bytes = inr tt
+
+pub answers_once : (asked : Asked) (bytes : List ℕ) (r r' : Reply) → (asked.job ≡ Decide → ⊥) → Answers asked bytes r → Answers asked bytes r' → r ≡ r'
+answers_once asked bytes r r' other one two = elim one [
+  | inl a ↦ elim two [ inl b ↦ a.1 ∙ sym b.1 | inr b ↦ absurd (not_over (limit_of asked.job) bytes a.0 b.0) ]
+  | inr a ↦ elim two [
+    | inl b ↦ absurd (not_over (limit_of asked.job) bytes b.0 a.0)
+    | inr b ↦
+        let task = task_of asked.job asked in
+        read_once task.Replies (task.read bytes) r r' (λ i. replies_once asked.job asked other i r r') a.1 b.1
+  ]
+]
+
+-- ---- and there is one, behind which is no search
+
+abbrev pub SomeReply : (Reply → Type 0) → Type 0
+SomeReply Is = (r : Reply) × ((r.kept ≡ None) × Is r)
+
+some_check : (i : ProblemText × Verdict) → IsGrid (grid_of i.0.first) → SomeReply (AnswersCheck i)
+some_check i grid =
+    let r = some_ruling (grid_of i.0.first) (grid_of i.0.second) i.1 grid in
+    (without_search (ruling_status r.0) (ruling_line r.0), (refl, record { ruling = r.0; rules = r.1; is = refl }))
+
+some_moves : (d : Diagram) (moves : List Move) (colours : Option (NamedQuandle × ArrayVec ℕ)) → IsGrid d → SomeReply (AnswersMoves d moves colours)
+some_moves d moves None grid = elim (joins_or_stops moves d grid) [
+  | inl joined ↦ (done (grid_text joined.0), (refl, inl (record { last = joined.0; joins = joined.1; is = refl })))
+  | inr stop ↦
+      (rejected (step_tokens stop.0 stop.1.0), (refl, inr (record { place = stop.0; fault = stop.1.0; stops = stop.1.1; is = refl })))
+]
+some_moves d moves (Some (q, colours)) grid = by (is_colouring q.table d colours.items) refl
+  where
+    by : (t : Bool) → is_colouring q.table d colours.items ≡ t → SomeReply (AnswersMoves d moves (Some (q, colours)))
+    by false none = (rejected (codes "colours" ∷ []), (refl, inl (record { none = none; is = refl })))
+    by true some = elim (joins_or_stops moves d grid) [
+      | inl joined ↦
+          let c = carried_along q.table moves d joined.0 colours.items joined.1 in
+          let last = inl (record { last = joined.0; last_colours = c.0; carries = c.1; is = refl }) in
+          (done (coloured_text joined.0 c.0), (refl, inr (record { colouring = some; answer = last })))
+      | inr stop ↦
+          let first = inr (record { place = stop.0; fault = stop.1.0; stops = stop.1.1; is = refl }) in
+          (rejected (step_tokens stop.0 stop.1.0), (refl, inr (record { colouring = some; answer = first })))
+    ]
+
+some_reply : (job : Job) (asked : Asked) → (job ≡ Decide → ⊥) → (bytes : List ℕ) (i : (task_of job asked).Input) → (task_of job asked).read bytes ≡ Ok i
+    → SomeReply ((task_of job asked).Replies i)
+some_reply Decide asked other bytes i is = absurd (other refl)
+some_reply Check asked other bytes i is = some_check i (check_grids bytes i.0 i.1 is).0
+some_reply Replay asked other bytes i is = some_moves (grid_of i.diagram) i.moves i.colours (replay_grid bytes i is)
+some_reply Colour asked other bytes i is = (done (colour_text (grid_of i.diagram) i.quandles), (refl, refl))
+some_reply Close asked other bytes i is = (done (close_text i.braid i.quandles), (refl, refl))
+some_reply Code asked other bytes i is = (done (code_text (grid_of i)), (refl, refl))
+some_reply Sample asked other bytes i is = (done (sample_text i), (refl, refl))
+
+-- a reader answers no want of memory in its definition
+first_fails : {A : Type 0} (read : Text → Result A TextFault) → FailsFirst read → (text : Text) → read text ≡ Err bad.OutOfMemory → ⊥
+first_fails read first text is = elim (first text bad.OutOfMemory is) [
+  | inl here ↦ absurd (elim here.first.names [ inl wrong ↦ cc | inr wrong ↦ cc ])
+  | inr end ↦ absurd (let wrong = end.names in cc)
+]
+
+never_memory : (job : Job) (asked : Asked) (bytes : List ℕ) → (task_of job asked).read bytes ≡ Err bad.OutOfMemory → ⊥
+never_memory Decide asked bytes is = first_fails problem_in problem_fails (text_of bytes) is
+never_memory Check asked bytes is = first_fails check_in check_fails (text_of bytes) is
+never_memory Replay asked bytes is = first_fails replay_in replay_fails (text_of bytes) is
+never_memory Colour asked bytes is = first_fails colour_in colour_fails (text_of bytes) is
+never_memory Close asked bytes is = first_fails close_in close_fails (text_of bytes) is
+never_memory Code asked bytes is = first_fails lone_diagram_in lone_diagram_fails (text_of bytes) is
+never_memory Sample asked bytes is = let wrong = is in cc
+
+some_read : {A : Type 0} (answers : A → Reply → Type 0) (read : Result A TextFault) → (read ≡ Err bad.OutOfMemory → ⊥)
+    → ((i : A) → read ≡ Ok i → SomeReply (answers i)) → SomeReply (AnswersRead answers read)
+some_read answers (Ok i) never each = each i refl
+some_read answers (Err (bad.Malformed n)) never each = (without_search status.Malformed (malformed_line n), (refl, refl))
+some_read answers (Err (bad.Limit n)) never each = (without_search status.Limit (limit_line n), (refl, refl))
+some_read answers (Err bad.OutOfMemory) never each = absurd (never refl)
+
+pub some_answer : (asked : Asked) (bytes : List ℕ) → (asked.job ≡ Decide → ⊥) → SomeReply (Answers asked bytes)
+some_answer asked bytes other = elim (over_or_within (limit_of asked.job) bytes) [
+  | inl over ↦ (too_long, (refl, inl (over, refl)))
+  | inr within ↦
+      let task = task_of asked.job asked in
+      let a = some_read task.Replies (task.read bytes) (never_memory asked.job asked bytes) (some_reply asked.job asked other bytes) in
+      (a.0, (a.1.0, inr (within, a.1.1)))
+]
+
+-- ---- an input of the job's shape
+
+ok_defined : {A : Type 0} (answers : A → Reply → Type 0) (read : Result A TextFault) (r : Reply)
+    → ((i : A) → answers i r → IsOfDefinedAnswer r.status) → IsOk read → AnswersRead answers read r → IsOfDefinedAnswer r.status
+ok_defined answers (Ok i) r each ok a = each i a
+ok_defined answers (Err e) r each ok a = absurd (let wrong = ok in cc)
+
+pub defined_answer : (asked : Asked) (bytes : List ℕ) (r : Reply) → IsWithin (limit_of asked.job) bytes → IsInShape asked bytes
+    → Answers asked bytes r → IsOfDefinedAnswer r.status
+defined_answer asked bytes r within shape answer = elim answer [
+  | inl long ↦ absurd (not_over (limit_of asked.job) bytes long.0 within)
+  | inr text ↦
+      let task = task_of asked.job asked in
+      ok_defined task.Replies (task.read bytes) r (λ i. replies_defined asked.job asked i r) shape text.1
+]

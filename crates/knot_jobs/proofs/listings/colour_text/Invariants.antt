@@ -1,7 +1,0 @@
-use Rattle.std.proofs.Common.{◌≡◌, take}
-use Rattle.std.specs.List.{flat_map}
-use Rattle.knot_jobs.specs.Listings.{coloured_text}
-use Rattle.knot_jobs.proofs.listings.colour_text.Given as goal
-
-abbrev pub invariant-loop-listed : goal.invariant-loop-listed
-invariant-loop-listed l = l.out.items ≡ flat_map (coloured_text l.grid) (take l.listed-index l.quandles)

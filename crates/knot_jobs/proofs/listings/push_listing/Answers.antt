@@ -1,9 +1,0 @@
-use Rattle.std.proofs.Common.{◌++◌, ◌∙◌, List, ℕ, ap}
-use Rattle.std.proofs.lemmas.Result.{on_ok_weaker}
-use Rattle.text_lines.specs.Spelled.{lines_text}
-use Rattle.knot_jobs.proofs.Listed.{list_is_listing}
-use Rattle.knot_jobs.proofs.listings.push_listing.Goals as goal
-
-pub returns : goal.returns
-returns c =
-    on_ok_weaker c.push_list.result (λ done. done ∙ ap (λ (lines : List (List (List ℕ))). c.args.out.now.items ++ lines_text lines) (list_is_listing c.args.colourings.now)) c.push_list.ensures

@@ -1,0 +1,8 @@
+-- What each job answers to its input: a file a job.
+pub mod Decide
+pub mod Check
+pub mod Replay
+pub mod Colour
+pub mod Close
+pub mod Code
+pub mod Sample

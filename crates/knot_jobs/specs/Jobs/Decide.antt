@@ -1,0 +1,44 @@
+-- The job `decide`: two diagrams and quandles are answered by the verdict on the diagrams.
+use Rattle.std.specs.Prelude.{◌≡◌, ◌≤◌, ◌+◌, min, max, ℕ, length}
+use Rattle.grid_core.specs.declared.grid.TheConstants.{MAX_SIZE}
+use Rattle.grid_core.specs.Diagram.{Diagram, size}
+use Rattle.search_book.specs.declared.problem.Problem.{Problem}
+use Rattle.verdict_core.specs.declared.problem.ProblemText.{ProblemText}
+use Rattle.verdict_core.specs.declared.verdict.Verdict.{Verdict}
+use Rattle.verdict_core.specs.declared.verdict.Verdict.TheVariants.{Equal, Different, UnknownBudget, UnknownExhausted}
+use Rattle.knot_text.specs.declared.reading.TheConstants.{MAX_NUMBER}
+use Rattle.knot_text.specs.Printed.{verdict_text}
+use Rattle.verdict_core.specs.Diagrams.{grid_of}
+use Rattle.pair_verdict.specs.Decided.{Decides}
+use Rattle.knot_jobs.specs.declared.reply.Reply.{Reply}
+use Rattle.knot_jobs.specs.declared.words.Asked.{Asked}
+use Rattle.knot_jobs.specs.declared.status.Status.{Status}
+use Rattle.knot_jobs.specs.declared.status.Status.TheVariants as status
+
+-- the greatest size of a diagram on the way: the larger size and the spare, at most MAX_SIZE
+abbrev pub cap_of : Diagram → Diagram → ℕ → ℕ
+cap_of d e spare = min MAX_SIZE (max (size d) (size e) + spare)
+
+-- what is searched where no quandle tells the diagrams apart
+abbrev pub problem_for : Asked → Diagram → Diagram → Problem
+problem_for asked d e = record { first = d; second = e; cap = cap_of d e asked.spare; budget = asked.budget }
+
+abbrev pub verdict_status : Verdict → Status
+verdict_status (Equal moves) = status.Done
+verdict_status (Different listed one two) = status.Done
+verdict_status (UnknownBudget budget) = status.Unknown
+verdict_status (UnknownExhausted cap admitted) = status.Unknown
+
+-- the moves of a verdict, if any, are not too many for a text
+abbrev pub IsShort : Verdict → Type 0
+IsShort (Equal moves) = length moves ≤ MAX_NUMBER
+IsShort (Different listed one two) = Unit {0}
+IsShort (UnknownBudget budget) = Unit {0}
+IsShort (UnknownExhausted cap admitted) = Unit {0}
+
+-- the verdict on the diagrams, with the search behind it
+pub record AnswersDecide (asked : Asked) (input : ProblemText) (reply : Reply) : Type 0 where
+  pub verdict : Verdict
+  pub decides : Decides (problem_for asked (grid_of input.first) (grid_of input.second)) input.quandles verdict reply.kept
+  pub status_is : reply.status ≡ verdict_status verdict
+  pub text_is : reply.text ≡ verdict_text verdict

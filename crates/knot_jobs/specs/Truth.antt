@@ -1,0 +1,71 @@
+-- What a verdict is worth that `decide` writes or `check` accepts.
+use Rattle.std.specs.Prelude.{◌≡◌, if◌then◌else◌, ℕ, List, ◌++◌, Ok, codes}
+use Rattle.std.specs.Io.KnownBytes.{Appends}
+use Rattle.text_lines.specs.Lines.{are_whole_lines}
+use Rattle.verdict_core.specs.declared.problem.ProblemText.{ProblemText}
+use Rattle.verdict_core.specs.declared.verdict.Verdict.{Verdict}
+use Rattle.knot_text.specs.Printed.{verdict_text}
+use Rattle.verdict_core.specs.Diagrams.{grid_of}
+use Rattle.knot_text.specs.Shapes.{problem_of, check_of}
+use Rattle.cert_check.specs.declared.ruling.Ruling.TheVariants.{Accepted}
+use Rattle.verdict_core.specs.Evidence.{Claims, Holds, HasEvidence}
+use Rattle.knot_jobs.specs.declared.words.Asked.{Asked}
+use Rattle.knot_jobs.specs.declared.words.Job.{Job}
+use Rattle.knot_jobs.specs.declared.words.Job.TheVariants.{Decide, Check}
+use Rattle.knot_jobs.specs.declared.status.Status.{Status}
+use Rattle.knot_jobs.specs.declared.status.Status.TheVariants as status
+use Rattle.knot_jobs.specs.Words.{Asks}
+use Rattle.knot_jobs.specs.Lines.{ruling_line}
+use Rattle.knot_jobs.specs.Reply.{done, AnswersRead}
+use Rattle.knot_jobs.specs.Jobs.Check.{AnswersCheck}
+use Rattle.knot_jobs.specs.Answer.{limit_of, IsWithin}
+use Rattle.knot_jobs.specs.Call.{Call, TakesAll}
+
+-- what the verdict says of the diagrams is true: diagrams said to be equal are equivalent, and no list of moves joins diagrams
+-- that are told apart
+abbrev pub IsTrueVerdict : ProblemText → Verdict → Type 0
+IsTrueVerdict problem verdict = Claims (grid_of problem.first) (grid_of problem.second) verdict
+
+-- ---- a verdict that was accepted
+
+-- the bytes are a problem and a verdict on it that is true
+pub record IsCertificate (bytes : List ℕ) : Type 0 where
+  pub problem : ProblemText
+  pub verdict : Verdict
+  pub read : check_of bytes ≡ Ok (problem, verdict)
+  pub is_true : IsTrueVerdict problem verdict
+
+-- ---- a verdict that was written
+
+-- a text behind an input, with a line feed between where the last line of the input lacks one
+abbrev pub put_behind : List ℕ → List ℕ → List ℕ
+put_behind bytes text = if are_whole_lines bytes then bytes ++ text else bytes ++ (codes "\n" ++ text)
+
+-- the text behind the input is an input of `check`, which accepts it, if both together are not too long
+abbrev pub IsAcceptedBehind : List ℕ → List ℕ → Type 0
+IsAcceptedBehind bytes text = IsWithin (limit_of Check) (put_behind bytes text)
+    → AnswersRead AnswersCheck (check_of (put_behind bytes text)) (done (ruling_line Accepted))
+
+-- the bytes are a problem, and the text is a verdict on it that is true, with evidence that holds; behind the problem, `check`
+-- accepts it
+pub record IsDecision (bytes text : List ℕ) : Type 0 where
+  pub problem : ProblemText
+  pub read : problem_of bytes ≡ Ok problem
+  pub verdict : Verdict
+  pub is : text ≡ verdict_text verdict
+  pub evidence : HasEvidence verdict
+  pub holds : Holds (grid_of problem.first) (grid_of problem.second) verdict
+  pub is_true : IsTrueVerdict problem verdict
+  pub accepted : IsAcceptedBehind bytes text
+
+-- ---- a call
+
+-- what a job's text with Done says of its input is true, for `decide`, which writes a verdict, and `check`, which accepts one
+pub record IsTrueReply (job : Job) (bytes text : List ℕ) : Type 0 where
+  pub decided : job ≡ Decide → IsDecision bytes text
+  pub accepted : job ≡ Check → IsCertificate bytes
+
+-- where a call ended with Done, its text was written, and what it says of the whole input is true
+abbrev pub TellsOnlyTruth : Call → Status → Type 0
+TellsOnlyTruth call s = (asked : Asked) → Asks call.words asked → s ≡ status.Done → (bytes : List ℕ) × ((text : List ℕ)
+    × (TakesAll (limit_of asked.job) call.source bytes × (Appends call.sink.before call.sink.after text × IsTrueReply asked.job bytes text)))

@@ -1,0 +1,8 @@
+//! What each job answers to its input: a file a job.
+pub(crate) mod check;
+pub(crate) mod close;
+pub(crate) mod code;
+pub(crate) mod colour;
+pub(crate) mod decide;
+pub(crate) mod replay;
+pub(crate) mod sample;
