@@ -47,10 +47,11 @@ def alike(statement):
 
 
 def statements(path):
-    """Lemmas and definitions with their types: name, line, type, which goes on over the lines that are set in."""
+    """Lemmas with their types: name, line, type, which goes on over the lines that are set in. What is defined by `abbrev` has a
+    meaning beside its type, so it is none."""
     rows = lines_of(path)
     for number, line in enumerate(rows, 1):
-        found = re.match(r"(?:abbrev |unfoldable |recursive )*(?:pub )?([^\W\d][\w'\-]*) : (.+)$", line)
+        found = re.match(r"(?:unfoldable |recursive )*(?:pub )?([^\W\d][\w'\-]*) : (.+)$", line)
         if found:
             statement = [found.group(2)]
             for row in rows[number:]:

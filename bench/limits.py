@@ -1,0 +1,83 @@
+#!/usr/bin/env python3
+"""Finds numbers that are said twice: turns the two limits, MAX_SIZE and MAX_ORDER, in a copy of the repository, and proves and tests it.
+
+    python3 bench/limits.py                    24 becomes 20 and 16 becomes 12, in every crate
+    python3 bench/limits.py 20 12 NAME..       in these crates and those below them
+
+A proof, a worked row or a test that fails there says one of the two numbers where it should name the constant.
+A number of columns up to 24 and an order up to 16 still fit in the key of a grid and in the tables, so nothing else can fail.
+The examples, the stored run and must-fail edits are not tried. From nothing it takes as long as the proofs of the gate do."""
+
+import os
+import shutil
+import subprocess
+import sys
+import tempfile
+
+TOP = os.path.dirname(os.path.dirname(os.path.abspath(__file__)))
+LIMITS = (("grid_core", "MAX_SIZE: usize = 24;"), ("quandle_core", "MAX_ORDER: usize = 16;"))
+
+
+def turn(top, crate, line, value):
+    """Gives the constant of a crate another value."""
+    source = f"{top}/crates/{crate}/src"
+    for name in sorted(os.listdir(source)):
+        path = f"{source}/{name}"
+        if name.endswith(".rt"):
+            with open(path, encoding="utf-8") as file:
+                text = file.read()
+            if text.count(line) == 1:
+                with open(path, "w", encoding="utf-8") as file:
+                    file.write(text.replace(line, f"{line.rpartition('=')[0]}= {value};"))
+                return
+    sys.exit(f"{crate} has no line with {line}")
+
+
+def floors(top):
+    """The crates by floor, lowest first, each with the crates below it."""
+    found = {}
+    with open(f"{top}/crates.txt", encoding="utf-8") as file:
+        for line in file:
+            name, colon, below = line.partition("#")[0].partition(":")
+            if colon:
+                found[name.split()[0]] = below.split()
+    return found
+
+
+def wanted(found, names):
+    """These crates and all below them, lowest first; all where none is named."""
+    kept, left = set(), list(names or found)
+    while left:
+        name = left.pop()
+        if name in found and name not in kept:
+            kept.add(name)
+            left += found[name]
+    return [name for name in found if name in kept]
+
+
+def main():
+    values = [word for word in sys.argv[1:] if word.isdigit()]
+    names = [word for word in sys.argv[1:] if not word.isdigit()]
+    values = values if len(values) == 2 else ["20", "12"]
+    failed = []
+    with tempfile.TemporaryDirectory(prefix="knot-limits-") as top:
+        shutil.copytree(f"{TOP}/crates", f"{top}/crates", ignore=shutil.ignore_patterns("out"))
+        for name in ("crates.txt", "HANDLES"):
+            shutil.copy(f"{TOP}/{name}", top)
+        for (crate, line), value in zip(LIMITS, values):
+            turn(top, crate, line, value)
+        for crate in wanted(floors(top), names):
+            for words in (["rt", "check"], ["rt", "try", "--test"]):
+                ran = subprocess.run(words, cwd=f"{top}/crates/{crate}", capture_output=True, text=True)
+                said = [line for line in (ran.stdout + ran.stderr).split("\n") if ": error" in line or "FAILED" in line or "panicked" in line]
+                if ran.returncode and not (words[1] == "try" and "no tests" in ran.stdout + ran.stderr):
+                    failed.append(f"{crate} ({words[1]})")
+                    print(f"{crate}: {' '.join(words)} fails", *said[:8], sep="\n    ", flush=True)
+                else:
+                    print(f"{crate}: {' '.join(words)} passes", flush=True)
+    print(f"with {values[0]} columns and order {values[1]}: {len(failed)} fail", *failed)
+    return 1 if failed else 0
+
+
+if __name__ == "__main__":
+    sys.exit(main())
