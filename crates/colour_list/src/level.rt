@@ -15,26 +15,24 @@ use std::alloc::{AllocError, AllocFailed, Global};
 /// A list of colours in the making, 0 in each column that no row so far has reached.
 pub(crate) type Colours = [u8; MAX_SIZE];
 
-/// The list with the walk's last colour at the right end.
-fn with_right(colours: &Colours, row: &Row, quandle: &Quandle) -> Colours
+/// Gives the right end the walk's last colour.
+fn close_right(colours: &mut Colours, row: &Row, quandle: &Quandle)
     requires within { row.now.right_end < MAX_SIZE }
-    requires colours { AreColours MAX_SIZE quandle.now.order colours.now }
-    ensures { result ≡ with_right quandle.now row.now colours.now }
+    requires colours { AreColours MAX_SIZE quandle.now.order colours.old }
+    ensures { colours.new ≡ with_right quandle.now row.now colours.old }
 {
-    let mut solved = *colours;
-    solved[row.right() as usize] = row.walk(quandle, colours);
-    solved
+    let last = row.walk(quandle, colours);
+    colours[row.right() as usize] = last;
 }
 
-/// The list with the last colour of the walk taken backwards at the left end.
-fn with_left(colours: &Colours, row: &Row, quandle: &Quandle) -> Colours
+/// Gives the left end the last colour of the walk taken backwards.
+fn close_left(colours: &mut Colours, row: &Row, quandle: &Quandle)
     requires within { (row.now.left_end < row.now.right_end) × (row.now.right_end < MAX_SIZE) }
-    requires colours { AreColours MAX_SIZE quandle.now.order colours.now }
-    ensures { result ≡ with_left quandle.now row.now colours.now }
+    requires colours { AreColours MAX_SIZE quandle.now.order colours.old }
+    ensures { colours.new ≡ with_left quandle.now row.now colours.old }
 {
-    let mut solved = *colours;
-    solved[row.left() as usize] = row.walk_back(quandle, colours);
-    solved
+    let last = row.walk_back(quandle, colours);
+    colours[row.left() as usize] = last;
 }
 
 /// The list with a colour at the left end and the walk's last colour at the right end.
@@ -46,7 +44,8 @@ fn with_both(colours: &Colours, row: &Row, quandle: &Quandle, colour: u8) -> Col
 {
     let mut begun = *colours;
     begun[row.left() as usize] = colour;
-    with_right(&begun, row, quandle)
+    close_right(&mut begun, row, quandle);
+    begun
 }
 
 /// Puts the list with each colour in turn at the left end behind others.
@@ -92,7 +91,7 @@ pub(crate) fn solve_right(level: &mut Vec<Colours>, row: &Row, quandle: &Quandle
     ensures { level.new.items ≡ map (with_right quandle.now row.now) level.old.items }
 {
     for i in 0..level.len() {
-        level[i] = with_right(&level[i], row, quandle);
+        close_right(&mut level[i], row, quandle);
     }
 }
 
@@ -103,7 +102,7 @@ pub(crate) fn solve_left(level: &mut Vec<Colours>, row: &Row, quandle: &Quandle)
     ensures { level.new.items ≡ map (with_left quandle.now row.now) level.old.items }
 {
     for i in 0..level.len() {
-        level[i] = with_left(&level[i], row, quandle);
+        close_left(&mut level[i], row, quandle);
     }
 }
 

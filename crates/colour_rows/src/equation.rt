@@ -3,7 +3,9 @@ ghost use Rattle.std.specs.Prelude.{◌≡◌, ◌<◌, length};
 ghost use Rattle.std.specs.List.{All};
 ghost use Rattle.grid_core.specs.Diagram.{size};
 ghost use Rattle.colour_rows.specs.Equation.{equation, passes, walk_of, walk_back_of};
+ghost use Rattle.colour_rows.specs.Spans.{spans_of};
 
+use crate::spans::{Spans, is_set};
 use crate::walking::{passed_leftward, passed_rightward};
 use arrayvec::ArrayVec;
 use grid_core::{Grid, MAX_SIZE};
@@ -11,7 +13,7 @@ use quandle_core::Quandle;
 use std::marker::Model;
 
 /// A column that a row passes under.
-#[derive(Clone, Copy, Default)]
+#[derive(Clone, Copy, Debug, Default, PartialEq, Eq)]
 pub struct Pass {
     /// The column, from 0 on the left.
     pub column: u8,
@@ -49,8 +51,18 @@ impl Row {
         ensures equation { result ≡ equation grid.now row }
         ensures within { (result.left_end < result.right_end) × (result.right_end < size grid.now) }
     {
+        Row::by_spans(grid, &Spans::of(grid), row)
+    }
+
+    /// The same row, where the spans of the grid's columns are at hand: they serve all its rows.
+    pub fn by_spans(grid: &Grid, spans: &Spans, row: u8) -> Row
+        requires row { row < size grid.now }
+        requires spans { spans.now ≡ spans_of grid.now }
+        ensures equation { result ≡ equation grid.now row }
+        ensures within { (result.left_end < result.right_end) × (result.right_end < size grid.now) }
+    {
         let (left, right) = grid.ends(row);
-        let passed = passed(grid, row, left, right);
+        let passed = passed(grid, spans, row, left, right);
         Row {
             left,
             right,
@@ -106,14 +118,22 @@ impl Row {
 }
 
 /// The columns strictly between two that cover a row, from left to right.
-fn passed(grid: &Grid, row: u8, left: u8, right: u8) -> ArrayVec<Pass, MAX_SIZE>
-    requires { (left < right) × (right < size grid.now) }
+pub(crate) fn passed(
+    grid: &Grid,
+    spans: &Spans,
+    row: u8,
+    left: u8,
+    right: u8,
+) -> ArrayVec<Pass, MAX_SIZE>
+    requires columns { (left < right) × (right < size grid.now) }
+    requires spans { spans.now ≡ spans_of grid.now }
     ensures { result.items ≡ passes grid.now row left right }
 {
     let _size = grid.size();
+    let covering = spans.covering(row);
     let mut passed = ArrayVec::new();
     for column in left + 1..right {
-        if grid.covers(column, row) {
+        if is_set(covering, column) {
             passed.push(Pass {
                 column,
                 up: grid.is_up(column),

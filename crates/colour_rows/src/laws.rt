@@ -6,6 +6,9 @@ ghost use Rattle.quandle_core.specs.Quandle.{Table, IsQuandle};
 ghost use Rattle.colour_rows.specs.Equation.{equation, walk_of, walk_back_of};
 ghost use Rattle.colour_rows.specs.Walk.{walk, closes};
 ghost use Rattle.colour_rows.specs.Colouring.{IsColouring, is_colouring};
+ghost use Rattle.colour_rows.specs.Spans.{spans_of};
+ghost use Rattle.lane_spans.specs.Columns.{AreSpans};
+ghost use Rattle.lane_spans.specs.Columns as lanes;
 
 /// The test for a colouring passes exactly where there is a colour below the order for each column and each row's walk ends with the colour of its right end.
 pub fn a_colouring_closes_each_row()
@@ -30,4 +33,13 @@ pub fn the_equation_of_a_row_is_its_walk()
         → All (λ y. y < t.order) colours
         → a < t.order
         → closes t d (slice_set colours (ends d r).low a) r ≡ (walk_back_of t (equation d r) colours == a) }
+{}
+
+/// The spans of a diagram's columns as two lists say what the diagram says: a column covers a row by its place in the lists
+/// exactly where it covers it in the diagram, and no place behind the columns covers any. In a grid each low end lies below
+/// its high end.
+pub fn the_listed_spans_are_those_of_the_columns()
+    ensures columns { (d : Diagram) (c r : ℕ) → c < size d → lanes.covers (spans_of d).lows (spans_of d).highs r c ≡ covers d c r }
+    ensures behind { (d : Diagram) (c r : ℕ) → size d ≤ c → lanes.covers (spans_of d).lows (spans_of d).highs r c ≡ false }
+    ensures ordered { (d : Diagram) → IsGrid d → AreSpans (spans_of d).lows (spans_of d).highs }
 {}

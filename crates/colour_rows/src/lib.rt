@@ -6,9 +6,13 @@ mod colouring;
 mod equation;
 pub mod laws;
 #[cfg(test)]
+mod plain;
+mod spans;
+#[cfg(test)]
 mod tests;
 mod walking;
 
 pub use colouring::{Colouring, is_colouring};
 pub use equation::{Pass, Row};
+pub use spans::Spans;
 pub use walking::{passed_leftward, passed_rightward, walk};

@@ -1,6 +1,8 @@
 //! Walks and colourings of the two trefoils.
 use crate::colouring::{Colouring, is_colouring};
-use grid_core::{Grid, MAX_SIZE};
+use crate::spans::Spans;
+use crate::{equation, plain};
+use grid_core::{Grid, MAX_SIZE, Rows};
 use quandle_core::Quandle;
 use std::process::Abort;
 use std::test::Fail;
@@ -70,5 +72,58 @@ fn a_trefoil_is_coloured_by_rotations_of_a_tetrahedron(rt: HostRuntime) -> Resul
     assert!(rt; !is_colouring(&grid, &quandle, &colouring_of(&[4, 4, 4, 4, 4])));
     let most = colouring_of(&[0; MAX_SIZE]);
     assert!(rt; !is_colouring(&grid, &quandle, &most));
+    Ok(())
+}
+
+/// How many rows of a diagram there are, and how many columns they pass under, where the kernel finds the same columns as the
+/// plain loop in each row.
+fn count_passed(grid: &Grid) -> Option<(usize, usize)> {
+    let spans = Spans::of(grid);
+    let mut count: usize = 0;
+    for row in 0..grid.size() {
+        let (left, right) = grid.ends(row);
+        let found = equation::passed(grid, &spans, row, left, right);
+        let expected = plain::passed(grid, row, left, right);
+        if found.as_slice() != expected.as_slice() {
+            return None;
+        }
+        count = count.saturating_add(found.len());
+    }
+    Some((usize::from(grid.size()), count))
+}
+
+/// A diagram of this size: in column c the X in row c, the O so many rows above it on the circle of rows.
+fn torus(size: u8, above: u8) -> Option<Grid> {
+    let mut x = Rows::new();
+    let mut o = Rows::new();
+    for column in 0..size {
+        let _x = x.try_push(column);
+        let _o = o.try_push(column.saturating_add(above) % size.max(1));
+    }
+    Grid::new(x.as_slice(), o.as_slice()).ok()
+}
+
+#[test]
+fn the_kernel_finds_the_columns_that_a_plain_loop_finds(rt: HostRuntime) -> Result<(), Fail> {
+    let mut rows: usize = 0;
+    for size in 2..MAX_SIZE as u8 + 1 {
+        for above in 1..size {
+            let Some(grid) = torus(size, above) else {
+                continue;
+            };
+            let found = count_passed(&grid);
+            assert!(rt; found.is_some());
+            if let Some((here, passed)) = found {
+                rows = rows.saturating_add(here);
+                // A torus link of this kind has a crossing for each column passed.
+                let turns = usize::from(above.min(size - above)).saturating_sub(1);
+                assert_eq!(rt;
+                    passed,
+                    usize::from(size - above.min(size - above)).saturating_mul(turns)
+                );
+            }
+        }
+    }
+    assert_eq!(rt; rows, 4600);
     Ok(())
 }

@@ -5,5 +5,5 @@ use Rattle.colour_list.proofs.level.solve_right.Goals as goal
 
 pub loop-i-preserved : goal.loop-i-preserved
 loop-i-preserved c =
-    mapped_next (with_right c.args.quandle.now c.args.row.now) c.args.level.now.items c.loop-i.level.items c.loop-i.i c.index.result.now c.with_right.result
-    (omega arith) c.loop-i.invariant c.index.ensures c.with_right.ensures
+    mapped_next (with_right c.args.quandle.now c.args.row.now) c.args.level.now.items c.loop-i.level.items c.loop-i.i c.index_mut.result.now
+    c.close_right.new.colours (omega arith) c.loop-i.invariant c.index_mut.ensures.value c.close_right.ensures

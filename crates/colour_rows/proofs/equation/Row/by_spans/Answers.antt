@@ -1,7 +1,7 @@
 use Rattle.std.proofs.Common.{◌<◌, All, sym, subst, List}
 use Rattle.colour_rows.specs.declared.equation.Pass.{Pass}
 use Rattle.colour_rows.proofs.Equations.{passes_below}
-use Rattle.colour_rows.proofs.equation.Row.of.Goals as goal
+use Rattle.colour_rows.proofs.equation.Row.by_spans.Goals as goal
 
 pub invariant_of-result : goal.invariant_of-result
 invariant_of-result c = (
