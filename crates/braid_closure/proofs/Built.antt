@@ -1,5 +1,6 @@
 -- Steps of the loops that build the columns.
-use Rattle.std.proofs.Common.{◌≡◌, ◌<◌, ◌≤◌, ◌+◌, ◌-◌, ◌∷◌, ◌++◌, ◌∙◌, [], ℕ, suc, ℤ, pos, negsuc, List, true, false, length, take, map, get_or, arith, sym, ap, ap₂, append_assoc, add-one, zero-add, nat_abs}
+use Rattle.std.proofs.Common.{◌≡◌, ◌<◌, ◌≤◌, ◌+◌, ◌-◌, ◌∷◌, ◌++◌, ◌∙◌, [], ℕ, suc, ℤ, pos, negsuc, List, true, false, length, take, map}
+use Rattle.std.proofs.Common.{get_or, arith, sym, ap, ap₂, append_assoc, add-one, zero-add, nat_abs}
 use Rattle.std.specs.Int.Signed.{lt_z}
 use Rattle.std.specs.List.{range_with_len}
 use Rattle.std.proofs.lemmas.Bool.{ltb-false, true≢false}

@@ -1,5 +1,6 @@
 -- Each fixed point of the braid's action is read at the feet of exactly one colouring of the closure.
-use Rattle.std.proofs.Common.{◌≡◌, ◌<◌, ◌≤◌, ◌+◌, ◌-◌, ◌∷◌, ◌∙◌, inl, inr, [], ℕ, List, Bool, cond, length, map, get_or, All, arith, sym, refl, ap, ap₂, subst, zero-add, nat_lt}
+use Rattle.std.proofs.Common.{◌≡◌, ◌<◌, ◌≤◌, ◌+◌, ◌-◌, ◌∷◌, ◌∙◌, inl, inr, [], ℕ, List, Bool, cond, length, map, get_or, All, arith, sym}
+use Rattle.std.proofs.Common.{refl, ap, ap₂, subst, zero-add, nat_lt}
 use Rattle.std.specs.List.{range_with_len}
 use Rattle.std.proofs.lemmas.Bool.{lt-ltb, le-ltb, cases_lt}
 use Rattle.std.proofs.lemmas.List.{ext_get_or}
@@ -18,9 +19,12 @@ use Rattle.braid_closure.proofs.Stages.{x_rows, x_below, first_stage}
 use Rattle.braid_closure.proofs.Grids.{closure_grid, size_closure}
 use Rattle.braid_closure.proofs.Walked.{colours_of}
 use Rattle.braid_closure.proofs.Strands.{open_colours}
-use Rattle.braid_closure.proofs.Followed.{Closes, IsBelow, Follows, follows_closes, follows_action, follows_agree, made_colours, made_follows, made_length, made_below}
+use Rattle.braid_closure.proofs.Followed.{Closes, IsBelow, Follows, follows_closes, follows_action, follows_agree, made_colours}
+use Rattle.braid_closure.proofs.Followed.{made_follows, made_length, made_below}
 use Rattle.braid_closure.proofs.Turned.{bottom_where, top_colours, tops_close}
-use Rattle.braid_closure.proofs.Feet.{built, body, built_stage, parts_of, letter_cuts, foot_cuts, colour_by, colours_back, colours_long, colour_read, range_agree, feet_read, feet_columns_read, rows_follow, colouring_below, colouring_closes}
+use Rattle.braid_closure.proofs.Feet.{built, body, built_stage, parts_of, letter_cuts, foot_cuts, colour_by, colours_back, colours_long}
+use Rattle.braid_closure.proofs.Feet.{colour_read, range_agree, feet_read, feet_columns_read, rows_follow, colouring_below}
+use Rattle.braid_closure.proofs.Feet.{colouring_closes}
 
 -- the rows of the Xs of all columns lie below the size
 columns_below : (b : Word) → IsBraid b → All (λ (c : Column). c.x < closure_size b) (columns b)

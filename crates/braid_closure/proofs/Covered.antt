@@ -1,5 +1,6 @@
 -- Columns that run upward: which of them cover a row, by the part of them at or below it.
-use Rattle.std.proofs.Common.{◌≡◌, ◌<◌, ◌≤◌, ◌&&◌, ◌∷◌, ◌++◌, ◌∙◌, [], ℕ, List, Bool, true, false, cond, Option, Some, None, is_none, unwrap_or, filter, fold, All, arith, sym, refl, ap, ap₂, nat_lt, nat_le}
+use Rattle.std.proofs.Common.{◌≡◌, ◌<◌, ◌≤◌, ◌&&◌, ◌∷◌, ◌++◌, ◌∙◌, [], ℕ, List, Bool, true, false, cond, Option, Some, None, is_none}
+use Rattle.std.proofs.Common.{unwrap_or, filter, fold, All, arith, sym, refl, ap, ap₂, nat_lt, nat_le}
 use Rattle.std.proofs.lemmas.Bool.{lt-ltb, le-ltb, leb-true, leb-false, ltb-true, ltb-false}
 use Rattle.std.proofs.lemmas.List.Elements.{All-head, All-tail, All-nil, All-cons, All-filter}
 use Rattle.grid_core.specs.Span.{span, lies_within}

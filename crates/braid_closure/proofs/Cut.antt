@@ -1,5 +1,6 @@
 -- The part of the columns at or below a row: it stays as it is while the rows above are built.
-use Rattle.std.proofs.Common.{◌≡◌, ◌<◌, ◌≤◌, ◌+◌, ◌∷◌, ◌++◌, ◌∙◌, [], ℕ, zero, suc, ℤ, pos, negsuc, List, Bool, true, false, cond, Option, Some, None, All, arith, sym, refl, ap, ap₂, nat_lt, nat_le}
+use Rattle.std.proofs.Common.{◌≡◌, ◌<◌, ◌≤◌, ◌+◌, ◌∷◌, ◌++◌, ◌∙◌, [], ℕ, zero, suc, ℤ, pos, negsuc, List, Bool, true, false, cond, Option}
+use Rattle.std.proofs.Common.{Some, None, All, arith, sym, refl, ap, ap₂, nat_lt, nat_le}
 use Rattle.std.specs.List.{flat_map}
 use Rattle.std.proofs.lemmas.Bool.{lt-ltb, le-ltb, le-leb, lt-leb}
 use Rattle.std.proofs.lemmas.Option.{none-some}

@@ -1,5 +1,6 @@
 -- The rows of the letters: they close exactly where the colours of the open columns follow the braid's action.
-use Rattle.std.proofs.Common.{◌≡◌, ◌<◌, ◌≤◌, ◌+◌, ◌-◌, ◌∷◌, ◌++◌, ◌∙◌, inl, inr, [], ℕ, zero, suc, ℤ, pos, negsuc, List, length, take, get_or, All, arith, sym, refl, ap, ap₂, subst}
+use Rattle.std.proofs.Common.{◌≡◌, ◌<◌, ◌≤◌, ◌+◌, ◌-◌, ◌∷◌, ◌++◌, ◌∙◌, inl, inr, [], ℕ, zero, suc, ℤ, pos, negsuc, List, length, take}
+use Rattle.std.proofs.Common.{get_or, All, arith, sym, refl, ap, ap₂, subst}
 use Rattle.std.specs.Prelude.{slice_index}
 use Rattle.std.proofs.lemmas.List.Elements.{All-head, All-tail, All-nil, All-cons, All-get_or}
 use Rattle.std.proofs.lemmas.Bool.{cases_eq}

@@ -1,5 +1,6 @@
 -- The closure of a braid is a grid.
-use Rattle.std.proofs.Common.{◌≡◌, ◌≢◌, ◌≤◌, ◌+◌, ◌-◌, ◌*◌, ◌∷◌, ◌++◌, ◌∙◌, [], ℕ, zero, suc, ℤ, List, cond, Option, Some, None, is_none, unwrap_or, length, map, All, arith, sym, refl, ap, ap₂, subst, zero-add, length-append}
+use Rattle.std.proofs.Common.{◌≡◌, ◌≢◌, ◌≤◌, ◌+◌, ◌-◌, ◌*◌, ◌∷◌, ◌++◌, ◌∙◌, [], ℕ, zero, suc, ℤ, List, cond, Option, Some, None, is_none}
+use Rattle.std.proofs.Common.{unwrap_or, length, map, All, arith, sym, refl, ap, ap₂, subst, zero-add, length-append}
 use Rattle.std.specs.List.{range_with_len, zip, cons_option}
 use Rattle.std.specs.List.Sorted.{IsPermutation}
 use Rattle.std.proofs.lemmas.List.{map-append, length-map, nil_from_length}

@@ -1,5 +1,7 @@
 -- Each letter's row has one crossing, of the letter's sign, and no other row has any.
-use Rattle.std.proofs.Common.{◌≡◌, ◌<◌, ◌≤◌, ◌+◌, ◌-◌, ◌*◌, ◌∷◌, ◌++◌, ◌∙◌, inl, inr, [], ◌⊎◌, ℕ, zero, suc, ℤ, pos, negsuc, List, Bool, true, false, cond, Option, unwrap_or, length, map, filter, All, arith, sym, refl, ap, ap₂, subst, append_assoc, length-append, nat_lt}
+use Rattle.std.proofs.Common.{◌≡◌, ◌<◌, ◌≤◌, ◌+◌, ◌-◌, ◌*◌, ◌∷◌, ◌++◌, ◌∙◌, inl, inr, [], ◌⊎◌, ℕ, zero, suc, ℤ, pos, negsuc, List, Bool}
+use Rattle.std.proofs.Common.{true, false, cond, Option, unwrap_or, length, map, filter, All, arith, sym, refl, ap, ap₂, subst}
+use Rattle.std.proofs.Common.{append_assoc, length-append, nat_lt}
 use Rattle.std.specs.Prelude.{slice_index_or, IsTrue, if◌then◌else◌}
 use Rattle.std.specs.List.{range_with_len}
 use Rattle.std.proofs.lemmas.Bool.{cases_lt, cases_eq, lt-ltb, le-ltb, ltb-true, and_parts, and_from}
@@ -13,7 +15,8 @@ use Rattle.colour_rows.specs.Walk.{passed}
 use Rattle.braid_core.specs.Braid.{Word, IsBraid, IsLetter}
 use Rattle.braid_closure.specs.declared.columns.Column.{Column}
 use Rattle.braid_closure.specs.Columns.{ended, at_position, diagram_of}
-use Rattle.braid_closure.specs.Closure.{after_letter, after_letters, feet_columns, top_row, ended_at_the_top, closing, closure_size, columns, closure, letter_sign}
+use Rattle.braid_closure.specs.Closure.{after_letter, after_letters, feet_columns, top_row, ended_at_the_top, closing, closure_size}
+use Rattle.braid_closure.specs.Closure.{columns, closure, letter_sign}
 use Rattle.braid_closure.proofs.Stages.{IsStage, x_rows, letter_pair, stage_as, stage_x, stage_letter, first_stage}
 use Rattle.braid_closure.proofs.Grids.{size_closure, top_split, stage_top}
 use Rattle.braid_closure.proofs.Cut.{cut}

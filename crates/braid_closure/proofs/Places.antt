@@ -1,5 +1,6 @@
 -- A change at the open column of a position, by its place in the list.
-use Rattle.std.proofs.Common.{◌≡◌, ◌<◌, ◌+◌, ◌∷◌, ◌++◌, ◌∙◌, [], ℕ, suc, List, length, take, drop, set, get_or, arith, sym, refl, ap, append_assoc, length-append, add-one}
+use Rattle.std.proofs.Common.{◌≡◌, ◌<◌, ◌+◌, ◌∷◌, ◌++◌, ◌∙◌, [], ℕ, suc, List, length, take, drop, set, get_or, arith, sym, refl, ap}
+use Rattle.std.proofs.Common.{append_assoc, length-append, add-one}
 use Rattle.std.specs.List.{insert, refill}
 use Rattle.std.proofs.Math.Seq.{drop-cons}
 use Rattle.std.proofs.lemmas.List.{take-append-drop, take_all, take_more, set_split, drop_all, append-nil, length-set}

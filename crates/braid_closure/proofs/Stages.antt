@@ -1,5 +1,6 @@
 -- What is known of the columns when the rows below some height have been built.
-use Rattle.std.proofs.Common.{◌≡◌, ◌<◌, ◌≤◌, ◌+◌, ◌-◌, ◌∷◌, ◌++◌, ◌∙◌, [], ℕ, zero, suc, ℤ, pos, negsuc, List, true, Option, Some, None, is_none, length, map, All, arith, sym, refl, ap, subst, append_assoc, length-append, add-one, zero-add}
+use Rattle.std.proofs.Common.{◌≡◌, ◌<◌, ◌≤◌, ◌+◌, ◌-◌, ◌∷◌, ◌++◌, ◌∙◌, [], ℕ, zero, suc, ℤ, pos, negsuc, List, true, Option, Some, None}
+use Rattle.std.proofs.Common.{is_none, length, map, All, arith, sym, refl, ap, subst, append_assoc, length-append, add-one, zero-add}
 use Rattle.std.specs.List.{range_with_len, filter_map, cons_option}
 use Rattle.std.specs.List.Sorted.{IsPermutation}
 use Rattle.std.proofs.lemmas.Bool.{true≢false}

@@ -1,5 +1,6 @@
 -- The rows of the closing columns: the top and the bottom row of a position.
-use Rattle.std.proofs.Common.{◌≡◌, ◌<◌, ◌≤◌, ◌+◌, ◌-◌, ◌*◌, ◌∷◌, ◌++◌, ◌∙◌, inl, inr, [], ℕ, zero, suc, List, Bool, false, cond, length, map, All, arith, sym, refl, ap, ap₂, subst, zero-add, length-append}
+use Rattle.std.proofs.Common.{◌≡◌, ◌<◌, ◌≤◌, ◌+◌, ◌-◌, ◌*◌, ◌∷◌, ◌++◌, ◌∙◌, inl, inr, [], ℕ, zero, suc, List, Bool, false, cond, length}
+use Rattle.std.proofs.Common.{map, All, arith, sym, refl, ap, ap₂, subst, zero-add, length-append}
 use Rattle.std.specs.List.{range_with_len}
 use Rattle.std.proofs.lemmas.Bool.{le-leb, lt-leb, cases_eq}
 use Rattle.std.proofs.lemmas.List.{map-append, append-nil, nil_from_length, same_from_push}

@@ -1,5 +1,6 @@
 -- The walk of a row of a diagram that is given by its columns, under a colour for each row of an X.
-use Rattle.std.proofs.Common.{◌≡◌, ◌<◌, ◌+◌, ◌-◌, ◌∷◌, ◌++◌, ◌∙◌, ◌⊎◌, inl, inr, [], ℕ, suc, List, Bool, true, false, cond, Option, Some, unwrap_or, length, map, filter, fold, get_or, arith, sym, refl, ap, ap₂, append_assoc, length-append, nat_lt}
+use Rattle.std.proofs.Common.{◌≡◌, ◌<◌, ◌+◌, ◌-◌, ◌∷◌, ◌++◌, ◌∙◌, ◌⊎◌, inl, inr, [], ℕ, suc, List, Bool, true, false, cond, Option, Some}
+use Rattle.std.proofs.Common.{unwrap_or, length, map, filter, fold, get_or, arith, sym, refl, ap, ap₂, append_assoc, length-append, nat_lt}
 use Rattle.std.specs.Prelude.{slice_index}
 use Rattle.std.specs.List.{range_with_len}
 use Rattle.std.proofs.lemmas.List.{length-map}
