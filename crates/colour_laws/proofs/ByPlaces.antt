@@ -9,7 +9,7 @@ use Rattle.grid_core.specs.Diagram.{Diagram, IsGrid}
 use Rattle.grid_core.proofs.OneEach.{each_below}
 use Rattle.colour_laws.proofs.ColumnLists.{Column, dropped, IsNested, IsDisjoint, IsMarkAt, relabel, raised, short, long, with_block, ends}
 use Rattle.colour_laws.proofs.ColouredColumns.{fallen, columns, neighbours_traded, IsTradableAt, xs_of, os_of, IsSharing, HasBoth}
-use Rattle.colour_laws.proofs.ShiftRows.{dropped_zero, dropped_other}
+use Rattle.colour_laws.proofs.DroppedColumns.{dropped_zero, dropped_other}
 use Rattle.colour_laws.proofs.Marked.{xs_of_columns, os_of_columns}
 use Rattle.colour_laws.proofs.RowShifts.{xs_of_relabel, os_of_relabel}
 

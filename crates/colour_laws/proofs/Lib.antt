@@ -8,6 +8,8 @@ pub mod ShiftColumns
 pub mod Relabel
 pub mod ExchangeRows
 pub mod ExchangeColumns
+pub mod DroppedColumns
+pub mod LoweredMarks
 pub mod ShiftRows
 pub mod Tables
 pub mod Marked

@@ -19,7 +19,7 @@ use Rattle.quandle_core.specs.Bijection.{IsBijection}
 use Rattle.colour_laws.specs.Carried.{carried, bottom_row_shifted, rows_shifted, after_row_shift}
 use Rattle.colour_laws.proofs.ColumnLists.{Column, recoloured, recoloured_on}
 use Rattle.colour_laws.proofs.ColouredColumns.{IsColouringByColumns, AreInverse, act, columns, ys_of, fallen, fallen_colours, rows_carry, rows_return}
-use Rattle.colour_laws.proofs.ShiftRows.{recoloured_on_end, recoloured_on_apart}
+use Rattle.colour_laws.proofs.LoweredMarks.{recoloured_on_end, recoloured_on_apart}
 use Rattle.colour_laws.proofs.RowShifts.{recoloured_end, recoloured_apart, marks_recoloured}
 use Rattle.colour_laws.proofs.RowShifts as lists
 use Rattle.colour_laws.proofs.Marked.{ys_of_columns, xs_of_columns}

@@ -12,7 +12,8 @@ use Rattle.quandle_core.specs.Quandle.{Table, IsQuandle}
 use Rattle.colour_laws.proofs.ColouredColumns.{act, columns, xs_of, os_of, ys_of, IsColouringByColumns, AreInverse, IsMarked, fallen, fallen_colours, risen_colours, rows_carry, rows_return}
 use Rattle.colour_laws.proofs.Actions.{undo}
 use Rattle.colour_laws.proofs.Tables.{act_acts, act_below}
-use Rattle.colour_laws.proofs.ShiftRows.{lowered_is, rows_lowered, rows_raised, recoloured_on_end, recoloured_on_apart}
+use Rattle.colour_laws.proofs.LoweredMarks.{lowered_is, recoloured_on_end, recoloured_on_apart}
+use Rattle.colour_laws.proofs.ShiftRows.{rows_lowered, rows_raised}
 use Rattle.colour_laws.proofs.Marked.{IsCarried, bijection_of, ys_of_columns, xs_of_columns, os_of_columns, columns_marked, inside}
 use Rattle.colour_laws.proofs.ColumnShifts.{bijection_same, bijection_then}
 

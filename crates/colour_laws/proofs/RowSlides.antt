@@ -11,7 +11,7 @@ use Rattle.colour_laws.proofs.ColouredColumns.{act, columns, xs_of, os_of, ys_of
 use Rattle.colour_laws.proofs.Rows.{on_at, row_at, row_end, row_apart, on_end, on_apart, row_walk, row_above, crosses_above, ends_cross, ends_ring, ends_apart, cross, ring, apart, side}
 use Rattle.colour_laws.proofs.Level.{xs_here, xs_not_here, os_here, os_not_here}
 use Rattle.colour_laws.proofs.Relabel.{ends_relabel, row_relabel, eq_lower, eq_upper, eq_other, lt_lower, lt_upper, lt_other}
-use Rattle.colour_laws.proofs.ShiftRows.{same_tests}
+use Rattle.colour_laws.proofs.DroppedColumns.{same_tests}
 use Rattle.colour_laws.proofs.Stabilise.{crossed_meets}
 use Rattle.colour_laws.proofs.Tables.{act_acts}
 use Rattle.colour_laws.proofs.Marked.{IsCarried, bijection_of, ys_of_columns, marked_columns}

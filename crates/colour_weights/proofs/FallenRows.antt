@@ -9,7 +9,9 @@ use Rattle.colour_laws.proofs.ColumnLists.{Acts, Column, ends, xs_in, os_in, cro
 use Rattle.colour_laws.proofs.Actions.{crossed_carried, crossed_carries, crossed_fixed, undo}
 use Rattle.colour_laws.proofs.Rows.{cross, ring, apart, side, ends_cross, ends_ring, ends_apart, on_at, row_at, row_end, row_apart, on_end, on_apart}
 use Rattle.colour_laws.proofs.Level.{xs_here, xs_not_here, os_here, os_not_here}
-use Rattle.colour_laws.proofs.ShiftRows.{lt_dropped, lt_dropped_zero, ends_dropped, crosses_dropped, flipped_right, crosses_lowest, lowered_on_end, lowered_on_apart, lowered_end, lowered_apart, crosses_left, left_end}
+use Rattle.colour_laws.proofs.DroppedColumns.{lt_dropped, lt_dropped_zero, ends_dropped, crosses_dropped, flipped_right, crosses_lowest, crosses_left}
+use Rattle.colour_laws.proofs.LoweredMarks.{lowered_on_end, lowered_on_apart, lowered_end, lowered_apart}
+use Rattle.colour_laws.proofs.ShiftRows.{left_end}
 use Rattle.colour_weights.proofs.Mod.{Same, same_of, same_turned, same_by, same_by_two, same_by_three}
 use Rattle.colour_weights.proofs.RowSums.{Weighs, gained, gains, sum_on, sum_row, rightward}
 use Rattle.colour_weights.proofs.Gains.{there_back, gained_carried, gained_carries}

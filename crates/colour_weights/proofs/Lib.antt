@@ -27,4 +27,5 @@ pub mod CrossingSums
 pub mod Carried
 pub mod Counted
 pub mod Accepted
+mod FirstFaults
 mod WorkedRows

@@ -11,7 +11,7 @@ use Rattle.colour_list.specs.Listing.{colourings}
 use Rattle.colour_laws.specs.Carried.{carried, after_row_shift}
 use Rattle.colour_weights.specs.declared.fault.CocycleFault.TheVariants.{Modulus, Length, Range, Diagonal, Law}
 use Rattle.colour_weights.specs.Cocycle.{Cochain}
-use Rattle.colour_weights.specs.Fault.{first_fault}
+use Rattle.colour_weights.specs.Fault.{first_fault, obeys}
 use Rattle.colour_weights.specs.Weight.{colour_beside, crossing_value, weight}
 use Rattle.colour_weights.specs.WalkSum.{weight_by_rows}
 use Rattle.colour_weights.specs.Weights.{weights}
@@ -49,6 +49,17 @@ too_short = refl
 
 out_of_range : first_fault (record { quandle = trivial 2; modulus = 3; entries = 0 ∷ 3 ∷ 1 ∷ 1 ∷ [] }) ≡ Some (Range 0 1)
 out_of_range = refl
+
+-- the first of two in the lexicographic order, not in that of the columns
+in_two_cells : first_fault (record { quandle = trivial 2; modulus = 3; entries = 0 ∷ 3 ∷ 3 ∷ 0 ∷ [] }) ≡ Some (Range 0 1)
+in_two_cells = refl
+
+-- the law fails at 0, 2, 0 too, which has the lesser third colour
+lesser_second_colour : first_fault (record { quandle = dihedral 3; modulus = 2; entries = 0 ∷ 0 ∷ 0 ∷ 1 ∷ 0 ∷ 0 ∷ 0 ∷ 1 ∷ 0 ∷ [] }) ≡ Some (Law 0 1 2)
+lesser_second_colour = refl
+
+fails_too : obeys (record { quandle = dihedral 3; modulus = 2; entries = 0 ∷ 0 ∷ 0 ∷ 1 ∷ 0 ∷ 0 ∷ 0 ∷ 1 ∷ 0 ∷ [] }) 0 2 0 ≡ false
+fails_too = refl
 
 not_diagonal : first_fault (record { quandle = trivial 2; modulus = 3; entries = 0 ∷ 2 ∷ 1 ∷ 1 ∷ [] }) ≡ Some (Diagonal 1)
 not_diagonal = refl

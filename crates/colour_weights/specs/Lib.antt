@@ -1,5 +1,6 @@
 pub mod Cocycle
 pub mod Fault
+pub mod Cases
 pub mod Weight
 pub mod WalkSum
 pub mod Weights

@@ -1,5 +1,5 @@
 //! Laws of weights, over the definitions alone.
-ghost use Rattle.std.specs.Prelude.{◌≡◌, ◌≢◌, ◌↔◌, ℕ, List, None};
+ghost use Rattle.std.specs.Prelude.{◌≡◌, ◌≢◌, ◌↔◌, ℕ, List, Some, None};
 ghost use Rattle.grid_core.specs.Diagram.{Diagram, IsGrid};
 ghost use Rattle.grid_moves.specs.Step.{Step};
 ghost use Rattle.grid_moves.specs.Joining.{Equivalent};
@@ -8,6 +8,8 @@ ghost use Rattle.colour_rows.specs.Colouring.{IsColouring};
 ghost use Rattle.colour_laws.specs.Carried.{carried};
 ghost use Rattle.colour_weights.specs.Cocycle.{Cochain, IsCocycle};
 ghost use Rattle.colour_weights.specs.Fault.{first_fault};
+ghost use Rattle.colour_weights.specs.Cases.{IsFirstFault};
+ghost use Rattle.colour_weights.specs.declared.fault.CocycleFault.{CocycleFault};
 ghost use Rattle.colour_weights.specs.Weight.{weight};
 ghost use Rattle.colour_weights.specs.WalkSum.{weight_by_rows};
 ghost use Rattle.colour_weights.specs.Weights.{weights};
@@ -18,6 +20,11 @@ use grid_moves::Move;
 /// A table of numbers over a quandle has no fault exactly where it is a cocycle.
 pub fn no_fault_is_a_cocycle()
     ensures { (w : Cochain) → IsQuandle w.quandle → (first_fault w ≡ None) ↔ IsCocycle w }
+{}
+
+/// The first fault is exactly the one whose case fails, where no earlier law fails and no lexicographically smaller case of its own law.
+pub fn the_first_fault_comes_first()
+    ensures { (w : Cochain) (fault : CocycleFault) → (first_fault w ≡ Some fault) ↔ IsFirstFault w fault }
 {}
 
 /// The sum over the crossings is the sum over the rows.
