@@ -9,3 +9,4 @@ pub mod Written
 pub mod NumberTexts
 mod WorkedRows
 pub mod LineTexts
+pub mod Parts

@@ -1,6 +1,8 @@
-//! Texts cut by the built program, against tables written by hand.
+//! Texts cut and written by the built program, against tables written by hand.
 use crate::lines::Lines;
 use crate::numbers::{OVERLONG, number};
+use crate::writing::{push_counted, push_number, push_number_line, push_paired, push_word_line};
+use std::alloc::{AllocError, Global};
 use std::test::Fail;
 
 /// How many lines a text keeps, the sum of their numbers, how many tokens they have, and where the text ends.
@@ -71,6 +73,54 @@ fn reads_numbers(rt: HostRuntime) -> Result<(), Fail> {
     ];
     for (token, value) in rows {
         assert_eq!(rt; number(token), value);
+    }
+    Ok(())
+}
+
+/// What is appended by one call.
+#[derive(Clone, Copy)]
+enum Piece<'a> {
+    Number(u64),
+    Numbers(&'a [u8]),
+    Word(&'a [u8], &'a [u8]),
+    Counted(&'a [u8], u64),
+    Paired(&'a [u8], u64, u64),
+}
+
+/// The text `a`, a line feed, and a piece behind them.
+fn written(alloc: Global, piece: Piece) -> Result<Vec<u8>, AllocError> {
+    let mut out = Vec::from_slice(alloc, b"a\n")?;
+    match piece {
+        Piece::Number(number) => push_number(&mut out, number)?,
+        Piece::Numbers(numbers) => push_number_line(&mut out, numbers)?,
+        Piece::Word(word, numbers) => push_word_line(&mut out, word, numbers)?,
+        Piece::Counted(words, number) => push_counted(&mut out, words, number)?,
+        Piece::Paired(words, first, second) => push_paired(&mut out, words, first, second)?,
+    }
+    Ok(out)
+}
+
+#[test]
+fn writes_numbers_and_lines(rt: HostRuntime) -> Result<(), Fail> {
+    let rows: [(Piece, &[u8]); 12] = [
+        (Piece::Number(0), b"a\n0"),
+        (Piece::Number(1_000_000_000), b"a\n1000000000"),
+        (Piece::Number(u64::MAX), b"a\n18446744073709551615"),
+        (Piece::Numbers(b""), b"a\n\n"),
+        (Piece::Numbers(b"\x09"), b"a\n9\n"),
+        (Piece::Numbers(b"\x0a\x00\xff"), b"a\n10 0 255\n"),
+        (Piece::Word(b"x", b""), b"a\nx\n"),
+        (Piece::Word(b"o", b"\x01\x00\x64"), b"a\no 1 0 100\n"),
+        (Piece::Counted(b"list ", 0), b"a\nlist 0\n"),
+        (Piece::Counted(b"", 65_536), b"a\n65536\n"),
+        (
+            Piece::Paired(b"destabilise ", 3, 255),
+            b"a\ndestabilise 3 255\n",
+        ),
+        (Piece::Paired(b" ", 0, 0), b"a\n 0 0\n"),
+    ];
+    for (piece, text) in rows {
+        assert_eq!(rt; written(rt.alloc(), piece)?.as_slice(), text);
     }
     Ok(())
 }
