@@ -50,7 +50,8 @@ end_free : (same : Bool) → IsFree (fault_of (cond same Accepted OtherEnd))
 end_free true = none_free
 end_free false = none_free
 
-fault_free : (fault : Option BraidMoveFault) (place : ℕ) (rest : BraidRuling) → IsFree fault → IsFree (fault_of rest) → IsFree (fault_of (by_fault fault place rest))
+fault_free : (fault : Option BraidMoveFault) (place : ℕ) (rest : BraidRuling) → IsFree fault → IsFree (fault_of rest)
+    → IsFree (fault_of (by_fault fault place rest))
 fault_free (Some fault) place rest here after = here
 fault_free None place rest here after = after
 

@@ -1,5 +1,6 @@
 -- The list of fixed points has each once, so braids between whose fixed points there is a bijection have equally many.
-use Rattle.std.proofs.Common.{◌≡◌, ◌∙◌, ◌<◌, ℕ, zero, suc, List, [], ◌∷◌, Bool, true, false, length, get_or, ap, sym, refl, arith, inl, inr, subst, Contains, AllPairs}
+use Rattle.std.proofs.Common.{◌≡◌, ◌∙◌, ◌<◌, ℕ, zero, suc, List, [], ◌∷◌, Bool, true, false, length, get_or, ap, sym, refl, arith, inl, inr}
+use Rattle.std.proofs.Common.{subst, Contains, AllPairs}
 use Rattle.std.specs.Ordering.{is_eq}
 use Rattle.std.proofs.lemmas.Slice.Eq.{bytes_eq-Decides}
 use Rattle.std.proofs.lemmas.Map.Text.{is_eq-slice_cmp}
@@ -41,12 +42,13 @@ distinct_from (y ∷ ys) pairs = (
   distinct_from ys (λ i j d lt within. pairs (suc i) (suc j) d (omega arith) (omega arith)),
 )
 
-fixed_listing : (t : Table) (w : Word) → IsListing (IsFixedPoint t w) (fixed_points t w)
+pub fixed_listing : (t : Table) (w : Word) → IsListing (IsFixedPoint t w) (fixed_points t w)
 fixed_listing t w = record {
   distinct = distinct_from (fixed_points t w) (fixed_in_order t w);
   sound = λ x one. listed_fixed t w x (contains_from (fixed_points t w) x one);
   complete = λ x point. one_from (fixed_points t w) x (fixed_listed t w x point);
 }
 
-pub equally_many : (t : Table) (v w : Word) (go : List ℕ → List ℕ) → IsBijection (IsFixedPoint t v) (IsFixedPoint t w) go → length (fixed_points t v) ≡ length (fixed_points t w)
+pub equally_many : (t : Table) (v w : Word) (go : List ℕ → List ℕ) → IsBijection (IsFixedPoint t v) (IsFixedPoint t w) go
+    → length (fixed_points t v) ≡ length (fixed_points t w)
 equally_many t v w go b = equal_lengths (IsFixedPoint t v) (IsFixedPoint t w) go b (fixed_points t v) (fixed_points t w) (fixed_listing t v) (fixed_listing t w)

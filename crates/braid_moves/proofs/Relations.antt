@@ -1,5 +1,6 @@
 -- Artin's relations, as they act on a tuple: letters far from each other, and three letters of one sign.
-use Rattle.std.proofs.Common.{◌≡◌, ◌<◌, ◌≤◌, ◌+◌, ◌-◌, ◌∷◌, ◌++◌, ◌∙◌, [], ℕ, suc, ℤ, pos, negsuc, List, length, take, drop, arith, sym, ap, append_assoc, length-append, get_or, unsigned_abs}
+use Rattle.std.proofs.Common.{◌≡◌, ◌<◌, ◌≤◌, ◌+◌, ◌-◌, ◌∷◌, ◌++◌, ◌∙◌, [], ℕ, suc, ℤ, pos, negsuc, List, length, take, drop, arith, sym, ap}
+use Rattle.std.proofs.Common.{append_assoc, length-append, get_or, unsigned_abs}
 use Rattle.std.proofs.lemmas.List.{drop_more, take-append-drop, length-take-le}
 use Rattle.std.proofs.lemmas.List.Elements.{All-get_or}
 use Rattle.quandle_core.specs.Quandle.{Table, IsQuandle, over, back}
@@ -18,14 +19,16 @@ upper_pair t b left mid right y z u v at_b =
     ∙ (letter_pair t b (left ++ y ∷ z ∷ mid) u v right (omega (arith, length-append left (y ∷ z ∷ mid)))
     ∙ sym (regroup left mid (low_of t b u v ∷ high_of t b u v ∷ right) y z))
 
-lower_first : (t : Table) (a b : ℤ) (left mid right : List ℕ) (y z u v : ℕ) → length left + 1 ≡ unsigned_abs a → length left + 2 + length mid + 1 ≡ unsigned_abs b
+lower_first : (t : Table) (a b : ℤ) (left mid right : List ℕ) (y z u v : ℕ) → length left + 1 ≡ unsigned_abs a
+    → length left + 2 + length mid + 1 ≡ unsigned_abs b
     → letter_action t (letter_action t (left ++ y ∷ z ∷ (mid ++ u ∷ v ∷ right)) a) b
     ≡ left ++ low_of t a y z ∷ high_of t a y z ∷ (mid ++ low_of t b u v ∷ high_of t b u v ∷ right)
 lower_first t a b left mid right y z u v at_a at_b =
     ap (λ (zs : List ℕ). letter_action t zs b) (letter_pair t a left y z (mid ++ u ∷ v ∷ right) at_a)
     ∙ upper_pair t b left mid right (low_of t a y z) (high_of t a y z) u v at_b
 
-upper_first : (t : Table) (a b : ℤ) (left mid right : List ℕ) (y z u v : ℕ) → length left + 1 ≡ unsigned_abs a → length left + 2 + length mid + 1 ≡ unsigned_abs b
+upper_first : (t : Table) (a b : ℤ) (left mid right : List ℕ) (y z u v : ℕ) → length left + 1 ≡ unsigned_abs a
+    → length left + 2 + length mid + 1 ≡ unsigned_abs b
     → letter_action t (letter_action t (left ++ y ∷ z ∷ (mid ++ u ∷ v ∷ right)) b) a
     ≡ left ++ low_of t a y z ∷ high_of t a y z ∷ (mid ++ low_of t b u v ∷ high_of t b u v ∷ right)
 upper_first t a b left mid right y z u v at_a at_b =
@@ -61,7 +64,8 @@ pub record Split3 (k : ℕ) (xs : List ℕ) : Type 0 where
   pub before : length left + 1 ≡ k
 
 -- both orders of three letters of one sign, the first order beginning with the lower position
-positive_triple : (t : Table) → IsQuandle t → (j k : ℕ) (left : List ℕ) (x y z : ℕ) (right : List ℕ) → x < t.order → y < t.order → z < t.order → length left + 1 ≡ j → j + 1 ≡ k
+positive_triple : (t : Table) → IsQuandle t → (j k : ℕ) (left : List ℕ) (x y z : ℕ) (right : List ℕ) → x < t.order → y < t.order → z < t.order
+    → length left + 1 ≡ j → j + 1 ≡ k
     → action t (pos j ∷ pos k ∷ pos j ∷ []) (left ++ x ∷ y ∷ z ∷ right) ≡ action t (pos k ∷ pos j ∷ pos k ∷ []) (left ++ x ∷ y ∷ z ∷ right)
 unfolding low_of high_of
 positive_triple t q j k left x y z right at_x at_y at_z at_j at_k =
@@ -74,7 +78,8 @@ positive_triple t q j k left x y z right at_x at_y at_z at_j at_k =
     ∙ (ap (λ (zs : List ℕ). letter_action t zs (pos k)) (letter_pair t (pos j) left x (over t z y) (y ∷ right) at_j ∙ second_assoc left (over t (over t z y) x) x (y ∷ right))
     ∙ (letter_pair t (pos k) (left ++ over t (over t z y) x ∷ []) x y right (two (over t (over t z y) x)) ∙ sym (second_assoc left (over t (over t z y) x) (over t y x) (x ∷ right))))))))
 
-negative_triple : (t : Table) → IsQuandle t → (j k : ℕ) (left : List ℕ) (x y z : ℕ) (right : List ℕ) → x < t.order → y < t.order → z < t.order → length left ≡ j → j + 1 ≡ k
+negative_triple : (t : Table) → IsQuandle t → (j k : ℕ) (left : List ℕ) (x y z : ℕ) (right : List ℕ) → x < t.order → y < t.order → z < t.order
+    → length left ≡ j → j + 1 ≡ k
     → action t (negsuc j ∷ negsuc k ∷ negsuc j ∷ []) (left ++ x ∷ y ∷ z ∷ right) ≡ action t (negsuc k ∷ negsuc j ∷ negsuc k ∷ []) (left ++ x ∷ y ∷ z ∷ right)
 unfolding low_of high_of
 negative_triple t q j k left x y z right at_x at_y at_z at_j at_k =
@@ -103,7 +108,8 @@ split3_at k xs least lt =
       before = omega arith;
     }
 
-pub triple_positive : (t : Table) → IsQuandle t → (m j k : ℕ) (xs : List ℕ) → IsTuple t m xs → 1 ≤ j → j + 1 ≡ k → k < m → action t (pos j ∷ pos k ∷ pos j ∷ []) xs ≡ action t (pos k ∷ pos j ∷ pos k ∷ []) xs
+pub triple_positive : (t : Table) → IsQuandle t → (m j k : ℕ) (xs : List ℕ) → IsTuple t m xs → 1 ≤ j → j + 1 ≡ k → k < m
+    → action t (pos j ∷ pos k ∷ pos j ∷ []) xs ≡ action t (pos k ∷ pos j ∷ pos k ∷ []) xs
 unfolding split3_at
 triple_positive t q m j k xs tuple least next lt =
     let n = tuple.0 in
@@ -113,7 +119,8 @@ triple_positive t q m j k xs tuple least next lt =
     ∙ (positive_triple t q j k s.left s.x s.y s.z s.right (colour (j - 1) (omega arith)) (colour j (omega arith)) (colour (j + 1) (omega arith)) s.before next
     ∙ ap (action t (pos k ∷ pos j ∷ pos k ∷ [])) (sym s.is))
 
-pub triple_negative : (t : Table) → IsQuandle t → (m j k : ℕ) (xs : List ℕ) → IsTuple t m xs → j + 1 ≡ k → k + 1 < m → action t (negsuc j ∷ negsuc k ∷ negsuc j ∷ []) xs ≡ action t (negsuc k ∷ negsuc j ∷ negsuc k ∷ []) xs
+pub triple_negative : (t : Table) → IsQuandle t → (m j k : ℕ) (xs : List ℕ) → IsTuple t m xs → j + 1 ≡ k → k + 1 < m
+    → action t (negsuc j ∷ negsuc k ∷ negsuc j ∷ []) xs ≡ action t (negsuc k ∷ negsuc j ∷ negsuc k ∷ []) xs
 unfolding split3_at
 triple_negative t q m j k xs tuple next lt =
     let n = tuple.0 in

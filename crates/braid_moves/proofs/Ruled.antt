@@ -39,12 +39,14 @@ legal_from : (o : Option BraidMoveFault) (place : ℕ) (rest : BraidRuling) → 
 legal_from (Some fault) place rest e = absurd (let never : ◌≡◌ {A = BraidRuling} (Step place fault) Accepted = e in cc)
 legal_from None place rest e = record { none = refl; after = e }
 
-ruled_equal : (t : Table) → IsQuandle t → (v w : Word) → IsBraid v → (place : ℕ) (steps : List BraidMove) → ruled v w place steps ≡ Accepted → length (fixed_points t v) ≡ length (fixed_points t w)
+ruled_equal : (t : Table) → IsQuandle t → (v w : Word) → IsBraid v → (place : ℕ) (steps : List BraidMove) → ruled v w place steps ≡ Accepted
+    → length (fixed_points t v) ≡ length (fixed_points t w)
 ruled_equal t q v w braid place [] e = ap (λ (u : Word). length (fixed_points t u)) (same_from v w (accepted_end (are_same v w) e))
 ruled_equal t q v w braid place (step ∷ steps) e =
     let legal = legal_from (first_fault v step) place (ruled (moved v step) w (place + 1) steps) e in
     equally_many t v (moved v step) (carried t v step) (step_carries t q v braid step legal.none)
     ∙ ruled_equal t q (moved v step) w (step_braid v braid step legal.none) (place + 1) steps legal.after
 
-pub accepted_equal : (t : Table) → IsQuandle t → (v w : Word) → IsBraid v → (steps : List BraidMove) → ruling v w steps ≡ Accepted → length (fixed_points t v) ≡ length (fixed_points t w)
+pub accepted_equal : (t : Table) → IsQuandle t → (v w : Word) → IsBraid v → (steps : List BraidMove) → ruling v w steps ≡ Accepted
+    → length (fixed_points t v) ≡ length (fixed_points t w)
 accepted_equal t q v w braid steps e = ruled_equal t q v w braid 0 steps e

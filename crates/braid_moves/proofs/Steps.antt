@@ -1,5 +1,7 @@
 -- Each legal step leads to a braid, and carries the fixed points one to one.
-use Rattle.std.proofs.Common.{◌≡◌, ◌≢◌, ◌≤◌, ◌+◌, ◌-◌, ◌*◌, ◌∷◌, ◌++◌, ◌∙◌, [], ℕ, zero, suc, ℤ, pos, negsuc, neg_ℤ, unsigned_abs, List, Bool, true, false, not, Option, Some, None, All, length, take, drop, arith, sym, refl, ap, ap₂, subst, length-append, get_or}
+use Rattle.std.proofs.Common.{◌≡◌, ◌≢◌, ◌≤◌, ◌+◌, ◌-◌, ◌*◌, ◌∷◌, ◌++◌, ◌∙◌, [], ℕ, zero, suc, ℤ, pos, negsuc, neg_ℤ, unsigned_abs, List}
+use Rattle.std.proofs.Common.{Bool, true, false, not, Option, Some, None, All, length, take, drop, arith, sym, refl, ap, ap₂, subst}
+use Rattle.std.proofs.Common.{length-append, get_or}
 use Rattle.std.specs.Prelude.{nat_lt, nat_le, ◌==◌, ◌&&◌}
 use Rattle.std.specs.List.{list_all}
 use Rattle.std.specs.Ordering.{int_eq}
@@ -56,7 +58,8 @@ last_letter w braid alone =
     let m = w.strands in
     let l = length w.letters in
     let front = take (l - 1) w.letters in
-    let rest = and_parts (nat_le 2 m && nat_lt 0 l && (unsigned_abs (letter_at w (l - 1)) == m - 1)) (list_all (λ a. not (unsigned_abs a == m - 1)) front) alone in
+    let rest =
+    and_parts (nat_le 2 m && nat_lt 0 l && (unsigned_abs (letter_at w (l - 1)) == m - 1)) (list_all (λ a. not (unsigned_abs a == m - 1)) front) alone in
     let most = and_parts (nat_le 2 m && nat_lt 0 l) (unsigned_abs (letter_at w (l - 1)) == m - 1) rest.0 in
     let first = and_parts (nat_le 2 m) (nat_lt 0 l) most.0 in
     let two = leb-true 2 m first.0 in
@@ -79,7 +82,8 @@ last_letter w braid alone =
     apart i j e = eqb-false i j (negated (i == j) e)
 
 -- a braid with other letters, and room for them
-with_braid : (w : Word) → IsBraid w → (letters : List ℤ) → All (IsLetter w.strands) letters → length letters + 2 * w.strands ≤ MAX_SIZE → IsBraid (with_letters w letters)
+with_braid : (w : Word) → IsBraid w → (letters : List ℤ) → All (IsLetter w.strands) letters → length letters + 2 * w.strands ≤ MAX_SIZE
+    → IsBraid (with_letters w letters)
 with_braid w braid letters all room = record { least = braid.least; most = braid.most; crossings = all; room = room }
 
 shorter : (w : Word) → IsBraid w → (n : ℕ) → n ≤ length w.letters → n + 2 * w.strands ≤ MAX_SIZE
@@ -184,14 +188,16 @@ abbrev word : ℕ → List ℤ → Word
 word m letters = record { strands = m; letters = letters }
 
 -- a word whose letters are known in parts, one of which is changed for others that act alike
-from_letters : (t : Table) (m : ℕ) (letters front us vs rest : List ℤ) → letters ≡ front ++ (us ++ rest) → ActAlike t m (front ++ (us ++ rest)) (front ++ (vs ++ rest))
+from_letters : (t : Table) (m : ℕ) (letters front us vs rest : List ℤ) → letters ≡ front ++ (us ++ rest)
+    → ActAlike t m (front ++ (us ++ rest)) (front ++ (vs ++ rest))
     → IsBijection (IsFixedPoint t (word m letters)) (IsFixedPoint t (word m (front ++ (vs ++ rest)))) (λ xs. xs)
 from_letters t m letters front us vs rest is alike =
     subst (λ (ls : List ℤ). IsBijection (IsFixedPoint t (word m ls)) (IsFixedPoint t (word m (front ++ (vs ++ rest)))) (λ xs. xs)) (sym is)
     (alike_fixed t m (front ++ (us ++ rest)) (front ++ (vs ++ rest)) alike)
 
 -- the fixed points of the new braid
-pub step_carries : (t : Table) → IsQuandle t → (w : Word) → IsBraid w → (step : BraidMove) → first_fault w step ≡ None → IsBijection (IsFixedPoint t w) (IsFixedPoint t (moved w step)) (carried t w step)
+pub step_carries : (t : Table) → IsQuandle t → (w : Word) → IsBraid w → (step : BraidMove) → first_fault w step ≡ None
+    → IsBijection (IsFixedPoint t w) (IsFixedPoint t (moved w step)) (carried t w step)
 step_carries t q w braid (Far p) e =
     let m = w.strands in
     let ls = w.letters in

@@ -1,5 +1,6 @@
 -- A turn, a strand more and a strand less: what they do to the fixed points.
-use Rattle.std.proofs.Common.{◌≡◌, ◌<◌, ◌≤◌, ◌+◌, ◌-◌, ◌∷◌, ◌++◌, ◌∙◌, [], ℕ, zero, suc, ℤ, pos, negsuc, unsigned_abs, List, Bool, true, false, All, length, take, arith, sym, refl, ap, ap₂, append_assoc, length-append, get_or}
+use Rattle.std.proofs.Common.{◌≡◌, ◌<◌, ◌≤◌, ◌+◌, ◌-◌, ◌∷◌, ◌++◌, ◌∙◌, [], ℕ, zero, suc, ℤ, pos, negsuc, unsigned_abs, List, Bool, true}
+use Rattle.std.proofs.Common.{false, All, length, take, arith, sym, refl, ap, ap₂, append_assoc, length-append, get_or}
 use Rattle.std.proofs.lemmas.List.{take_at, take_more, take_all, length-take-le, same_from_push}
 use Rattle.std.proofs.lemmas.List.Elements.{All-get_or, All-take, All-append, All-head, All-tail, All-nil, All-cons}
 use Rattle.std.proofs.lemmas.List.Sums.{fold-append}
@@ -17,7 +18,8 @@ abbrev word : ℕ → List ℤ → Word
 word m letters = record { strands = m; letters = letters }
 
 -- the first part of the letters goes to the end
-pub turned_fixed : (t : Table) → IsQuandle t → (m : ℕ) (front rest : List ℤ) → All (IsLetter m) front → All (IsLetter m) rest → IsBijection (IsFixedPoint t (word m (front ++ rest))) (IsFixedPoint t (word m (rest ++ front))) (action t front)
+pub turned_fixed : (t : Table) → IsQuandle t → (m : ℕ) (front rest : List ℤ) → All (IsLetter m) front → All (IsLetter m) rest
+    → IsBijection (IsFixedPoint t (word m (front ++ rest))) (IsFixedPoint t (word m (rest ++ front))) (action t front)
 turned_fixed t q m front rest all_f all_r = record {
   into = λ xs point. record {
     tuple = acts_stay t q m front all_f xs point.tuple;
@@ -41,7 +43,8 @@ turned_fixed t q m front rest all_f all_r = record {
     back_around ys fixed = sym (fold-append (letter_action t) ys rest front) ∙ fixed
 
 -- letters of m strands don't touch one more colour
-letter_front : (t : Table) (m : ℕ) (a : ℤ) → IsLetter m a → (xs : List ℕ) (z : ℕ) → length xs ≡ m → letter_action t (xs ++ z ∷ []) a ≡ letter_action t xs a ++ z ∷ []
+letter_front : (t : Table) (m : ℕ) (a : ℤ) → IsLetter m a → (xs : List ℕ) (z : ℕ) → length xs ≡ m
+    → letter_action t (xs ++ z ∷ []) a ≡ letter_action t xs a ++ z ∷ []
 letter_front t m a letter xs z long =
     let least = letter.least in
     let most = letter.most in
@@ -52,7 +55,8 @@ letter_front t m a letter xs z long =
     ∙ (sym (append_assoc s.left (low_of t a s.low s.high ∷ high_of t a s.low s.high ∷ s.right) (z ∷ []))
     ∙ ap (λ (ys : List ℕ). ys ++ z ∷ []) (sym (letter_pair t a s.left s.low s.high s.right s.before) ∙ ap (λ (ys : List ℕ). letter_action t ys a) (sym s.is)))))
 
-acts_front : (t : Table) → IsQuandle t → (m : ℕ) (letters : List ℤ) → All (IsLetter m) letters → (xs : List ℕ) (z : ℕ) → IsTuple t m xs → action t letters (xs ++ z ∷ []) ≡ action t letters xs ++ z ∷ []
+acts_front : (t : Table) → IsQuandle t → (m : ℕ) (letters : List ℤ) → All (IsLetter m) letters → (xs : List ℕ) (z : ℕ) → IsTuple t m xs
+    → action t letters (xs ++ z ∷ []) ≡ action t letters xs ++ z ∷ []
 acts_front t q m [] all xs z tuple = refl
 acts_front t q m (a ∷ letters) all xs z tuple =
     let letter = All-head (IsLetter m) a letters all in
@@ -60,17 +64,20 @@ acts_front t q m (a ∷ letters) all xs z tuple =
     ∙ acts_front t q m letters (All-tail (IsLetter m) a letters all) (letter_action t xs a) z (letter_stays t q m a letter xs tuple)
 
 -- the crossing of the last strand and a new one
-cross_positive : (t : Table) (k : ℕ) (front : List ℕ) (u z : ℕ) → length front + 1 ≡ k → letter_action t (front ++ u ∷ z ∷ []) (crossing k true) ≡ front ++ over t z u ∷ u ∷ []
+cross_positive : (t : Table) (k : ℕ) (front : List ℕ) (u z : ℕ) → length front + 1 ≡ k
+    → letter_action t (front ++ u ∷ z ∷ []) (crossing k true) ≡ front ++ over t z u ∷ u ∷ []
 unfolding low_of high_of
 cross_positive t k front u z e = letter_pair t (pos k) front u z [] e
 
-cross_negative : (t : Table) (k : ℕ) (front : List ℕ) (u z : ℕ) → length front + 1 ≡ k → letter_action t (front ++ u ∷ z ∷ []) (crossing k false) ≡ front ++ z ∷ back t u z ∷ []
+cross_negative : (t : Table) (k : ℕ) (front : List ℕ) (u z : ℕ) → length front + 1 ≡ k
+    → letter_action t (front ++ u ∷ z ∷ []) (crossing k false) ≡ front ++ z ∷ back t u z ∷ []
 unfolding low_of high_of
 cross_negative t zero front u z e = absurd (omega arith)
 cross_negative t (suc k) front u z e = letter_pair t (negsuc k) front u z [] e
 
 -- the crossing fixes two equal colours
-crosses_equal : (t : Table) → IsQuandle t → (k : ℕ) (positive : Bool) (front : List ℕ) (u : ℕ) → u < t.order → length front + 1 ≡ k → letter_action t (front ++ u ∷ u ∷ []) (crossing k positive) ≡ front ++ u ∷ u ∷ []
+crosses_equal : (t : Table) → IsQuandle t → (k : ℕ) (positive : Bool) (front : List ℕ) (u : ℕ) → u < t.order → length front + 1 ≡ k
+    → letter_action t (front ++ u ∷ u ∷ []) (crossing k positive) ≡ front ++ u ∷ u ∷ []
 crosses_equal t q k true front u at e = cross_positive t k front u u e ∙ ap (λ (w : ℕ). front ++ w ∷ u ∷ []) (q.idempotent u at)
 crosses_equal t q k false front u at e =
     cross_negative t k front u u e ∙ ap (λ (w : ℕ). front ++ u ∷ w ∷ []) (ap (λ (w : ℕ). back t w u) (sym (q.idempotent u at)) ∙ q.back_over u u at at)
@@ -107,7 +114,8 @@ pushed_assoc left y z = append_assoc left (y ∷ []) (z ∷ [])
 abbrev pub doubled : ℕ → List ℕ → List ℕ
 doubled m xs = xs ++ get_or xs (m - 1) 0 ∷ []
 
-grown_into : (t : Table) → IsQuandle t → (m : ℕ) (letters : List ℤ) (positive : Bool) → 1 ≤ m → All (IsLetter m) letters → (xs : List ℕ) → IsFixedPoint t (word m letters) xs
+grown_into : (t : Table) → IsQuandle t → (m : ℕ) (letters : List ℤ) (positive : Bool) → 1 ≤ m → All (IsLetter m) letters → (xs : List ℕ)
+    → IsFixedPoint t (word m letters) xs
     → IsFixedPoint t (word (m + 1) (letters ++ crossing m positive ∷ [])) (doubled m xs)
 grown_into t q m letters positive least all xs point =
     let u = get_or xs (m - 1) 0 in
@@ -128,14 +136,16 @@ record Dropped (t : Table) (m : ℕ) (letters : List ℤ) (ys : List ℕ) : Type
   point : IsFixedPoint t (word m letters) (take m ys)
   again : doubled m (take m ys) ≡ ys
 
-grown_onto : (t : Table) → IsQuandle t → (m : ℕ) (letters : List ℤ) (positive : Bool) → 1 ≤ m → All (IsLetter m) letters → (ys : List ℕ) → IsFixedPoint t (word (m + 1) (letters ++ crossing m positive ∷ [])) ys → Dropped t m letters ys
+grown_onto : (t : Table) → IsQuandle t → (m : ℕ) (letters : List ℤ) (positive : Bool) → 1 ≤ m → All (IsLetter m) letters → (ys : List ℕ)
+    → IsFixedPoint t (word (m + 1) (letters ++ crossing m positive ∷ [])) ys → Dropped t m letters ys
 grown_onto t q m letters positive least all ys given =
     let long = given.tuple.0 in
     let xs = take m ys in
     let z = get_or ys m 0 in
     let size : length xs ≡ m = length-take-le m ys (omega arith) in
     let tuple : IsTuple t m xs = (size, All-take (λ y. y < t.order) m ys given.tuple.1) in
-    let whole : ys ≡ xs ++ z ∷ [] = last_split ys (m + 1) long (omega arith) ∙ ap (λ (k : ℕ). take k ys ++ get_or ys k 0 ∷ []) (let e : m + 1 - 1 ≡ m = omega arith in e) in
+    let whole : ys ≡ xs ++ z ∷ [] =
+    last_split ys (m + 1) long (omega arith) ∙ ap (λ (k : ℕ). take k ys ++ get_or ys k 0 ∷ []) (let e : m + 1 - 1 ≡ m = omega arith in e) in
     let at_z : z < t.order = All-get_or (λ y. y < t.order) ys m 0 (omega arith) given.tuple.1 in
     let acted = action t letters xs in
     let acted_tuple = acts_stay t q m letters all xs tuple in

@@ -1,5 +1,6 @@
 -- The first difference of two lists: they agree before it, and at it their elements differ or one list has ended.
-use Rattle.std.proofs.Common.{◌≡◌, ◌≢◌, ◌+◌, ◌<◌, ◌≤◌, ◌∙◌, inl, inr, ◌∷◌, [], ◌++◌, ℕ, zero, suc, Bool, true, false, List, length, min, Option, Some, None, take, slice_get, get_or, map, refl, sym, ap, ap₂, subst, cond, add-one, arith}
+use Rattle.std.proofs.Common.{◌≡◌, ◌≢◌, ◌+◌, ◌<◌, ◌≤◌, ◌∙◌, inl, inr, ◌∷◌, [], ◌++◌, ℕ, zero, suc, Bool, true, false, List, length, min}
+use Rattle.std.proofs.Common.{Option, Some, None, take, slice_get, get_or, map, refl, sym, ap, ap₂, subst, cond, add-one, arith}
 use Rattle.std.specs.Option.{option_map}
 use Rattle.std.proofs.lemmas.Slice.Eq.{bytes_eq-Decides}
 use Rattle.std.proofs.lemmas.Bool.{cases_lt}
@@ -32,7 +33,8 @@ equal_of_none [] (b ∷ two) h = absurd cc
 equal_of_none (a ∷ one) [] h = absurd cc
 equal_of_none (a ∷ one) (b ∷ two) h = by (is_same a b) refl h (λ none. equal_of_none one two none)
   where
-    by : (t : Bool) → is_same a b ≡ t → cond t (next (first_difference one two)) (Some 0) ≡ None → (first_difference one two ≡ None → one ≡ two) → ◌≡◌ {A = List (List ℕ)} (a ∷ one) (b ∷ two)
+    by : (t : Bool) → is_same a b ≡ t → cond t (next (first_difference one two)) (Some 0) ≡ None → (first_difference one two ≡ None → one ≡ two)
+        → ◌≡◌ {A = List (List ℕ)} (a ∷ one) (b ∷ two)
     by true same h rest = ap₂ (λ (x : List ℕ) (xs : List (List ℕ)). x ∷ xs) (true_same a b same) (rest (next_none (first_difference one two) h))
     by false same h rest = absurd cc
 
@@ -57,7 +59,8 @@ differ_of_some [] (b ∷ two) place h = differ_at_zero [] (b ∷ two) place h (�
 differ_of_some (a ∷ one) [] place h = differ_at_zero (a ∷ one) [] place h (λ same. let no : ◌≡◌ {A = Option (List ℕ)} (Some a) None = same in cc)
 differ_of_some (a ∷ one) (b ∷ two) place h = by (is_same a b) refl h (λ n some. differ_of_some one two n some)
   where
-    by : (t : Bool) → is_same a b ≡ t → cond t (next (first_difference one two)) (Some 0) ≡ Some place → ((n : ℕ) → first_difference one two ≡ Some n → DifferAt one two n) → DifferAt (a ∷ one) (b ∷ two) place
+    by : (t : Bool) → is_same a b ≡ t → cond t (next (first_difference one two)) (Some 0) ≡ Some place
+        → ((n : ℕ) → first_difference one two ≡ Some n → DifferAt one two n) → DifferAt (a ∷ one) (b ∷ two) place
     by true same h rest =
         let later = next_some (first_difference one two) place h in
         let on = rest later.0 later.1.0 in
@@ -72,7 +75,8 @@ differ_of_some (a ∷ one) (b ∷ two) place h = by (is_same a b) refl h (λ n s
         cc)
 
 -- where two lists agree before a place, and differ at it, it is their first difference
-pub some_of_differ : (one two : List (List ℕ)) (place : ℕ) → take place one ≡ take place two → slice_get one place ≢ slice_get two place → first_difference one two ≡ Some place
+pub some_of_differ : (one two : List (List ℕ)) (place : ℕ) → take place one ≡ take place two → slice_get one place ≢ slice_get two place
+    → first_difference one two ≡ Some place
 some_of_differ [] [] place before here = absurd (here refl)
 some_of_differ [] (b ∷ two) zero before here = refl
 some_of_differ [] (b ∷ two) (suc place) before here = let no : ◌≡◌ {A = List (List ℕ)} [] (b ∷ take place two) = before in absurd cc
@@ -93,35 +97,44 @@ some_of_differ (a ∷ one) (b ∷ two) (suc place) before here =
 -- ---- over colourings, as a pass from the left meets them
 
 -- one more element is the same
-pub same_more : (given complete : List (ArrayVec ℕ)) (place : ℕ) (x y : ArrayVec ℕ) → place < length given → place < length complete → x ≡ get_or given place x → y ≡ get_or complete place y → is_same x.items y.items ≡ true → take place (lists_of given) ≡ take place (lists_of complete) → take (place + 1) (lists_of given) ≡ take (place + 1) (lists_of complete)
+pub same_more : (given complete : List (ArrayVec ℕ)) (place : ℕ) (x y : ArrayVec ℕ) → place < length given → place < length complete
+    → x ≡ get_or given place x → y ≡ get_or complete place y → is_same x.items y.items ≡ true
+    → take place (lists_of given) ≡ take place (lists_of complete) → take (place + 1) (lists_of given) ≡ take (place + 1) (lists_of complete)
 same_more given complete place x y in_given in_complete x_is y_is same before =
     let f = λ (c : ArrayVec ℕ). c.items in
     let items : x.items ≡ y.items = true_same x.items y.items same in
     let items_given : x.items ≡ (get_or given place x).items = ap f x_is in
     let items_complete : y.items ≡ (get_or complete place y).items = ap f y_is in
-    let given_more : take (place + 1) (map f given) ≡ map f (take place given) ++ (get_or given place x).items ∷ [] = take-map f (place + 1) given ∙ map_more f given place x in_given in
-    let complete_more : take (place + 1) (map f complete) ≡ map f (take place complete) ++ (get_or complete place y).items ∷ [] = take-map f (place + 1) complete ∙ map_more f complete place y in_complete in
+    let given_more : take (place + 1) (map f given) ≡ map f (take place given) ++ (get_or given place x).items ∷ [] =
+    take-map f (place + 1) given ∙ map_more f given place x in_given in
+    let complete_more : take (place + 1) (map f complete) ≡ map f (take place complete) ++ (get_or complete place y).items ∷ [] =
+    take-map f (place + 1) complete ∙ map_more f complete place y in_complete in
     let front_given = take-map f place given in
     let front_complete = take-map f place complete in
     let fronts : map f (take place given) ≡ map f (take place complete) = sym front_given ∙ before ∙ front_complete in
     let lasts : (get_or given place x).items ≡ (get_or complete place y).items = sym items_given ∙ items ∙ items_complete in
     given_more ∙ ap₂ (λ (xs : List (List ℕ)) (z : List ℕ). xs ++ z ∷ []) fronts lasts ∙ sym complete_more
 
-element : (list : List (ArrayVec ℕ)) (place : ℕ) (x : ArrayVec ℕ) → place < length list → x ≡ get_or list place x → slice_get (lists_of list) place ≡ Some x.items
+element : (list : List (ArrayVec ℕ)) (place : ℕ) (x : ArrayVec ℕ) → place < length list → x ≡ get_or list place x
+    → slice_get (lists_of list) place ≡ Some x.items
 element list place x within is =
     slice_get-map (λ (c : ArrayVec ℕ). c.items) list place ∙ ap (λ o. option_map (λ (c : ArrayVec ℕ). c.items) o) (slice_get_read list (length list) place x refl within is)
 
 -- the next element is another
-pub differs_here : (given complete : List (ArrayVec ℕ)) (place : ℕ) (x y : ArrayVec ℕ) → place < length given → place < length complete → x ≡ get_or given place x → y ≡ get_or complete place y → is_same x.items y.items ≡ false → take place (lists_of given) ≡ take place (lists_of complete) → first_difference (lists_of given) (lists_of complete) ≡ Some place
+pub differs_here : (given complete : List (ArrayVec ℕ)) (place : ℕ) (x y : ArrayVec ℕ) → place < length given → place < length complete
+    → x ≡ get_or given place x → y ≡ get_or complete place y → is_same x.items y.items ≡ false
+    → take place (lists_of given) ≡ take place (lists_of complete) → first_difference (lists_of given) (lists_of complete) ≡ Some place
 differs_here given complete place x y in_given in_complete x_is y_is other before =
     some_of_differ (lists_of given) (lists_of complete) place before (λ same.
-    let elements : ◌≡◌ {A = Option (List ℕ)} (Some x.items) (Some y.items) = sym (element given place x in_given x_is) ∙ same ∙ element complete place y in_complete y_is in
+    let elements : ◌≡◌ {A = Option (List ℕ)} (Some x.items) (Some y.items) =
+    sym (element given place x in_given x_is) ∙ same ∙ element complete place y in_complete y_is in
     let equal : x.items ≡ y.items = cc in
     let no : true ≡ false = sym (same_as_itself x.items) ∙ ap (λ z. is_same x.items z) equal ∙ other in
     cc)
 
 -- lists that are equally long, and the same up to their end, are equal
-pub same_to_the_end : (given complete : List (ArrayVec ℕ)) (place : ℕ) → min (length given) (length complete) ≤ place → length given ≡ length complete → take place (lists_of given) ≡ take place (lists_of complete) → first_difference (lists_of given) (lists_of complete) ≡ None
+pub same_to_the_end : (given complete : List (ArrayVec ℕ)) (place : ℕ) → min (length given) (length complete) ≤ place → length given ≡ length complete
+    → take place (lists_of given) ≡ take place (lists_of complete) → first_difference (lists_of given) (lists_of complete) ≡ None
 same_to_the_end given complete place ended long before =
     let f = λ (c : ArrayVec ℕ). c.items in
     let all_given : take place (map f given) ≡ map f given = take_all place (map f given) (omega (arith, length-map given f)) in
@@ -136,7 +149,8 @@ ended_first one two n ended on same =
     cc
 
 -- where only one of two lists has ended, they differ there
-pub differ_at_the_end : (given complete : List (ArrayVec ℕ)) (most : ℕ) → most ≡ min (length given) (length complete) → length given ≢ length complete → take most (lists_of given) ≡ take most (lists_of complete) → first_difference (lists_of given) (lists_of complete) ≡ Some most
+pub differ_at_the_end : (given complete : List (ArrayVec ℕ)) (most : ℕ) → most ≡ min (length given) (length complete) → length given ≢ length complete
+    → take most (lists_of given) ≡ take most (lists_of complete) → first_difference (lists_of given) (lists_of complete) ≡ Some most
 differ_at_the_end given complete most is other before =
     let f = λ (c : ArrayVec ℕ). c.items in
     let long_given = length-map given f in

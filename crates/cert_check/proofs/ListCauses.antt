@@ -24,7 +24,9 @@ pub tells_apart : (t : Table) (d e : Diagram) (one two : List (List ℕ)) → ca
 tells_apart t d e one two none =
     by (fits t d) (fits t e) (first_difference one (colourings t d)) (first_difference two (colourings t e)) (length one == length two) refl refl refl refl refl none
   where
-    by : (f f' : Bool) (p p' : Option ℕ) (s : Bool) → fits t d ≡ f → fits t e ≡ f' → first_difference one (colourings t d) ≡ p → first_difference two (colourings t e) ≡ p' → (length one == length two) ≡ s → cause_by (bottoms d) (bottoms e) f f' p p' s ≡ None → TellsApart t d e one two
+    by : (f f' : Bool) (p p' : Option ℕ) (s : Bool) → fits t d ≡ f → fits t e ≡ f' → first_difference one (colourings t d) ≡ p
+        → first_difference two (colourings t e) ≡ p' → (length one == length two) ≡ s → cause_by (bottoms d) (bottoms e) f f' p p' s ≡ None
+        → TellsApart t d e one two
     by true true None None false f f' p p' s none = record {
       fits_first = f;
       fits_second = f';

@@ -1,5 +1,6 @@
 -- On a verdict on two diagrams there is one ruling.
-use Rattle.std.proofs.Common.{◌≡◌, ◌≢◌, ◌∙◌, ◌⊎◌, ◌↔◌, Bool, true, false, List, ℕ, Option, Some, None, Result, Ok, Err, IfOk, subst, ap, ap₂, sym, refl, inl, inr}
+use Rattle.std.proofs.Common.{◌≡◌, ◌≢◌, ◌∙◌, ◌⊎◌, ◌↔◌, Bool, true, false, List, ℕ, Option, Some, None, Result, Ok, Err, IfOk, subst, ap}
+use Rattle.std.proofs.Common.{ap₂, sym, refl, inl, inr}
 use Rattle.std.specs.Str.{bytes_eq}
 use Rattle.std.proofs.lemmas.Slice.Eq.{bytes_eq-Decides}
 use Rattle.arrayvec.specs.ArrayVec.{ArrayVec}
@@ -28,7 +29,8 @@ use Rattle.cert_check.proofs.ListCauses.{tells_apart, no_cause_where_told_apart}
 abbrev Stops : Diagram → List Move → Why → Type 0
 Stops d moves cause = (place : ℕ) × ((fault : MoveFault) × (StopsAt d moves place fault × (cause ≡ why.Step place fault)))
 
-cause_of_moves : (d e : Diagram) (moves : List Move) (cause : Why) → IsCauseOfMoves d e moves cause → Stops d moves cause ⊎ (LeadsElsewhere d e moves × (cause ≡ why.OtherEnd))
+cause_of_moves : (d e : Diagram) (moves : List Move) (cause : Why) → IsCauseOfMoves d e moves cause
+    → Stops d moves cause ⊎ (LeadsElsewhere d e moves × (cause ≡ why.OtherEnd))
 cause_of_moves d e moves (why.Step place fault) is = inl (place, (fault, (is, refl)))
 cause_of_moves d e moves why.OtherEnd is = inr (is, refl)
 cause_of_moves d e moves (why.Wide which bottoms) is = absurd is
@@ -44,7 +46,8 @@ not_joined d e moves cause is joined = elim (cause_of_moves d e moves cause is) 
 ]
 
 -- and have one
-one_cause_of_moves : (d e : Diagram) (moves : List Move) (cause cause' : Why) → IsCauseOfMoves d e moves cause → IsCauseOfMoves d e moves cause' → cause ≡ cause'
+one_cause_of_moves : (d e : Diagram) (moves : List Move) (cause cause' : Why) → IsCauseOfMoves d e moves cause → IsCauseOfMoves d e moves cause'
+    → cause ≡ cause'
 one_cause_of_moves d e moves cause cause' is is' = elim (cause_of_moves d e moves cause is) [
   | inl stops ↦ elim (cause_of_moves d e moves cause' is') [
     | inl stops' ↦
@@ -83,14 +86,16 @@ not_told t d e one two cause is told =
     cc
 
 -- lists of which no cause was found by the same quandle
-pub accepted_lists : (d e : Diagram) (listed : NamedQuandle) (one two : List (ArrayVec ℕ)) (t : Table) (o : Option Why) → t ≡ listed.table → o ≡ cause_of_lists t d e (lists_of one) (lists_of two) → o ≡ None → RulesOn d e (Different listed one two) Accepted
+pub accepted_lists : (d e : Diagram) (listed : NamedQuandle) (one two : List (ArrayVec ℕ)) (t : Table) (o : Option Why) → t ≡ listed.table
+    → o ≡ cause_of_lists t d e (lists_of one) (lists_of two) → o ≡ None → RulesOn d e (Different listed one two) Accepted
 accepted_lists d e listed one two t o same found none =
     tells_apart listed.table d e (lists_of one) (lists_of two) (sym (ap (λ (z : Table). cause_of_lists z d e (lists_of one) (lists_of two)) same) ∙ sym found ∙ none)
 
 some_ruling_on_lists : (d e : Diagram) (listed : NamedQuandle) (one two : List (ArrayVec ℕ)) → (ruling : Ruling) × RulesOn d e (Different listed one two) ruling
 some_ruling_on_lists d e listed one two = by (cause_of_lists listed.table d e (lists_of one) (lists_of two)) refl
   where
-    by : (o : Option Why) → cause_of_lists listed.table d e (lists_of one) (lists_of two) ≡ o → (ruling : Ruling) × RulesOn d e (Different listed one two) ruling
+    by : (o : Option Why) → cause_of_lists listed.table d e (lists_of one) (lists_of two) ≡ o
+        → (ruling : Ruling) × RulesOn d e (Different listed one two) ruling
     by None none = (Accepted, tells_apart listed.table d e (lists_of one) (lists_of two) none)
     by (Some cause) is = (Rejected cause, is)
 
@@ -127,6 +132,7 @@ accepted_where_held d e verdict ruling rules =
     ((λ accepted. subst (λ (r : Ruling). RulesOn d e verdict r) accepted rules), (λ holds. ruled_once d e verdict ruling Accepted rules holds))
 
 -- the same of a call that may want memory
-pub accepted_if_ruled : {E : Type 0} (result : Result Ruling E) (d e : Diagram) (verdict : Verdict) → IfOk result (λ ruling. RulesOn d e verdict ruling) → IfOk result (λ ruling. (ruling ≡ Accepted) ↔ Holds d e verdict)
+pub accepted_if_ruled : {E : Type 0} (result : Result Ruling E) (d e : Diagram) (verdict : Verdict)
+    → IfOk result (λ ruling. RulesOn d e verdict ruling) → IfOk result (λ ruling. (ruling ≡ Accepted) ↔ Holds d e verdict)
 accepted_if_ruled (Ok ruling) d e verdict rules = accepted_where_held d e verdict ruling rules
 accepted_if_ruled (Err fault) d e verdict rules = tt

@@ -11,9 +11,11 @@ use Rattle.crossing_codes.specs.declared.passages.Passage.{Passage}
 use Rattle.crossing_codes.specs.Components.{component, starts}
 use Rattle.crossing_codes.specs.Passages.{Crossed, crossings, through, along, passages_from, passages}
 use Rattle.crossing_codes.specs.Edges.{is_passage, place}
-use Rattle.crossing_codes.proofs.Members.{Has, Apart, has_left, has_right, has_either, has_map, of_map, has_flat_map, of_flat_map, apart_append, apart_map, apart_flat_map, place_in, one_place, same_members}
+use Rattle.crossing_codes.proofs.Members.{Has, Apart, has_left, has_right, has_either, has_map, of_map, has_flat_map, of_flat_map}
+use Rattle.crossing_codes.proofs.Members.{apart_append, apart_map, apart_flat_map, place_in, one_place, same_members}
 use Rattle.crossing_codes.proofs.SharedColumns.{component_apart, member_below, start_of, start_below, one_start, starts_apart}
-use Rattle.crossing_codes.proofs.Crossings.{cell, IsCrossing, column_inside, row_inside, has_over, has_under, which_along, along_apart, has_crossing, of_crossings, crossings_apart}
+use Rattle.crossing_codes.proofs.Crossings.{cell, IsCrossing, column_inside, row_inside, has_over, has_under, which_along, along_apart}
+use Rattle.crossing_codes.proofs.Crossings.{has_crossing, of_crossings, crossings_apart}
 
 -- a passage lies along one column alone
 owner : (d : Diagram) → IsGrid d → (b c : ℕ) (p : Passage) → b < size d → c < size d → Has (along d b) p → Has (along d c) p → b ≡ c

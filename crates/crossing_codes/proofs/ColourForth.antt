@@ -1,5 +1,6 @@
 -- The edge colours of a colouring are a code colouring, in which each edge and loop has the colour of the columns that begin on it.
-use Rattle.std.proofs.Common.{◌≡◌, ◌<◌, ◌≤◌, ◌+◌, ◌-◌, ◌∙◌, [], inl, inr, ℕ, Bool, true, false, List, length, map, take, get_or, fold, refl, sym, ap, subst, arith, ◌&&◌}
+use Rattle.std.proofs.Common.{◌≡◌, ◌<◌, ◌≤◌, ◌+◌, ◌-◌, ◌∙◌, [], inl, inr, ℕ, Bool, true, false, List, length, map, take, get_or, fold, refl}
+use Rattle.std.proofs.Common.{sym, ap, subst, arith, ◌&&◌}
 use Rattle.std.specs.Prelude.{if◌then◌else◌, slice_index}
 use Rattle.std.specs.List.{All, list_all}
 use Rattle.std.proofs.lemmas.Bool.{cases_lt, and_from}

@@ -12,7 +12,8 @@ use Rattle.colour_list.specs.Listing.{all_lists, colourings}
 use Rattle.crossing_codes.specs.Code.{code}
 use Rattle.crossing_codes.specs.CodeColouring.{names_edges, agrees, is_code_colouring, code_colourings}
 use Rattle.crossing_codes.specs.EdgeColouring.{edge_colours}
-use Rattle.crossing_codes.proofs.Members.{Has, Apart, has_map, of_map, has_filter, of_filter, has_flat_map, has_range, apart_map, apart_filter, apart_flat_map, apart_range, fewer}
+use Rattle.crossing_codes.proofs.Members.{Has, Apart, has_map, of_map, has_filter, of_filter, has_flat_map, has_range, apart_map}
+use Rattle.crossing_codes.proofs.Members.{apart_filter, apart_flat_map, apart_range, fewer}
 use Rattle.crossing_codes.proofs.ColourForth.{code_coloured, colouring_known}
 use Rattle.crossing_codes.proofs.ColourBack.{column_colours, coded, coloured_back, edges_back}
 

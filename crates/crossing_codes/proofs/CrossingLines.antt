@@ -1,5 +1,6 @@
 -- The line of a crossing in the text of the code, and its number in the Gauss text.
-use Rattle.std.proofs.Common.{◌≡◌, ◌<◌, ◌+◌, ◌^◌, ◌++◌, ◌∷◌, ◌∙◌, ◌==◌, ◌&&◌, [], ℕ, zero, suc, Bool, true, false, not, List, length, map, get_or, refl, sym, ap, subst, arith, append_assoc}
+use Rattle.std.proofs.Common.{◌≡◌, ◌<◌, ◌+◌, ◌^◌, ◌++◌, ◌∷◌, ◌∙◌, ◌==◌, ◌&&◌, [], ℕ, zero, suc, Bool, true, false, not, List, length, map}
+use Rattle.std.proofs.Common.{get_or, refl, sym, ap, subst, arith, append_assoc}
 use Rattle.std.specs.Prelude.{codes, decimal, nat_le, pos, negsuc, int_lt, Contains, if◌then◌else◌}
 use Rattle.std.specs.List.{list_all, flat_map, All}
 use Rattle.std.specs.Char.{digit_value}

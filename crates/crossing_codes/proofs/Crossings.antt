@@ -13,7 +13,9 @@ use Rattle.colour_rows.specs.Walk.{passed}
 use Rattle.grid_core.proofs.Ends.{has_ends, span_high}
 use Rattle.crossing_codes.specs.declared.passages.Passage.{Passage}
 use Rattle.crossing_codes.specs.Passages.{Crossed, crossings, through, passed_over, as_met, along_column, along_row, along}
-use Rattle.crossing_codes.proofs.Members.{Has, Apart, has_left, has_right, has_either, has_map, of_map, has_filter, of_filter, has_flat_map, of_flat_map, has_range, of_range, has_reverse, of_reverse, apart_append, apart_map, apart_filter, apart_range, apart_reverse, apart_flat_map}
+use Rattle.crossing_codes.proofs.Members.{Has, Apart, has_left, has_right, has_either, has_map, of_map, has_filter, of_filter, has_flat_map}
+use Rattle.crossing_codes.proofs.Members.{of_flat_map, has_range, of_range, has_reverse, of_reverse, apart_append, apart_map, apart_filter}
+use Rattle.crossing_codes.proofs.Members.{apart_range, apart_reverse, apart_flat_map}
 
 abbrev pub cell : ℕ → ℕ → Crossed
 cell c r = record { column = c; row = r }

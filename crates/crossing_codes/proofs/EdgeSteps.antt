@@ -1,5 +1,6 @@
 -- Steps of the loop over the components that colours their edges.
-use Rattle.std.proofs.Common.{◌≡◌, ◌<◌, ◌≤◌, ◌+◌, ◌++◌, ◌∙◌, ◌∷◌, [], ℕ, Bool, true, false, cond, List, length, map, take, get_or, refl, sym, ap, ap₂, subst, ◌==◌, append-nil}
+use Rattle.std.proofs.Common.{◌≡◌, ◌<◌, ◌≤◌, ◌+◌, ◌++◌, ◌∙◌, ◌∷◌, [], ℕ, Bool, true, false, cond, List, length, map, take, get_or, refl}
+use Rattle.std.proofs.Common.{sym, ap, ap₂, subst, ◌==◌, append-nil}
 use Rattle.std.specs.Prelude.{slice_index}
 use Rattle.std.specs.List.{All, flat_map, filter}
 use Rattle.std.proofs.lemmas.Bool.{eq-eqb, ne_eqb}

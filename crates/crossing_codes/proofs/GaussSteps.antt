@@ -1,5 +1,6 @@
 -- Steps of the loop over the components that writes their lines.
-use Rattle.std.proofs.Common.{◌≡◌, ◌<◌, ◌≤◌, ◌+◌, ◌++◌, ◌∙◌, ◌∷◌, [], ℕ, Bool, true, false, not, cond, List, length, map, take, get_or, sym, ap, subst, ◌==◌, append-nil}
+use Rattle.std.proofs.Common.{◌≡◌, ◌<◌, ◌≤◌, ◌+◌, ◌++◌, ◌∙◌, ◌∷◌, [], ℕ, Bool, true, false, not, cond, List, length, map, take, get_or, sym}
+use Rattle.std.proofs.Common.{ap, subst, ◌==◌, append-nil}
 use Rattle.std.specs.List.{All, flat_map, filter}
 use Rattle.std.proofs.lemmas.Bool.{eq-eqb, ne_eqb}
 use Rattle.std.proofs.lemmas.List.{take_more, take_all, map-append}

@@ -1,5 +1,6 @@
 -- What stands in a list, and lists in which nothing stands twice.
-use Rattle.std.proofs.Common.{◌≡◌, ◌<◌, ◌≤◌, ◌+◌, ◌++◌, ◌∷◌, ◌∙◌, ◌⊎◌, [], inl, inr, ℕ, zero, suc, Bool, true, false, cond, List, length, get_or, map, reverse, sym, subst, refl, ap, arith}
+use Rattle.std.proofs.Common.{◌≡◌, ◌<◌, ◌≤◌, ◌+◌, ◌++◌, ◌∷◌, ◌∙◌, ◌⊎◌, [], inl, inr, ℕ, zero, suc, Bool, true, false, cond, List, length}
+use Rattle.std.proofs.Common.{get_or, map, reverse, sym, subst, refl, ap, arith}
 use Rattle.std.specs.List.{range_with_len, filter, flat_map}
 use Rattle.std.specs.List.Sorted.{IsPermutation}
 use Rattle.std.proofs.lemmas.Bool.{cases_eq}

@@ -1,5 +1,6 @@
 -- Numbering the crossings row by row in a table by cell.
-use Rattle.std.proofs.Common.{◌≡◌, ◌<◌, ◌≤◌, ◌+◌, ◌-◌, ◌*◌, ◌++◌, ◌∙◌, ◌∷◌, [], inl, inr, ℕ, Bool, true, false, List, length, map, get_or, set, refl, sym, ap, subst, arith, ◌==◌, ◌&&◌, append-nil, get_or-set_same, get_or-set_other}
+use Rattle.std.proofs.Common.{◌≡◌, ◌<◌, ◌≤◌, ◌+◌, ◌-◌, ◌*◌, ◌++◌, ◌∙◌, ◌∷◌, [], inl, inr, ℕ, Bool, true, false, List, length, map, get_or}
+use Rattle.std.proofs.Common.{set, refl, sym, ap, subst, arith, ◌==◌, ◌&&◌, append-nil, get_or-set_same, get_or-set_other}
 use Rattle.std.specs.List.{range_with_len, flat_map}
 use Rattle.std.proofs.lemmas.Bool.{cases_lt, eqb-true, eq-eqb, and_parts, and_from, false_from_ne_true}
 use Rattle.std.proofs.lemmas.List.{length-append, get_or_append_left, get_or_push}

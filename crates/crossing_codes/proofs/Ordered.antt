@@ -1,5 +1,6 @@
 -- Lists in which each element stands in a relation to all that follow.
-use Rattle.std.proofs.Common.{◌≡◌, ◌<◌, ◌+◌, ◌++◌, ◌∷◌, [], inl, inr, ℕ, zero, suc, Bool, true, false, cond, List, map, reverse, get_or, refl, sym, subst, arith}
+use Rattle.std.proofs.Common.{◌≡◌, ◌<◌, ◌+◌, ◌++◌, ◌∷◌, [], inl, inr, ℕ, zero, suc, Bool, true, false, cond, List, map, reverse, get_or}
+use Rattle.std.proofs.Common.{refl, sym, subst, arith}
 use Rattle.std.specs.List.{range_with_len, filter, flat_map, AllPairs}
 use Rattle.crossing_codes.proofs.Members.{Has, has_at, has_either, of_map, of_filter, of_range, of_reverse, of_flat_map, reverse_cons}
 

@@ -1,5 +1,6 @@
 -- Steps of the loops over the components and their edges.
-use Rattle.std.proofs.Common.{◌≡◌, ◌<◌, ◌≤◌, ◌+◌, ◌++◌, ◌∙◌, ◌∷◌, [], ℕ, Bool, true, false, cond, List, length, map, take, drop, get_or, refl, sym, ap, arith, ◌==◌, append_assoc, append-nil, take-append-drop}
+use Rattle.std.proofs.Common.{◌≡◌, ◌<◌, ◌≤◌, ◌+◌, ◌++◌, ◌∙◌, ◌∷◌, [], ℕ, Bool, true, false, cond, List, length, map, take, drop, get_or}
+use Rattle.std.proofs.Common.{refl, sym, ap, arith, ◌==◌, append_assoc, append-nil, take-append-drop}
 use Rattle.std.specs.Prelude.{nat_lt, if◌then◌else◌}
 use Rattle.std.specs.List.{range_with_len, flat_map, filter}
 use Rattle.std.proofs.lemmas.List.{length-append, length-take, take_more}

@@ -1,5 +1,6 @@
 -- Finding the starts from the left: a column is a start exactly where no component of an earlier start has it.
-use Rattle.std.proofs.Common.{◌≡◌, ◌≢◌, ◌<◌, ◌≤◌, ◌+◌, ◌++◌, ◌∙◌, ◌∷◌, [], inl, inr, ℕ, Bool, true, false, cond, not, List, refl, sym, ap, arith, ◌==◌, ◌||◌, append-nil}
+use Rattle.std.proofs.Common.{◌≡◌, ◌≢◌, ◌<◌, ◌≤◌, ◌+◌, ◌++◌, ◌∙◌, ◌∷◌, [], inl, inr, ℕ, Bool, true, false, cond, not, List, refl, sym, ap}
+use Rattle.std.proofs.Common.{arith, ◌==◌, ◌||◌, append-nil}
 use Rattle.std.specs.List.{range_with_len, filter, flat_map, list_any}
 use Rattle.std.proofs.lemmas.Bool.{cases_Bool, false_from_ne_true}
 use Rattle.std.proofs.lemmas.List.Elements.{filter-append}

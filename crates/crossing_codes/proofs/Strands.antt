@@ -1,5 +1,6 @@
 -- The edge or loop on which a column begins.
-use Rattle.std.proofs.Common.{◌≡◌, ◌<◌, ◌≤◌, ◌+◌, ◌-◌, ◌++◌, ◌∙◌, ◌∷◌, [], inl, inr, ℕ, Bool, true, false, List, length, get_or, refl, sym, ap, arith, ◌==◌, ◌||◌}
+use Rattle.std.proofs.Common.{◌≡◌, ◌<◌, ◌≤◌, ◌+◌, ◌-◌, ◌++◌, ◌∙◌, ◌∷◌, [], inl, inr, ℕ, Bool, true, false, List, length, get_or, refl, sym}
+use Rattle.std.proofs.Common.{ap, arith, ◌==◌, ◌||◌}
 use Rattle.std.specs.Prelude.{nat_lt, if◌then◌else◌}
 use Rattle.std.specs.List.{list_any, position_or_len}
 use Rattle.std.proofs.lemmas.Bool.{cases_lt, cases_order, eqb-true, eq-eqb, or_cases, or_left, lt-ltb, le-ltb, cond-true, cond-false, false_from_ne_true}

@@ -38,14 +38,16 @@ back_stays : (t : Table) → IsQuandle t → (zs : List ℕ) → All (below t) z
 back_stays t q zs all x at = fold_keeps (back t) (below t) zs (All-weaker (below t) (λ z. (y : ℕ) → below t y → below t (back t y z)) (λ z by_z y by_y. q.back_within y z by_y by_z) zs all) x at
 
 -- the colours between the ends of a row
-pub between_below : (t : Table) (d : Diagram) → IsGrid d → (e : ℕ → ℕ) → ((c : ℕ) → c < size d → e c < t.order) → (r : ℕ) → r < size d → All (below t) (map e (strands_between d r))
+pub between_below : (t : Table) (d : Diagram) → IsGrid d → (e : ℕ → ℕ) → ((c : ℕ) → c < size d → e c < t.order) → (r : ℕ) → r < size d
+    → All (below t) (map e (strands_between d r))
 between_below t d grid e e_below r lt =
     let row = has_ends d grid r lt in
     let ordered = row.ordered in
     let within = row.within in
     all_passing (is_strand d r) (below t) e ((ends d r).low + 1) ((ends d r).high - ((ends d r).low + 1)) (λ c least most at. e_below c (omega arith))
 
-pub moved_below : (t : Table) → IsQuandle t → (d : Diagram) → IsGrid d → (e : ℕ → ℕ) → ((c : ℕ) → c < size d → e c < t.order) → (r : ℕ) → r < size d → moved t d e r < t.order
+pub moved_below : (t : Table) → IsQuandle t → (d : Diagram) → IsGrid d → (e : ℕ → ℕ) → ((c : ℕ) → c < size d → e c < t.order) → (r : ℕ) → r < size d
+    → moved t d e r < t.order
 moved_below t q d grid e e_below r lt =
     let zs = map e (strands_between d r) in
     let all = between_below t d grid e e_below r lt in
@@ -95,14 +97,16 @@ strands_closed t q d grid e e_below r lt arrives =
     ]
 
 -- and of the walk
-pub row_arrives : (t : Table) → IsQuandle t → (d : Diagram) → IsGrid d → (f : List ℕ) → All (below t) f → (e : ℕ → ℕ) → Turned t d f e → (r : ℕ) → r < size d → walk t d f r ≡ get_or f (ends d r).high 0 → moved t d e r ≡ e (column_of Cross d r)
+pub row_arrives : (t : Table) → IsQuandle t → (d : Diagram) → IsGrid d → (f : List ℕ) → All (below t) f → (e : ℕ → ℕ) → Turned t d f e → (r : ℕ)
+    → r < size d → walk t d f r ≡ get_or f (ends d r).high 0 → moved t d e r ≡ e (column_of Cross d r)
 row_arrives t q d grid f f_below e turned r lt closes =
     let hi = (ends d r).high in
     let row = has_ends d grid r lt in
     strands_close t q d grid e (turned_below t q d f f_below e turned) r lt
     (sym (walk_turned t q d grid f f_below e turned r lt) ∙ (ap (turn t d f hi) closes ∙ sym (turned hi row.within)))
 
-pub row_closes : (t : Table) → IsQuandle t → (d : Diagram) → IsGrid d → (f : List ℕ) → size d ≤ length f → All (below t) f → (e : ℕ → ℕ) → Turned t d f e → (r : ℕ) → r < size d → moved t d e r ≡ e (column_of Cross d r) → walk t d f r ≡ get_or f (ends d r).high 0
+pub row_closes : (t : Table) → IsQuandle t → (d : Diagram) → IsGrid d → (f : List ℕ) → size d ≤ length f → All (below t) f → (e : ℕ → ℕ)
+    → Turned t d f e → (r : ℕ) → r < size d → moved t d e r ≡ e (column_of Cross d r) → walk t d f r ≡ get_or f (ends d r).high 0
 row_closes t q d grid f long f_below e turned r lt arrives =
     let hi = (ends d r).high in
     let row = has_ends d grid r lt in

@@ -37,13 +37,15 @@ letters_more d h =
     ap (flat_map (row_letters d)) (range_next h)
     ∙ (flat_map-append (row_letters d) (range_with_len 0 h) (h ∷ []) ∙ ap (λ (ls : List ℤ). letters_below d h ++ ls) (append-nil (row_letters d h)))
 
-action_more : (t : Table) (d : Diagram) (h : ℕ) (xs ys zs : List ℕ) → action t (letters_below d h) xs ≡ ys → action t (row_letters d h) ys ≡ zs → action t (letters_below d (h + 1)) xs ≡ zs
+action_more : (t : Table) (d : Diagram) (h : ℕ) (xs ys zs : List ℕ) → action t (letters_below d h) xs ≡ ys → action t (row_letters d h) ys ≡ zs
+    → action t (letters_below d (h + 1)) xs ≡ zs
 action_more t d h xs ys zs before row =
     ap (λ (ls : List ℤ). action t ls xs) (letters_more d h)
     ∙ (fold-append (letter_action t) xs (letters_below d h) (row_letters d h) ∙ (ap (action t (row_letters d h)) before ∙ row))
 
 -- colours of the strands at each height that the rows lead from one to the next
-pub led : (t : Table) (d : Diagram) (at : ℕ → List ℕ) (n : ℕ) → ((r : ℕ) → r < n → action t (row_letters d r) (at r) ≡ at (r + 1)) → (h : ℕ) → h ≤ n → action t (letters_below d h) (at 0) ≡ at h
+pub led : (t : Table) (d : Diagram) (at : ℕ → List ℕ) (n : ℕ) → ((r : ℕ) → r < n → action t (row_letters d r) (at r) ≡ at (r + 1)) → (h : ℕ) → h ≤ n
+    → action t (letters_below d h) (at 0) ≡ at h
 led t d at n rows zero le = refl
 led t d at n rows (suc h) le =
     subst (λ (k : ℕ). action t (letters_below d k) (at 0) ≡ at k) (let e : h + 1 ≡ suc h = omega arith in e)
@@ -53,7 +55,8 @@ led t d at n rows (suc h) le =
 abbrev pub Arrives : Table → Diagram → (ℕ → ℕ) → Type 0
 Arrives t d e = (r : ℕ) → r < size d → moved t d e r ≡ e (column_of Cross d r)
 
-pub followed : (t : Table) (d : Diagram) → IsGrid d → (e : ℕ → ℕ) → Arrives t d e → (h : ℕ) → h ≤ size d → action t (letters_below d h) (map e (strands_at d 0)) ≡ map e (strands_at d h)
+pub followed : (t : Table) (d : Diagram) → IsGrid d → (e : ℕ → ℕ) → Arrives t d e → (h : ℕ) → h ≤ size d
+    → action t (letters_below d h) (map e (strands_at d 0)) ≡ map e (strands_at d h)
 followed t d grid e arrives =
     led t d (λ h. map e (strands_at d h)) (size d) (λ r lt. row_acts t d r e e grid lt (λ c inside at other. refl) (sym (arrives r lt)))
 
@@ -79,7 +82,8 @@ pub strand_above_cross : (d : Diagram) → IsGrid d → (c : ℕ) → c < size d
 strand_above_cross d grid c lt = above_cross (row_of Cross d c) (row_of Ring d c) (no_cell_twice d grid c lt)
 
 -- colours that arrive are known from those below all rows
-pub same_arrivals : (t : Table) (d : Diagram) → IsGrid d → (e f : ℕ → ℕ) → Arrives t d e → Arrives t d f → map e (down_columns d) ≡ map f (down_columns d) → (c : ℕ) → c < size d → e c ≡ f c
+pub same_arrivals : (t : Table) (d : Diagram) → IsGrid d → (e f : ℕ → ℕ) → Arrives t d e → Arrives t d f
+    → map e (down_columns d) ≡ map f (down_columns d) → (c : ℕ) → c < size d → e c ≡ f c
 same_arrivals t d grid e f arrive_e arrive_f same c lt =
     let x_in = row_below d grid Cross c lt in
     let h = row_of Cross d c + 1 in

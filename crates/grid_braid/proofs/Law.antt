@@ -1,5 +1,6 @@
 -- The colours at the feet: a bijection from the colourings to the fixed points of the word's action.
-use Rattle.std.proofs.Common.{◌≡◌, ◌<◌, ◌≤◌, ◌+◌, ◌∷◌, ◌++◌, ◌∙◌, [], ℕ, zero, suc, List, Bool, true, false, not, cond, All, length, get_or, map, filter, take, arith, sym, refl, ap, ap₂, subst, length-append}
+use Rattle.std.proofs.Common.{◌≡◌, ◌<◌, ◌≤◌, ◌+◌, ◌∷◌, ◌++◌, ◌∙◌, [], ℕ, zero, suc, List, Bool, true, false, not, cond, All, length, get_or}
+use Rattle.std.proofs.Common.{map, filter, take, arith, sym, refl, ap, ap₂, subst, length-append}
 use Rattle.std.specs.List.{range_with_len}
 use Rattle.std.proofs.lemmas.List.{length-map, take_more, take_all, map-append, append-nil, ext_get_or}
 use Rattle.std.proofs.lemmas.List.Elements.{All-get_or, All-from_get_or, filter-append}
@@ -36,7 +37,8 @@ colouring_arrives : (t : Table) → IsQuandle t → (d : Diagram) → IsGrid d �
 colouring_arrives t q d grid f c = λ r lt.
     row_arrives t q d grid f c.colours_are.1 (read (strand_colours t d f)) (λ k inside. strand_colour t d f c.colours_are.0 k inside) r lt (c.rows r lt)
 
-feet_colours : (t : Table) → IsQuandle t → (d : Diagram) (f : List ℕ) → AreColours (size d) t.order f → AreColours (length (down_columns d)) t.order (at_feet t d f)
+feet_colours : (t : Table) → IsQuandle t → (d : Diagram) (f : List ℕ) → AreColours (size d) t.order f
+    → AreColours (length (down_columns d)) t.order (at_feet t d f)
 feet_colours t q d f at =
     let e = strand_stays t q d f at in (
       length-map (down_columns d) (read (strand_colours t d f)),
@@ -44,7 +46,8 @@ feet_colours t q d f at =
     )
 
 -- at each height the strands have the colours that the word has made of the feet
-pub strands_follow : (t : Table) → IsQuandle t → (d : Diagram) → IsGrid d → (f : List ℕ) → IsColouring t d f → (h : ℕ) → h ≤ size d → map (read (strand_colours t d f)) (strands_at d h) ≡ action t (letters_below d h) (at_feet t d f)
+pub strands_follow : (t : Table) → IsQuandle t → (d : Diagram) → IsGrid d → (f : List ℕ) → IsColouring t d f → (h : ℕ) → h ≤ size d
+    → map (read (strand_colours t d f)) (strands_at d h) ≡ action t (letters_below d h) (at_feet t d f)
 strands_follow t q d grid f c h le =
     let e = read (strand_colours t d f) in
     sym (ap (λ (cs : List ℕ). action t (letters_below d h) (map e cs)) (sym (lowest_strands d)) ∙ followed t d grid e (colouring_arrives t q d grid f c) h le)
@@ -56,7 +59,8 @@ feet_fixed t q d grid f c = record {
 }
 
 -- two colourings with the same feet are one
-pub feet_single : (t : Table) → IsQuandle t → (d : Diagram) → IsGrid d → (f g : List ℕ) → IsColouring t d f → IsColouring t d g → at_feet t d f ≡ at_feet t d g → f ≡ g
+pub feet_single : (t : Table) → IsQuandle t → (d : Diagram) → IsGrid d → (f g : List ℕ) → IsColouring t d f → IsColouring t d g
+    → at_feet t d f ≡ at_feet t d g → f ≡ g
 feet_single t q d grid f g cf cg same =
     sym (strand_columns t q d f cf.colours_are)
     ∙ (ap (column_colours t d)
@@ -65,7 +69,8 @@ feet_single t q d grid f g cf cg same =
     ∙ strand_columns t q d g cg.colours_are)
 
 -- the feet, laid on the down columns, are read back there
-counted : (p : ℕ → Bool) (tuple : List ℕ) (n : ℕ) → length (filter p (range_with_len 0 n)) ≤ length tuple → map (λ c. get_or tuple (length (filter p (range_with_len 0 c))) 0) (filter p (range_with_len 0 n)) ≡ take (length (filter p (range_with_len 0 n))) tuple
+counted : (p : ℕ → Bool) (tuple : List ℕ) (n : ℕ) → length (filter p (range_with_len 0 n)) ≤ length tuple
+    → map (λ c. get_or tuple (length (filter p (range_with_len 0 c))) 0) (filter p (range_with_len 0 n)) ≡ take (length (filter p (range_with_len 0 n))) tuple
 counted p tuple zero le = refl
 counted p tuple (suc n) le =
     let front = filter p (range_with_len 0 n) in
@@ -111,13 +116,15 @@ laid_colours t q d tuple below =
 abbrev pub arrived : Table → Diagram → List ℕ → List ℕ
 arrived t d tuple = swept t d (laid d tuple) (size d)
 
-pub feet_acted : (t : Table) (d : Diagram) → IsGrid d → (tuple : List ℕ) → length tuple ≡ length (down_columns d) → action t (word d).letters tuple ≡ map (read (arrived t d tuple)) (down_columns d)
+pub feet_acted : (t : Table) (d : Diagram) → IsGrid d → (tuple : List ℕ) → length tuple ≡ length (down_columns d)
+    → action t (word d).letters tuple ≡ map (read (arrived t d tuple)) (down_columns d)
 feet_acted t d grid tuple long =
     ap (action t (word d).letters) (sym (laid_read d tuple long))
     ∙ feet_return t d grid (laid d tuple) (length-map-range_with_len (λ k. cond (is_up d k) 0 (get_or tuple (length (downs_before d k)) 0)) 0 (size d))
 
 -- where these are the feet again, the columns have a colouring with them
-pub feet_coloured : (t : Table) → IsQuandle t → (d : Diagram) → IsGrid d → (tuple : List ℕ) → AreColours (length (down_columns d)) t.order tuple → map (read (arrived t d tuple)) (down_columns d) ≡ tuple
+pub feet_coloured : (t : Table) → IsQuandle t → (d : Diagram) → IsGrid d → (tuple : List ℕ) → AreColours (length (down_columns d)) t.order tuple
+    → map (read (arrived t d tuple)) (down_columns d) ≡ tuple
     → IsColouring t d (column_colours t d (arrived t d tuple)) × (at_feet t d (column_colours t d (arrived t d tuple)) ≡ tuple)
 feet_coloured t q d grid tuple at back =
     let start = laid_colours t q d tuple at.1 in

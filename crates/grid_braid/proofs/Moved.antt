@@ -1,5 +1,6 @@
 -- What the letters of one strand that moves under others do to a tuple.
-use Rattle.std.proofs.Common.{◌≡◌, ◌<◌, ◌≤◌, ◌+◌, ◌-◌, ◌∷◌, ◌++◌, ◌∙◌, [], ℕ, zero, suc, ℤ, pos, negsuc, List, All, length, map, fold, reverse, arith, sym, refl, ap, ap₂, append_assoc, length-append}
+use Rattle.std.proofs.Common.{◌≡◌, ◌<◌, ◌≤◌, ◌+◌, ◌-◌, ◌∷◌, ◌++◌, ◌∙◌, [], ℕ, zero, suc, ℤ, pos, negsuc, List, All, length, map, fold}
+use Rattle.std.proofs.Common.{reverse, arith, sym, refl, ap, ap₂, append_assoc, length-append}
 use Rattle.std.specs.List.{range_with_len}
 use Rattle.std.proofs.lemmas.List.{reverse-append, length-reverse}
 use Rattle.std.proofs.lemmas.List.Elements.{All-nil, All-cons, All-same}
@@ -25,7 +26,8 @@ pub rightward_more : (ahead n : ℕ) → rightward ahead (suc n) ≡ negsuc ahea
 rightward_more ahead n = ap₂ (λ (k : ℕ) (zs : List ℤ). negsuc k ∷ zs) (omega arith) (right_letters ahead 0 n)
 
 -- to the right: under the strands of these colours, the leftmost first
-pub rightward_acts : (t : Table) (left between right : List ℕ) (y : ℕ) → action t (rightward (length left) (length between)) (left ++ y ∷ (between ++ right)) ≡ left ++ (between ++ fold (back t) y between ∷ right)
+pub rightward_acts : (t : Table) (left between right : List ℕ) (y : ℕ)
+    → action t (rightward (length left) (length between)) (left ++ y ∷ (between ++ right)) ≡ left ++ (between ++ fold (back t) y between ∷ right)
 rightward_acts t left [] right y = refl
 rightward_acts t left (z ∷ between) right y =
     ap (λ (ls : List ℤ). action t ls (left ++ y ∷ z ∷ (between ++ right))) (rightward_more (length left) (length between))

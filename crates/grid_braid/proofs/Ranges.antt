@@ -1,5 +1,6 @@
 -- Neighbouring numbers: parts of their list, filters and folds over it.
-use Rattle.std.proofs.Common.{◌≡◌, ◌<◌, ◌≤◌, ◌+◌, ◌-◌, ◌∷◌, ◌++◌, ◌∙◌, [], ℕ, zero, suc, List, length, Bool, true, false, cond, All, map, filter, reverse, arith, sym, refl, ap, ap₂, inl, inr}
+use Rattle.std.proofs.Common.{◌≡◌, ◌<◌, ◌≤◌, ◌+◌, ◌-◌, ◌∷◌, ◌++◌, ◌∙◌, [], ℕ, zero, suc, List, length, Bool, true, false, cond, All, map}
+use Rattle.std.proofs.Common.{filter, reverse, arith, sym, refl, ap, ap₂, inl, inr}
 use Rattle.std.specs.List.{range_with_len}
 use Rattle.std.proofs.lemmas.List.Elements.{filter-append, All-nil, All-cons, All-same, All-append, All-head, All-tail}
 use Rattle.std.proofs.lemmas.List.{reverse-append}
@@ -17,7 +18,8 @@ pub filter_one : (p : ℕ → Bool) (a : ℕ) (b : Bool) → p a ≡ b → filte
 filter_one p a b e = ap (λ (s : Bool). cond s (a ∷ []) []) e
 
 -- two functions that agree where the test passes
-pub map_range : (p : ℕ → Bool) (f g : ℕ → ℕ) (a n : ℕ) → ((c : ℕ) → a ≤ c → c < a + n → p c ≡ true → f c ≡ g c) → map f (filter p (range_with_len a n)) ≡ map g (filter p (range_with_len a n))
+pub map_range : (p : ℕ → Bool) (f g : ℕ → ℕ) (a n : ℕ) → ((c : ℕ) → a ≤ c → c < a + n → p c ≡ true → f c ≡ g c)
+    → map f (filter p (range_with_len a n)) ≡ map g (filter p (range_with_len a n))
 map_range p f g a zero agree = refl
 map_range p f g a (suc n) agree = by_test (p a) refl (map_range p f g (a + 1) n (λ c from to. agree c (omega arith) (omega arith)))
   where
@@ -62,7 +64,8 @@ passing_parts p lo hi n ordered within =
     ∙ ap (λ (zs : List ℕ). passing p (lo + 1) hi ++ zs) (passing_first p hi n within)))
 
 -- what holds of each number that passes
-pub all_passing : (p : ℕ → Bool) (P : ℕ → Type 0) (f : ℕ → ℕ) (a n : ℕ) → ((c : ℕ) → a ≤ c → c < a + n → p c ≡ true → P (f c)) → All P (map f (filter p (range_with_len a n)))
+pub all_passing : (p : ℕ → Bool) (P : ℕ → Type 0) (f : ℕ → ℕ) (a n : ℕ) → ((c : ℕ) → a ≤ c → c < a + n → p c ≡ true → P (f c))
+    → All P (map f (filter p (range_with_len a n)))
 all_passing p P f a zero holds = All-nil P
 all_passing p P f a (suc n) holds =
     by_test (p a) refl (filter p (range_with_len (a + 1) n)) (all_passing p P f (a + 1) n (λ c from to. holds c (omega arith) (omega arith)))
@@ -78,7 +81,8 @@ reversed_all P (z ∷ zs) all =
     (All-append P (reverse zs) (z ∷ []) (reversed_all P zs (All-tail P z zs all)) (All-cons P z [] (All-head P z zs all) (All-nil P)))
 
 -- functions that agree on all numbers that pass agree on each
-pub passing_same : (p : ℕ → Bool) (f g : ℕ → ℕ) (a n : ℕ) → map f (filter p (range_with_len a n)) ≡ map g (filter p (range_with_len a n)) → (c : ℕ) → a ≤ c → c < a + n → p c ≡ true → f c ≡ g c
+pub passing_same : (p : ℕ → Bool) (f g : ℕ → ℕ) (a n : ℕ) → map f (filter p (range_with_len a n)) ≡ map g (filter p (range_with_len a n)) → (c : ℕ)
+    → a ≤ c → c < a + n → p c ≡ true → f c ≡ g c
 passing_same p f g a zero same c least most at = absurd (omega arith)
 passing_same p f g a (suc n) same c least most at =
     by_test (p a) refl (filter p (range_with_len (a + 1) n)) same (λ less rest. passing_same p f g (a + 1) n rest c (omega arith) (omega arith) at)
@@ -92,7 +96,8 @@ passing_same p f g a (suc n) same c least most at =
       | inr other ↦ omega arith
     ]
 
-    by_test : (b : Bool) → p a ≡ b → (zs : List ℕ) → map f (cond b (a ∷ zs) zs) ≡ map g (cond b (a ∷ zs) zs) → (a < c → map f zs ≡ map g zs → f c ≡ g c) → f c ≡ g c
+    by_test : (b : Bool) → p a ≡ b → (zs : List ℕ) → map f (cond b (a ∷ zs) zs) ≡ map g (cond b (a ∷ zs) zs)
+        → (a < c → map f zs ≡ map g zs → f c ≡ g c) → f c ≡ g c
     by_test true e zs same later =
         let both = heads (f a) (g a) (map f zs) (map g zs) same in
         elim (cases_eq c a) [

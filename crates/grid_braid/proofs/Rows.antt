@@ -1,5 +1,6 @@
 -- The strands around a row: those to the left of its ends, between them and to the right stay, and one strand moves.
-use Rattle.std.proofs.Common.{◌≡◌, ◌≢◌, ◌<◌, ◌≤◌, ◌+◌, ◌-◌, ◌∷◌, ◌++◌, ◌∙◌, ◌⊎◌, inl, inr, [], ℕ, List, Bool, true, false, cond, length, map, fold, reverse, All, arith, sym, ap, ap₂, length-append}
+use Rattle.std.proofs.Common.{◌≡◌, ◌≢◌, ◌<◌, ◌≤◌, ◌+◌, ◌-◌, ◌∷◌, ◌++◌, ◌∙◌, ◌⊎◌, inl, inr, [], ℕ, List, Bool, true, false, cond, length}
+use Rattle.std.proofs.Common.{map, fold, reverse, All, arith, sym, ap, ap₂, length-append}
 use Rattle.std.proofs.lemmas.Bool.{lt-ltb, le-ltb, cases_lt}
 use Rattle.std.proofs.lemmas.List.Elements.{All-same}
 use Rattle.std.proofs.lemmas.List.{map-append, length-map, length-reverse, reverse-reverse}
@@ -60,7 +61,8 @@ has_row d grid r lt =
       cross_inside = cross.inside;
       ring_inside = ring.inside;
       cross_below = ap (λ (h : ℕ). is_strand d h a) (sym cross.row) ∙ at_cross (row_of Cross d a) (row_of Ring d a) (no_cell_twice d grid a cross.inside);
-      cross_above = ap (λ (h : ℕ). is_strand d (h + 1) a) (sym cross.row) ∙ above_cross (row_of Cross d a) (row_of Ring d a) (no_cell_twice d grid a cross.inside);
+      cross_above =
+          ap (λ (h : ℕ). is_strand d (h + 1) a) (sym cross.row) ∙ above_cross (row_of Cross d a) (row_of Ring d a) (no_cell_twice d grid a cross.inside);
       ring_below = ap (λ (h : ℕ). is_strand d h b) (sym ring.row) ∙ at_ring (row_of Cross d b) (row_of Ring d b) (no_cell_twice d grid b ring.inside);
       ring_above = ap (λ (h : ℕ). is_strand d (h + 1) b) (sym ring.row) ∙ above_ring (row_of Cross d b) (row_of Ring d b) (no_cell_twice d grid b ring.inside);
       elsewhere = λ c inside apart free.
@@ -82,7 +84,9 @@ parts_at d h lo hi s t ordered inside at_lo at_hi =
     passing_parts (is_strand d h) lo hi (size d) ordered inside
     ∙ ap₂ (λ (u v : Bool). strands_within d h 0 lo ++ (cond u (lo ∷ []) [] ++ (strands_within d h (lo + 1) hi ++ (cond v (hi ∷ []) [] ++ strands_within d h (hi + 1) (size d))))) at_lo at_hi
 
-part_above : (d : Diagram) (r from to : ℕ) → HasRow d r → to ≤ size d → ((c : ℕ) → from ≤ c → c < to → (c ≢ column_of Cross d r) × (c ≢ column_of Ring d r)) → strands_within d (r + 1) from to ≡ strands_within d r from to
+part_above : (d : Diagram) (r from to : ℕ) → HasRow d r → to ≤ size d
+    → ((c : ℕ) → from ≤ c → c < to → (c ≢ column_of Cross d r) × (c ≢ column_of Ring d r))
+    → strands_within d (r + 1) from to ≡ strands_within d r from to
 part_above d r from to row inside apart =
     filter_range (is_strand d (r + 1)) (is_strand d r) from (to - from)
     (λ c least most. let free = apart c least (omega arith) in row.elsewhere c (omega arith) free.0 free.1)
@@ -153,7 +157,8 @@ row_moves d grid r lt =
     ]
 
 -- a function of the columns at the strands in a part of the columns
-part_mapped : (d : Diagram) (h from to : ℕ) (e f : ℕ → ℕ) → to ≤ size d → ((c : ℕ) → from ≤ c → c < to → is_strand d h c ≡ true → f c ≡ e c) → map e (strands_within d h from to) ≡ map f (strands_within d h from to)
+part_mapped : (d : Diagram) (h from to : ℕ) (e f : ℕ → ℕ) → to ≤ size d → ((c : ℕ) → from ≤ c → c < to → is_strand d h c ≡ true → f c ≡ e c)
+    → map e (strands_within d h from to) ≡ map f (strands_within d h from to)
 part_mapped d h from to e f inside agree = map_range (is_strand d h) e f from (to - from) (λ c least most at. sym (agree c least (omega arith) at))
 
 -- the letters of a row, on the colours of the strands below it, give those above it
@@ -185,17 +190,20 @@ map_first : (e : ℕ → ℕ) (left between right : List ℕ) (c : ℕ) → map 
 map_first e left between right c = map-append e left (c ∷ (between ++ right)) ∙ ap (λ (zs : List ℕ). map e left ++ e c ∷ zs) (map-append e between right)
 
 -- the strand's new colour
-pub moved_left : (t : Table) (d : Diagram) (e : ℕ → ℕ) (r : ℕ) → column_of Cross d r < column_of Ring d r → moved t d e r ≡ fold (over t) (e (column_of Ring d r)) (reverse (map e (strands_between d r)))
+pub moved_left : (t : Table) (d : Diagram) (e : ℕ → ℕ) (r : ℕ) → column_of Cross d r < column_of Ring d r
+    → moved t d e r ≡ fold (over t) (e (column_of Ring d r)) (reverse (map e (strands_between d r)))
 moved_left t d e r lt =
     ap (λ (b : Bool). cond b (fold (back t) (e (column_of Ring d r)) (map e (strands_between d r))) (fold (over t) (e (column_of Ring d r)) (reverse (map e (strands_between d r)))))
     (le-ltb (column_of Ring d r) (column_of Cross d r) (omega arith))
 
-pub moved_right : (t : Table) (d : Diagram) (e : ℕ → ℕ) (r : ℕ) → column_of Ring d r < column_of Cross d r → moved t d e r ≡ fold (back t) (e (column_of Ring d r)) (map e (strands_between d r))
+pub moved_right : (t : Table) (d : Diagram) (e : ℕ → ℕ) (r : ℕ) → column_of Ring d r < column_of Cross d r
+    → moved t d e r ≡ fold (back t) (e (column_of Ring d r)) (map e (strands_between d r))
 moved_right t d e r lt =
     ap (λ (b : Bool). cond b (fold (back t) (e (column_of Ring d r)) (map e (strands_between d r))) (fold (over t) (e (column_of Ring d r)) (reverse (map e (strands_between d r)))))
     (lt-ltb (column_of Ring d r) (column_of Cross d r) lt)
 
-letters_left : (d : Diagram) (r : ℕ) → MovesLeft d r → row_letters d r ≡ leftward (length (left_part d r) + length (strands_between d r)) (length (strands_between d r))
+letters_left : (d : Diagram) (r : ℕ) → MovesLeft d r
+    → row_letters d r ≡ leftward (length (left_part d r) + length (strands_between d r)) (length (strands_between d r))
 letters_left d r m =
     let lt = m.ordered in
     ap (λ (b : Bool). cond b (rightward (length (strands_ahead d r)) (length (strands_between d r))) (leftward (length (strands_ahead d r)) (length (strands_between d r))))
@@ -208,7 +216,8 @@ letters_right d r m =
     (lt-ltb (column_of Ring d r) (column_of Cross d r) m.ordered)
     ∙ ap (λ (us : List ℕ). rightward (length us) (length (strands_between d r))) m.ahead
 
-acts_left : (t : Table) (d : Diagram) (r : ℕ) (e f : ℕ → ℕ) → MovesLeft d r → SameParts d r e f → f (column_of Cross d r) ≡ moved t d e r → action t (row_letters d r) (map e (strands_at d r)) ≡ map f (strands_at d (r + 1))
+acts_left : (t : Table) (d : Diagram) (r : ℕ) (e f : ℕ → ℕ) → MovesLeft d r → SameParts d r e f → f (column_of Cross d r) ≡ moved t d e r
+    → action t (row_letters d r) (map e (strands_at d r)) ≡ map f (strands_at d (r + 1))
 acts_left t d r e f m same is =
     let left = left_part d r in
     let between = strands_between d r in
@@ -226,7 +235,8 @@ acts_left t d r e f m same is =
     ∙ (ap (λ (zs : List ℕ). map f left ++ f a ∷ (map f between ++ zs)) same.right_same
     ∙ (sym (map_first f left between right a) ∙ sym (ap (map f) m.above))))))
 
-acts_right : (t : Table) (d : Diagram) (r : ℕ) (e f : ℕ → ℕ) → MovesRight d r → SameParts d r e f → f (column_of Cross d r) ≡ moved t d e r → action t (row_letters d r) (map e (strands_at d r)) ≡ map f (strands_at d (r + 1))
+acts_right : (t : Table) (d : Diagram) (r : ℕ) (e f : ℕ → ℕ) → MovesRight d r → SameParts d r e f → f (column_of Cross d r) ≡ moved t d e r
+    → action t (row_letters d r) (map e (strands_at d r)) ≡ map f (strands_at d (r + 1))
 acts_right t d r e f m same is =
     let left = left_part d r in
     let between = strands_between d r in
@@ -245,7 +255,8 @@ acts_right t d r e f m same is =
     ∙ (sym (map_moved f left between right a) ∙ sym (ap (map f) m.above))))))
 
 -- the letters of a row, on the colours of the strands below it, give those above it
-pub row_acts : (t : Table) (d : Diagram) (r : ℕ) (e f : ℕ → ℕ) → IsGrid d → r < size d → Stay d r e f → f (column_of Cross d r) ≡ moved t d e r → action t (row_letters d r) (map e (strands_at d r)) ≡ map f (strands_at d (r + 1))
+pub row_acts : (t : Table) (d : Diagram) (r : ℕ) (e f : ℕ → ℕ) → IsGrid d → r < size d → Stay d r e f → f (column_of Cross d r) ≡ moved t d e r
+    → action t (row_letters d r) (map e (strands_at d r)) ≡ map f (strands_at d (r + 1))
 row_acts t d r e f grid lt stay is =
     let same = same_parts d r e f grid lt stay in
     elim (row_moves d grid r lt) [

@@ -1,5 +1,6 @@
 -- The sweep from the feet: below each row its colours are those that the word has made, and where the feet come back every strand arrives.
-use Rattle.std.proofs.Common.{◌≡◌, ◌≢◌, ◌<◌, ◌≤◌, ◌+◌, ◌-◌, ◌∷◌, ◌∙◌, [], ℕ, zero, suc, List, Bool, true, false, not, cond, length, get_or, map, fold, reverse, nat_lt, nat_le, arith, sym, refl, ap, ap₂, subst, inl, inr}
+use Rattle.std.proofs.Common.{◌≡◌, ◌≢◌, ◌<◌, ◌≤◌, ◌+◌, ◌-◌, ◌∷◌, ◌∙◌, [], ℕ, zero, suc, List, Bool, true, false, not, cond, length, get_or}
+use Rattle.std.proofs.Common.{map, fold, reverse, nat_lt, nat_le, arith, sym, refl, ap, ap₂, subst, inl, inr}
 use Rattle.std.specs.List.{range_with_len}
 use Rattle.std.proofs.lemmas.Bool.{cases_lt, ltb-true, and_parts}
 use Rattle.std.proofs.lemmas.List.{get_or-set_same, get_or-set_other, length-set}
@@ -27,7 +28,8 @@ use Rattle.grid_core.proofs.OneEach.{range_next}
 pub swept_more : (t : Table) (d : Diagram) (f : List ℕ) (h : ℕ) → swept t d f (h + 1) ≡ swept_row t d (swept t d f h) h
 swept_more t d f h = ap (fold (swept_row t d) f) (range_next h) ∙ fold-append (swept_row t d) f (range_with_len 0 h) (h ∷ [])
 
-pub swept_stays : (t : Table) → IsQuandle t → (d : Diagram) → IsGrid d → (f : List ℕ) → AreColours (size d) t.order f → (h : ℕ) → h ≤ size d → AreColours (size d) t.order (swept t d f h)
+pub swept_stays : (t : Table) → IsQuandle t → (d : Diagram) → IsGrid d → (f : List ℕ) → AreColours (size d) t.order f → (h : ℕ) → h ≤ size d
+    → AreColours (size d) t.order (swept t d f h)
 swept_stays t q d grid f at zero le = at
 swept_stays t q d grid f at (suc h) le =
     let ys = swept t d f h in
@@ -46,7 +48,8 @@ swept_length t d f (suc h) =
     ∙ (length-set (swept t d f h) (column_of Cross d h) (moved t d (λ c. get_or (swept t d f h) c 0) h) ∙ swept_length t d f h)
 
 -- a row writes the colour of its X's column alone
-swept_here : (t : Table) (d : Diagram) (f : List ℕ) (r : ℕ) → column_of Cross d r < length f → get_or (swept t d f (r + 1)) (column_of Cross d r) 0 ≡ moved t d (λ c. get_or (swept t d f r) c 0) r
+swept_here : (t : Table) (d : Diagram) (f : List ℕ) (r : ℕ) → column_of Cross d r < length f
+    → get_or (swept t d f (r + 1)) (column_of Cross d r) 0 ≡ moved t d (λ c. get_or (swept t d f r) c 0) r
 swept_here t d f r lt =
     ap (λ (ys : List ℕ). get_or ys (column_of Cross d r) 0) (swept_more t d f r)
     ∙ get_or-set_same (swept t d f r) (column_of Cross d r) (moved t d (λ c. get_or (swept t d f r) c 0) r) 0 (omega (arith, swept_length t d f r))
@@ -57,7 +60,8 @@ swept_other t d f r c other =
     ∙ get_or-set_other (swept t d f r) (column_of Cross d r) c (moved t d (λ k. get_or (swept t d f r) k 0) r) 0 other
 
 -- a column keeps its colour up to the row of its X, and from there on
-swept_before : (t : Table) (d : Diagram) → IsGrid d → (f : List ℕ) (c : ℕ) → c < size d → (h : ℕ) → h ≤ row_of Cross d c → get_or (swept t d f h) c 0 ≡ get_or f c 0
+swept_before : (t : Table) (d : Diagram) → IsGrid d → (f : List ℕ) (c : ℕ) → c < size d → (h : ℕ) → h ≤ row_of Cross d c
+    → get_or (swept t d f h) c 0 ≡ get_or f c 0
 swept_before t d grid f c lt zero le = refl
 swept_before t d grid f c lt (suc h) le =
     let x_in = row_below d grid Cross c lt in
@@ -65,7 +69,8 @@ swept_before t d grid f c lt (suc h) le =
     ∙ (swept_other t d f h c (λ e. let is = (column_mark d grid Cross h (omega arith)).row in let same = ap (row_of Cross d) e in absurd (omega arith))
     ∙ swept_before t d grid f c lt h (omega arith))
 
-swept_after : (t : Table) (d : Diagram) → IsGrid d → (f : List ℕ) (c h k : ℕ) → c < size d → row_of Cross d c < h → h + k ≤ size d → get_or (swept t d f (h + k)) c 0 ≡ get_or (swept t d f h) c 0
+swept_after : (t : Table) (d : Diagram) → IsGrid d → (f : List ℕ) (c h k : ℕ) → c < size d → row_of Cross d c < h → h + k ≤ size d
+    → get_or (swept t d f (h + k)) c 0 ≡ get_or (swept t d f h) c 0
 swept_after t d grid f c h zero lt above le = ap (λ (i : ℕ). get_or (swept t d f i) c 0) (let e : h + 0 ≡ h = omega arith in e)
 swept_after t d grid f c h (suc k) lt above le =
     ap (λ (i : ℕ). get_or (swept t d f i) c 0) (let e : h + suc k ≡ h + k + 1 = omega arith in e)
@@ -73,7 +78,8 @@ swept_after t d grid f c h (suc k) lt above le =
     ∙ swept_after t d grid f c h k lt above (omega arith))
 
 -- the word leads from the feet to the colours of the strands at each height
-pub swept_led : (t : Table) (d : Diagram) → IsGrid d → (f : List ℕ) → length f ≡ size d → (h : ℕ) → h ≤ size d → action t (letters_below d h) (map (λ c. get_or f c 0) (strands_at d 0)) ≡ map (λ c. get_or (swept t d f h) c 0) (strands_at d h)
+pub swept_led : (t : Table) (d : Diagram) → IsGrid d → (f : List ℕ) → length f ≡ size d → (h : ℕ) → h ≤ size d
+    → action t (letters_below d h) (map (λ c. get_or f c 0) (strands_at d 0)) ≡ map (λ c. get_or (swept t d f h) c 0) (strands_at d h)
 swept_led t d grid f long =
     led t d (λ h. map (λ c. get_or (swept t d f h) c 0) (strands_at d h)) (size d)
     (λ r lt.
@@ -83,7 +89,8 @@ swept_led t d grid f long =
     (swept_here t d f r (let inside = row.cross_inside in omega arith)))
 
 -- the colours of the strands above all rows are those below where the action fixes the feet
-pub feet_return : (t : Table) (d : Diagram) → IsGrid d → (f : List ℕ) → length f ≡ size d → action t (word d).letters (map (λ c. get_or f c 0) (down_columns d)) ≡ map (λ c. get_or (swept t d f (size d)) c 0) (down_columns d)
+pub feet_return : (t : Table) (d : Diagram) → IsGrid d → (f : List ℕ) → length f ≡ size d
+    → action t (word d).letters (map (λ c. get_or f c 0) (down_columns d)) ≡ map (λ c. get_or (swept t d f (size d)) c 0) (down_columns d)
 feet_return t d grid f long =
     ap (λ (cs : List ℕ). action t (word d).letters (map (λ c. get_or f c 0) cs)) (sym (lowest_strands d))
     ∙ (swept_led t d grid f long (size d) (omega arith)
@@ -97,7 +104,8 @@ up_begins d r c at up =
     ltb-true (row_of Cross d c) r ((and_parts (nat_lt (row_of Cross d c) r) (nat_le r (row_of Ring d c)) both).0)
 
 -- then the colours of the strands at each row are those at the end
-strand_settled : (t : Table) (d : Diagram) → IsGrid d → (f : List ℕ) → map (λ c. get_or (swept t d f (size d)) c 0) (down_columns d) ≡ map (λ c. get_or f c 0) (down_columns d)
+strand_settled : (t : Table) (d : Diagram) → IsGrid d → (f : List ℕ)
+    → map (λ c. get_or (swept t d f (size d)) c 0) (down_columns d) ≡ map (λ c. get_or f c 0) (down_columns d)
     → (r : ℕ) → r < size d → (c : ℕ) → c < size d → is_strand d r c ≡ true → get_or (swept t d f (size d)) c 0 ≡ get_or (swept t d f r) c 0
 strand_settled t d grid f returned r lt c inside at = elim (cases_lt (row_of Cross d c) r) [
   | inl above ↦
@@ -113,7 +121,8 @@ strand_settled t d grid f returned r lt c inside at = elim (cases_lt (row_of Cro
     down false e ahead = refl
 
 -- a moved strand's colour hangs on those of the strands
-moved_same : (t : Table) (d : Diagram) → IsGrid d → (e f : ℕ → ℕ) (r : ℕ) → r < size d → ((c : ℕ) → c < size d → is_strand d r c ≡ true → e c ≡ f c) → moved t d e r ≡ moved t d f r
+moved_same : (t : Table) (d : Diagram) → IsGrid d → (e f : ℕ → ℕ) (r : ℕ) → r < size d → ((c : ℕ) → c < size d → is_strand d r c ≡ true → e c ≡ f c)
+    → moved t d e r ≡ moved t d f r
 moved_same t d grid e f r lt same =
     let row = has_ends d grid r lt in
     let within = row.within in
@@ -122,7 +131,9 @@ moved_same t d grid e f r lt same =
     (same (column_of Ring d r) marks.ring_inside marks.ring_below)
     (map_range (is_strand d r) e f ((ends d r).low + 1) ((ends d r).high - ((ends d r).low + 1)) (λ c least most at. same c (omega arith) at))
 
-pub swept_arrives : (t : Table) (d : Diagram) → IsGrid d → (f : List ℕ) → length f ≡ size d → map (λ c. get_or (swept t d f (size d)) c 0) (down_columns d) ≡ map (λ c. get_or f c 0) (down_columns d) → Arrives t d (λ c. get_or (swept t d f (size d)) c 0)
+pub swept_arrives : (t : Table) (d : Diagram) → IsGrid d → (f : List ℕ) → length f ≡ size d
+    → map (λ c. get_or (swept t d f (size d)) c 0) (down_columns d) ≡ map (λ c. get_or f c 0) (down_columns d)
+    → Arrives t d (λ c. get_or (swept t d f (size d)) c 0)
 swept_arrives t d grid f long returned = λ r lt.
     let row = has_row d grid r lt in
     let a = column_of Cross d r in

@@ -1,5 +1,6 @@
 -- Maps of the colours that respect the quandle, and what the down columns to the left make of a colour.
-use Rattle.std.proofs.Common.{◌≡◌, ◌<◌, ◌≤◌, ◌+◌, ◌∷◌, ◌++◌, ◌∙◌, [], ℕ, zero, suc, List, Bool, true, false, not, cond, All, length, get_or, filter, fold, arith, sym, refl, ap, ap₂, subst, inl, inr}
+use Rattle.std.proofs.Common.{◌≡◌, ◌<◌, ◌≤◌, ◌+◌, ◌∷◌, ◌++◌, ◌∙◌, [], ℕ, zero, suc, List, Bool, true, false, not, cond, All, length, get_or}
+use Rattle.std.proofs.Common.{filter, fold, arith, sym, refl, ap, ap₂, subst, inl, inr}
 use Rattle.std.specs.List.{range_with_len}
 use Rattle.std.proofs.lemmas.Bool.{cases_lt}
 use Rattle.std.proofs.lemmas.List.{get_or_past}
@@ -29,7 +30,8 @@ same_respects t = record {
 }
 
 -- h, followed by ◁ z where the column is down
-pub turned_respects : (t : Table) → IsQuandle t → (up : Bool) (h : ℕ → ℕ) (z : ℕ) → Respects t h → z < t.order → Respects t (λ x. cond up (h x) (back t (h x) z))
+pub turned_respects : (t : Table) → IsQuandle t → (up : Bool) (h : ℕ → ℕ) (z : ℕ) → Respects t h → z < t.order
+    → Respects t (λ x. cond up (h x) (back t (h x) z))
 turned_respects t q true h z r at_z = r
 turned_respects t q false h z r at_z = record {
   within = λ x at. q.back_within (h x) z (r.within x at) at_z;
@@ -61,7 +63,8 @@ pub turn_first : (t : Table) (d : Diagram) (f : List ℕ) (x : ℕ) → turn t d
 unfolding turn
 turn_first t d f x = refl
 
-pub turn_next : (t : Table) (d : Diagram) (f : List ℕ) (c x : ℕ) → turn t d f (c + 1) x ≡ cond (is_up d c) (turn t d f c x) (back t (turn t d f c x) (turn t d f c (get_or f c 0)))
+pub turn_next : (t : Table) (d : Diagram) (f : List ℕ) (c x : ℕ)
+    → turn t d f (c + 1) x ≡ cond (is_up d c) (turn t d f c x) (back t (turn t d f c x) (turn t d f c (get_or f c 0)))
 unfolding turn
 turn_next t d f c x = ap (λ (k : ℕ). turn t d f k x) (let e : c + 1 ≡ suc c = omega arith in e)
 
@@ -74,7 +77,8 @@ record IsPart (t : Table) (d : Diagram) (f : List ℕ) (k : ℕ) (ys : List ℕ)
   done : (c : ℕ) → c ≤ k → c < length f → get_or ys c 0 ≡ turn t d f c (get_or f c 0)
   ahead : (c : ℕ) → k ≤ c → c < length f → get_or ys c 0 ≡ turn t d f k (get_or f c 0)
 
-part_more : (t : Table) (d : Diagram) (f ys : List ℕ) (k : ℕ) → IsPart t d f k ys → k < length f → (up : Bool) → is_up d k ≡ up → IsPart t d f (k + 1) (cond up ys (passed_under t ys k))
+part_more : (t : Table) (d : Diagram) (f ys : List ℕ) (k : ℕ) → IsPart t d f k ys → k < length f → (up : Bool) → is_up d k ≡ up
+    → IsPart t d f (k + 1) (cond up ys (passed_under t ys k))
 part_more t d f ys k p inside true is = record {
   long = p.long;
   done = λ c le lt. elim (cases_lt k c) [
@@ -132,6 +136,7 @@ pub strand_long : (t : Table) (d : Diagram) (f : List ℕ) → length f ≡ size
 unfolding part
 strand_long t d f long = (part_is t d f (size d) (omega arith)).long ∙ long
 
-pub strand_colour : (t : Table) (d : Diagram) (f : List ℕ) → length f ≡ size d → (c : ℕ) → c < size d → get_or (strand_colours t d f) c 0 ≡ turn t d f c (get_or f c 0)
+pub strand_colour : (t : Table) (d : Diagram) (f : List ℕ) → length f ≡ size d → (c : ℕ) → c < size d
+    → get_or (strand_colours t d f) c 0 ≡ turn t d f c (get_or f c 0)
 unfolding part
 strand_colour t d f long c lt = (part_is t d f (size d) (omega arith)).done c (omega arith) (omega arith)

@@ -36,7 +36,8 @@ strand_stays t q d f at =
     (All-weaker (λ c. c < size d) (λ c. (ys : List ℕ) → AreColours (size d) t.order ys → AreColours (size d) t.order (passed_under t ys c)) (λ c lt. (passes_undo t q (size d) c lt).to) (down_columns d) (downs_inside d))
     f at
 
-pub column_stays : (t : Table) → IsQuandle t → (d : Diagram) (ys : List ℕ) → AreColours (size d) t.order ys → AreColours (size d) t.order (column_colours t d ys)
+pub column_stays : (t : Table) → IsQuandle t → (d : Diagram) (ys : List ℕ) → AreColours (size d) t.order ys
+    → AreColours (size d) t.order (column_colours t d ys)
 column_stays t q d ys at = undo_stays (AreColours (size d) t.order) (passed_under t) (passed_back t) (down_columns d) (passes_all t q d) ys at
 
 pub column_strands : (t : Table) → IsQuandle t → (d : Diagram) (ys : List ℕ) → AreColours (size d) t.order ys → strand_colours t d (column_colours t d ys) ≡ ys

@@ -1,5 +1,6 @@
 -- The walk of a row under the columns, and the same under the strands.
-use Rattle.std.proofs.Common.{◌≡◌, ◌≢◌, ◌<◌, ◌≤◌, ◌+◌, ◌-◌, ◌∷◌, ◌∙◌, inl, inr, ℕ, zero, suc, List, Bool, true, false, not, cond, All, get_or, map, filter, fold, arith, sym, refl, ap, ap₂}
+use Rattle.std.proofs.Common.{◌≡◌, ◌≢◌, ◌<◌, ◌≤◌, ◌+◌, ◌-◌, ◌∷◌, ◌∙◌, inl, inr, ℕ, zero, suc, List, Bool, true, false, not, cond, All}
+use Rattle.std.proofs.Common.{get_or, map, filter, fold, arith, sym, refl, ap, ap₂}
 use Rattle.std.specs.List.{range_with_len}
 use Rattle.std.proofs.lemmas.Bool.{cases_lt, lt-ltb, le-ltb}
 use Rattle.grid_core.specs.declared.mark.Kind.TheVariants.{Cross, Ring}
@@ -14,7 +15,8 @@ use Rattle.grid_braid.proofs.Heights.{runs_covers_up, runs_covers_down}
 use Rattle.grid_braid.proofs.Turns.{Respects, turn, turn_respects, turn_next, colour_below}
 
 -- one column: what the walk does, seen behind the column, is what the strand does, if one runs there
-column_passed : (t : Table) → IsQuandle t → (h : ℕ → ℕ) → Respects t h → (up covered strand : Bool) (x y : ℕ) → x < t.order → y < t.order → strand ≡ cond up covered (not covered)
+column_passed : (t : Table) → IsQuandle t → (h : ℕ → ℕ) → Respects t h → (up covered strand : Bool) (x y : ℕ) → x < t.order → y < t.order
+    → strand ≡ cond up covered (not covered)
     → cond up (h (cond covered (cond up (back t x y) (over t x y)) x)) (back t (h (cond covered (cond up (back t x y) (over t x y)) x)) (h y)) ≡ cond strand (back t (h x) (h y)) (h x)
 column_passed t q h r true true strand x y at by_y is = r.back_kept x y at by_y ∙ sym (ap (λ (b : Bool). cond b (back t (h x) (h y)) (h x)) is)
 column_passed t q h r true false strand x y at by_y is = sym (ap (λ (b : Bool). cond b (back t (h x) (h y)) (h x)) is)
@@ -24,7 +26,8 @@ column_passed t q h r false true strand x y at by_y is =
     ∙ sym (ap (λ (b : Bool). cond b (back t (h x) (h y)) (h x)) is))
 column_passed t q h r false false strand x y at by_y is = sym (ap (λ (b : Bool). cond b (back t (h x) (h y)) (h x)) is)
 
-passed_below : (t : Table) → IsQuandle t → (up covered : Bool) (x y : ℕ) → x < t.order → y < t.order → cond covered (cond up (back t x y) (over t x y)) x < t.order
+passed_below : (t : Table) → IsQuandle t → (up covered : Bool) (x y : ℕ) → x < t.order → y < t.order
+    → cond covered (cond up (back t x y) (over t x y)) x < t.order
 passed_below t q up false x y at by_y = at
 passed_below t q true true x y at by_y = q.back_within x y at by_y
 passed_below t q false true x y at by_y = q.within x y at by_y
@@ -75,7 +78,8 @@ own_kept : (t : Table) → IsQuandle t → (up : Bool) (y : ℕ) → y < t.order
 own_kept t q true y at = refl
 own_kept t q false y at = ap (λ (w : ℕ). back t w y) (sym (q.idempotent y at)) ∙ q.back_over y y at at
 
-pub walk_turned : (t : Table) → IsQuandle t → (d : Diagram) → IsGrid d → (f : List ℕ) → All (λ y. y < t.order) f → (e : ℕ → ℕ) → Turned t d f e → (r : ℕ) → r < size d
+pub walk_turned : (t : Table) → IsQuandle t → (d : Diagram) → IsGrid d → (f : List ℕ) → All (λ y. y < t.order) f → (e : ℕ → ℕ) → Turned t d f e
+    → (r : ℕ) → r < size d
     → turn t d f (ends d r).high (walk t d f r) ≡ fold (back t) (e (ends d r).low) (map e (strands_between d r))
 walk_turned t q d grid f below e turned r lt =
     let lo = (ends d r).low in
@@ -96,7 +100,8 @@ walk_turned t q d grid f below e turned r lt =
     (let n : hi - lo - 1 ≡ hi - (lo + 1) = omega arith in n))
 
 -- the colours of strands lie below the order
-pub turned_below : (t : Table) → IsQuandle t → (d : Diagram) (f : List ℕ) → All (λ y. y < t.order) f → (e : ℕ → ℕ) → Turned t d f e → (c : ℕ) → c < size d → e c < t.order
+pub turned_below : (t : Table) → IsQuandle t → (d : Diagram) (f : List ℕ) → All (λ y. y < t.order) f → (e : ℕ → ℕ) → Turned t d f e → (c : ℕ)
+    → c < size d → e c < t.order
 turned_below t q d f below e turned c lt =
     let within = (turn_respects t q d f below c).within (get_or f c 0) (colour_below t q f below c) in
     let is = turned c lt in

@@ -81,10 +81,12 @@ low_at d r numbers = (span (slice_index numbers (ends d r).low) (slice_index num
 abbrev high_at : Diagram → ℕ → List ℕ → ℕ
 high_at d r numbers = (span (slice_index numbers (ends d r).low) (slice_index numbers (ends d r).high)).high
 
-united_index : (d : Diagram) (r : ℕ) (numbers : List ℕ) (c : ℕ) → c < length numbers → slice_index (united_at d r numbers) c ≡ unite (low_at d r numbers) (high_at d r numbers) (slice_index numbers c)
+united_index : (d : Diagram) (r : ℕ) (numbers : List ℕ) (c : ℕ) → c < length numbers
+    → slice_index (united_at d r numbers) c ≡ unite (low_at d r numbers) (high_at d r numbers) (slice_index numbers c)
 united_index d r numbers c lt = get_or-map (λ i. unite (low_at d r numbers) (high_at d r numbers) i) numbers c 0 0 lt
 
-numbers_ends : (d : Diagram) (r : ℕ) (numbers : List ℕ) → AreEnds (slice_index numbers (ends d r).low) (slice_index numbers (ends d r).high) (low_at d r numbers) (high_at d r numbers)
+numbers_ends : (d : Diagram) (r : ℕ) (numbers : List ℕ)
+    → AreEnds (slice_index numbers (ends d r).low) (slice_index numbers (ends d r).high) (low_at d r numbers) (high_at d r numbers)
 numbers_ends d r numbers = span_ends (slice_index numbers (ends d r).low) (slice_index numbers (ends d r).high)
 
 -- the lesser number is the number of one of the row's ends
@@ -136,7 +138,8 @@ one_row_more d grid h lt numbers old = record {
     low_stays : slice_index (united_at d h numbers) l ≡ l
     low_stays = index l low_inside ∙ (ap (unite l m) low_fixed ∙ unite_low l m)
 
-    fixed_at : (c : ℕ) → c < size d → (slice_index numbers c ≡ m) ⊎ (slice_index numbers c ≢ m) → slice_index (united_at d h numbers) (slice_index (united_at d h numbers) c) ≡ slice_index (united_at d h numbers) c
+    fixed_at : (c : ℕ) → c < size d → (slice_index numbers c ≡ m) ⊎ (slice_index numbers c ≢ m)
+        → slice_index (united_at d h numbers) (slice_index (united_at d h numbers) c) ≡ slice_index (united_at d h numbers) c
     fixed_at c within cases = elim cases [
       | inl is ↦
           let e : slice_index (united_at d h numbers) c ≡ l = index c within ∙ unite_high l m (slice_index numbers c) is in
@@ -174,7 +177,8 @@ pub component_rows : (d : Diagram) → IsGrid d → (r : ℕ) → r < size d →
 component_rows d grid r lt = (numbering d grid (size d) (omega arith)).rows r lt
 
 -- the marks of a row, of whatever kinds, are of one component
-of_kinds : (d : Diagram) → IsGrid d → (r : ℕ) → r < size d → (one other : Kind) → component_number d (column_of one d r) ≡ component_number d (column_of other d r)
+of_kinds : (d : Diagram) → IsGrid d → (r : ℕ) → r < size d → (one other : Kind)
+    → component_number d (column_of one d r) ≡ component_number d (column_of other d r)
 of_kinds d grid r lt Cross Cross = refl
 of_kinds d grid r lt Cross Ring = component_rows d grid r lt
 of_kinds d grid r lt Ring Cross = sym (component_rows d grid r lt)
@@ -200,7 +204,8 @@ joined_ends d R joins r lt = elim (span_ends (column_of Cross d r) (column_of Ri
 ]
 
 -- it joins the two numbers that become one at a row
-joined_numbers : (d : Diagram) (R : ℕ → ℕ → Type 0) → IsGrid d → JoinsRows d R → (r : ℕ) → r < size d → (numbers : List ℕ) → ((c : ℕ) → c < size d → R (slice_index numbers c) c) → R (low_at d r numbers) (high_at d r numbers)
+joined_numbers : (d : Diagram) (R : ℕ → ℕ → Type 0) → IsGrid d → JoinsRows d R → (r : ℕ) → r < size d → (numbers : List ℕ)
+    → ((c : ℕ) → c < size d → R (slice_index numbers c) c) → R (low_at d r numbers) (high_at d r numbers)
 joined_numbers d R grid joins r lt numbers old =
     let inside = ends_inside d grid r lt in
     let low = slice_index numbers (ends d r).low in
@@ -211,7 +216,8 @@ joined_numbers d R grid joins r lt numbers old =
       | inr is ↦ subst (λ (a : ℕ). R a (high_at d r numbers)) (sym is.0) (subst (R high) (sym is.1) (joins.back low high forth))
     ]
 
-related_below : (d : Diagram) (R : ℕ → ℕ → Type 0) → IsGrid d → JoinsRows d R → (h : ℕ) → h ≤ size d → (c : ℕ) → c < size d → R (slice_index (numbers_below d h) c) c
+related_below : (d : Diagram) (R : ℕ → ℕ → Type 0) → IsGrid d → JoinsRows d R → (h : ℕ) → h ≤ size d → (c : ℕ) → c < size d
+    → R (slice_index (numbers_below d h) c) c
 related_below d R grid joins zero le c lt =
     subst (λ (b : ℕ). R b c) (sym (get_or-range_with_len 0 (size d) c 0 lt ∙ (let e : 0 + c ≡ c = omega arith in e))) (joins.same c lt)
 related_below d R grid joins (suc h) le c lt =
@@ -229,7 +235,8 @@ pub related : (d : Diagram) (R : ℕ → ℕ → Type 0) → IsGrid d → JoinsR
 related d R grid joins c lt = related_below d R grid joins (size d) (omega arith) c lt
 
 -- what is the same at both ends of each row is the same along a component
-pub same_along : (d : Diagram) → IsGrid d → (h : ℕ → ℕ) → ((r : ℕ) → r < size d → h (column_of Cross d r) ≡ h (column_of Ring d r)) → (b c : ℕ) → b < size d → c < size d → component_number d b ≡ component_number d c → h b ≡ h c
+pub same_along : (d : Diagram) → IsGrid d → (h : ℕ → ℕ) → ((r : ℕ) → r < size d → h (column_of Cross d r) ≡ h (column_of Ring d r)) → (b c : ℕ)
+    → b < size d → c < size d → component_number d b ≡ component_number d c → h b ≡ h c
 same_along d grid h rows b c in_b in_c same =
     let joins : JoinsRows d (λ a b. h a ≡ h b) = record { same = λ c lt. refl; back = λ b c e. sym e; after = λ a b c e f. e ∙ f; rows = rows } in
     sym (related d (λ a b. h a ≡ h b) grid joins b in_b) ∙ (ap h same ∙ related d (λ a b. h a ≡ h b) grid joins c in_c)
@@ -287,7 +294,8 @@ component_least d grid b c joined =
     omega (arith, same, le)
 
 -- a row is of the component of each of its ends
-pub row_component_is : (d : Diagram) → IsGrid d → (r : ℕ) → r < size d → (row_component_number d r ≡ component_number d (column_of Cross d r)) × (row_component_number d r ≡ component_number d (column_of Ring d r))
+pub row_component_is : (d : Diagram) → IsGrid d → (r : ℕ) → r < size d
+    → (row_component_number d r ≡ component_number d (column_of Cross d r)) × (row_component_number d r ≡ component_number d (column_of Ring d r))
 row_component_is d grid r lt =
     let same = component_rows d grid r lt in
     elim (span_ends (column_of Cross d r) (column_of Ring d r)).either [

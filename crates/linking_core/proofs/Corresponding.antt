@@ -9,7 +9,8 @@ use Rattle.grid_core.specs.Diagram.{Diagram, IsGrid, size}
 use Rattle.grid_core.specs.Parts.{column_of}
 use Rattle.linking_core.specs.Component.{component_number, components}
 use Rattle.linking_core.specs.Linking.{put, linking_number, linking_numbers_of, linking}
-use Rattle.linking_core.proofs.Shuffles.{Shuffles, Member, shuffles_from, shuffles_length, map_apart, map_member, member_of_map, filter_apart, filter_member, member_of_filter, range_apart, range_member, member_of_range}
+use Rattle.linking_core.proofs.Shuffles.{Shuffles, Member, shuffles_from, shuffles_length, map_apart, map_member, member_of_map}
+use Rattle.linking_core.proofs.Shuffles.{filter_apart, filter_member, member_of_filter, range_apart, range_member, member_of_range}
 use Rattle.linking_core.proofs.Ascending.{fold_shuffled, fold_map, fold_same, fold_flat_map, fold_filter, puts_trade, lists_trade}
 use Rattle.linking_core.proofs.ComponentNumbers.{component_fixed, component_below, same_along}
 use Rattle.linking_core.proofs.Signs.{is_of}
@@ -27,10 +28,12 @@ pub record Corresponds (d e : Diagram) (forth back : ℕ → ℕ) : Type 0 where
 abbrev pub named : Diagram → (ℕ → ℕ) → ℕ → ℕ
 named e forth i = component_number e (forth i)
 
-kept : (d e : Diagram) → IsGrid d → (forth back : ℕ → ℕ) → Corresponds d e forth back → (b c : ℕ) → b < size d → c < size d → component_number d b ≡ component_number d c → named e forth b ≡ named e forth c
+kept : (d e : Diagram) → IsGrid d → (forth back : ℕ → ℕ) → Corresponds d e forth back → (b c : ℕ) → b < size d → c < size d
+    → component_number d b ≡ component_number d c → named e forth b ≡ named e forth c
 kept d e grid forth back corr b c in_b in_c same = same_along d grid (λ a. component_number e (forth a)) corr.keeps b c in_b in_c same
 
-returned : (d e : Diagram) → IsGrid e → (forth back : ℕ → ℕ) → Corresponds d e forth back → (b c : ℕ) → b < size d → c < size d → named e forth b ≡ named e forth c → component_number d b ≡ component_number d c
+returned : (d e : Diagram) → IsGrid e → (forth back : ℕ → ℕ) → Corresponds d e forth back → (b c : ℕ) → b < size d → c < size d
+    → named e forth b ≡ named e forth c → component_number d b ≡ component_number d c
 returned d e grid' forth back corr b c in_b in_c same =
     sym (corr.there b in_b) ∙ (same_along e grid' (λ a. component_number d (back a)) corr.returns (forth b) (forth c) (corr.into b in_b) (corr.into c in_c) same ∙ corr.there c in_c)
 
@@ -42,13 +45,15 @@ is_component d i at =
 component_is : (d : Diagram) (i : ℕ) → i < size d → component_number d i ≡ i → Member i (components d)
 component_is d i lt is = member_of_filter (λ c. component_number d c == c) i (range_with_len 0 (size d)) (member_of_range 0 (size d) i (omega arith) (omega arith)) (eq-eqb (component_number d i) i is)
 
-pub same_name : (d e : Diagram) → IsGrid e → (forth back : ℕ → ℕ) → Corresponds d e forth back → (i j : ℕ) → Member i (components d) → Member j (components d) → named e forth i ≡ named e forth j → i ≡ j
+pub same_name : (d e : Diagram) → IsGrid e → (forth back : ℕ → ℕ) → Corresponds d e forth back → (i j : ℕ) → Member i (components d)
+    → Member j (components d) → named e forth i ≡ named e forth j → i ≡ j
 same_name d e grid' forth back corr i j at_i at_j same =
     let one = is_component d i at_i in
     let two = is_component d j at_j in
     sym one.1 ∙ (returned d e grid' forth back corr i j one.0 two.0 same ∙ two.1)
 
-pub components_shuffled : (d e : Diagram) → IsGrid d → IsGrid e → (forth back : ℕ → ℕ) → Corresponds d e forth back → Shuffles (map (named e forth) (components d)) (components e)
+pub components_shuffled : (d e : Diagram) → IsGrid d → IsGrid e → (forth back : ℕ → ℕ) → Corresponds d e forth back
+    → Shuffles (map (named e forth) (components d)) (components e)
 components_shuffled d e grid grid' forth back corr =
     shuffles_from (map (named e forth) (components d)) (components e)
     (map_apart (named e forth) (components d) (same_name d e grid' forth back corr) (filter_apart (λ c. component_number d c == c) (range_with_len 0 (size d)) (range_apart 0 (size d))))
@@ -63,7 +68,8 @@ components_shuffled d e grid grid' forth back corr =
     let inside = corr.from z own.0 in
     let i = component_number d (back z) in
     let in_i : i < size d = component_below d grid (back z) inside in
-    let name : named e forth i ≡ z = kept d e grid forth back corr i (back z) in_i inside (component_fixed d grid (back z) inside) ∙ (corr.again z own.0 ∙ own.1) in
+    let name : named e forth i ≡ z =
+    kept d e grid forth back corr i (back z) in_i inside (component_fixed d grid (back z) inside) ∙ (corr.again z own.0 ∙ own.1) in
     subst (λ (w : ℕ). Member w (map (named e forth) (components d))) name (member_of_map (named e forth) i (components d) (component_is d i in_i (component_fixed d grid (back z) inside))))
 
 -- as many components
@@ -72,7 +78,8 @@ as_many d e grid grid' forth back corr =
     shuffles_length (map (named e forth) (components d)) (components e) (components_shuffled d e grid grid' forth back corr) ∙ length-map (components d) (named e forth)
 
 -- the classes of corresponding components
-pub class_moved : (d e : Diagram) → IsGrid d → IsGrid e → (forth back : ℕ → ℕ) → Corresponds d e forth back → (i : ℕ) → Member i (components d) → (c : ℕ) → c < size d → is_of e (named e forth i) (forth c) ≡ is_of d i c
+pub class_moved : (d e : Diagram) → IsGrid d → IsGrid e → (forth back : ℕ → ℕ) → Corresponds d e forth back → (i : ℕ) → Member i (components d)
+    → (c : ℕ) → c < size d → is_of e (named e forth i) (forth c) ≡ is_of d i c
 class_moved d e grid grid' forth back corr i at c lt =
     let own = is_component d i at in
     elim (cases_eq (component_number d c) i) [
@@ -94,7 +101,8 @@ same_step : (one other : Bool) (s : List ℤ) (y z : ℤ) → one ≡ other → 
 same_step one true s y z e same = ap (λ (t : Bool). cond t (put s y) s) e ∙ ap (put s) (same refl)
 same_step one false s y z e same = ap (λ (t : Bool). cond t (put s y) s) e
 
-numbers_moved : (d e : Diagram) → IsGrid d → IsGrid e → (forth back : ℕ → ℕ) → Corresponds d e forth back → ((i j : ℕ) → Member i (components d) → Member j (components d) → i ≢ j → linking_number e (named e forth i) (named e forth j) ≡ linking_number d i j)
+numbers_moved : (d e : Diagram) → IsGrid d → IsGrid e → (forth back : ℕ → ℕ) → Corresponds d e forth back
+    → ((i j : ℕ) → Member i (components d) → Member j (components d) → i ≢ j → linking_number e (named e forth i) (named e forth j) ≡ linking_number d i j)
     → (i : ℕ) → Member i (components d) → (s : List ℤ) → fold put s (linking_numbers_of e (named e forth i)) ≡ fold put s (linking_numbers_of d i)
 numbers_moved d e grid grid' forth back corr equal i at s =
     numbers_put e (named e forth i) s
@@ -115,7 +123,8 @@ numbers_moved d e grid grid' forth back corr equal i at s =
     each : (r : List ℤ) (j : ℕ) → Member j (components d) → with_number e (named e forth i) r (named e forth j) ≡ with_number d i r j
     each r j at_j = same_step (not (named e forth j == named e forth i)) (not (j == i)) r (linking_number e (named e forth i) (named e forth j)) (linking_number d i j) (ap not (test j at_j)) (λ t. equal i j at at_j (different j t))
 
-pub equal_lists : (d e : Diagram) → IsGrid d → IsGrid e → (forth back : ℕ → ℕ) → Corresponds d e forth back → ((i j : ℕ) → Member i (components d) → Member j (components d) → i ≢ j → linking_number e (named e forth i) (named e forth j) ≡ linking_number d i j)
+pub equal_lists : (d e : Diagram) → IsGrid d → IsGrid e → (forth back : ℕ → ℕ) → Corresponds d e forth back
+    → ((i j : ℕ) → Member i (components d) → Member j (components d) → i ≢ j → linking_number e (named e forth i) (named e forth j) ≡ linking_number d i j)
     → linking e ≡ linking d
 equal_lists d e grid grid' forth back corr equal =
     linking_put e

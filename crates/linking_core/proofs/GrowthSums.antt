@@ -47,7 +47,8 @@ total_grown n p lt f =
     ∙ ap (λ z. f p +ℤ z) (over_map f (lifted p) (range_with_len 0 n))
 
 -- a sum over pairs, where what the new number has to do with is 0
-twice_grown : (n p : ℕ) → p < n + 1 → (f : ℕ → ℕ → ℤ) → f p p ≡ pos 0 → ((b : ℕ) → b < n → f p (lifted p b) ≡ pos 0) → ((b : ℕ) → b < n → f (lifted p b) p ≡ pos 0)
+twice_grown : (n p : ℕ) → p < n + 1 → (f : ℕ → ℕ → ℤ) → f p p ≡ pos 0 → ((b : ℕ) → b < n → f p (lifted p b) ≡ pos 0)
+    → ((b : ℕ) → b < n → f (lifted p b) p ≡ pos 0)
     → total (n + 1) (λ q. total (n + 1) (λ c. f q c)) ≡ total n (λ q. total n (λ c. f (lifted p q) (lifted p c)))
 twice_grown n p lt f own left right =
     let outer = total_grown n p lt (λ q. total (n + 1) (f q)) in
@@ -60,7 +61,8 @@ twice_grown n p lt f own left right =
     omega (arith, ints, outer, first, own, none, inner)
 
 -- pairs of marks, near their old rows
-near_pairs : (r q a b x y a' b' x' y' : ℕ) → (q ≡ r) ⊎ (q ≡ r + 1) → IsNear r q a a' → IsNear r q b b' → IsNear r q x x' → IsNear r q y y' → a ≢ x → a ≢ y → b ≢ x → b ≢ y → interleaving a' b' x' y' ≡ interleaving a b x y
+near_pairs : (r q a b x y a' b' x' y' : ℕ) → (q ≡ r) ⊎ (q ≡ r + 1) → IsNear r q a a' → IsNear r q b b' → IsNear r q x x' → IsNear r q y y' → a ≢ x
+    → a ≢ y → b ≢ x → b ≢ y → interleaving a' b' x' y' ≡ interleaving a b x y
 near_pairs r q a b x y a' b' x' y' near na nb nx ny ax ay bx by' =
     let one = ap count (near_order r q a x a' x' near na nx ax) in
     let two = ap count (near_order r q b x b' x' near nb nx bx) in
@@ -82,7 +84,8 @@ none_where true true v z same = ap (where_true v) (same refl refl) ∙ where_zer
 none_where true false v z same = refl
 none_where false u v z same = refl
 
-pub growth_sum : (kind : Kind) (place : Kind → ℕ) (c r q : ℕ) (d e : Diagram) → IsGrid d → Grows kind place c r q d e → (a b a' b' : ℕ → Bool) → AreDisjoint d a b
+pub growth_sum : (kind : Kind) (place : Kind → ℕ) (c r q : ℕ) (d e : Diagram) → IsGrid d → Grows kind place c r q d e → (a b a' b' : ℕ → Bool)
+    → AreDisjoint d a b
     → ((p : ℕ) → p < size d → a' (lifted (fresh kind place) p) ≡ a p) → ((p : ℕ) → p < size d → b' (lifted (fresh kind place) p) ≡ b p) → a' (fresh kind place) ≡ a c → b' (fresh kind place) ≡ b c
     → by_columns e a' b' ≡ by_columns d a b
 growth_sum kind place c r q d e grid grows a b a' b' disjoint of_a of_b own_a own_b =

@@ -30,7 +30,8 @@ fresh kind place = place (other kind)
 abbrev pub twin : Kind → (Kind → ℕ) → ℕ
 twin kind place = place kind
 
-pub fresh_twin : (kind : Kind) (place : Kind → ℕ) (c : ℕ) → Beside c place → ((fresh kind place ≡ c) × (twin kind place ≡ c + 1)) ⊎ ((fresh kind place ≡ c + 1) × (twin kind place ≡ c))
+pub fresh_twin : (kind : Kind) (place : Kind → ℕ) (c : ℕ) → Beside c place
+    → ((fresh kind place ≡ c) × (twin kind place ≡ c + 1)) ⊎ ((fresh kind place ≡ c + 1) × (twin kind place ≡ c))
 fresh_twin kind place c beside = from (place (other kind)) (place kind) (beside.near (other kind)) (beside.near kind) (apart kind)
   where
     apart : (k : Kind) → place (other k) ≢ place k
@@ -63,7 +64,8 @@ pub twin_column : (kind : Kind) (place : Kind → ℕ) (c : ℕ) → Beside c pl
 twin_column kind place c beside = beside_own c (fresh kind place) (twin kind place) (fresh_twin kind place c beside)
 
 pub fresh_column : (kind : Kind) (place : Kind → ℕ) (c : ℕ) → Beside c place → lifted (twin kind place) c ≡ fresh kind place
-fresh_column kind place c beside = beside_own c (twin kind place) (fresh kind place) (turned_pair c (fresh kind place) (twin kind place) (fresh_twin kind place c beside))
+fresh_column kind place c beside =
+    beside_own c (twin kind place) (fresh kind place) (turned_pair c (fresh kind place) (twin kind place) (fresh_twin kind place c beside))
 
 pub far_column : (kind : Kind) (place : Kind → ℕ) (c b : ℕ) → Beside c place → b ≢ c → lifted (twin kind place) b ≡ lifted (fresh kind place) b
 far_column kind place c b beside ne = beside_far c (fresh kind place) (twin kind place) b (fresh_twin kind place c beside) ne
@@ -80,7 +82,8 @@ near_order r q s t s' t' near (beside es eq) (moved et) ne = grind (arith, nat_t
 near_order r q s t s' t' near (beside es eq) (beside et fq) ne = absurd (ne (es ∙ sym et))
 
 -- the rows of the marks in each old column, at its new place, and in the column that is new
-pub near_row : (kind : Kind) (place : Kind → ℕ) (c r q : ℕ) (d e : Diagram) → Grows kind place c r q d e → (k : Kind) (b : ℕ) → b < size d → IsNear r q (row_of k d b) (row_of k e (lifted (fresh kind place) b))
+pub near_row : (kind : Kind) (place : Kind → ℕ) (c r q : ℕ) (d e : Diagram) → Grows kind place c r q d e → (k : Kind) (b : ℕ) → b < size d
+    → IsNear r q (row_of k d b) (row_of k e (lifted (fresh kind place) b))
 near_row kind place c r q d e grows k b lt = elim (kinds kind k) [
   | inr far ↦ moved (subst (λ (z : Kind). row_of z e (lifted (fresh kind place) b) ≡ lifted q (row_of z d b)) (sym far) (grows.wide.kept (other kind) b lt))
   | inl own ↦ subst (λ (z : Kind). IsNear r q (row_of z d b) (row_of z e (lifted (fresh kind place) b))) (sym own) (elim (cases_eq b c) [
@@ -90,7 +93,8 @@ near_row kind place c r q d e grows k b lt = elim (kinds kind k) [
   ])
 ]
 
-pub near_fresh : (kind : Kind) (place : Kind → ℕ) (c r q : ℕ) (d e : Diagram) → Grows kind place c r q d e → (k : Kind) → IsNear r q r (row_of k e (fresh kind place))
+pub near_fresh : (kind : Kind) (place : Kind → ℕ) (c r q : ℕ) (d e : Diagram) → Grows kind place c r q d e → (k : Kind)
+    → IsNear r q r (row_of k e (fresh kind place))
 near_fresh kind place c r q d e grows k = elim (kinds kind k) [
   | inr far ↦ beside refl (ap (λ (z : Kind). row_of z e (fresh kind place)) far ∙ grows.wide.fresh (other kind))
   | inl own ↦ moved (ap (λ (z : Kind). row_of z e (fresh kind place)) own ∙ (ap (row_of kind e) (sym (fresh_column kind place c grows.beside)) ∙ (grows.wide.kept kind c grows.marked.inside ∙ ap (lifted q) grows.marked.row)))
@@ -103,7 +107,8 @@ place_below kind place c r q d e grows k = let lt = grows.marked.inside in elim 
 ]
 
 -- the two columns of the block share the new row
-block_joined : (kind : Kind) (place : Kind → ℕ) (c r q : ℕ) (d e : Diagram) → IsGrid e → Grows kind place c r q d e → component_number e (fresh kind place) ≡ component_number e (twin kind place)
+block_joined : (kind : Kind) (place : Kind → ℕ) (c r q : ℕ) (d e : Diagram) → IsGrid e → Grows kind place c r q d e
+    → component_number e (fresh kind place) ≡ component_number e (twin kind place)
 block_joined kind place c r q d e grid' grows =
     component_shared e grid' (fresh kind place) (twin kind place) (record {
       row = q;
@@ -113,11 +118,14 @@ block_joined kind place c r q d e grid' grows =
       of_second = record { inside = place_below kind place c r q d e grows kind; row = grows.wide.fresh kind };
     })
 
-pub fresh_component : (kind : Kind) (place : Kind → ℕ) (c r q : ℕ) (d e : Diagram) → IsGrid e → Grows kind place c r q d e → component_number e (fresh kind place) ≡ component_number e (lifted (fresh kind place) c)
-fresh_component kind place c r q d e grid' grows = block_joined kind place c r q d e grid' grows ∙ ap (component_number e) (sym (twin_column kind place c grows.beside))
+pub fresh_component : (kind : Kind) (place : Kind → ℕ) (c r q : ℕ) (d e : Diagram) → IsGrid e → Grows kind place c r q d e
+    → component_number e (fresh kind place) ≡ component_number e (lifted (fresh kind place) c)
+fresh_component kind place c r q d e grid' grows =
+    block_joined kind place c r q d e grid' grows ∙ ap (component_number e) (sym (twin_column kind place c grows.beside))
 
 -- the column to which a mark of an old column goes is of the component of the old column's new place
-by_kind : (kind : Kind) (place : Kind → ℕ) (c r q : ℕ) (d e : Diagram) → IsGrid e → Grows kind place c r q d e → (k : Kind) (b : ℕ) → component_number e (lifted (place k) b) ≡ component_number e (lifted (fresh kind place) b)
+by_kind : (kind : Kind) (place : Kind → ℕ) (c r q : ℕ) (d e : Diagram) → IsGrid e → Grows kind place c r q d e → (k : Kind) (b : ℕ)
+    → component_number e (lifted (place k) b) ≡ component_number e (lifted (fresh kind place) b)
 by_kind kind place c r q d e grid' grows k b = elim (kinds kind k) [
   | inr far ↦ ap (λ (z : Kind). component_number e (lifted (place z) b)) far
   | inl own ↦ ap (λ (z : Kind). component_number e (lifted (place z) b)) own ∙ (elim (cases_eq b c) [
@@ -127,7 +135,8 @@ by_kind kind place c r q d e grid' grows k b = elim (kinds kind k) [
 ]
 
 -- where a mark of e comes from
-origin : (kind : Kind) (place : Kind → ℕ) (c r q : ℕ) (d e : Diagram) → Grows kind place c r q d e → (k : Kind) (a t : ℕ) → HasMark e k a t → (k' : Kind) × HasMark d k' (lowered c a) (lowered r t)
+origin : (kind : Kind) (place : Kind → ℕ) (c r q : ℕ) (d e : Diagram) → Grows kind place c r q d e → (k : Kind) (a t : ℕ) → HasMark e k a t
+    → (k' : Kind) × HasMark d k' (lowered c a) (lowered r t)
 origin kind place c r q d e grows k a t mark = elim (column_from place q d e grows.wide k (place_below kind place c r q d e grows k) a mark.inside) [
   | inl new ↦
       let column : lowered c a ≡ c = ap (lowered c) new ∙ beside_low c (place k) (grows.beside.near k) in
@@ -135,11 +144,13 @@ origin kind place c r q d e grows k a t mark = elim (column_from place q d e gro
       (kind, record { inside = omega (arith, column, grows.marked.inside); row = ap (row_of kind d) column ∙ (grows.marked.row ∙ sym row) })
   | inr old ↦
       let column : lowered c a ≡ old.0 = ap (lowered c) (sym old.2) ∙ beside_back c (place k) old.0 (grows.beside.near k) in
-      let row : lowered r t ≡ row_of k d old.0 = ap (lowered r) (sym mark.row ∙ (ap (row_of k e) (sym old.2) ∙ grows.wide.kept k old.0 old.1)) ∙ beside_back r q (row_of k d old.0) grows.near in
+      let row : lowered r t ≡ row_of k d old.0 =
+      ap (lowered r) (sym mark.row ∙ (ap (row_of k e) (sym old.2) ∙ grows.wide.kept k old.0 old.1)) ∙ beside_back r q (row_of k d old.0) grows.near in
       (k, record { inside = omega (arith, column, old.1); row = ap (row_of k d) column ∙ sym row })
 ]
 
-pub growth_corresponds : (kind : Kind) (place : Kind → ℕ) (c r q : ℕ) (d e : Diagram) → IsGrid d → IsGrid e → Grows kind place c r q d e → Corresponds d e (lifted (fresh kind place)) (lowered c)
+pub growth_corresponds : (kind : Kind) (place : Kind → ℕ) (c r q : ℕ) (d e : Diagram) → IsGrid d → IsGrid e → Grows kind place c r q d e
+    → Corresponds d e (lifted (fresh kind place)) (lowered c)
 growth_corresponds kind place c r q d e grid grid' grows = record {
   into = λ b lt.
       let p = place_below kind place c r q d e grows (other kind) in

@@ -26,7 +26,8 @@ none true z = refl
 none false z = refl
 
 -- an interval whose ends are x and o reaches across a line where just one of them lies below
-reach_from : (x o l h line : ℕ) → l ≡ x → h ≡ o → l ≤ h → (up : Bool) → (x < o → up ≡ true) → where_true (nat_lt l line && nat_le line h) (unit up) ≡ count (nat_lt x line) -ℤ count (nat_lt o line)
+reach_from : (x o l h line : ℕ) → l ≡ x → h ≡ o → l ≤ h → (up : Bool) → (x < o → up ≡ true)
+    → where_true (nat_lt l line && nat_le line h) (unit up) ≡ count (nat_lt x line) -ℤ count (nat_lt o line)
 reach_from x o l h line is_l is_h le up rises = elim (cases_lt x line) [
   | inl lx ↦ elim (cases_lt o line) [
     | inl lo ↦ ap (λ (t : Bool). where_true (nat_lt l line && t) (unit up)) (lt-leb line h (omega arith)) ∙ (none (nat_lt l line) (unit up) ∙ sym (ap₂ (λ (s t : Bool). count s -ℤ count t) (lt-ltb x line lx) (lt-ltb o line lo)))
@@ -36,7 +37,8 @@ reach_from x o l h line is_l is_h le up rises = elim (cases_lt x line) [
 ]
 
 -- the same from above
-fall_from : (x o l h line : ℕ) → l ≡ o → h ≡ x → l ≤ h → (up : Bool) → (o < x → up ≡ false) → where_true (nat_lt l line && nat_le line h) (unit up) ≡ count (nat_lt x line) -ℤ count (nat_lt o line)
+fall_from : (x o l h line : ℕ) → l ≡ o → h ≡ x → l ≤ h → (up : Bool) → (o < x → up ≡ false)
+    → where_true (nat_lt l line && nat_le line h) (unit up) ≡ count (nat_lt x line) -ℤ count (nat_lt o line)
 fall_from x o l h line is_l is_h le up falls = elim (cases_lt o line) [
   | inl lo ↦ elim (cases_lt x line) [
     | inl lx ↦ ap (λ (t : Bool). where_true (nat_lt l line && t) (unit up)) (lt-leb line h (omega arith)) ∙ (none (nat_lt l line) (unit up) ∙ sym (ap₂ (λ (s t : Bool). count s -ℤ count t) (lt-ltb x line lx) (lt-ltb o line lo)))
@@ -69,7 +71,8 @@ heights_cancel d i h grid =
     ∙ balanced d grid (is_of d i) (closed d grid i) (λ s. count (nat_lt s h))))
 
 -- along the rows of a component, what depends on the column of a mark counts as much at the Os as at the Xs
-rows_balanced : (d : Diagram) → IsGrid d → (j : ℕ) (g : ℕ → ℤ) → total (size d) (λ r. where_true (row_component_number d r == j) (g (column_of Ring d r) -ℤ g (column_of Cross d r))) ≡ pos 0
+rows_balanced : (d : Diagram) → IsGrid d → (j : ℕ) (g : ℕ → ℤ)
+    → total (size d) (λ r. where_true (row_component_number d r == j) (g (column_of Ring d r) -ℤ g (column_of Cross d r))) ≡ pos 0
 rows_balanced d grid j g =
     let parts = total_same (size d) (λ r. where_true (row_component_number d r == j) (g (column_of Ring d r) -ℤ g (column_of Cross d r))) (λ r. where_true (is_of d j (column_of Ring d r)) (g (column_of Ring d r)) -ℤ where_true (is_of d j (column_of Cross d r)) (g (column_of Cross d r))) (λ r lt.
     let own = row_component_is d grid r lt in

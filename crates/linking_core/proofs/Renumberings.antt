@@ -24,10 +24,13 @@ pub record IsRenumbering (n : ℕ) (new old : ℕ → ℕ) : Type 0 where
 pub unchanged_renumbers : (n : ℕ) → IsRenumbering n unchanged unchanged
 unchanged_renumbers n = record { into = λ c lt. lt; from = λ c lt. lt; there = λ c lt. refl; again = λ c lt. refl }
 
-pub new_column_of : (f g : ℕ → ℕ) (d e : Diagram) → IsGrid d → IsGrid e → Renumbered f g d e → (kind : Kind) (r : ℕ) → r < size d → column_of kind e (g r) ≡ f (column_of kind d r)
-new_column_of f g d e grid grid' marks kind r lt = column_is e grid' kind (f (column_of kind d r)) (g r) (marks.marks kind (column_of kind d r) r (column_mark d grid kind r lt))
+pub new_column_of : (f g : ℕ → ℕ) (d e : Diagram) → IsGrid d → IsGrid e → Renumbered f g d e → (kind : Kind) (r : ℕ) → r < size d
+    → column_of kind e (g r) ≡ f (column_of kind d r)
+new_column_of f g d e grid grid' marks kind r lt =
+    column_is e grid' kind (f (column_of kind d r)) (g r) (marks.marks kind (column_of kind d r) r (column_mark d grid kind r lt))
 
-pub renumbered_corresponds : (f f' g g' : ℕ → ℕ) (d e : Diagram) → IsGrid d → IsGrid e → IsRenumbering (size d) f f' → IsRenumbering (size d) g g' → Renumbered f g d e → Corresponds d e f f'
+pub renumbered_corresponds : (f f' g g' : ℕ → ℕ) (d e : Diagram) → IsGrid d → IsGrid e → IsRenumbering (size d) f f' → IsRenumbering (size d) g g'
+    → Renumbered f g d e → Corresponds d e f f'
 renumbered_corresponds f f' g g' d e grid grid' columns rows marks = record {
   into = λ c lt. let in' = columns.into c lt in omega (arith, in', marks.same_size);
   from = λ c lt. columns.from c (omega (arith, lt, marks.same_size));
@@ -49,20 +52,24 @@ renumbered_corresponds f f' g g' d e grid grid' columns rows marks = record {
         ∙ columns.there (column_of kind d (g' r)) ((column_mark d grid kind (g' r) (rows.from r lt)).inside))
 
 -- two sums over new numbers
-twice_moved : (n : ℕ) (f f' : ℕ → ℕ) → IsRenumbering n f f' → (h : ℕ → ℕ → ℤ) → total n (λ q. total n (λ c. h (f q) (f c))) ≡ total n (λ q. total n (λ c. h q c))
+twice_moved : (n : ℕ) (f f' : ℕ → ℕ) → IsRenumbering n f f' → (h : ℕ → ℕ → ℤ)
+    → total n (λ q. total n (λ c. h (f q) (f c))) ≡ total n (λ q. total n (λ c. h q c))
 twice_moved n f f' is h =
     total_same n (λ q. total n (λ c. h (f q) (f c))) (λ q. total n (h (f q))) (λ q lt. total_moved n f f' is.into is.from is.there is.again (h (f q)))
     ∙ total_moved n f f' is.into is.from is.there is.again (λ q. total n (h q))
 
-pub twice_same : (n : ℕ) (h k : ℕ → ℕ → ℤ) → ((q c : ℕ) → q < n → c < n → h q c ≡ k q c) → total n (λ q. total n (λ c. h q c)) ≡ total n (λ q. total n (λ c. k q c))
+pub twice_same : (n : ℕ) (h k : ℕ → ℕ → ℤ) → ((q c : ℕ) → q < n → c < n → h q c ≡ k q c)
+    → total n (λ q. total n (λ c. h q c)) ≡ total n (λ q. total n (λ c. k q c))
 twice_same n h k same = total_same n (λ q. total n (λ c. h q c)) (λ q. total n (λ c. k q c)) (λ q in_q. total_same n (h q) (k q) (λ c in_c. same q c in_q in_c))
 
 -- a pair of columns and a pair of rows after the renumbering
 abbrev pub columns_after : Diagram → (ℕ → ℕ) → (ℕ → ℕ) → ℕ → ℕ → ℤ
-columns_after d f g q c = where_true (nat_lt (f q) (f c)) (interleaving (g (row_of Cross d c)) (g (row_of Ring d c)) (g (row_of Cross d q)) (g (row_of Ring d q)))
+columns_after d f g q c =
+    where_true (nat_lt (f q) (f c)) (interleaving (g (row_of Cross d c)) (g (row_of Ring d c)) (g (row_of Cross d q)) (g (row_of Ring d q)))
 
 abbrev pub rows_after : Diagram → (ℕ → ℕ) → (ℕ → ℕ) → ℕ → ℕ → ℤ
-rows_after d f g r s = where_true (nat_lt (g r) (g s)) (interleaving (f (column_of Cross d s)) (f (column_of Ring d s)) (f (column_of Cross d r)) (f (column_of Ring d r)))
+rows_after d f g r s =
+    where_true (nat_lt (g r) (g s)) (interleaving (f (column_of Cross d s)) (f (column_of Ring d s)) (f (column_of Cross d r)) (f (column_of Ring d r)))
 
 four_same : (a b x y a' b' x' y' : ℕ) → a' ≡ a → b' ≡ b → x' ≡ x → y' ≡ y → interleaving a' b' x' y' ≡ interleaving a b x y
 four_same a b x y a' b' x' y' ea eb ex ey =
@@ -72,7 +79,8 @@ four_same a b x y a' b' x' y' ea eb ex ey =
 pub record AreMoved (n : ℕ) (f : ℕ → ℕ) (a a' : ℕ → Bool) : Type 0 where
   pub same : (c : ℕ) → c < n → a' (f c) ≡ a c
 
-pub columns_moved : (f f' g : ℕ → ℕ) (d e : Diagram) → IsRenumbering (size d) f f' → Renumbered f g d e → (a b a' b' : ℕ → Bool) → AreMoved (size d) f a a' → AreMoved (size d) f b b'
+pub columns_moved : (f f' g : ℕ → ℕ) (d e : Diagram) → IsRenumbering (size d) f f' → Renumbered f g d e → (a b a' b' : ℕ → Bool)
+    → AreMoved (size d) f a a' → AreMoved (size d) f b b'
     → by_columns e a' b' ≡ total (size d) (λ q. total (size d) (λ c. where_true (b q && a c) (columns_after d f g q c)))
 columns_moved f f' g d e columns marks a b a' b' of_a of_b =
     ap (λ (n : ℕ). total n (λ q. total n (λ c. at q c))) marks.same_size
@@ -86,7 +94,8 @@ columns_moved f f' g d e columns marks a b a' b' of_a of_b =
     at : ℕ → ℕ → ℤ
     at q c = where_true (b' q && a' c) (where_true (nat_lt q c) (columns_meet e c q))
 
-pub rows_moved : (f g g' : ℕ → ℕ) (d e : Diagram) → IsGrid d → IsGrid e → IsRenumbering (size d) g g' → Renumbered f g d e → (a b a' b' : ℕ → Bool) → AreMoved (size d) f a a' → AreMoved (size d) f b b'
+pub rows_moved : (f g g' : ℕ → ℕ) (d e : Diagram) → IsGrid d → IsGrid e → IsRenumbering (size d) g g' → Renumbered f g d e → (a b a' b' : ℕ → Bool)
+    → AreMoved (size d) f a a' → AreMoved (size d) f b b'
     → by_rows e a' b' ≡ total (size d) (λ r. total (size d) (λ s. where_true (has_row d b s && has_row d a r) (rows_after d f g r s)))
 rows_moved f g g' d e grid grid' rows marks a b a' b' of_a of_b =
     ap (λ (n : ℕ). total n (λ r. total n (λ s. at r s))) marks.same_size

@@ -26,7 +26,8 @@ shift_renumbers n k least lt = record {
 }
 
 -- a shift of rows changes no pair of columns
-pair_kept : (n k a b x y : ℕ) → k < n → a < n → b < n → x < n → y < n → interleaving (shifted n k a) (shifted n k b) (shifted n k x) (shifted n k y) ≡ interleaving a b x y
+pair_kept : (n k a b x y : ℕ) → k < n → a < n → b < n → x < n → y < n
+    → interleaving (shifted n k a) (shifted n k b) (shifted n k x) (shifted n k y) ≡ interleaving a b x y
 pair_kept n k a b x y lt in_a in_b in_x in_y =
     let ax = shift_order n k a x lt in_a in_x (pos 1) in
     let bx = shift_order n k b x lt in_b in_x (pos 1) in
@@ -34,7 +35,8 @@ pair_kept n k a b x y lt in_a in_b in_x in_y =
     let by' = shift_order n k b y lt in_b in_y (pos 1) in
     omega (arith, ints, ax, bx, ay, by')
 
-pub rows_shifted_sum : (d : Diagram) → IsGrid d → (k : ℕ) → k < size d → (a b : ℕ → Bool) → total (size d) (λ q. total (size d) (λ c. where_true (b q && a c) (columns_after d unchanged (shifted (size d) k) q c))) ≡ by_columns d a b
+pub rows_shifted_sum : (d : Diagram) → IsGrid d → (k : ℕ) → k < size d → (a b : ℕ → Bool)
+    → total (size d) (λ q. total (size d) (λ c. where_true (b q && a c) (columns_after d unchanged (shifted (size d) k) q c))) ≡ by_columns d a b
 rows_shifted_sum d grid k lt a b =
     twice_same (size d) (λ q c. where_true (b q && a c) (columns_after d unchanged (shifted (size d) k) q c)) (λ q c. where_true (b q && a c) (where_true (nat_lt q c) (columns_meet d c q))) (λ q c in_q in_c.
     ap (λ (z : ℤ). where_true (b q && a c) (where_true (nat_lt q c) z))
@@ -74,7 +76,8 @@ where_zero true = refl
 where_zero false = refl
 
 -- so do the pairs whose first column, or whose second column, passes a test
-second_vanishes : (d : Diagram) → IsGrid d → (a b : ℕ → Bool) → IsClosed d b → (test : ℕ → Bool) → total (size d) (λ q. total (size d) (λ c. where_true (b q && a c) (where_true (test c) (columns_meet d c q)))) ≡ pos 0
+second_vanishes : (d : Diagram) → IsGrid d → (a b : ℕ → Bool) → IsClosed d b → (test : ℕ → Bool)
+    → total (size d) (λ q. total (size d) (λ c. where_true (b q && a c) (where_true (test c) (columns_meet d c q)))) ≡ pos 0
 second_vanishes d grid a b closed test =
     over_twice (λ q c. where_true (b q && a c) (where_true (test c) (columns_meet d c q))) (range_with_len 0 (size d)) (range_with_len 0 (size d))
     ∙ (total_same (size d) (λ c. total (size d) (λ q. where_true (b q && a c) (where_true (test c) (columns_meet d c q)))) (λ c. pos 0) (λ c lt.
@@ -83,7 +86,8 @@ second_vanishes d grid a b closed test =
     ∙ (ap (where_true (a c && test c)) (over_second d grid b closed c) ∙ where_zero (a c && test c))))
     ∙ over_zero (range_with_len 0 (size d)))
 
-first_vanishes : (d : Diagram) → IsGrid d → (a b : ℕ → Bool) → IsClosed d a → (test : ℕ → Bool) → total (size d) (λ q. total (size d) (λ c. where_true (b q && a c) (where_true (test q) (columns_meet d c q)))) ≡ pos 0
+first_vanishes : (d : Diagram) → IsGrid d → (a b : ℕ → Bool) → IsClosed d a → (test : ℕ → Bool)
+    → total (size d) (λ q. total (size d) (λ c. where_true (b q && a c) (where_true (test q) (columns_meet d c q)))) ≡ pos 0
 first_vanishes d grid a b closed test =
     total_same (size d) (λ q. total (size d) (λ c. where_true (b q && a c) (where_true (test q) (columns_meet d c q)))) (λ q. pos 0) (λ q lt.
     total_same (size d) (λ c. where_true (b q && a c) (where_true (test q) (columns_meet d c q))) (λ c. where_true (b q && test q) (where_true (a c) (columns_meet d c q))) (λ c in_c. regroup_first (b q) (a c) (test q) (columns_meet d c q))
@@ -101,7 +105,8 @@ three_sums n f g h =
     let two = over_sum f g (range_with_len 0 n) in
     omega (arith, ints, one, two)
 
-pub columns_shifted_sum : (d : Diagram) → IsGrid d → (k : ℕ) → k < size d → (a b : ℕ → Bool) → IsClosed d a → IsClosed d b → total (size d) (λ q. total (size d) (λ c. where_true (b q && a c) (columns_after d (shifted (size d) k) unchanged q c))) ≡ by_columns d a b
+pub columns_shifted_sum : (d : Diagram) → IsGrid d → (k : ℕ) → k < size d → (a b : ℕ → Bool) → IsClosed d a → IsClosed d b
+    → total (size d) (λ q. total (size d) (λ c. where_true (b q && a c) (columns_after d (shifted (size d) k) unchanged q c))) ≡ by_columns d a b
 columns_shifted_sum d grid k lt a b closed closed' =
     let n = size d in
     let each = twice_same n (λ q c. where_true (b q && a c) (columns_after d (shifted n k) unchanged q c)) (λ q c. kept q c +ℤ second q c -ℤ first q c) (λ q c in_q in_c.

@@ -56,19 +56,24 @@ lies_between a b s na nb = record {
 }
 
 -- the sign where a column with marks x, o on this side crosses a row with marks l, m on this side
-signed : (x o l m up right : Bool) → (x ≡ true → o ≡ false → up ≡ true) → (x ≡ false → o ≡ true → up ≡ false) → (m ≡ true → l ≡ false → right ≡ true) → (m ≡ false → l ≡ true → right ≡ false)
+signed : (x o l m up right : Bool) → (x ≡ true → o ≡ false → up ≡ true) → (x ≡ false → o ≡ true → up ≡ false) → (m ≡ true → l ≡ false → right ≡ true)
+    → (m ≡ false → l ≡ true → right ≡ false)
     → where_true (one_of x o && one_of l m) (cross_product (record { x = pos 0; y = unit up }) (record { x = unit right; y = pos 0 })) ≡ where_true l (count x -ℤ count o) -ℤ where_true m (count x -ℤ count o)
 signed true true true true up right rises falls goes comes = refl
 signed true true true false up right rises falls goes comes = refl
 signed true true false true up right rises falls goes comes = refl
 signed true true false false up right rises falls goes comes = refl
 signed true false true true up right rises falls goes comes = refl
-signed true false true false up right rises falls goes comes = ap₂ (λ u v. cross_product (record { x = pos 0; y = unit u }) (record { x = unit v; y = pos 0 })) (rises refl refl) (comes refl refl)
-signed true false false true up right rises falls goes comes = ap₂ (λ u v. cross_product (record { x = pos 0; y = unit u }) (record { x = unit v; y = pos 0 })) (rises refl refl) (goes refl refl)
+signed true false true false up right rises falls goes comes =
+    ap₂ (λ u v. cross_product (record { x = pos 0; y = unit u }) (record { x = unit v; y = pos 0 })) (rises refl refl) (comes refl refl)
+signed true false false true up right rises falls goes comes =
+    ap₂ (λ u v. cross_product (record { x = pos 0; y = unit u }) (record { x = unit v; y = pos 0 })) (rises refl refl) (goes refl refl)
 signed true false false false up right rises falls goes comes = refl
 signed false true true true up right rises falls goes comes = refl
-signed false true true false up right rises falls goes comes = ap₂ (λ u v. cross_product (record { x = pos 0; y = unit u }) (record { x = unit v; y = pos 0 })) (falls refl refl) (comes refl refl)
-signed false true false true up right rises falls goes comes = ap₂ (λ u v. cross_product (record { x = pos 0; y = unit u }) (record { x = unit v; y = pos 0 })) (falls refl refl) (goes refl refl)
+signed false true true false up right rises falls goes comes =
+    ap₂ (λ u v. cross_product (record { x = pos 0; y = unit u }) (record { x = unit v; y = pos 0 })) (falls refl refl) (comes refl refl)
+signed false true false true up right rises falls goes comes =
+    ap₂ (λ u v. cross_product (record { x = pos 0; y = unit u }) (record { x = unit v; y = pos 0 })) (falls refl refl) (goes refl refl)
 signed false true false false up right rises falls goes comes = refl
 signed false false true true up right rises falls goes comes = refl
 signed false false true false up right rises falls goes comes = refl
@@ -76,7 +81,8 @@ signed false false false true up right rises falls goes comes = refl
 signed false false false false up right rises falls goes comes = refl
 
 -- a column over a row in which it has no mark
-sign_by_marks : (d : Diagram) → IsGrid d → (c r : ℕ) → c < size d → r < size d → c ≢ column_of Cross d r → c ≢ column_of Ring d r → where_true (crosses d c r) (sign d c r) ≡ passing d c r
+sign_by_marks : (d : Diagram) → IsGrid d → (c r : ℕ) → c < size d → r < size d → c ≢ column_of Cross d r → c ≢ column_of Ring d r
+    → where_true (crosses d c r) (sign d c r) ≡ passing d c r
 sign_by_marks d grid c r in_c in_r not_cross not_ring =
     let column = lies_between (row_of Cross d c) (row_of Ring d c) r (λ e. not_cross (sym (column_is d grid Cross c r (record { inside = in_c; row = sym e })))) (λ e. not_ring (sym (column_is d grid Ring c r (record { inside = in_c; row = sym e })))) in
     let row = lies_between (column_of Cross d r) (column_of Ring d r) c not_cross not_ring in

@@ -8,7 +8,8 @@ use Rattle.grid_core.specs.Corners.{corner_row}
 use Rattle.grid_core.specs.Places.{lifted, lowered}
 use Rattle.grid_core.proofs.Marks.{mark_at}
 use Rattle.grid_moves.specs.declared.step.Move.{Move}
-use Rattle.grid_moves.specs.declared.step.Move.TheVariants.{ShiftColumns, ShiftRows, ExchangeColumns, ExchangeRows, SlideColumns, SlideRows, Stabilise, Destabilise}
+use Rattle.grid_moves.specs.declared.step.Move.TheVariants.{ShiftColumns, ShiftRows, ExchangeColumns, ExchangeRows, SlideColumns, SlideRows}
+use Rattle.grid_moves.specs.declared.step.Move.TheVariants.{Stabilise, Destabilise}
 use Rattle.grid_moves.specs.Renumbered.{Renumbered, unchanged}
 use Rattle.grid_moves.specs.Shift.{shifted, ShiftsColumns, ShiftsRows}
 use Rattle.grid_moves.specs.Exchange.{exchanged, ExchangesColumns, ExchangesRows}
@@ -28,7 +29,8 @@ use Rattle.linking_core.proofs.Signs.{is_of, linking_by_crossings}
 use Rattle.linking_core.proofs.Corresponding.{Corresponds, named, same_name, class_moved, as_many, equal_lists}
 use Rattle.linking_core.proofs.Renumberings.{IsRenumbering, AreMoved, unchanged_renumbers, renumbered_corresponds, columns_moved, rows_moved}
 use Rattle.linking_core.proofs.ShiftSums.{shift_renumbers, columns_shifted_sum, rows_shifted_sum}
-use Rattle.linking_core.proofs.TradeSums.{ColumnsTrade, RowsTrade, exchange_renumbers, columns_traded_sum, rows_traded_sum, exchanged_columns_trade, exchanged_rows_trade}
+use Rattle.linking_core.proofs.TradeSums.{ColumnsTrade, RowsTrade, exchange_renumbers, columns_traded_sum, rows_traded_sum}
+use Rattle.linking_core.proofs.TradeSums.{exchanged_columns_trade, exchanged_rows_trade}
 use Rattle.linking_core.proofs.Slides.{slid_columns_trade, slid_rows_trade}
 use Rattle.linking_core.proofs.Growths.{Grows, fresh, growth_corresponds, fresh_component}
 use Rattle.linking_core.proofs.GrowthSums.{AreDisjoint, growth_sum}
@@ -47,7 +49,8 @@ closed d grid i r lt = ap (λ (k : ℕ). k == i) (component_rows d grid r lt)
 
 -- corresponding components have equal sums
 record HaveEqualSums (d e : Diagram) (forth : ℕ → ℕ) : Type 0 where
-  equal : (i j : ℕ) → Member i (components d) → Member j (components d) → i ≢ j → by_crossings e (is_of e (named e forth i)) (is_of e (named e forth j)) ≡ by_crossings d (is_of d i) (is_of d j)
+  equal : (i j : ℕ) → Member i (components d) → Member j (components d) → i ≢ j
+      → by_crossings e (is_of e (named e forth i)) (is_of e (named e forth j)) ≡ by_crossings d (is_of d i) (is_of d j)
 
 alike_by_sums : (d e : Diagram) → IsGrid d → IsGrid e → (forth back : ℕ → ℕ) → Corresponds d e forth back → HaveEqualSums d e forth → AreAlike d e
 alike_by_sums d e grid grid' forth back corr sums = record {
@@ -58,7 +61,8 @@ alike_by_sums d e grid grid' forth back corr sums = record {
 }
 
 -- classes that a renumbering moves
-moved : (d e : Diagram) → IsGrid d → IsGrid e → (forth back : ℕ → ℕ) → Corresponds d e forth back → (i : ℕ) → Member i (components d) → AreMoved (size d) forth (is_of d i) (is_of e (named e forth i))
+moved : (d e : Diagram) → IsGrid d → IsGrid e → (forth back : ℕ → ℕ) → Corresponds d e forth back → (i : ℕ) → Member i (components d)
+    → AreMoved (size d) forth (is_of d i) (is_of e (named e forth i))
 moved d e grid grid' forth back corr i at = record { same = class_moved d e grid grid' forth back corr i at }
 
 columns_shift : (k : ℕ) (d e : Diagram) → IsGrid d → IsGrid e → ShiftsColumns k d e → AreAlike d e

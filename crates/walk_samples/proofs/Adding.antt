@@ -1,5 +1,6 @@
 -- Lists of candidates that are made longer.
-use Rattle.std.proofs.Common.{◌≡◌, ◌<◌, ◌+◌, ◌-◌, ◌∷◌, ◌++◌, ◌∙◌, [], ℕ, suc, List, Bool, true, false, cond, filter, map, take, get_or, length, arith, sym, ap, ap₂, subst, append_assoc}
+use Rattle.std.proofs.Common.{◌≡◌, ◌<◌, ◌+◌, ◌-◌, ◌∷◌, ◌++◌, ◌∙◌, [], ℕ, suc, List, Bool, true, false, cond, filter, map, take, get_or}
+use Rattle.std.proofs.Common.{length, arith, sym, ap, ap₂, subst, append_assoc}
 use Rattle.std.specs.List.{range_with_len, flat_map}
 use Rattle.std.proofs.lemmas.List.{append-nil, map-append, take_more}
 use Rattle.std.proofs.lemmas.List.Elements.{filter-append}
@@ -33,11 +34,14 @@ pub adds_skipped : (d : Diagram) (move : Move) (a : List Candidate) → is_candi
 adds_skipped d move a is = sym (append-nil (steps_of a)) ∙ ap (λ ws. steps_of a ++ ws) (sym (filtered_one (is_candidate d) move false is))
 
 -- one more of a kind, counted from 0
-pub adds_more : (d : Diagram) (f : ℕ → Move) (n : ℕ) (a b c : List Candidate) → Adds d (map f (range_with_len 0 n)) a b → Adds d (f n ∷ []) b c → Adds d (map f (range_with_len 0 (n + 1))) a c
+pub adds_more : (d : Diagram) (f : ℕ → Move) (n : ℕ) (a b c : List Candidate) → Adds d (map f (range_with_len 0 n)) a b → Adds d (f n ∷ []) b c
+    → Adds d (map f (range_with_len 0 (n + 1))) a c
 adds_more d f n a b c one two = subst (λ s. Adds d s a c) (sym (map_range_more f n)) (adds_then d (map f (range_with_len 0 n)) (f n ∷ []) a b c one two)
 
-pub adds_flat_more : (d : Diagram) (f : ℕ → List Move) (n : ℕ) (a b c : List Candidate) → Adds d (flat_map f (range_with_len 0 n)) a b → Adds d (f n) b c → Adds d (flat_map f (range_with_len 0 (n + 1))) a c
-adds_flat_more d f n a b c one two = subst (λ s. Adds d s a c) (sym (flat_map_range_more f n)) (adds_then d (flat_map f (range_with_len 0 n)) (f n) a b c one two)
+pub adds_flat_more : (d : Diagram) (f : ℕ → List Move) (n : ℕ) (a b c : List Candidate) → Adds d (flat_map f (range_with_len 0 n)) a b
+    → Adds d (f n) b c → Adds d (flat_map f (range_with_len 0 (n + 1))) a c
+adds_flat_more d f n a b c one two =
+    subst (λ s. Adds d s a c) (sym (flat_map_range_more f n)) (adds_then d (flat_map f (range_with_len 0 n)) (f n) a b c one two)
 
 -- and counted from 1
 range_from_one : (n m : ℕ) → n ≡ m + 1 → range_with_len 1 (n + 1 - 1) ≡ range_with_len 1 (n - 1) ++ n ∷ []
@@ -47,12 +51,14 @@ range_from_one n m e =
     let last : 1 + m ≡ n = omega (arith, e) in
     ap (λ (z : ℕ). range_with_len 1 z) all ∙ range_more m 1 ∙ ap₂ (λ (k z : ℕ). range_with_len 1 k ++ z ∷ []) most last
 
-pub adds_more_from_one : (d : Diagram) (f : ℕ → Move) (n : ℕ) (a b c : List Candidate) → 0 < n → Adds d (map f (range_with_len 1 (n - 1))) a b → Adds d (f n ∷ []) b c → Adds d (map f (range_with_len 1 (n + 1 - 1))) a c
+pub adds_more_from_one : (d : Diagram) (f : ℕ → Move) (n : ℕ) (a b c : List Candidate) → 0 < n → Adds d (map f (range_with_len 1 (n - 1))) a b
+    → Adds d (f n ∷ []) b c → Adds d (map f (range_with_len 1 (n + 1 - 1))) a c
 adds_more_from_one d f n a b c lt one two =
     subst (λ s. Adds d s a c) (sym (ap (λ zs. map f zs) (range_from_one n (n - 1) (omega (arith, lt))) ∙ map-append f (range_with_len 1 (n - 1)) (n ∷ []))) (adds_then d (map f (range_with_len 1 (n - 1))) (f n ∷ []) a b c one two)
 
 -- one more of a list
-pub adds_taken : {A : Type 0} (d : Diagram) (f : A → Move) (xs : List A) (i : ℕ) (x : A) (a b c : List Candidate) → i < length xs → get_or xs i x ≡ x → Adds d (map f (take i xs)) a b → Adds d (f x ∷ []) b c → Adds d (map f (take (i + 1) xs)) a c
+pub adds_taken : {A : Type 0} (d : Diagram) (f : A → Move) (xs : List A) (i : ℕ) (x : A) (a b c : List Candidate) → i < length xs → get_or xs i x ≡ x
+    → Adds d (map f (take i xs)) a b → Adds d (f x ∷ []) b c → Adds d (map f (take (i + 1) xs)) a c
 adds_taken d f xs i x a b c lt is one two =
     subst (λ s. Adds d s a c) (sym (ap (λ ys. map f ys) (take_more xs i x lt) ∙ map-append f (take i xs) (get_or xs i x ∷ []) ∙ ap (λ y. map f (take i xs) ++ f y ∷ []) is))
     (adds_then d (map f (take i xs)) (f x ∷ []) a b c one two)

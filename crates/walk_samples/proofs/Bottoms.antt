@@ -1,5 +1,6 @@
 -- A diagram has at most half as many bottoms as columns, since both columns of a bottom begin there.
-use Rattle.std.proofs.Common.{◌≡◌, ◌≢◌, ◌<◌, ◌≤◌, ◌+◌, ◌*◌, ◌^◌, ◌==◌, ◌∷◌, ◌∙◌, [], ℕ, zero, suc, List, Bool, true, false, cond, count_by, get_or, length, nat_lt, arith, sym, refl, ap, subst, inl, inr}
+use Rattle.std.proofs.Common.{◌≡◌, ◌≢◌, ◌<◌, ◌≤◌, ◌+◌, ◌*◌, ◌^◌, ◌==◌, ◌∷◌, ◌∙◌, [], ℕ, zero, suc, List, Bool, true, false, cond, count_by}
+use Rattle.std.proofs.Common.{get_or, length, nat_lt, arith, sym, refl, ap, subst, inl, inr}
 use Rattle.std.specs.List.{range_with_len}
 use Rattle.std.proofs.lemmas.Bool.{and_parts, le-leb, cases_lt}
 use Rattle.std.proofs.lemmas.Bool.Decides.{nat_tests}
@@ -60,7 +61,8 @@ counted_twice p (x ∷ xs) (suc i) (suc j) less lt one two =
 
 counted_apart : (p : ℕ → Bool) (n i j : ℕ) → i ≢ j → i < n → j < n → p i ≡ true → p j ≡ true → 2 ≤ count_by p (range_with_len 0 n)
 counted_apart p n i j apart li lj one two =
-    let at : (k : ℕ) → k < n → p k ≡ true → p (get_or (range_with_len 0 n) k 0) ≡ true = λ k lt pass. ap p (get_or-range_with_len 0 n k 0 lt ∙ (let e : 0 + k ≡ k = omega arith in e)) ∙ pass in
+    let at : (k : ℕ) → k < n → p k ≡ true → p (get_or (range_with_len 0 n) k 0) ≡ true =
+    λ k lt pass. ap p (get_or-range_with_len 0 n k 0 lt ∙ (let e : 0 + k ≡ k = omega arith in e)) ∙ pass in
     let long = length-range_with_len 0 n in
     elim (cases_lt i j) [
       | inl less ↦ counted_twice p (range_with_len 0 n) i j less (omega (arith, lj, long)) (at i li one) (at j lj two)

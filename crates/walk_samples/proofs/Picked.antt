@@ -1,5 +1,6 @@
 -- What a candidate is, and that a word always picks one.
-use Rattle.std.proofs.Common.{◌≡◌, ◌<◌, ◌≤◌, ◌-◌, ◌%◌, ◌∷◌, ◌++◌, ◌∙◌, ◌&&◌, [], ℕ, zero, suc, List, Bool, true, nat_le, map, get_or, length, slice_get, Option, Some, None, arith, sym, refl, ap, subst}
+use Rattle.std.proofs.Common.{◌≡◌, ◌<◌, ◌≤◌, ◌-◌, ◌%◌, ◌∷◌, ◌++◌, ◌∙◌, ◌&&◌, [], ℕ, zero, suc, List, Bool, true, nat_le, map, get_or}
+use Rattle.std.proofs.Common.{length, slice_get, Option, Some, None, arith, sym, refl, ap, subst}
 use Rattle.std.specs.List.{range_with_len, flat_map, Contains}
 use Rattle.std.specs.Option.{is_none, option_map}
 use Rattle.std.proofs.lemmas.Bool.{leb-true}
@@ -29,7 +30,8 @@ none_both None b is = (refl, is)
 none_both (Some fault) b is = cc
 
 pub candidate_legal : (d : Diagram) (move : Move) → Contains (candidates d) move → first_fault d move ≡ None
-candidate_legal d move c = (none_both (first_fault d move) (nat_le (size_after move (size d)) LARGEST) (filter_contains (is_candidate d) (all_but_slides (size d)) move c).1).0
+candidate_legal d move c =
+    (none_both (first_fault d move) (nat_le (size_after move (size d)) LARGEST) (filter_contains (is_candidate d) (all_but_slides (size d)) move c).1).0
 
 pub candidate_fault : (d : Diagram) (move : Move) (fault : MoveFault) → Contains (candidates d) move → Some fault ≡ first_fault d move → ⊥
 candidate_fault d move fault c found =
@@ -77,11 +79,13 @@ some_candidates d grid most = let c = a_candidate d grid most in omega (arith, c
 pub listed_length : (d : Diagram) (list : List Candidate) → steps_of list ≡ candidates d → length list ≡ length (candidates d)
 listed_length d list is = sym (length-map list (λ (c : Candidate). c.step)) ∙ ap length is
 
-picked_at : (list : List Candidate) (moves : List Move) (i : ℕ) (blank : Candidate) → steps_of list ≡ moves → i < length list → slice_get moves i ≡ Some (get_or list i blank).step
+picked_at : (list : List Candidate) (moves : List Move) (i : ℕ) (blank : Candidate) → steps_of list ≡ moves → i < length list
+    → slice_get moves i ≡ Some (get_or list i blank).step
 picked_at list moves i blank is lt =
     ap (λ xs. slice_get xs i) (sym is) ∙ slice_get-map (λ (c : Candidate). c.step) list i ∙ ap (λ o. option_map (λ (c : Candidate). c.step) o) (slice_get-get_or list i blank lt)
 
-pub picked_from : (d : Diagram) (w n i : ℕ) (list : List Candidate) (blank : Candidate) → steps_of list ≡ candidates d → n ≡ length list → i ≡ w % n → i < n → Picks d w (get_or list i blank).step
+pub picked_from : (d : Diagram) (w n i : ℕ) (list : List Candidate) (blank : Candidate) → steps_of list ≡ candidates d → n ≡ length list → i ≡ w % n
+    → i < n → Picks d w (get_or list i blank).step
 picked_from d w n i list blank is count place lt =
     let whole : n ≡ length (candidates d) = count ∙ listed_length d list is in
     ap (λ (k : ℕ). slice_get (candidates d) k) (ap (λ (k : ℕ). w % k) (sym whole) ∙ sym place) ∙ picked_at list (candidates d) i blank is (omega (arith, lt, count))

@@ -27,7 +27,8 @@ line_pair name words a b is =
     ∙ ap (λ (zs : List ℕ). (name ++ codes ":") ++ (codes " " ++ zs)) (append_assoc a (codes " " ++ (b ++ [])) (codes "\n") ∙ ap (λ (zs : List ℕ). a ++ (codes " " ++ zs)) (append_assoc b [] (codes "\n")))
     ∙ append_assoc name (codes ":") (codes " " ++ behind) ∙ sym (append_assoc name (codes ": ") behind) ∙ ap (λ (zs : List ℕ). zs ++ behind) is
 
-five_lines : (k l m n o a b c d e a' b' c' d' e' p q r s t : List ℕ) → k ++ codes ": " ≡ p → l ++ codes ": " ≡ q → m ++ codes ": " ≡ r → n ++ codes ": " ≡ s → o ++ codes ": " ≡ t
+five_lines : (k l m n o a b c d e a' b' c' d' e' p q r s t : List ℕ) → k ++ codes ": " ≡ p → l ++ codes ": " ≡ q → m ++ codes ": " ≡ r
+    → n ++ codes ": " ≡ s → o ++ codes ": " ≡ t
     → line_text ((k ++ codes ":") ∷ a ∷ a' ∷ []) ++ (line_text ((l ++ codes ":") ∷ b ∷ b' ∷ []) ++ (line_text ((m ++ codes ":") ∷ c ∷ c' ∷ []) ++ (line_text ((n ++ codes ":") ∷ d ∷ d' ∷ []) ++ (line_text ((o ++ codes ":") ∷ e ∷ e' ∷ []) ++ []))))
     ≡ pair p a a' ++ (pair q b b' ++ (pair r c c' ++ (pair s d d' ++ pair t e e')))
 five_lines k l m n o a b c d e a' b' c' d' e' p q r s t one two three four five =
@@ -69,14 +70,18 @@ counts_by_name d e =
     (codes "trivial 2: ") (codes "dihedral 3: ") (codes "tetrahedral: ") (codes "dihedral 5: ") (codes "dihedral 7: ") trivial_2 dihedral_3 of_order_4 dihedral_5 dihedral_7
 
 -- what was appended for a quandle that is known
-pub counted_by : (t u : Table) (d e : Diagram) (words before after : List ℕ) → t ≡ u → after ≡ before ++ counts t d e words → after ≡ before ++ counts u d e words
+pub counted_by : (t u : Table) (d e : Diagram) (words before after : List ℕ) → t ≡ u → after ≡ before ++ counts t d e words
+    → after ≡ before ++ counts u d e words
 counted_by t u d e words before after same is = is ∙ ap (λ (v : Table). before ++ counts v d e words) same
 
 appended_five : (x a b c d e p q r s t : List ℕ) → a ≡ x ++ p → b ≡ a ++ q → c ≡ b ++ r → d ≡ c ++ s → e ≡ d ++ t → e ≡ x ++ (p ++ (q ++ (r ++ (s ++ t))))
 appended_five x a b c d e p q r s t at_a at_b at_c at_d at_e =
     at_e ∙ ap (λ ys. ys ++ t) (at_d ∙ ap (λ ys. ys ++ s) (at_c ∙ ap (λ ys. ys ++ r) (at_b ∙ ap (λ ys. ys ++ q) at_a))) ∙ simp append_assoc
 
-pub counts_made : (d e : Diagram) (x v w y z last : List ℕ) → v ≡ x ++ counts (trivial 2) d e (codes "trivial 2: ") → w ≡ v ++ counts (dihedral 3) d e (codes "dihedral 3: ") → y ≡ w ++ counts tetrahedral d e (codes "tetrahedral: ") → z ≡ y ++ counts (dihedral 5) d e (codes "dihedral 5: ") → last ≡ z ++ counts (dihedral 7) d e (codes "dihedral 7: ") → last ≡ x ++ counts_text d e
+pub counts_made : (d e : Diagram) (x v w y z last : List ℕ) → v ≡ x ++ counts (trivial 2) d e (codes "trivial 2: ")
+    → w ≡ v ++ counts (dihedral 3) d e (codes "dihedral 3: ") → y ≡ w ++ counts tetrahedral d e (codes "tetrahedral: ")
+    → z ≡ y ++ counts (dihedral 5) d e (codes "dihedral 5: ") → last ≡ z ++ counts (dihedral 7) d e (codes "dihedral 7: ")
+    → last ≡ x ++ counts_text d e
 counts_made d e x v w y z last one two three four five =
     appended_five x v w y z last (counts (trivial 2) d e (codes "trivial 2: ")) (counts (dihedral 3) d e (codes "dihedral 3: ")) (counts tetrahedral d e (codes "tetrahedral: ")) (counts (dihedral 5) d e (codes "dihedral 5: ")) (counts (dihedral 7) d e (codes "dihedral 7: ")) one two three four five
     ∙ ap (λ ys. x ++ ys) (sym (counts_by_name d e))
@@ -103,10 +108,13 @@ pub walk_pieces : (seed : ℕ) (moves : List Move) (d e : Diagram) → walk_text
 unfolding walk_text
 walk_pieces seed moves d e = three_lines (decimal seed) (decimal (length moves)) (counts_text d e)
 
-pub walk_made : (seed n : ℕ) (moves : List Move) (d e : Diagram) (x v w y last ruling : List ℕ) → x ≡ [] → v ≡ x ++ (codes "sample " ++ (decimal seed ++ codes "\n")) → n ≡ length moves → w ≡ v ++ (codes "moves " ++ (decimal n ++ codes "\n")) → ruling ≡ codes "accepted\n" → y ≡ w ++ ruling → last ≡ y ++ counts_text d e → last ≡ walk_text seed moves d e
+pub walk_made : (seed n : ℕ) (moves : List Move) (d e : Diagram) (x v w y last ruling : List ℕ) → x ≡ []
+    → v ≡ x ++ (codes "sample " ++ (decimal seed ++ codes "\n")) → n ≡ length moves → w ≡ v ++ (codes "moves " ++ (decimal n ++ codes "\n"))
+    → ruling ≡ codes "accepted\n" → y ≡ w ++ ruling → last ≡ y ++ counts_text d e → last ≡ walk_text seed moves d e
 walk_made seed n moves d e x v w y last ruling empty at_v count at_w accepted at_y at_last =
     let one : v ≡ codes "sample " ++ (decimal seed ++ codes "\n") = at_v ∙ ap (λ zs. zs ++ (codes "sample " ++ (decimal seed ++ codes "\n"))) empty in
-    let two : w ≡ v ++ (codes "moves " ++ (decimal (length moves) ++ codes "\n")) = at_w ∙ ap (λ (k : ℕ). v ++ (codes "moves " ++ (decimal k ++ codes "\n"))) count in
+    let two : w ≡ v ++ (codes "moves " ++ (decimal (length moves) ++ codes "\n")) =
+    at_w ∙ ap (λ (k : ℕ). v ++ (codes "moves " ++ (decimal k ++ codes "\n"))) count in
     let three : y ≡ w ++ codes "accepted\n" = at_y ∙ ap (λ zs. w ++ zs) accepted in
     at_last ∙ ap (λ zs. zs ++ counts_text d e) (three ∙ ap (λ zs. zs ++ codes "accepted\n") (two ∙ ap (λ zs. zs ++ (codes "moves " ++ (decimal (length moves) ++ codes "\n"))) one))
     ∙ four (codes "sample " ++ (decimal seed ++ codes "\n")) (codes "moves " ++ (decimal (length moves) ++ codes "\n")) (codes "accepted\n") (counts_text d e) ∙ sym (walk_pieces seed moves d e)

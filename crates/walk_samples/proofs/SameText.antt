@@ -55,7 +55,8 @@ behind_seed : (codes "moves " ++ (decimal TURNS ++ codes "\n")) ++ (codes "accep
 unfolding digits
 behind_seed = refl
 
-five_counts : (d e : Diagram) → Counts d e (trivial 2) 2 → Counts d e (dihedral 3) 9 → Counts d e tetrahedral 16 → Counts d e (dihedral 5) 5 → Counts d e (dihedral 7) 7 → counts_text d e ≡ codes "trivial 2: 2 2\ndihedral 3: 9 9\ntetrahedral: 16 16\ndihedral 5: 5 5\ndihedral 7: 7 7\n"
+five_counts : (d e : Diagram) → Counts d e (trivial 2) 2 → Counts d e (dihedral 3) 9 → Counts d e tetrahedral 16 → Counts d e (dihedral 5) 5
+    → Counts d e (dihedral 7) 7 → counts_text d e ≡ codes "trivial 2: 2 2\ndihedral 3: 9 9\ntetrahedral: 16 16\ndihedral 5: 5 5\ndihedral 7: 7 7\n"
 five_counts d e one two three four five =
     counts_by_name d e
     ∙ ap₂ (λ (xs ys : List ℕ). xs ++ ys) (counts_are d e (trivial 2) 2 (codes "trivial 2: ") one)
@@ -64,21 +65,27 @@ five_counts d e one two three four five =
     (ap₂ (λ (xs ys : List ℕ). xs ++ ys) (counts_are d e (dihedral 5) 5 (codes "dihedral 5: ") four) (counts_are d e (dihedral 7) 7 (codes "dihedral 7: ") five))))
     ∙ five_lines
 
-equal_text : (seed : ℕ) (moves : List Move) (d e : Diagram) → length moves ≡ TURNS → counts_text d e ≡ codes "trivial 2: 2 2\ndihedral 3: 9 9\ntetrahedral: 16 16\ndihedral 5: 5 5\ndihedral 7: 7 7\n" → walk_text seed moves d e ≡ sample_text seed
+equal_text : (seed : ℕ) (moves : List Move) (d e : Diagram) → length moves ≡ TURNS
+    → counts_text d e ≡ codes "trivial 2: 2 2\ndihedral 3: 9 9\ntetrahedral: 16 16\ndihedral 5: 5 5\ndihedral 7: 7 7\n"
+    → walk_text seed moves d e ≡ sample_text seed
 equal_text seed moves d e count lines =
     walk_pieces seed moves d e
     ∙ ap (λ (k : ℕ). (codes "sample " ++ (decimal seed ++ codes "\n")) ++ ((codes "moves " ++ (decimal k ++ codes "\n")) ++ (codes "accepted\n" ++ counts_text d e))) count
     ∙ ap (λ (zs : List ℕ). (codes "sample " ++ (decimal seed ++ codes "\n")) ++ ((codes "moves " ++ (decimal TURNS ++ codes "\n")) ++ (codes "accepted\n" ++ zs))) lines
     ∙ ap₂ (λ (xs ys : List ℕ). xs ++ ys) (sym (seed_line (decimal seed))) behind_seed
 
-equivalent_text : (seed : ℕ) (moves : List Move) (d e : Diagram) → length moves ≡ TURNS → Equivalent d e → length (colourings (trivial 2) d) ≡ 2 → length (colourings (dihedral 3) d) ≡ 9 → length (colourings tetrahedral d) ≡ 16 → length (colourings (dihedral 5) d) ≡ 5 → length (colourings (dihedral 7) d) ≡ 7 → walk_text seed moves d e ≡ sample_text seed
+equivalent_text : (seed : ℕ) (moves : List Move) (d e : Diagram) → length moves ≡ TURNS → Equivalent d e → length (colourings (trivial 2) d) ≡ 2
+    → length (colourings (dihedral 3) d) ≡ 9 → length (colourings tetrahedral d) ≡ 16 → length (colourings (dihedral 5) d) ≡ 5
+    → length (colourings (dihedral 7) d) ≡ 7 → walk_text seed moves d e ≡ sample_text seed
 equivalent_text seed moves d e count equivalent one two three four five =
     equal_text seed moves d e count
     (five_counts d e (counts_of_ends d e (trivial 2) 2 (trivial_is 2 (omega arith) (omega arith)) equivalent one) (counts_of_ends d e (dihedral 3) 9 (dihedral_is 3 (omega arith) (omega arith)) equivalent two) (counts_of_ends d e tetrahedral 16 tetrahedral_is equivalent three) (counts_of_ends d e (dihedral 5) 5 (dihedral_is 5 (omega arith) (omega arith)) equivalent four) (counts_of_ends d e (dihedral 7) 7 (dihedral_is 7 (omega arith) (omega arith)) equivalent five))
 
-pub same_text : (seed : ℕ) (moves : List Move) (last : Diagram) → Walks right_trefoil (words seed) moves last → walk_text seed moves right_trefoil last ≡ sample_text seed
+pub same_text : (seed : ℕ) (moves : List Move) (last : Diagram) → Walks right_trefoil (words seed) moves last
+    → walk_text seed moves right_trefoil last ≡ sample_text seed
 same_text seed moves last walk =
-    let joined : Joins right_trefoil moves last = within_joins LARGEST moves right_trefoil last (walk_within (words seed) moves right_trefoil last (omega arith) walk) in
+    let joined : Joins right_trefoil moves last =
+    within_joins LARGEST moves right_trefoil last (walk_within (words seed) moves right_trefoil last (omega arith) walk) in
     equivalent_text seed moves right_trefoil last (walk_length (words seed) moves right_trefoil last walk ∙ words_length TURNS (generator_of seed)) (moves, joined) by_trivial_2 by_dihedral_3 by_tetrahedral by_dihedral_5 by_dihedral_7
 
 pub told_same : (seed : ℕ) (text : List ℕ) → TellsOfWalk seed text → text ≡ sample_text seed
@@ -90,9 +97,12 @@ pub record Found (seed : ℕ) (moves : List Move) (last : Diagram) : Type 0 wher
   pub joined : Joins right_trefoil moves last
   pub small : size last ≤ LARGEST
 
-pub walk_found : (seed : ℕ) (moves made : List Move) (first last : Diagram) → (e : Diagram) × (Walks right_trefoil (words seed) moves e × JoinsWithin LARGEST right_trefoil moves e) → first ≡ right_trefoil → made ≡ moves → Joins first made last → Found seed moves last
+pub walk_found : (seed : ℕ) (moves made : List Move) (first last : Diagram)
+    → (e : Diagram) × (Walks right_trefoil (words seed) moves e × JoinsWithin LARGEST right_trefoil moves e) → first ≡ right_trefoil → made ≡ moves
+    → Joins first made last → Found seed moves last
 walk_found seed moves made first last known start same joined =
-    let joins : Joins right_trefoil moves last = subst (λ (d : Diagram). Joins d moves last) start (subst (λ (ms : List Move). Joins first ms last) same joined) in
+    let joins : Joins right_trefoil moves last =
+    subst (λ (d : Diagram). Joins d moves last) start (subst (λ (ms : List Move). Joins first ms last) same joined) in
     let end : known.0 ≡ last = joins_once moves right_trefoil known.0 last (within_joins LARGEST moves right_trefoil known.0 known.1.1) joins in
     record {
       walk = subst (λ (d : Diagram). Walks right_trefoil (words seed) moves d) end known.1.0;
@@ -101,12 +111,15 @@ walk_found seed moves made first last known start same joined =
     }
 
 -- they do not stop
-pub walk_goes_on : (seed : ℕ) (moves made : List Move) (first : Diagram) (place : ℕ) (fault : MoveFault) → (e : Diagram) × (Walks right_trefoil (words seed) moves e × JoinsWithin LARGEST right_trefoil moves e) → first ≡ right_trefoil → made ≡ moves → StopsAt first made place fault → ⊥
+pub walk_goes_on : (seed : ℕ) (moves made : List Move) (first : Diagram) (place : ℕ) (fault : MoveFault)
+    → (e : Diagram) × (Walks right_trefoil (words seed) moves e × JoinsWithin LARGEST right_trefoil moves e) → first ≡ right_trefoil → made ≡ moves
+    → StopsAt first made place fault → ⊥
 walk_goes_on seed moves made first place fault known start same stops =
     not_both moves right_trefoil known.0 place fault
     (subst (λ (d : Diagram). StopsAt d moves place fault) start (subst (λ (ms : List Move). StopsAt first ms place fault) same stops)) (within_joins LARGEST moves right_trefoil known.0 known.1.1)
 
-pub walk_told : (seed : ℕ) (moves made : List Move) (first last : Diagram) (text : List ℕ) → first ≡ right_trefoil → made ≡ moves → Found seed moves last → text ≡ walk_text seed made first last → TellsOfWalk seed text
+pub walk_told : (seed : ℕ) (moves made : List Move) (first last : Diagram) (text : List ℕ) → first ≡ right_trefoil → made ≡ moves
+    → Found seed moves last → text ≡ walk_text seed made first last → TellsOfWalk seed text
 walk_told seed moves made first last text start same found is = record {
   moves = moves;
   last = last;

@@ -1,5 +1,6 @@
 -- Each legal move is tried, so the candidates are the moves that lead to a diagram that is not too large.
-use Rattle.std.proofs.Common.{[], ◌∷◌, ◌≡◌, ◌<◌, ◌≤◌, ◌+◌, ◌-◌, ◌++◌, ◌∙◌, ◌&&◌, ℕ, List, Bool, true, false, cond, nat_le, nat_lt, map, Option, Some, None, arith, refl, ap, ◌↔◌}
+use Rattle.std.proofs.Common.{[], ◌∷◌, ◌≡◌, ◌<◌, ◌≤◌, ◌+◌, ◌-◌, ◌++◌, ◌∙◌, ◌&&◌, ℕ, List, Bool, true, false, cond, nat_le, nat_lt, map}
+use Rattle.std.proofs.Common.{Option, Some, None, arith, refl, ap, ◌↔◌}
 use Rattle.std.specs.List.{All, range_with_len, flat_map, Contains}
 use Rattle.std.specs.Option.{is_none}
 use Rattle.std.proofs.lemmas.Bool.{le-leb, and_parts, ltb-true}
@@ -11,7 +12,8 @@ use Rattle.grid_core.specs.declared.mark.Corner.{Corner}
 use Rattle.grid_core.specs.declared.mark.Corner.TheVariants.{LowLeft, LowRight, HighLeft, HighRight}
 use Rattle.grid_core.specs.Diagram.{Diagram, IsGrid, size}
 use Rattle.grid_moves.specs.declared.step.Move.{Move}
-use Rattle.grid_moves.specs.declared.step.Move.TheVariants.{ShiftColumns, ShiftRows, ExchangeColumns, ExchangeRows, SlideColumns, SlideRows, Stabilise, Destabilise}
+use Rattle.grid_moves.specs.declared.step.Move.TheVariants.{ShiftColumns, ShiftRows, ExchangeColumns, ExchangeRows, SlideColumns, SlideRows}
+use Rattle.grid_moves.specs.declared.step.Move.TheVariants.{Stabilise, Destabilise}
 use Rattle.grid_moves.specs.declared.step.MoveFault.{MoveFault}
 use Rattle.grid_moves.specs.declared.step.MoveFault.TheVariants.{Range}
 use Rattle.grid_moves.specs.MoveFault.{first_fault, shift_fault}
@@ -23,7 +25,8 @@ use Rattle.next_moves.specs.Offers.{size_after}
 use Rattle.next_moves.proofs.Extended.{step_size}
 use Rattle.next_moves.proofs.Members.{contains_filter, filter_contains}
 use Rattle.walk_samples.specs.declared.walk.TheConstants.{LARGEST}
-use Rattle.grid_moves.specs.MoveLists.{is_slide, all_but_slides, column_shift, row_shift, column_exchange, row_exchange, destabilisation, destabilisations, stabilisation, stabilisations}
+use Rattle.grid_moves.specs.MoveLists.{is_slide, all_but_slides, column_shift, row_shift, column_exchange, row_exchange, destabilisation}
+use Rattle.grid_moves.specs.MoveLists.{destabilisations, stabilisation, stabilisations}
 use Rattle.walk_samples.specs.Candidates.{is_candidate, candidates}
 use Rattle.walk_samples.proofs.Picked.{candidate_legal, candidate_small}
 
@@ -163,7 +166,8 @@ slides_are_left_out n =
 no_slide : (d : Diagram) (move : Move) → Contains (candidates d) move → is_slide move ≡ false
 no_slide d move among = All-contains IsNoSlide (all_but_slides (size d)) move (slides_are_left_out (size d)) (filter_contains (is_candidate d) (all_but_slides (size d)) move among).0
 
-pub candidates_are : (d : Diagram) (move : Move) → IsGrid d → Contains (candidates d) move ↔ ((is_slide move ≡ false) × ((e : Diagram) × (Step d move e × (size e ≤ LARGEST))))
+pub candidates_are : (d : Diagram) (move : Move) → IsGrid d
+    → Contains (candidates d) move ↔ ((is_slide move ≡ false) × ((e : Diagram) × (Step d move e × (size e ≤ LARGEST))))
 candidates_are d move grid = (
   λ among. (let made = step_exists d move grid (candidate_legal d move among) in (no_slide d move among, (made.0, (made.1, candidate_small d move made.0 among made.1)))),
   λ leads. small_candidate d move leads.1.0 leads.0 leads.1.1.0 leads.1.1.1,

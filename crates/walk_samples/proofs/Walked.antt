@@ -1,5 +1,6 @@
 -- Walks, and the words that they follow.
-use Rattle.std.proofs.Common.{◌≡◌, ◌<◌, ◌≤◌, ◌+◌, ◌-◌, ◌%◌, ◌∷◌, ◌++◌, ◌∙◌, [], ℕ, zero, suc, List, length, get_or, Some, arith, sym, refl, ap, ap₂, subst, append_assoc}
+use Rattle.std.proofs.Common.{◌≡◌, ◌<◌, ◌≤◌, ◌+◌, ◌-◌, ◌%◌, ◌∷◌, ◌++◌, ◌∙◌, [], ℕ, zero, suc, List, length, get_or, Some, arith, sym, refl}
+use Rattle.std.proofs.Common.{ap, ap₂, subst, append_assoc}
 use Rattle.std.proofs.lemmas.Option.{slice_get-get_or}
 use Rattle.rand_pcg.specs.Lcg.{Lcg}
 use Rattle.rand_pcg.specs.Pcg.{pcg32}
@@ -39,7 +40,9 @@ words_length zero g = refl
 words_length (suc n) g = ap suc (words_length n (pcg32 g).1)
 
 -- one more turn of a walk
-pub walked_more : (all left more : List ℕ) (w : ℕ) (start here next : Diagram) (moves : List Move) (step : Move) → ((rest : List Move) (last : Diagram) → Walks here left rest last → Walks start all (moves ++ rest) last) → left ≡ w ∷ more → Picks here w step → Step here step next → (rest : List Move) (last : Diagram) → Walks next more rest last → Walks start all ((moves ++ step ∷ []) ++ rest) last
+pub walked_more : (all left more : List ℕ) (w : ℕ) (start here next : Diagram) (moves : List Move) (step : Move)
+    → ((rest : List Move) (last : Diagram) → Walks here left rest last → Walks start all (moves ++ rest) last) → left ≡ w ∷ more → Picks here w step
+    → Step here step next → (rest : List Move) (last : Diagram) → Walks next more rest last → Walks start all ((moves ++ step ∷ []) ++ rest) last
 walked_more all left more w start here next moves step walked is picks made rest last on =
     subst (λ ms. Walks start all ms last) (sym (append_assoc moves (step ∷ []) rest))
     (walked (step ∷ rest) last (subst (λ ws. Walks here ws (step ∷ rest) last) (sym is) (picks, (next, (made, on)))))

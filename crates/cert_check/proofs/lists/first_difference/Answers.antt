@@ -30,7 +30,8 @@ loop-place-preserved c =
     c.loop-place.invariant
 
 pub returns-then-given-complete : goal.returns-then-given-complete
-returns-then-given-complete c = sym (same_to_the_end c.args.given.now c.args.complete.now c.loop-place.place (omega arith) c.if-given-complete.true c.loop-place.invariant)
+returns-then-given-complete c =
+    sym (same_to_the_end c.args.given.now c.args.complete.now c.loop-place.place (omega arith) c.if-given-complete.true c.loop-place.invariant)
 
 pub returns-else-given-complete : goal.returns-else-given-complete
 returns-else-given-complete c =

@@ -14,7 +14,8 @@ loop-c-preserved c =
     let more = filter_next (λ a. component_number d a == a) n in
     elim c.if-number_of-c.branch [
       | then-number_of-c w ↦
-          let all = more ∙ ap (λ (b : Bool). before ++ cond b (n ∷ []) []) (eq-eqb (component_number d n) n (sym c.number_of.ensures ∙ w.if-number_of-c.true)) in (
+          let all =
+          more ∙ ap (λ (b : Bool). before ++ cond b (n ∷ []) []) (eq-eqb (component_number d n) n (sym c.number_of.ensures ∙ w.if-number_of-c.true)) in (
             rw w.found-is (w.push.ensures.items ∙ (ap (λ (xs : List ℕ). xs ++ n ∷ []) c.loop-c.invariant.0 ∙ sym all)),
             rw w.found-is (omega (arith, w.push.ensures.len)),
           )

@@ -18,4 +18,5 @@ returns-clause-found c =
     IfOk-weaker c.walk_text.result _ (λ v. TellsOfWalk c.args.seed v.items) (λ v is. walk_told c.args.seed c.in_ok-moves.moves.items c.as_slice-in-Ok.result.now c.right_trefoil-first.result c.in-Ok.last v.items c.right_trefoil-first.ensures c.as_slice-in-Ok.ensures.value found is) c.walk_text.ensures
 
 pub returns-clause-text : goal.returns-clause-text
-returns-clause-text c = IfOk-weaker c.walk_text.result _ (λ v. v.items ≡ sample_text c.args.seed) (λ v told. told_same c.args.seed v.items told) (returns-clause-found c)
+returns-clause-text c =
+    IfOk-weaker c.walk_text.result _ (λ v. v.items ≡ sample_text c.args.seed) (λ v told. told_same c.args.seed v.items told) (returns-clause-found c)

@@ -17,7 +17,8 @@ loop-turn-preserved c =
       small = c.moved-here.ensures.small;
       room = omega (arith, c.push_reserved.ensures.capacity, c.loop-turn.invariant.room);
       count = omega (arith, c.push_reserved.ensures.len, c.loop-turn.invariant.count);
-      walked = λ rest last on. subst (λ ms. Walks right_trefoil (words c.args.seed) (ms ++ rest) last) (sym c.push_reserved.ensures.items) (walked rest last on);
+      walked =
+          λ rest last on. subst (λ ms. Walks right_trefoil (words c.args.seed) (ms ++ rest) last) (sym c.push_reserved.ensures.items) (walked rest last on);
     }
 
 pub returns-clause-walk : goal.returns-clause-walk

@@ -11,5 +11,6 @@ invariant-loop-turn l = record {
   room : TURNS ≤ vec_capacity l.moves;
   count : vec_len l.moves ≡ l._turn;
   -- whatever walk the words that are left make from here, the moves before it make it a walk of all words
-  walked : (rest : List Move) (last : Diagram) → Walks l.here (words_of (TURNS - l._turn) l.generator) rest last → Walks right_trefoil (words l.seed) (l.moves.items ++ rest) last;
+  walked : (rest : List Move) (last : Diagram) → Walks l.here (words_of (TURNS - l._turn) l.generator) rest last
+      → Walks right_trefoil (words l.seed) (l.moves.items ++ rest) last;
 }
