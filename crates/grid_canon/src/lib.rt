@@ -6,6 +6,7 @@ mod canonical_form;
 mod digits;
 mod key;
 pub mod laws;
+mod shifts;
 mod short_grid;
 #[cfg(test)]
 mod tests;
@@ -14,5 +15,6 @@ mod translation;
 pub use canonical_form::{LeastForm, LeastKey, canonical, canonical_key};
 pub use digits::MAX_SHORT_SIZE;
 pub use key::{BASE, Packed, compare_keys, pack, unpack};
+pub use shifts::{push_shifts, push_shifts_back};
 pub use short_grid::ShortGrid;
 pub use translation::translate;

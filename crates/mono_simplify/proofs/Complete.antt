@@ -43,7 +43,8 @@ module _ (root : Diagram) (keys : List Packed) (listing : IsListing root keys) w
   IsKnown d = (f : Diagram) → IsCanonicalForm d f → Contains keys (key_of f)
 
   -- the exchanges of a member are members
-  known_exchange : (r before after f : Diagram) (move : Move) → IsGrid r → Contains keys (key_of r) → Contains (translates r) before → is_shift move ≡ false → is_exchange move ≡ true → Step before move after → size after ≡ size r → IsCanonicalForm after f → Contains keys (key_of f)
+  known_exchange : (r before after f : Diagram) (move : Move) → IsGrid r → Contains keys (key_of r) → Contains (translates r) before → is_shift move ≡ false
+      → is_exchange move ≡ true → Step before move after → size after ≡ size r → IsCanonicalForm after f → Contains keys (key_of f)
   known_exchange r before after f move grid member translated turns exchange step same form =
       let turn = listed_turn root (length keys) member.0 keys member.1 listing in
       let g = turn.grows in
@@ -51,15 +52,19 @@ module _ (root : Diagram) (keys : List Packed) (listing : IsListing root keys) w
       let below = slice_get_within turn.before member.0 g.key g.stands in
       let d : Packed = key_of r in
       let at : get_or keys member.0 d ≡ g.key =
-      ap (λ (ks : List Packed). get_or ks member.0 d) (turn.is ∙ ap (λ (ks : List Packed). ks ++ turn.later) (g.more ∙ old.is) ∙ append_assoc turn.before old.more turn.later)
+      ap (λ (ks : List Packed). get_or ks member.0 d)
+      (turn.is ∙ ap (λ (ks : List Packed). ks ++ turn.later) (g.more ∙ old.is) ∙ append_assoc turn.before old.more turn.later)
       ∙ get_or-append turn.before (old.more ++ turn.later) d member.0 below
       ∙ get_or_from_slice_get turn.before member.0 g.key d g.stands in
       let here : g.member ≡ r = key_once g.member r g.names.grid grid (g.names.key ∙ sym at ∙ member.2) in
-      let found = exchange_offered g.member g.offers before after f move g.names.grid g.exchanges (subst (λ (m : Diagram). Contains (translates m) before) (sym here) translated) turns exchange step (same ∙ sym (ap size here)) form in
-      let inside : Contains turn.after (key_of f) = subst (λ (ks : List Packed). Contains ks (key_of f)) (sym g.more) (subst (λ (k : Packed). Contains (with_keys turn.before g.offers) k) (sym found.1.1) (grown_has g.offers turn.before found.0 found.1.0)) in
+      let found = exchange_offered g.member g.offers before after f move g.names.grid g.exchanges
+      (subst (λ (m : Diagram). Contains (translates m) before) (sym here) translated) turns exchange step (same ∙ sym (ap size here)) form in
+      let inside : Contains turn.after (key_of f) = subst (λ (ks : List Packed). Contains ks (key_of f)) (sym g.more)
+      (subst (λ (k : Packed). Contains (with_keys turn.before g.offers) k) (sym found.1.1) (grown_has g.offers turn.before found.0 found.1.0)) in
       subst (λ (ks : List Packed). Contains ks (key_of f)) (sym turn.is) (Contains-append_left turn.after turn.later (key_of f) inside)
 
-  known_step : (d e : Diagram) (move : Move) (b : Bool) → is_shift move ≡ b → is_shift_or_exchange move ≡ true → IsGrid d → Step d move e → IsKnown d → IsKnown e
+  known_step : (d e : Diagram) (move : Move) (b : Bool) → is_shift move ≡ b → is_shift_or_exchange move ≡ true → IsGrid d → Step d move e → IsKnown d
+      → IsKnown e
   known_step d e move true shifts keeps grid step known = λ f form.
       known f (canonical_of_translate e d f step.after (translated_back d e grid (shift_translates move d e shifts step)) form)
   known_step d e move false turns keeps grid step known = λ f form.
@@ -67,14 +72,17 @@ module _ (root : Diagram) (keys : List Packed) (listing : IsListing root keys) w
       let long : size r.0 ≡ size d = translated_size d r.0 grid r.1.among in
       let same : size e ≡ size d = step_size move d e step ∙ size_kept move (size d) keeps in
       let exchange : is_exchange move ≡ true = sym (ap (λ (b : Bool). b || is_exchange move) turns) ∙ keeps in
-      known_exchange r.0 d e f move (canonical_grid d r.0 grid r.1) (known r.0 r.1) (translated_back d r.0 grid r.1.among) turns exchange step (same ∙ sym long) form
+      known_exchange r.0 d e f move (canonical_grid d r.0 grid r.1) (known r.0 r.1) (translated_back d r.0 grid r.1.among) turns exchange step
+      (same ∙ sym long) form
 
-  known_all : (moves : List Move) (d e : Diagram) → All (λ (move : Move). is_shift_or_exchange move ≡ true) moves → IsGrid d → Joins d moves e → IsKnown d → IsKnown e
+  known_all : (moves : List Move) (d e : Diagram) → All (λ (move : Move). is_shift_or_exchange move ≡ true) moves → IsGrid d → Joins d moves e → IsKnown d
+      → IsKnown e
   known_all [] d e keep grid joined known = subst (λ (g : Diagram). IsKnown g) joined known
   known_all (move ∷ moves) d e keep grid joined known =
       let next : Diagram = joined.0 in
       let step = joined.1.0 in
-      known_all moves next e (All-tail (λ (m : Move). is_shift_or_exchange m ≡ true) move moves keep) step.after joined.1.1 (known_step d next move (is_shift move) refl (All-head (λ (m : Move). is_shift_or_exchange m ≡ true) move moves keep) grid step known)
+      known_all moves next e (All-tail (λ (m : Move). is_shift_or_exchange m ≡ true) move moves keep) step.after joined.1.1
+      (known_step d next move (is_shift move) refl (All-head (λ (m : Move). is_shift_or_exchange m ≡ true) move moves keep) grid step known)
 
   root_known : IsKnown root
   root_known = λ f form.

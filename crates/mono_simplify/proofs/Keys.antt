@@ -48,21 +48,27 @@ pub grown : (offers : List Offer) (keys : List Packed) → Grown keys offers (wi
 grown [] keys = record { more = []; is = sym (append-nil keys); from = none_from [] }
 grown (offer ∷ offers) keys = by (has_key keys offer.key) refl (grown offers keys) (grown offers (keys ++ offer.key ∷ []))
   where
-    later : (more : List Packed) → All (λ (k : Packed). (o : Offer) × (Contains offers o × (o.key ≡ k))) more → All (λ (k : Packed). (o : Offer) × (Contains (offer ∷ offers) o × (o.key ≡ k))) more
+    later : (more : List Packed) → All (λ (k : Packed). (o : Offer) × (Contains offers o × (o.key ≡ k))) more
+        → All (λ (k : Packed). (o : Offer) × (Contains (offer ∷ offers) o × (o.key ≡ k))) more
     later more all = λ k d lt. let found = all k d lt in (found.0, (contains_later offer offers found.0 found.1.0, found.1.1))
 
-    by : (b : Bool) → has_key keys offer.key ≡ b → Grown keys offers (with_keys keys offers) → Grown (keys ++ offer.key ∷ []) offers (with_keys (keys ++ offer.key ∷ []) offers) → Grown keys (offer ∷ offers) (with_keys (with_key keys offer.key) offers)
+    by : (b : Bool) → has_key keys offer.key ≡ b → Grown keys offers (with_keys keys offers)
+        → Grown (keys ++ offer.key ∷ []) offers (with_keys (keys ++ offer.key ∷ []) offers)
+        → Grown keys (offer ∷ offers) (with_keys (with_key keys offer.key) offers)
     by true known rest pushed =
-        subst (λ (ks : List Packed). Grown keys (offer ∷ offers) (with_keys ks offers)) (sym (known_key keys offer.key known)) (record { more = rest.more; is = rest.is; from = later rest.more rest.from })
+        subst (λ (ks : List Packed). Grown keys (offer ∷ offers) (with_keys ks offers)) (sym (known_key keys offer.key known))
+        (record { more = rest.more; is = rest.is; from = later rest.more rest.from })
     by false new kept rest =
         subst (λ (ks : List Packed). Grown keys (offer ∷ offers) (with_keys ks offers)) (sym (new_key keys offer.key new)) (record {
           more = offer.key ∷ rest.more;
           is = rest.is ∙ append_assoc keys (offer.key ∷ []) rest.more;
-          from = All-append (λ (k : Packed). (o : Offer) × (Contains (offer ∷ offers) o × (o.key ≡ k))) (offer.key ∷ []) rest.more (one_from offer offers) (later rest.more rest.from);
+          from = All-append (λ (k : Packed). (o : Offer) × (Contains (offer ∷ offers) o × (o.key ≡ k))) (offer.key ∷ []) rest.more (one_from offer offers)
+              (later rest.more rest.from);
         })
 
 -- the key of each offer is in it
-grown_has_at : (offers : List Offer) (keys : List Packed) (o : Offer) (k : ℕ) → k < length offers → get_or offers k o ≡ o → Contains (with_keys keys offers) o.key
+grown_has_at : (offers : List Offer) (keys : List Packed) (o : Offer) (k : ℕ) → k < length offers → get_or offers k o ≡ o
+    → Contains (with_keys keys offers) o.key
 grown_has_at [] keys o k lt is = absurd (omega (arith, lt))
 grown_has_at (offer ∷ offers) keys o zero lt is =
     let rest = grown offers (with_key keys offer.key) in
@@ -74,31 +80,42 @@ pub grown_has : (offers : List Offer) (keys : List Packed) (o : Offer) → Conta
 grown_has offers keys o c = grown_has_at offers keys o c.0 c.1 c.2
 
 -- one offer more: it is passed over where it is no exchange
-passed_more : (offers : List Offer) (i : ℕ) (d : Offer) (b : Bool) → i < length offers → is_exchange (get_or offers i d).link.step ≡ b → exchanges_among (take (i + 1) offers) ≡ exchanges_among (take i offers) ++ cond b (get_or offers i d ∷ []) []
+passed_more : (offers : List Offer) (i : ℕ) (d : Offer) (b : Bool) → i < length offers → is_exchange (get_or offers i d).link.step ≡ b
+    → exchanges_among (take (i + 1) offers) ≡ exchanges_among (take i offers) ++ cond b (get_or offers i d ∷ []) []
 passed_more offers i d b lt is =
     ap exchanges_among (take_more offers i d lt)
     ∙ filter-append (λ (o : Offer). is_exchange o.link.step) (take i offers) (get_or offers i d ∷ [])
     ∙ ap (λ (t : Bool). exchanges_among (take i offers) ++ cond t (get_or offers i d ∷ []) []) is
 
-pub more_passed : (offers : List Offer) (keys now : List Packed) (i : ℕ) (d : Offer) → i < length offers → now ≡ with_keys keys (exchanges_among (take i offers)) → is_exchange (get_or offers i d).link.step ≡ false → now ≡ with_keys keys (exchanges_among (take (i + 1) offers))
+pub more_passed : (offers : List Offer) (keys now : List Packed) (i : ℕ) (d : Offer) → i < length offers
+    → now ≡ with_keys keys (exchanges_among (take i offers)) → is_exchange (get_or offers i d).link.step ≡ false
+    → now ≡ with_keys keys (exchanges_among (take (i + 1) offers))
 more_passed offers keys now i d lt is other =
     is ∙ ap (λ (os : List Offer). with_keys keys os) (sym (passed_more offers i d false lt other ∙ append-nil (exchanges_among (take i offers))))
 
-with_more : (offers : List Offer) (keys : List Packed) (i : ℕ) (d : Offer) → i < length offers → is_exchange (get_or offers i d).link.step ≡ true → with_keys keys (exchanges_among (take (i + 1) offers)) ≡ with_key (with_keys keys (exchanges_among (take i offers))) (get_or offers i d).key
+with_more : (offers : List Offer) (keys : List Packed) (i : ℕ) (d : Offer) → i < length offers → is_exchange (get_or offers i d).link.step ≡ true
+    → with_keys keys (exchanges_among (take (i + 1) offers)) ≡ with_key (with_keys keys (exchanges_among (take i offers))) (get_or offers i d).key
 with_more offers keys i d lt exchange =
     ap (λ (os : List Offer). with_keys keys os) (passed_more offers i d true lt exchange)
     ∙ fold-append (λ (known : List Packed) (offer : Offer). with_key known offer.key) keys (exchanges_among (take i offers)) (get_or offers i d ∷ [])
 
-pub more_known : (offers : List Offer) (keys now : List Packed) (i : ℕ) (d : Offer) → i < length offers → now ≡ with_keys keys (exchanges_among (take i offers)) → is_exchange (get_or offers i d).link.step ≡ true → has_key now (get_or offers i d).key ≡ true → now ≡ with_keys keys (exchanges_among (take (i + 1) offers))
+pub more_known : (offers : List Offer) (keys now : List Packed) (i : ℕ) (d : Offer) → i < length offers → now ≡ with_keys keys (exchanges_among (take i offers))
+    → is_exchange (get_or offers i d).link.step ≡ true → has_key now (get_or offers i d).key ≡ true
+    → now ≡ with_keys keys (exchanges_among (take (i + 1) offers))
 more_known offers keys now i d lt is exchange known =
-    sym (with_more offers keys i d lt exchange ∙ ap (λ (ks : List Packed). with_key ks (get_or offers i d).key) (sym is) ∙ known_key now (get_or offers i d).key known)
+    sym (with_more offers keys i d lt exchange ∙ ap (λ (ks : List Packed). with_key ks (get_or offers i d).key) (sym is) ∙ known_key now
+    (get_or offers i d).key known)
 
-pub more_new : (offers : List Offer) (keys now : List Packed) (i : ℕ) (d : Offer) → i < length offers → now ≡ with_keys keys (exchanges_among (take i offers)) → is_exchange (get_or offers i d).link.step ≡ true → has_key now (get_or offers i d).key ≡ false → now ++ (get_or offers i d).key ∷ [] ≡ with_keys keys (exchanges_among (take (i + 1) offers))
+pub more_new : (offers : List Offer) (keys now : List Packed) (i : ℕ) (d : Offer) → i < length offers → now ≡ with_keys keys (exchanges_among (take i offers))
+    → is_exchange (get_or offers i d).link.step ≡ true → has_key now (get_or offers i d).key ≡ false
+    → now ++ (get_or offers i d).key ∷ [] ≡ with_keys keys (exchanges_among (take (i + 1) offers))
 more_new offers keys now i d lt is exchange new =
-    sym (with_more offers keys i d lt exchange ∙ ap (λ (ks : List Packed). with_key ks (get_or offers i d).key) (sym is) ∙ new_key now (get_or offers i d).key new)
+    sym (with_more offers keys i d lt exchange ∙ ap (λ (ks : List Packed). with_key ks (get_or offers i d).key) (sym is) ∙ new_key now
+    (get_or offers i d).key new)
 
 -- what stands after some of the offers is the beginning of what stands after all
-pub begun : (offers : List Offer) (keys : List Packed) (i : ℕ) → (more : List Packed) × (with_keys keys (exchanges_among offers) ≡ with_keys keys (exchanges_among (take i offers)) ++ more)
+pub begun : (offers : List Offer) (keys : List Packed) (i : ℕ)
+    → (more : List Packed) × (with_keys keys (exchanges_among offers) ≡ with_keys keys (exchanges_among (take i offers)) ++ more)
 begun offers keys i =
     let front : List Offer = exchanges_among (take i offers) in
     let back : List Offer = exchanges_among (drop i offers) in

@@ -55,12 +55,15 @@ shifts_kept a b = All-append (λ (move : Move). is_shift_or_exchange move ≡ tr
 
 link_kept : (link : Link) → is_shift_or_exchange link.step ≡ true → Kept (link_moves link)
 link_kept link keeps =
-    All-append (λ (move : Move). is_shift_or_exchange move ≡ true) (shift_moves link.before.0 link.before.1 ++ link.step ∷ []) (shift_moves link.after.0 link.after.1)
-    (All-append (λ (move : Move). is_shift_or_exchange move ≡ true) (shift_moves link.before.0 link.before.1) (link.step ∷ []) (shifts_kept link.before.0 link.before.1) (one_kept link.step keeps))
+    All-append (λ (move : Move). is_shift_or_exchange move ≡ true) (shift_moves link.before.0 link.before.1 ++ link.step ∷ [])
+    (shift_moves link.after.0 link.after.1)
+    (All-append (λ (move : Move). is_shift_or_exchange move ≡ true) (shift_moves link.before.0 link.before.1) (link.step ∷ [])
+    (shifts_kept link.before.0 link.before.1) (one_kept link.step keeps))
     (shifts_kept link.after.0 link.after.1)
 
 pub joined_after : (d e f : Diagram) → JoinedByExchanges d e → JoinedByExchanges e f → JoinedByExchanges d f
-joined_after d e f one two = (one.0 ++ two.0, (All-append (λ (move : Move). is_shift_or_exchange move ≡ true) one.0 two.0 one.1.0 two.1.0, joins_append one.0 two.0 d e f one.1.1 two.1.1))
+joined_after d e f one two =
+    (one.0 ++ two.0, (All-append (λ (move : Move). is_shift_or_exchange move ≡ true) one.0 two.0 one.1.0 two.1.0, joins_append one.0 two.0 d e f one.1.1 two.1.1))
 
 pub joined_translate : (d e : Diagram) → IsGrid d → Contains (translates d) e → JoinedByExchanges d e
 joined_translate d e grid c =
@@ -92,7 +95,8 @@ one_member d key member = λ k e lt. at k e lt
     at (suc k) e lt = absurd (omega (arith, lt))
 
 -- a key that an exchange of a member offers
-next_member : (d : Diagram) (name : Packed) (member : Diagram) (offers : List Offer) (offer : Offer) → IsGrid d → IsMember d name → IsKeyOf name member → IsExchangeList member offers → Contains offers offer → IsMember d offer.key
+next_member : (d : Diagram) (name : Packed) (member : Diagram) (offers : List Offer) (offer : Offer) → IsGrid d → IsMember d name → IsKeyOf name member
+    → IsExchangeList member offers → Contains offers offer → IsMember d offer.key
 next_member d name member offers offer grid is names list among =
     let led = exchange_led member offers offer names.grid list among in
     let f : Diagram = led.0 in
@@ -108,14 +112,16 @@ next_member d name member offers offer grid is names list among =
     }
 
 pub listed_members : (d : Diagram) (n : ℕ) (keys : List Packed) → IsGrid d → IsListed d n keys → All (IsMember d) keys
-listed_members d zero keys grid listed = subst (λ (ks : List Packed). All (IsMember d) ks) (sym listed.1.1) (one_member d (key_of listed.0) (root_member d listed.0 grid listed.1.0))
+listed_members d zero keys grid listed =
+    subst (λ (ks : List Packed). All (IsMember d) ks) (sym listed.1.1) (one_member d (key_of listed.0) (root_member d listed.0 grid listed.1.0))
 listed_members d (suc n) keys grid listed =
     let before : List Packed = listed.0 in
     let old = listed_members d n before grid listed.1.0 in
     let turn = listed.1.1 in
     let g = grown turn.offers before in
     let place_below = slice_get_within before n turn.key turn.stands in
-    let here : IsMember d turn.key = subst (λ (k : Packed). IsMember d k) (get_or_from_slice_get before n turn.key turn.key turn.stands) (old n turn.key place_below) in
+    let here : IsMember d turn.key = subst (λ (k : Packed). IsMember d k) (get_or_from_slice_get before n turn.key turn.key turn.stands)
+    (old n turn.key place_below) in
     let more : All (IsMember d) g.more = λ k e lt.
     let found = g.from k e lt in
     subst (λ (key : Packed). IsMember d key) found.1.1 (next_member d turn.key turn.member turn.offers found.0 grid here turn.names turn.exchanges found.1.0) in
@@ -156,8 +162,25 @@ listed_turn d (suc n) place keys lt listed =
 
 -- the listing begins with the form
 pub listed_root : (d : Diagram) (n : ℕ) (keys : List Packed) → IsListed d n keys → (f : Diagram) × (IsCanonicalForm d f × Contains keys (key_of f))
-listed_root d zero keys listed = (listed.0, (listed.1.0, (0, subst (λ (ks : List Packed). 0 < length ks) (sym listed.1.1) (omega arith), subst (λ (ks : List Packed). get_or ks 0 (key_of listed.0) ≡ key_of listed.0) (sym listed.1.1) refl)))
+listed_root d zero keys listed = (
+  listed.0,
+  (
+    listed.1.0,
+    (
+      0,
+      subst (λ (ks : List Packed). 0 < length ks) (sym listed.1.1) (omega arith),
+      subst
+          (λ (ks : List Packed). get_or ks 0 (key_of listed.0) ≡ key_of listed.0) (sym listed.1.1) refl,
+    ),
+  ),
+)
 listed_root d (suc n) keys listed =
     let root = listed_root d n listed.0 listed.1.0 in
-    let g = grown listed.1.1.offers listed.0 in
-    (root.0, (root.1.0, subst (λ (ks : List Packed). Contains ks (key_of root.0)) (sym (listed.1.1.more ∙ g.is)) (Contains-append_left listed.0 g.more (key_of root.0) root.1.1)))
+    let g = grown listed.1.1.offers listed.0 in (
+      root.0,
+      (
+        root.1.0,
+        subst (λ (ks : List Packed). Contains ks (key_of root.0)) (sym (listed.1.1.more ∙ g.is))
+            (Contains-append_left listed.0 g.more (key_of root.0) root.1.1),
+      ),
+    )

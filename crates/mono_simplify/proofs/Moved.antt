@@ -40,9 +40,11 @@ exchanges_exchange n =
     (ranged (λ (t : Try). IsExchange t.step) (row_exchange n) n (λ k. (refl, refl, refl, λ m. refl)))
 
 -- an offer's try is one of the list, and is offered
-pub offer_tried : (d : Diagram) (cap : ℕ) (list : List Try) (offers : List Offer) (offer : Offer) → AreOffersOf d cap list offers → Contains offers offer → Contains list (try_of offer) × (is_offered d cap (try_of offer) ≡ true)
+pub offer_tried : (d : Diagram) (cap : ℕ) (list : List Try) (offers : List Offer) (offer : Offer) → AreOffersOf d cap list offers → Contains offers offer
+    → Contains list (try_of offer) × (is_offered d cap (try_of offer) ≡ true)
 offer_tried d cap list offers offer are among =
-    filter_contains (is_offered d cap) list (try_of offer) (subst (λ (ts : List Try). Contains ts (try_of offer)) are.order (map_contains try_of offers offer among))
+    filter_contains (is_offered d cap) list (try_of offer)
+    (subst (λ (ts : List Try). Contains ts (try_of offer)) are.order (map_contains try_of offers offer among))
 
 abbrev pub Keeps : Offer → Type 0
 Keeps offer = is_destabilisation offer.link.step ≡ false
@@ -59,7 +61,8 @@ led_grid : (d : Diagram) (offer : Offer) (f : Diagram) → Leads d offer.link f 
 led_grid d offer f led = canonical_grid led.moved f led.step.after led.form.canonical
 
 -- an offered destabilisation leads to a grid that is smaller by one
-pub smaller_by_one : (d : Diagram) (offers : List Offer) (offer : Offer) → IsGrid d → IsOfferList d (size d) offers → Contains offers offer → is_destabilisation offer.link.step ≡ true → (f : Diagram) × (IsKeyOf offer.key f × Leads d offer.link f × (size f + 1 ≡ size d))
+pub smaller_by_one : (d : Diagram) (offers : List Offer) (offer : Offer) → IsGrid d → IsOfferList d (size d) offers → Contains offers offer
+    → is_destabilisation offer.link.step ≡ true → (f : Diagram) × (IsKeyOf offer.key f × Leads d offer.link f × (size f + 1 ≡ size d))
 smaller_by_one d offers offer grid list among shrinks =
     let is = All-contains (IsOfferOf d) offers offer list.leads among in
     let long : size is.form ≡ size d - 1 = led_size d offer is.form grid is.leads ∙ shrunk offer.link.step shrinks (size d) in (
@@ -93,7 +96,8 @@ kept_large (Stabilise c kind corner) h n = omega arith
 kept_large (Destabilise c r) h n = absurd (let no : true ≡ false = h in cc)
 
 -- where no offer destabilises, no destabilisation is legal on any translate
-pub none_smaller : (d : Diagram) (offers : List Offer) (e : Diagram) → IsGrid d → IsOfferList d (size d) offers → All Keeps offers → Contains (translates d) e → MayDestabilise e → ⊥
+pub none_smaller : (d : Diagram) (offers : List Offer) (e : Diagram) → IsGrid d → IsOfferList d (size d) offers → All Keeps offers → Contains (translates d) e
+    → MayDestabilise e → ⊥
 none_smaller d offers e grid list none translated may =
     let here : IsGrid e = translated_grid d e grid translated in
     let long : size e ≡ size d = translated_size d e grid translated in
@@ -123,13 +127,15 @@ none_smaller d offers e grid list none translated may =
     omega (arith, ap size same, led_size d offer is.form grid is.leads, large, f_size, shrunk, long, grid.least)
 
 -- the same for the grid that a key names
-pub stays_large : (key : Packed) (d : Diagram) (offers : List Offer) → IsKeyOf key d → IsOfferList d (size d) offers → All Keeps offers → NoTranslateDestabilises key
+pub stays_large : (key : Packed) (d : Diagram) (offers : List Offer) → IsKeyOf key d → IsOfferList d (size d) offers → All Keeps offers
+    → NoTranslateDestabilises key
 stays_large key d offers names list none = λ f e named translated may.
     let same : f ≡ d = key_once f d named.grid names.grid (named.key ∙ sym names.key) in
     none_smaller d offers e names.grid list none (subst (λ (g : Diagram). Contains (translates g) e) same translated) may
 
 -- the exchanges of a diagram: each leads to a diagram of its size, and all that exchanges of its translates lead to are among them
-pub exchange_led : (d : Diagram) (offers : List Offer) (offer : Offer) → IsGrid d → IsExchangeList d offers → Contains offers offer → (f : Diagram) × (IsKeyOf offer.key f × Leads d offer.link f × (size f ≡ size d) × IsExchange offer.link.step)
+pub exchange_led : (d : Diagram) (offers : List Offer) (offer : Offer) → IsGrid d → IsExchangeList d offers → Contains offers offer
+    → (f : Diagram) × (IsKeyOf offer.key f × Leads d offer.link f × (size f ≡ size d) × IsExchange offer.link.step)
 exchange_led d offers offer grid list among =
     let is = All-contains (IsOfferOf d) offers offer list.leads among in
     let tried = offer_tried d (size d) (exchanges (size d)) offers offer list among in
@@ -143,15 +149,20 @@ exchange_led d offers offer grid list among =
       ),
     )
 
-pub exchange_offered : (d : Diagram) (offers : List Offer) (before after f : Diagram) (move : Move) → IsGrid d → IsExchangeList d offers → Contains (translates d) before → is_shift move ≡ false → is_exchange move ≡ true → Step before move after → size after ≡ size d → IsCanonicalForm after f → (offer : Offer) × (Contains offers offer × (key_of f ≡ offer.key))
+pub exchange_offered : (d : Diagram) (offers : List Offer) (before after f : Diagram) (move : Move) → IsGrid d → IsExchangeList d offers
+    → Contains (translates d) before → is_shift move ≡ false → is_exchange move ≡ true → Step before move after → size after ≡ size d → IsCanonicalForm after f
+    → (offer : Offer) × (Contains offers offer × (key_of f ≡ offer.key))
 exchange_offered d offers before after f move grid list translated turns exchange step same form =
     let s = shifts_of d before translated in
     let here : Step (translate d s.0 s.1) move after = subst (λ t. Step t move after) (sym s.4) step in
     let m = matched move d s.0 s.1 after grid s.2 s.3 turns here in
     let long : size m.result ≡ size d = translated_size after m.result step.after m.same ∙ same in
-    let offered : is_offered d (size d) m.try ≡ true = legal_offered d (translate d m.try.before.0 m.try.before.1) m.result (size d) m.try m.columns refl m.step ∙ le-leb (size m.result) (size d) (omega (arith, long)) in
-    let among : Contains (exchanges (size d)) m.try = subst (λ (ts : List Try). Contains ts m.try) (exchanges_of_tries (size d)) (contains_filter (λ (t : Try). is_exchange t.step) (tries (size d)) m.try m.among (m.alike ∙ exchange)) in
-    let tried : Contains (map try_of offers) m.try = subst (λ (ts : List Try). Contains ts m.try) (sym list.order) (contains_filter (is_offered d (size d)) (exchanges (size d)) m.try among offered) in
+    let offered : is_offered d (size d) m.try ≡ true = legal_offered d (translate d m.try.before.0 m.try.before.1) m.result (size d) m.try m.columns refl m.step
+    ∙ le-leb (size m.result) (size d) (omega (arith, long)) in
+    let among : Contains (exchanges (size d)) m.try = subst (λ (ts : List Try). Contains ts m.try) (exchanges_of_tries (size d))
+    (contains_filter (λ (t : Try). is_exchange t.step) (tries (size d)) m.try m.among (m.alike ∙ exchange)) in
+    let tried : Contains (map try_of offers) m.try = subst (λ (ts : List Try). Contains ts m.try) (sym list.order)
+    (contains_filter (is_offered d (size d)) (exchanges (size d)) m.try among offered) in
     let found = mapped_from try_of offers m.try tried in
     let is = All-contains (IsOfferOf d) offers found.0 list.leads found.1 in
     (found.0, (found.1, led_by d found.0 m.try m.result f is found.2 m.step (canonical_of_translate after m.result f step.after m.same form)))
@@ -161,12 +172,14 @@ some_or_none : (offers : List Offer) → ((offer : Offer) × (Contains offers of
 some_or_none [] = inr (λ k d lt. absurd (omega (arith, lt)))
 some_or_none (offer ∷ offers) = by (is_destabilisation offer.link.step) refl (some_or_none offers)
   where
-    by : (b : Bool) → is_destabilisation offer.link.step ≡ b → ((o : Offer) × (Contains offers o × (is_destabilisation o.link.step ≡ true))) ⊎ All Keeps offers → ((o : Offer) × (Contains (offer ∷ offers) o × (is_destabilisation o.link.step ≡ true))) ⊎ All Keeps (offer ∷ offers)
+    by : (b : Bool) → is_destabilisation offer.link.step ≡ b → ((o : Offer) × (Contains offers o × (is_destabilisation o.link.step ≡ true))) ⊎ All Keeps offers
+        → ((o : Offer) × (Contains (offer ∷ offers) o × (is_destabilisation o.link.step ≡ true))) ⊎ All Keeps (offer ∷ offers)
     by true is rest = inl (offer, (contains_first offer offers, is))
     by false is (inl found) = inl (found.0, (contains_later offer offers found.0 found.1.0, found.1.1))
     by false is (inr none) = inr (All-cons Keeps offer offers is none)
 
-pub destabilisation_offered : (d e : Diagram) (offers : List Offer) → IsGrid d → IsOfferList d (size d) offers → Contains (translates d) e → MayDestabilise e → (offer : Offer) × (Contains offers offer × (is_destabilisation offer.link.step ≡ true))
+pub destabilisation_offered : (d e : Diagram) (offers : List Offer) → IsGrid d → IsOfferList d (size d) offers → Contains (translates d) e → MayDestabilise e
+    → (offer : Offer) × (Contains offers offer × (is_destabilisation offer.link.step ≡ true))
 destabilisation_offered d e offers grid list translated may =
     elim (some_or_none offers) [
       | inl found ↦ found
@@ -183,8 +196,15 @@ may_by d e (SlideRows r) h step = absurd (let no : false ≡ true = h in cc)
 may_by d e (Stabilise c kind corner) h step = absurd (let no : false ≡ true = h in cc)
 may_by d e (Destabilise c r) h step = record { column = c; row = r; legal = step_legal d (Destabilise c r) e step }
 
-pub offered_destabilisation : (d : Diagram) (offers : List Offer) (offer : Offer) → IsGrid d → IsOfferList d (size d) offers → Contains offers offer → is_destabilisation offer.link.step ≡ true → (e : Diagram) × (Contains (translates d) e × MayDestabilise e)
+pub offered_destabilisation : (d : Diagram) (offers : List Offer) (offer : Offer) → IsGrid d → IsOfferList d (size d) offers → Contains offers offer
+    → is_destabilisation offer.link.step ≡ true → (e : Diagram) × (Contains (translates d) e × MayDestabilise e)
 offered_destabilisation d offers offer grid list among shrinks =
     let is = All-contains (IsOfferOf d) offers offer list.leads among in
-    let led = is.leads in
-    (translate d offer.link.before.0 offer.link.before.1, (translates_contains d offer.link.before.0 offer.link.before.1 led.columns led.rows, may_by (translate d offer.link.before.0 offer.link.before.1) led.moved offer.link.step shrinks led.step))
+    let led = is.leads in (
+      translate d offer.link.before.0 offer.link.before.1,
+      (
+        translates_contains d offer.link.before.0 offer.link.before.1 led.columns led.rows,
+        may_by
+            (translate d offer.link.before.0 offer.link.before.1) led.moved offer.link.step shrinks led.step,
+      ),
+    )

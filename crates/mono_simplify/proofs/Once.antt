@@ -20,7 +20,8 @@ use Rattle.mono_simplify.proofs.Keys.{known_key, new_key, grown}
 use Rattle.mono_simplify.proofs.Listed.{listed_turn}
 
 -- offers with the same tries put the same keys
-same_keys : (d : Diagram) (keys : List Packed) (xs ys : List Offer) → All (IsOfferOf d) xs → All (IsOfferOf d) ys → map try_of xs ≡ map try_of ys → with_keys keys xs ≡ with_keys keys ys
+same_keys : (d : Diagram) (keys : List Packed) (xs ys : List Offer) → All (IsOfferOf d) xs → All (IsOfferOf d) ys → map try_of xs ≡ map try_of ys
+    → with_keys keys xs ≡ with_keys keys ys
 same_keys d keys [] [] ax ay same = refl
 same_keys d keys [] (y ∷ ys) ax ay same = absurd (let n : 0 ≡ suc (length (map try_of ys)) = ap length same in omega (arith, n))
 same_keys d keys (x ∷ xs) [] ax ay same = absurd (let n : suc (length (map try_of xs)) ≡ 0 = ap length same in omega (arith, n))
@@ -36,12 +37,15 @@ same_keys d keys (x ∷ xs) (y ∷ ys) ax ay same =
 grown_once : (before one two : List Packed) (place : ℕ) → Grows before place one → Grows before place two → one ≡ two
 grown_once before one two place first second =
     let keys : first.key ≡ second.key = (let a = first.stands in let b = second.stands in cc) in
-    let same : first.member ≡ second.member = key_once first.member second.member first.names.grid second.names.grid (first.names.key ∙ keys ∙ sym second.names.key) in
+    let same : first.member ≡ second.member = key_once first.member second.member first.names.grid second.names.grid
+    (first.names.key ∙ keys ∙ sym second.names.key) in
     let list : IsExchangeList second.member first.offers = subst (λ (m : Diagram). IsExchangeList m first.offers) same first.exchanges in
-    first.more ∙ same_keys second.member before first.offers second.offers list.leads second.exchanges.leads (list.order ∙ sym second.exchanges.order) ∙ sym second.more
+    first.more ∙ same_keys second.member before first.offers second.offers list.leads second.exchanges.leads (list.order ∙ sym second.exchanges.order)
+    ∙ sym second.more
 
 pub listed_once : (d : Diagram) (n : ℕ) (one two : List Packed) → IsListed d n one → IsListed d n two → one ≡ two
-listed_once d zero one two first second = first.1.1 ∙ ap (λ (f : Diagram). key_of f ∷ []) (canonical_once d first.0 second.0 first.1.0 second.1.0) ∙ sym second.1.1
+listed_once d zero one two first second =
+    first.1.1 ∙ ap (λ (f : Diagram). key_of f ∷ []) (canonical_once d first.0 second.0 first.1.0 second.1.0) ∙ sym second.1.1
 listed_once d (suc n) one two first second =
     let same : first.0 ≡ second.0 = listed_once d n first.0 second.0 first.1.0 second.1.0 in
     grown_once second.0 one two n (subst (λ (ks : List Packed). Grows ks n one) same first.1.1) second.1.1
@@ -96,7 +100,8 @@ with_key_differ keys key differ = by (has_key keys key) refl
   where
     by : (b : Bool) → has_key keys key ≡ b → AllPairs (λ p q. p ≢ q) (with_key keys key)
     by true known = subst (λ (ks : List Packed). AllPairs (λ p q. p ≢ q) ks) (sym (known_key keys key known)) differ
-    by false new = subst (λ (ks : List Packed). AllPairs (λ p q. p ≢ q) ks) (sym (new_key keys key new)) (all_pairs_push (λ p q. p ≢ q) keys key differ (absent_differs keys key new))
+    by false new = subst (λ (ks : List Packed). AllPairs (λ p q. p ≢ q) ks) (sym (new_key keys key new))
+        (all_pairs_push (λ p q. p ≢ q) keys key differ (absent_differs keys key new))
 
 with_keys_differ : (offers : List Offer) (keys : List Packed) → AllPairs (λ p q. p ≢ q) keys → AllPairs (λ p q. p ≢ q) (with_keys keys offers)
 with_keys_differ [] keys differ = differ
@@ -111,4 +116,5 @@ one_differs key = all_pairs_push (λ p q. p ≢ q) [] key none (λ k d lt. absur
 pub listed_differ : (d : Diagram) (n : ℕ) (keys : List Packed) → IsListed d n keys → AllPairs (λ p q. p ≢ q) keys
 listed_differ d zero keys listed = subst (λ (ks : List Packed). AllPairs (λ p q. p ≢ q) ks) (sym listed.1.1) (one_differs (key_of listed.0))
 listed_differ d (suc n) keys listed =
-    subst (λ (ks : List Packed). AllPairs (λ p q. p ≢ q) ks) (sym listed.1.1.more) (with_keys_differ listed.1.1.offers listed.0 (listed_differ d n listed.0 listed.1.0))
+    subst (λ (ks : List Packed). AllPairs (λ p q. p ≢ q) ks) (sym listed.1.1.more)
+    (with_keys_differ listed.1.1.offers listed.0 (listed_differ d n listed.0 listed.1.0))

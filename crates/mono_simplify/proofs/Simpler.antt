@@ -22,12 +22,15 @@ not_simpler d here moves same none = (
   subst AreMonotonic (sym none) (All-nil (λ (m : Move). is_monotonic m ≡ true)),
 )
 
-pub simpler_more : (d here smaller : Diagram) (moves way seen all : List Move) → all ≡ moves ++ seen → seen ≡ way → IsSimpler d moves here → JoinsWithin (size here) here way smaller → list_any is_destabilisation way ≡ true → AreMonotonic way → IsSimpler d all smaller
+pub simpler_more : (d here smaller : Diagram) (moves way seen all : List Move) → all ≡ moves ++ seen → seen ≡ way → IsSimpler d moves here
+    → JoinsWithin (size here) here way smaller → list_any is_destabilisation way ≡ true → AreMonotonic way → IsSimpler d all smaller
 simpler_more d here smaller moves way seen all is same known joined shrinks monotonic =
     let whole : all ≡ moves ++ way = is ∙ ap (λ (ms : List Move). moves ++ ms) same in
     let small = within_end (size d) moves d here known.0 in
-    let some : list_any is_destabilisation all ≡ true = ap (λ (ms : List Move). list_any is_destabilisation ms) whole ∙ list_any-append is_destabilisation moves way ∙ or_right (list_any is_destabilisation moves) (list_any is_destabilisation way) shrinks in (
-      subst (λ (ms : List Move). JoinsWithin (size d) d ms smaller) (sym whole) (within_append (size d) moves way d here smaller known.0 (within_larger (size here) (size d) way here smaller small joined)),
+    let some : list_any is_destabilisation all ≡ true = ap (λ (ms : List Move). list_any is_destabilisation ms) whole
+    ∙ list_any-append is_destabilisation moves way ∙ or_right (list_any is_destabilisation moves) (list_any is_destabilisation way) shrinks in (
+      subst (λ (ms : List Move). JoinsWithin (size d) d ms smaller) (sym whole)
+          (within_append (size d) moves way d here smaller known.0 (within_larger (size here) (size d) way here smaller small joined)),
       λ none. absurd (let no : true ≡ false = sym some ∙ none in cc),
       monotonic_more moves way all whole known.2 monotonic,
     )

@@ -35,7 +35,9 @@ use Rattle.mono_simplify.proofs.Moved.{exchange_led}
 pub extends_none : (place : ℕ) (offers : List Offer) (members : List Member) → Extends place offers members members
 extends_none place offers members = record { more = []; is = sym (append-nil members); offered = λ k d lt. absurd (omega (arith, lt)) }
 
-pub extends_more : (place i : ℕ) (offers : List Offer) (d : Offer) (old now new : List Member) → i < length offers → is_exchange (get_or offers i d).link.step ≡ true → Extends place (exchanges_among offers) old now → new ≡ now ++ ((get_or offers i d).key, record { parent = place; link = (get_or offers i d).link }) ∷ [] → Extends place (exchanges_among offers) old new
+pub extends_more : (place i : ℕ) (offers : List Offer) (d : Offer) (old now new : List Member) → i < length offers
+    → is_exchange (get_or offers i d).link.step ≡ true → Extends place (exchanges_among offers) old now
+    → new ≡ now ++ ((get_or offers i d).key, record { parent = place; link = (get_or offers i d).link }) ∷ [] → Extends place (exchanges_among offers) old new
 extends_more place i offers d old now new lt exchange is pushed =
     let m : Member = ((get_or offers i d).key, record { parent = place; link = (get_or offers i d).link }) in
     let among = contains_filter (λ (o : Offer). is_exchange o.link.step) offers (get_or offers i d) (Contains-get_or offers i d lt) exchange in
@@ -50,7 +52,11 @@ abbrev pub IsAdmitted : ℕ → ℕ → List Offer → List Offer → List Membe
 IsAdmitted place b offers front old now =
     (keys_in now ≡ with_keys (keys_in old) (exchanges_among front)) × (length now ≤ b) × Extends place (exchanges_among offers) old now
 
-pub admitted : (offers : List Offer) (place b i n : ℕ) (d : Offer) (old now new : List Member) → i < length offers → n ≡ length now → n ≢ b → IsAdmitted place b offers (take i offers) old now → is_exchange (get_or offers i d).link.step ≡ true → has_key (keys_in now) (get_or offers i d).key ≡ false → new ≡ now ++ ((get_or offers i d).key, record { parent = place; link = (get_or offers i d).link }) ∷ [] → IsAdmitted place b offers (take (i + 1) offers) old new
+pub admitted : (offers : List Offer) (place b i n : ℕ) (d : Offer) (old now new : List Member) → i < length offers → n ≡ length now → n ≢ b
+    → IsAdmitted place b offers (take i offers) old now → is_exchange (get_or offers i d).link.step ≡ true
+    → has_key (keys_in now) (get_or offers i d).key ≡ false
+    → new ≡ now ++ ((get_or offers i d).key, record { parent = place; link = (get_or offers i d).link }) ∷ []
+    → IsAdmitted place b offers (take (i + 1) offers) old new
 admitted offers place b i n d old now new lt is room known exchange absent pushed =
     let m : Member = ((get_or offers i d).key, record { parent = place; link = (get_or offers i d).link }) in (
       ap keys_in pushed ∙ map-append (λ (x : Member). x.0) now (m ∷ []) ∙ more_new offers (keys_in old) (keys_in now) i d lt known.0 exchange absent,
@@ -58,7 +64,8 @@ admitted offers place b i n d old now new lt is room known exchange absent pushe
       extends_more place i offers d old now new lt exchange known.2 pushed,
     )
 
-pub extended_keys : (place : ℕ) (offers : List Offer) (old new : List Member) → Extends place offers old new → (more : List Packed) × (keys_in new ≡ keys_in old ++ more)
+pub extended_keys : (place : ℕ) (offers : List Offer) (old new : List Member) → Extends place offers old new
+    → (more : List Packed) × (keys_in new ≡ keys_in old ++ more)
 extended_keys place offers old new is = (keys_in is.more, ap keys_in is.is ∙ map-append (λ (m : Member). m.0) old is.more)
 
 -- the first members stay where they are
@@ -67,7 +74,8 @@ stands_first [] ys i x is = cc
 stands_first (z ∷ xs) ys zero x is = is
 stands_first (z ∷ xs) ys (suc i) x is = stands_first xs ys i x is
 
-stands_cases : {A : Type 0} (xs ys : List A) (i : ℕ) (x : A) → slice_get (xs ++ ys) i ≡ Some x → (slice_get xs i ≡ Some x) ⊎ ((length xs ≤ i) × (slice_get ys (i - length xs) ≡ Some x))
+stands_cases : {A : Type 0} (xs ys : List A) (i : ℕ) (x : A) → slice_get (xs ++ ys) i ≡ Some x
+    → (slice_get xs i ≡ Some x) ⊎ ((length xs ≤ i) × (slice_get ys (i - length xs) ≡ Some x))
 stands_cases [] ys i x is = let same : i ≡ i - 0 = omega arith in inr (omega arith, subst (λ (n : ℕ). slice_get ys n ≡ Some x) same is)
 stands_cases (z ∷ xs) ys zero x is = inl is
 stands_cases (z ∷ xs) ys (suc i) x is =
@@ -84,12 +92,14 @@ key_stands [] i m is = cc
 key_stands (x ∷ members) zero m is = let same : x ≡ m = cc in ap (λ (y : Member). Some y.0) same
 key_stands (x ∷ members) (suc i) m is = key_stands members i m is
 
-member_stands : (members : List Member) (i : ℕ) (key : Packed) → slice_get (keys_in members) i ≡ Some key → (m : Member) × ((slice_get members i ≡ Some m) × (m.0 ≡ key))
+member_stands : (members : List Member) (i : ℕ) (key : Packed) → slice_get (keys_in members) i ≡ Some key
+    → (m : Member) × ((slice_get members i ≡ Some m) × (m.0 ≡ key))
 member_stands [] i key is = absurd cc
 member_stands (x ∷ members) zero key is = let same : x.0 ≡ key = cc in (x, (refl, same))
 member_stands (x ∷ members) (suc i) key is = member_stands members i key is
 
-linked_later : (d : Diagram) (keys more : List Packed) (place : ℕ) (key : Packed) (origin : Origin) → IsLinked d keys place key origin → IsLinked d (keys ++ more) place key origin
+linked_later : (d : Diagram) (keys more : List Packed) (place : ℕ) (key : Packed) (origin : Origin) → IsLinked d keys place key origin
+    → IsLinked d (keys ++ more) place key origin
 linked_later d keys more place key origin is = record {
   lower = is.lower;
   parent = is.parent;
@@ -107,10 +117,13 @@ linked_later d keys more place key origin is = record {
 pub ways_start : (d f : Diagram) (origin : Origin) (members : List Member) → IsCanonicalForm d f → members ≡ (key_of f, origin) ∷ [] → AreWays d members
 ways_start d f origin members form is = subst (λ (ms : List Member). AreWays d ms) (sym is) (record {
   root = λ m stands. let same : (key_of f, origin) ≡ m = cc in (f, (form, ap (λ (y : Member). y.0) same));
-  child = λ place m stands. absurd (let past : slice_get ((key_of f, origin) ∷ []) (suc place) ≡ Some m = stands in let none : slice_get {X = Member} [] place ≡ Some m = past in cc);
+  child = λ place m stands. absurd (let past : slice_get ((key_of f, origin) ∷ [])
+      (suc place) ≡ Some m = stands in let none : slice_get {X = Member} [] place ≡ Some m = past in cc);
 })
 
-pub ways_more : (d : Diagram) (place : ℕ) (key : Packed) (member : Diagram) (offers : List Offer) (old new : List Member) → AreWays d old → Extends place offers old new → slice_get (keys_in old) place ≡ Some key → IsKeyOf key member → size member ≡ size d → IsExchangeList member offers → AreWays d new
+pub ways_more : (d : Diagram) (place : ℕ) (key : Packed) (member : Diagram) (offers : List Offer) (old new : List Member) → AreWays d old
+    → Extends place offers old new → slice_get (keys_in old) place ≡ Some key → IsKeyOf key member → size member ≡ size d → IsExchangeList member offers
+    → AreWays d new
 ways_more d place key member offers old new ways is stands names same list =
     let below : place < length old = omega (arith, slice_get_within (keys_in old) place key stands, length-map old (λ (m : Member). m.0)) in
     let keys : keys_in new ≡ keys_in old ++ keys_in is.more = ap keys_in is.is ∙ map-append (λ (m : Member). m.0) old is.more in
@@ -160,45 +173,62 @@ pub record Trails (d : Diagram) (members : List Member) (here : ℕ) (back : Lis
 turned_back : (back after moves : List Move) → after ≡ back ++ reverse moves → reverse after ≡ moves ++ reverse back
 turned_back back after moves is = ap reverse is ∙ reverse-append back (reverse moves) ∙ ap (λ (ms : List Move). ms ++ reverse back) (reverse-reverse moves)
 
-pub trails_start : (d : Diagram) (members : List Member) (place : ℕ) (back after : List Move) (last : Link) (key : Packed) (member to : Diagram) → back ≡ [] → after ≡ back ++ reverse (link_moves last) → slice_get (keys_in members) place ≡ Some key → IsKeyOf key member → size member ≡ size d → Leads member last to → size to ≤ size d → Trails d members place after to
+pub trails_start : (d : Diagram) (members : List Member) (place : ℕ) (back after : List Move) (last : Link) (key : Packed) (member to : Diagram) → back ≡ []
+    → after ≡ back ++ reverse (link_moves last) → slice_get (keys_in members) place ≡ Some key → IsKeyOf key member → size member ≡ size d
+    → Leads member last to → size to ≤ size d → Trails d members place after to
 trails_start d members place back after last key member to empty is stands names same leads small = record {
   key = key;
   member = member;
   stands = stands;
   names = names;
   same = same;
-  joined = subst (λ (ms : List Move). JoinsWithin (size d) member ms to) (sym (turned_back back after (link_moves last) is ∙ ap (λ (ms : List Move). link_moves last ++ reverse ms) empty ∙ append-nil (link_moves last)))
+  joined = subst (λ (ms : List Move). JoinsWithin (size d) member ms to)
+      (sym (turned_back back after (link_moves last) is ∙ ap (λ (ms : List Move). link_moves last ++ reverse ms) empty ∙ append-nil (link_moves last)))
       (link_joined_within member to last (size d) names.grid leads (omega (arith, same)) small);
 }
 
-pub trails_more : (d : Diagram) (members : List Member) (here : ℕ) (origin : Origin) (key : Packed) (back after : List Move) (to : Diagram) → 0 < here → AreWays d members → slice_get members here ≡ Some (key, origin) → after ≡ back ++ reverse (link_moves origin.link) → Trails d members here back to → Trails d members origin.parent after to
+pub trails_more : (d : Diagram) (members : List Member) (here : ℕ) (origin : Origin) (key : Packed) (back after : List Move) (to : Diagram) → 0 < here
+    → AreWays d members → slice_get members here ≡ Some (key, origin) → after ≡ back ++ reverse (link_moves origin.link) → Trails d members here back to
+    → Trails d members origin.parent after to
 trails_more d members zero origin key back after to lt ways stands is trails = absurd (omega (arith, lt))
 trails_more d members (suc here) origin key back after to lt ways stands is trails =
     let linked = ways.child here (key, origin) stands in
-    let one : trails.key ≡ key = (let a : slice_get (keys_in members) (suc here) ≡ Some key = key_stands members (suc here) (key, origin) stands in let b = trails.stands in cc) in
-    let met : linked.to ≡ trails.member = key_once linked.to trails.member linked.reached.grid trails.names.grid (linked.reached.key ∙ sym one ∙ sym trails.names.key) in
-    let first : JoinsWithin (size d) linked.from (link_moves origin.link) trails.member = subst (λ (e : Diagram). JoinsWithin (size d) linked.from (link_moves origin.link) e) met (link_joined_within linked.from linked.to origin.link (size d) linked.known.grid linked.leads (omega (arith, linked.same)) (omega (arith, linked.small))) in
+    let one : trails.key ≡ key = (let a : slice_get (keys_in members) (suc here) ≡ Some key = key_stands members (suc here)
+    (key, origin) stands in let b = trails.stands in cc) in
+    let met : linked.to ≡ trails.member = key_once linked.to trails.member linked.reached.grid trails.names.grid
+    (linked.reached.key ∙ sym one ∙ sym trails.names.key) in
+    let first : JoinsWithin (size d) linked.from (link_moves origin.link) trails.member = subst
+    (λ (e : Diagram). JoinsWithin (size d) linked.from (link_moves origin.link) e) met
+    (link_joined_within linked.from linked.to origin.link (size d) linked.known.grid linked.leads (omega (arith, linked.same))
+    (omega (arith, linked.small))) in
     record {
       key = linked.parent;
       member = linked.from;
       stands = linked.stands;
       names = linked.known;
       same = linked.same;
-      joined = subst (λ (ms : List Move). JoinsWithin (size d) linked.from ms to) (sym (turned_back back after (link_moves origin.link) is)) (within_append (size d) (link_moves origin.link) (reverse back) linked.from trails.member to first trails.joined);
+      joined = subst (λ (ms : List Move). JoinsWithin (size d) linked.from ms to) (sym (turned_back back after (link_moves origin.link) is))
+          (within_append (size d) (link_moves origin.link) (reverse back) linked.from trails.member to first trails.joined);
     }
 
-pub parent_before : (d : Diagram) (members : List Member) (here : ℕ) (origin : Origin) (key : Packed) → 0 < here → AreWays d members → slice_get members here ≡ Some (key, origin) → origin.parent < here
+pub parent_before : (d : Diagram) (members : List Member) (here : ℕ) (origin : Origin) (key : Packed) → 0 < here → AreWays d members
+    → slice_get members here ≡ Some (key, origin) → origin.parent < here
 parent_before d members zero origin key lt ways stands = absurd (omega (arith, lt))
 parent_before d members (suc here) origin key lt ways stands = (ways.child here (key, origin) stands).lower
 
-pub trails_end : (d : Diagram) (members : List Member) (here : ℕ) (form : LeastForm) (back after : List Move) (to : Diagram) → IsGrid d → here ≡ 0 → AreWays d members → IsLeastForm d form → after ≡ back ++ reverse (shift_moves form.columns form.rows) → Trails d members here back to → JoinsWithin (size d) d (reverse after) to
+pub trails_end : (d : Diagram) (members : List Member) (here : ℕ) (form : LeastForm) (back after : List Move) (to : Diagram) → IsGrid d → here ≡ 0
+    → AreWays d members → IsLeastForm d form → after ≡ back ++ reverse (shift_moves form.columns form.rows) → Trails d members here back to
+    → JoinsWithin (size d) d (reverse after) to
 trails_end d members here form back after to grid first ways least is trails =
     let stands : slice_get (keys_in members) 0 ≡ Some trails.key = subst (λ (n : ℕ). slice_get (keys_in members) n ≡ Some trails.key) first trails.stands in
     let m = member_stands members 0 trails.key stands in
     let root = ways.root m.0 m.1.0 in
-    let there : root.0 ≡ trails.member = key_once root.0 trails.member (canonical_grid d root.0 grid root.1.0) trails.names.grid (root.1.1 ∙ m.1.1 ∙ sym trails.names.key) in
+    let there : root.0 ≡ trails.member = key_once root.0 trails.member (canonical_grid d root.0 grid root.1.0) trails.names.grid
+    (root.1.1 ∙ m.1.1 ∙ sym trails.names.key) in
     let end : form.grid ≡ trails.member = canonical_once d form.grid root.0 least.canonical root.1.0 ∙ there in
-    let shifts : JoinsWithin (size d) d (shift_moves form.columns form.rows) trails.member = subst (λ (e : Diagram). JoinsWithin (size d) d (shift_moves form.columns form.rows) e) (least.reached ∙ end) (shifts_joined_within d form.columns form.rows grid least.columns least.rows) in
+    let shifts : JoinsWithin (size d) d (shift_moves form.columns form.rows) trails.member = subst
+    (λ (e : Diagram). JoinsWithin (size d) d (shift_moves form.columns form.rows) e) (least.reached ∙ end)
+    (shifts_joined_within d form.columns form.rows grid least.columns least.rows) in
     subst (λ (ms : List Move). JoinsWithin (size d) d ms to) (sym (turned_back back after (shift_moves form.columns form.rows) is))
     (within_append (size d) (shift_moves form.columns form.rows) (reverse back) d trails.member to shifts trails.joined)
 
@@ -220,7 +250,8 @@ link_has list after link is =
     let front : List Move = shift_moves link.before.0 link.before.1 in
     let back : List Move = shift_moves link.after.0 link.after.1 in
     let inside : Contains (link_moves link) link.step = Contains-append_left (front ++ link.step ∷ []) back link.step (Contains-push front link.step) in
-    subst (λ (ms : List Move). Contains ms link.step) (sym is) (Contains-append_right list (reverse (link_moves link)) link.step (reverse_has (link_moves link) link.step inside))
+    subst (λ (ms : List Move). Contains ms link.step) (sym is)
+    (Contains-append_right list (reverse (link_moves link)) link.step (reverse_has (link_moves link) link.step inside))
 
 pub destabilised : (moves : List Move) (step : Move) → is_destabilisation step ≡ true → Contains moves step → list_any is_destabilisation moves ≡ true
 destabilised moves step is has = list_any_at is_destabilisation moves has.0 step has.1 (ap is_destabilisation has.2 ∙ is)

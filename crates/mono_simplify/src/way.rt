@@ -4,57 +4,18 @@ ghost use Rattle.std.specs.List.{Contains};
 ghost use Rattle.grid_core.specs.Diagram.{Diagram, size};
 ghost use Rattle.grid_moves.specs.Joining.{JoinsWithin};
 ghost use Rattle.grid_canon.specs.declared.key.Packed.{Packed};
-ghost use Rattle.grid_canon.specs.Shifts.{column_shift, row_shift, shift_moves};
-ghost use Rattle.next_moves.specs.Links.{link_moves};
 ghost use Rattle.next_moves.specs.Offers.{Leads};
 ghost use Rattle.mono_simplify.specs.Listing.{IsKeyOf};
 ghost use Rattle.mono_simplify.specs.Simplified.{is_monotonic, AreMonotonic};
 ghost use Rattle.mono_simplify.specs.Ways.{keys_in, AreWays};
 
 use crate::class::Class;
-use grid_canon::canonical;
+use grid_canon::{canonical, push_shifts_back};
 use grid_core::Grid;
 use grid_moves::Move;
 use memory_core::OutOfMemory;
-use next_moves::Link;
+use next_moves::{Link, push_link_back};
 use std::alloc::Global;
-
-/// Puts the shift of columns at the end, where it is not by 0.
-fn push_columns(list: &mut Vec<Move>, columns: u8) -> Result<(), OutOfMemory>
-    ensures { IfOk result (λ _. list.new.items ≡ list.old.items ++ column_shift columns) }
-{
-    if columns > 0 {
-        list.push(Move::ShiftColumns(columns))?;
-    }
-    Ok(())
-}
-
-/// Puts the shift of rows at the end, where it is not by 0.
-fn push_rows(list: &mut Vec<Move>, rows: u8) -> Result<(), OutOfMemory>
-    ensures { IfOk result (λ _. list.new.items ≡ list.old.items ++ row_shift rows) }
-{
-    if rows > 0 {
-        list.push(Move::ShiftRows(rows))?;
-    }
-    Ok(())
-}
-
-/// Puts the two shifts at the end, the last one first.
-fn push_shifts_back(list: &mut Vec<Move>, columns: u8, rows: u8) -> Result<(), OutOfMemory>
-    ensures { IfOk result (λ _. list.new.items ≡ list.old.items ++ reverse (shift_moves columns rows)) }
-{
-    push_rows(list, rows)?;
-    push_columns(list, columns)
-}
-
-/// Puts the moves of a link at the end, the last one first.
-fn push_link_back(list: &mut Vec<Move>, link: Link) -> Result<(), OutOfMemory>
-    ensures { IfOk result (λ _. list.new.items ≡ list.old.items ++ reverse (link_moves link)) }
-{
-    push_shifts_back(list, link.after.0, link.after.1)?;
-    list.push(link.step)?;
-    push_shifts_back(list, link.before.0, link.before.1)
-}
 
 /// The moves that lead from a grid to the member of its class at a place, and from there by the last link to another diagram, which
 /// is not larger.

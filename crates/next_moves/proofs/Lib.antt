@@ -1,7 +1,9 @@
 pub mod Extended
 pub mod Trades
+pub mod Legal
 pub mod Sides
 pub mod BlockRows
+pub mod FewRows
 pub mod Circle
 pub mod Rounds
 pub mod TranslatedMoves

@@ -1,11 +1,12 @@
 -- Neighbours on the circle, brought side by side.
-use Rattle.std.proofs.Common.{List, [], ◌∷◌, ◌≡◌, ◌≢◌, ◌<◌, ◌≤◌, ◌+◌, ◌-◌, ◌⊎◌, ◌∙◌, ℕ, cond, arith, sym, ap, ap₂, inl, inr}
+use Rattle.std.proofs.Common.{◌≡◌, ◌≢◌, ◌<◌, ◌≤◌, ◌+◌, ◌-◌, ◌⊎◌, ◌∙◌, ℕ, cond, arith, sym, ap, ap₂, inl, inr}
 use Rattle.std.proofs.lemmas.Bool.{cases_eq, eq-eqb, ne_eqb}
 use Rattle.std.proofs.lemmas.Bool.Decides.{nat_tests}
 use Rattle.grid_moves.specs.Shift.{shifted}
 use Rattle.grid_canon.proofs.Translated.{origin, origin_cases, origin-shifted}
-use Rattle.grid_moves.specs.declared.step.Move.TheVariants.{ExchangeColumns, ExchangeRows, SlideColumns, SlideRows, Destabilise}
-use Rattle.next_moves.specs.Tries.{Try, shift_before, place_after_shift, column_trades, row_trades, destabilisation}
+use Rattle.grid_moves.specs.declared.step.Move.{Move}
+use Rattle.grid_moves.specs.declared.step.Move.TheVariants.{Destabilise}
+use Rattle.next_moves.specs.Tries.{Try, shift_before, place_after_shift, destabilisation}
 use Rattle.next_moves.specs.Extends.{next, first_of_pair, counted, passed}
 
 -- the last, or any other
@@ -102,20 +103,20 @@ block_made n c r a b least hc hr ea eb =
     made : ℕ → ℕ → ℕ → ℕ → Try
     made a b c r = record { before = (a, b); step = Destabilise c r }
 
--- an exchange and a slide by the shift before them
-pub column_made : (n c a q : ℕ) → a ≡ shift_before n c → q ≡ place_after_shift n c
-    → ◌≡◌ {A = List Try} (record { before = (a, 0); step = ExchangeColumns q } ∷ record { before = (a, 0); step = SlideColumns q } ∷ []) (column_trades n c)
-column_made n c a q ea eq = ap₂ (λ (z w : ℕ). made z w) ea eq
+-- an exchange or a slide by the shift before it
+pub column_made : (step : ℕ → Move) (n c a q : ℕ) → a ≡ shift_before n c → q ≡ place_after_shift n c
+    → ◌≡◌ {A = Try} (record { before = (a, 0); step = step q }) (record { before = (shift_before n c, 0); step = step (place_after_shift n c) })
+column_made step n c a q ea eq = ap₂ (λ (z w : ℕ). made z w) ea eq
   where
-    made : ℕ → ℕ → List Try
-    made a q = record { before = (a, 0); step = ExchangeColumns q } ∷ record { before = (a, 0); step = SlideColumns q } ∷ []
+    made : ℕ → ℕ → Try
+    made a q = record { before = (a, 0); step = step q }
 
-pub row_made : (n r b q : ℕ) → b ≡ shift_before n r → q ≡ place_after_shift n r
-    → ◌≡◌ {A = List Try} (record { before = (0, b); step = ExchangeRows q } ∷ record { before = (0, b); step = SlideRows q } ∷ []) (row_trades n r)
-row_made n r b q eb eq = ap₂ (λ (z w : ℕ). made z w) eb eq
+pub row_made : (step : ℕ → Move) (n r b q : ℕ) → b ≡ shift_before n r → q ≡ place_after_shift n r
+    → ◌≡◌ {A = Try} (record { before = (0, b); step = step q }) (record { before = (0, shift_before n r); step = step (place_after_shift n r) })
+row_made step n r b q eb eq = ap₂ (λ (z w : ℕ). made z w) eb eq
   where
-    made : ℕ → ℕ → List Try
-    made b q = record { before = (0, b); step = ExchangeRows q } ∷ record { before = (0, b); step = SlideRows q } ∷ []
+    made : ℕ → ℕ → Try
+    made b q = record { before = (0, b); step = step q }
 
 -- at most one row is counted
 pub passed_more : (a r : ℕ) → passed a (r + 1) ≡ passed a r + counted a r

@@ -1,5 +1,5 @@
 -- Of the exchange and the slide of two neighbours at most one is legal.
-use Rattle.std.proofs.Common.{◌≡◌, ◌∙◌, ◌⊎◌, ◌+◌, ◌∷◌, ◌&&◌, ◌||◌, [], ℕ, List, Bool, true, false, cond, nat_lt, nat_le, Option, Some, None, refl, sym, ap, subst, inl, inr}
+use Rattle.std.proofs.Common.{◌≡◌, ◌∙◌, ◌⊎◌, ◌+◌, ◌∷◌, ◌&&◌, ◌||◌, [], ℕ, List, Bool, true, false, cond, nat_lt, nat_le, Option, Some, None, refl, sym, ap, inl, inr}
 use Rattle.std.specs.Option.{is_none}
 use Rattle.std.proofs.lemmas.Bool.{cases_Bool, cond-true, cond-false}
 use Rattle.grid_core.specs.declared.span.Span.{Span}
@@ -13,9 +13,9 @@ use Rattle.grid_moves.specs.declared.step.MoveFault.TheVariants.{Range, Touching
 use Rattle.grid_moves.specs.MoveFault.{first_fault, exchange_fault, slide_fault}
 use Rattle.grid_canon.specs.Translation.{translate}
 use Rattle.next_moves.specs.declared.links.Offer.{Offer}
-use Rattle.next_moves.specs.Tries.{Try, place_after_shift, column_exchange, column_slide, row_exchange, row_slide}
-use Rattle.next_moves.specs.Offers.{size_after, is_offered}
-use Rattle.next_moves.specs.Extends.{Extends, column_trade, row_trade}
+use Rattle.next_moves.specs.Tries.{Try, shift_before, place_after_shift, column_exchange, column_slide, row_exchange, row_slide, column_trades, row_trades}
+use Rattle.next_moves.specs.Offers.{size_after, is_legal, is_offered}
+use Rattle.next_moves.specs.Extends.{Extends}
 use Rattle.next_moves.proofs.Extended.{extends_then, extends_skip}
 
 -- neighbours that touch are not exchanged, and neighbours that don't touch do not slide
@@ -57,23 +57,6 @@ column_slide_refused : (d : Diagram) (c : ℕ) → share_an_end (column_span d c
 column_slide_refused d c apart =
     refused (nat_lt (c + 1) (size d)) (slide_fault (column_span d c) (column_span d (c + 1))) (parted (column_span d c) (column_span d (c + 1)) apart)
 
-pub extends_columns : (d : Diagram) (cap : ℕ) (before : ℕ × ℕ) (translated : Diagram) (c : ℕ) (old new : List Offer)
-    → translated ≡ translate d before.0 before.1
-    → Extends d cap (record { before = before; step = column_trade translated c } ∷ []) old new
-    → Extends d cap (record { before = before; step = ExchangeColumns c } ∷ record { before = before; step = SlideColumns c } ∷ []) old new
-extends_columns d cap before translated c old new is one = elim (cases_Bool (share_an_end (column_span translated c) (column_span translated (c + 1)))) [
-  | inl shared ↦
-      extends_second d cap (record { before = before; step = ExchangeColumns c }) (record { before = before; step = SlideColumns c }) old new
-      (not_offered d cap before translated (ExchangeColumns c) is (column_exchange_refused translated c shared))
-      (subst (λ m. Extends d cap (record { before = before; step = m } ∷ []) old new)
-      (cond-true (share_an_end (column_span translated c) (column_span translated (c + 1))) (SlideColumns c) (ExchangeColumns c) shared) one)
-  | inr apart ↦
-      extends_first d cap (record { before = before; step = ExchangeColumns c }) (record { before = before; step = SlideColumns c }) old new
-      (not_offered d cap before translated (SlideColumns c) is (column_slide_refused translated c apart))
-      (subst (λ m. Extends d cap (record { before = before; step = m } ∷ []) old new)
-      (cond-false (share_an_end (column_span translated c) (column_span translated (c + 1))) (SlideColumns c) (ExchangeColumns c) apart) one)
-]
-
 pub columns_once : (d : Diagram) (cap n c : ℕ) → (is_offered d cap (column_exchange n c) ≡ false) ⊎ (is_offered d cap (column_slide n c) ≡ false)
 columns_once d cap n c =
     let before : ℕ × ℕ = (column_exchange n c).before in
@@ -91,22 +74,6 @@ row_exchange_refused d r shared = refused (nat_lt (r + 1) (size d)) (exchange_fa
 row_slide_refused : (d : Diagram) (r : ℕ) → share_an_end (ends d r) (ends d (r + 1)) ≡ false → is_none (first_fault d (SlideRows r)) ≡ false
 row_slide_refused d r apart = refused (nat_lt (r + 1) (size d)) (slide_fault (ends d r) (ends d (r + 1))) (parted (ends d r) (ends d (r + 1)) apart)
 
-pub extends_rows : (d : Diagram) (cap : ℕ) (before : ℕ × ℕ) (translated : Diagram) (r : ℕ) (old new : List Offer) → translated ≡ translate d before.0 before.1
-    → Extends d cap (record { before = before; step = row_trade translated r } ∷ []) old new
-    → Extends d cap (record { before = before; step = ExchangeRows r } ∷ record { before = before; step = SlideRows r } ∷ []) old new
-extends_rows d cap before translated r old new is one = elim (cases_Bool (share_an_end (ends translated r) (ends translated (r + 1)))) [
-  | inl shared ↦
-      extends_second d cap (record { before = before; step = ExchangeRows r }) (record { before = before; step = SlideRows r }) old new
-      (not_offered d cap before translated (ExchangeRows r) is (row_exchange_refused translated r shared))
-      (subst (λ m. Extends d cap (record { before = before; step = m } ∷ []) old new)
-      (cond-true (share_an_end (ends translated r) (ends translated (r + 1))) (SlideRows r) (ExchangeRows r) shared) one)
-  | inr apart ↦
-      extends_first d cap (record { before = before; step = ExchangeRows r }) (record { before = before; step = SlideRows r }) old new
-      (not_offered d cap before translated (SlideRows r) is (row_slide_refused translated r apart))
-      (subst (λ m. Extends d cap (record { before = before; step = m } ∷ []) old new)
-      (cond-false (share_an_end (ends translated r) (ends translated (r + 1))) (SlideRows r) (ExchangeRows r) apart) one)
-]
-
 pub rows_once : (d : Diagram) (cap n r : ℕ) → (is_offered d cap (row_exchange n r) ≡ false) ⊎ (is_offered d cap (row_slide n r) ≡ false)
 rows_once d cap n r =
     let before : ℕ × ℕ = (row_exchange n r).before in
@@ -116,3 +83,56 @@ rows_once d cap n r =
       | inl shared ↦ inl (not_offered d cap before translated (ExchangeRows p) refl (row_exchange_refused translated p shared))
       | inr apart ↦ inr (not_offered d cap before translated (SlideRows p) refl (row_slide_refused translated p apart))
     ]
+
+-- what is not legal is not offered
+pub illegal : (d : Diagram) (cap : ℕ) (t : Try) → is_legal d t ≡ false → is_offered d cap t ≡ false
+illegal d cap t e = ap (λ b. b && nat_le (size_after t.step (size d)) cap) e
+
+-- where the exchange is legal the slide is not
+only_exchanged : (b : Bool) (s t : Span) → is_none (cond b (exchange_fault s t) (Some Range)) ≡ true → is_none (cond b (slide_fault s t) (Some Range)) ≡ false
+only_exchanged true s t legal = elim (cases_Bool (share_an_end s t)) [
+  | inl shared ↦ absurd (never (sym legal ∙ touching s t shared))
+  | inr apart ↦ parted s t apart
+]
+  where
+    never : true ≡ false → ⊥
+    never e = cc
+only_exchanged false s t legal = refl
+
+-- the two tries of a column and the next one, by which of them is legal
+pub columns_exchanged : (d : Diagram) (cap n c : ℕ) (old new : List Offer) → is_legal d (column_exchange n c) ≡ true
+    → Extends d cap (column_exchange n c ∷ []) old new → Extends d cap (column_trades n c) old new
+columns_exchanged d cap n c old new legal one =
+    let p : ℕ = place_after_shift n c in
+    let translated : Diagram = translate d (shift_before n c) 0 in
+    extends_first d cap (column_exchange n c) (column_slide n c) old new
+    (illegal d cap (column_slide n c) (only_exchanged (nat_lt (p + 1) (size translated)) (column_span translated p) (column_span translated (p + 1)) legal)) one
+
+pub columns_slid : (d : Diagram) (cap n c : ℕ) (old new : List Offer) → is_legal d (column_exchange n c) ≡ false
+    → Extends d cap (column_slide n c ∷ []) old new → Extends d cap (column_trades n c) old new
+columns_slid d cap n c old new no_exchange one =
+    extends_second d cap (column_exchange n c) (column_slide n c) old new (illegal d cap (column_exchange n c) no_exchange) one
+
+pub columns_kept : (d : Diagram) (cap n c : ℕ) (old : List Offer) → is_legal d (column_exchange n c) ≡ false → is_legal d (column_slide n c) ≡ false
+    → Extends d cap (column_trades n c) old old
+columns_kept d cap n c old no_exchange no_slide =
+    columns_slid d cap n c old old no_exchange (extends_skip d cap (column_slide n c) old old refl (illegal d cap (column_slide n c) no_slide))
+
+-- of a row and the next one likewise
+pub rows_exchanged : (d : Diagram) (cap n r : ℕ) (old new : List Offer) → is_legal d (row_exchange n r) ≡ true
+    → Extends d cap (row_exchange n r ∷ []) old new → Extends d cap (row_trades n r) old new
+rows_exchanged d cap n r old new legal one =
+    let p : ℕ = place_after_shift n r in
+    let translated : Diagram = translate d 0 (shift_before n r) in
+    extends_first d cap (row_exchange n r) (row_slide n r) old new
+    (illegal d cap (row_slide n r) (only_exchanged (nat_lt (p + 1) (size translated)) (ends translated p) (ends translated (p + 1)) legal)) one
+
+pub rows_slid : (d : Diagram) (cap n r : ℕ) (old new : List Offer) → is_legal d (row_exchange n r) ≡ false
+    → Extends d cap (row_slide n r ∷ []) old new → Extends d cap (row_trades n r) old new
+rows_slid d cap n r old new no_exchange one =
+    extends_second d cap (row_exchange n r) (row_slide n r) old new (illegal d cap (row_exchange n r) no_exchange) one
+
+pub rows_kept : (d : Diagram) (cap n r : ℕ) (old : List Offer) → is_legal d (row_exchange n r) ≡ false → is_legal d (row_slide n r) ≡ false
+    → Extends d cap (row_trades n r) old old
+rows_kept d cap n r old no_exchange no_slide =
+    rows_slid d cap n r old old no_exchange (extends_skip d cap (row_slide n r) old old refl (illegal d cap (row_slide n r) no_slide))

@@ -1,11 +1,7 @@
 -- A list of offers in the making; only private clauses and proofs cite this file.
-use Rattle.std.specs.Prelude.{◌≡◌, ◌<◌, ◌+◌, ◌==◌, ◌++◌, ℕ, List, Option, IfSome, if◌then◌else◌, nat_lt}
+use Rattle.std.specs.Prelude.{◌≡◌, ◌<◌, ◌+◌, ◌==◌, ◌++◌, ◌∷◌, [], ℕ, List, Option, IfSome, if◌then◌else◌, nat_lt}
 use Rattle.grid_core.specs.declared.mark.Kind.TheVariants.{Cross, Ring}
 use Rattle.grid_core.specs.Diagram.{Diagram, size, row_of}
-use Rattle.grid_core.specs.Span.{share_an_end}
-use Rattle.grid_core.specs.Parts.{column_span, ends}
-use Rattle.grid_moves.specs.declared.step.Move.{Move}
-use Rattle.grid_moves.specs.declared.step.Move.TheVariants.{ExchangeColumns, ExchangeRows, SlideColumns, SlideRows}
 use Rattle.grid_canon.specs.declared.digits.TheConstants.{MAX_SHORT_SIZE}
 use Rattle.grid_canon.specs.Translation.{translate}
 use Rattle.next_moves.specs.declared.links.Offer.{Offer}
@@ -30,14 +26,6 @@ pub record IsPrepared (d by_column by_row by_both : Diagram) (again : Option Dia
   pub both : by_both ≡ translate d 1 1
   pub short : IfSome again (λ s. (s ≡ d) × (size d < MAX_SHORT_SIZE))
 
--- the only move by which columns c and c + 1 may trade places: a slide where they share a row, else an exchange
-abbrev pub column_trade : Diagram → ℕ → Move
-column_trade d c = if share_an_end (column_span d c) (column_span d (c + 1)) then SlideColumns c else ExchangeColumns c
-
--- rows r and r + 1 likewise
-abbrev pub row_trade : Diagram → ℕ → Move
-row_trade d r = if share_an_end (ends d r) (ends d (r + 1)) then SlideRows r else ExchangeRows r
-
 -- the next number, round the circle of n
 abbrev pub next : ℕ → ℕ → ℕ
 next n c = if c + 1 == n then 0 else c + 1
@@ -49,6 +37,10 @@ first_of_pair n x o = if next n x == o then x else if next n o == x then o else 
 -- the row of a block of two rows with both marks of column c, if there is one
 abbrev pub row_of_both : Diagram → ℕ → ℕ
 row_of_both d c = first_of_pair (size d) (row_of Cross d c) (row_of Ring d c)
+
+-- this number, where it is below n
+abbrev pub if_below : ℕ → ℕ → List ℕ
+if_below n r = if nat_lt r n then r ∷ [] else []
 
 -- 1 where r is this row, else 0
 abbrev pub counted : ℕ → ℕ → ℕ

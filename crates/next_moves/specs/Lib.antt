@@ -1,5 +1,6 @@
 pub mod Neighbours
 pub mod Tries
+pub mod Spans
 pub mod Offers
 pub mod Links
 pub mod Extends

@@ -27,10 +27,13 @@ size_after (SlideRows r) n = n
 size_after (Stabilise c kind corner) n = n + 1
 size_after (Destabilise c r) n = n - 1
 
--- the move is legal on its translate of d, and its result is not larger than the cap
+-- the move is legal on its translate of d
+abbrev pub is_legal : Diagram → Try → Bool
+is_legal d try = is_none (first_fault (translate d try.before.0 try.before.1) try.step)
+
+-- it is, and its result is not larger than the cap
 abbrev pub is_offered : Diagram → ℕ → Try → Bool
-is_offered d cap try =
-    is_none (first_fault (translate d try.before.0 try.before.1) try.step) && nat_le (size_after try.step (size d)) cap
+is_offered d cap try = is_legal d try && nat_le (size_after try.step (size d)) cap
 
 -- the link leads from d to the canonical form f: d shifted by `before`, moved by `step` and shifted by `after`, the least shifts to f
 pub record Leads (d : Diagram) (link : Link) (f : Diagram) : Type 0 where

@@ -4,6 +4,9 @@ ghost use Rattle.std.specs.List.{All, AllPairs, Contains};
 ghost use Rattle.grid_core.specs.declared.mark.Kind.{Kind};
 ghost use Rattle.grid_core.specs.declared.mark.Corner.{Corner};
 ghost use Rattle.grid_core.specs.Diagram.{Diagram, IsGrid, size};
+ghost use Rattle.grid_core.specs.Parts.{column_span, ends};
+ghost use Rattle.lane_spans.specs.Columns as lane_columns;
+ghost use Rattle.lane_spans.specs.Columns.{span_at};
 ghost use Rattle.grid_moves.specs.declared.step.Move.TheVariants.{ExchangeColumns, ExchangeRows, SlideColumns, SlideRows, Stabilise, Destabilise};
 ghost use Rattle.grid_moves.specs.Shift.{shifted};
 ghost use Rattle.grid_moves.specs.Step.{Step};
@@ -12,8 +15,9 @@ ghost use Rattle.grid_canon.specs.Translation.{translate, translates};
 ghost use Rattle.grid_canon.specs.CanonicalForm.{IsCanonicalForm, IsCanonical};
 ghost use Rattle.grid_canon.specs.Key.{key_of};
 ghost use Rattle.next_moves.specs.Neighbours.{IsNeighbour};
-ghost use Rattle.next_moves.specs.Tries.{trades, all_destabilisations, all_stabilisations};
-ghost use Rattle.next_moves.specs.Offers.{is_offered, Leads, IsOfferList, Neighbourhood, IsWhole};
+ghost use Rattle.next_moves.specs.Tries.{trades, column_exchange, row_exchange, all_destabilisations, all_stabilisations};
+ghost use Rattle.next_moves.specs.Spans.{column_lows, column_highs, row_lows, row_highs};
+ghost use Rattle.next_moves.specs.Offers.{is_legal, is_offered, Leads, IsOfferList, Neighbourhood, IsWhole};
 ghost use Rattle.next_moves.specs.Links.{link_moves};
 ghost use Rattle.next_moves.specs.Reach.{IsReached, AreMembers, HasMembers, HasMoreMembers};
 
@@ -72,6 +76,29 @@ pub fn a_destabilisation_is_one_on_each_translate()
         → shifted (size d) a (c + 1) ≡ shifted (size d) a c + 1
         → shifted (size d) b (r + 1) ≡ shifted (size d) b r + 1
         → (f : Diagram) × (Contains (translates e) f × Step (translate d a b) (Destabilise (shifted (size d) a c) (shifted (size d) b r)) f) }
+{}
+
+/// The spans of the columns and of the rows, as lane_spans takes them, are those of the diagram.
+pub fn spans_are_those_of_the_diagram()
+    ensures columns { (d : Diagram) (c : ℕ)
+        → c < size d
+        → span_at (column_lows d) (column_highs d) c ≡ record { low = (column_span d c).low; high = (column_span d c).high } }
+    ensures rows { (d : Diagram) (r : ℕ)
+        → r < size d
+        → span_at (row_lows d) (row_highs d) r ≡ record { low = (ends d r).low; high = (ends d r).high } }
+{}
+
+/// Neighbours round the circle may trade places, as lane_spans says by their spans, exactly where their exchange is legal: of the last and
+/// the first on the translate on which they stand side by side.
+pub fn neighbours_trade_places_where_their_exchange_is_legal()
+    ensures columns { (d : Diagram) (c : ℕ)
+        → IsGrid d
+        → c < size d
+        → lane_columns.trades (column_lows d) (column_highs d) c ≡ is_legal d (column_exchange (size d) c) }
+    ensures rows { (d : Diagram) (r : ℕ)
+        → IsGrid d
+        → r < size d
+        → lane_columns.trades (row_lows d) (row_highs d) r ≡ is_legal d (row_exchange (size d) r) }
 {}
 
 /// The key of every neighbour, over all translates and all moves but shifts, is that of some offer.

@@ -5,9 +5,11 @@
 pub mod laws;
 mod links;
 mod offers;
+mod side_by_side;
+mod spans;
 #[cfg(test)]
 mod tests;
 mod tries;
 
-pub use links::{Link, Offer};
+pub use links::{Link, Offer, push_link, push_link_back};
 pub use offers::{MAX_OFFERS, Offers};

@@ -1,7 +1,10 @@
 //! Links and offers.
+ghost use Rattle.std.specs.Prelude.{◌≡◌, ◌++◌, reverse, IfOk};
+ghost use Rattle.next_moves.specs.Links.{link_moves};
 
-use grid_canon::Packed;
+use grid_canon::{Packed, push_shifts, push_shifts_back};
 use grid_moves::Move;
+use memory_core::OutOfMemory;
 
 /// One way from a canonical diagram to a neighbour: the shifts before, the move, and the shifts after.
 /// Each pair is a shift of columns and a shift of rows, of which 0 means none.
@@ -38,4 +41,22 @@ pub struct Offer {
     pub key: Packed,
     /// The way that leads there.
     pub link: Link,
+}
+
+/// Puts the moves of a link at the end of a list. Where there is no memory for all of them the first ones may stand there.
+pub fn push_link(list: &mut Vec<Move>, link: Link) -> Result<(), OutOfMemory>
+    ensures { IfOk result (λ _. list.new.items ≡ list.old.items ++ link_moves link) }
+{
+    push_shifts(list, link.before.0, link.before.1)?;
+    list.push(link.step)?;
+    push_shifts(list, link.after.0, link.after.1)
+}
+
+/// Puts the moves of a link at the end of a list, the last one first.
+pub fn push_link_back(list: &mut Vec<Move>, link: Link) -> Result<(), OutOfMemory>
+    ensures { IfOk result (λ _. list.new.items ≡ list.old.items ++ reverse (link_moves link)) }
+{
+    push_shifts_back(list, link.after.0, link.after.1)?;
+    list.push(link.step)?;
+    push_shifts_back(list, link.before.0, link.before.1)
 }

@@ -1,15 +1,20 @@
 //! The tries one by one, in their order.
-ghost use Rattle.std.specs.Prelude.{◌≡◌, ◌<◌, ◌≤◌, ◌+◌, ◌-◌, ◌*◌, ◌∷◌, [], IfSome, length, map};
+ghost use Rattle.std.specs.Prelude.{◌≡◌, ◌<◌, ◌≤◌, ◌+◌, ◌*◌, ◌∷◌, ◌++◌, [], IfSome, length, map, true, false};
 ghost use Rattle.std.specs.List.{range_with_len, flat_map};
 ghost use Rattle.grid_core.specs.Corners.{corners};
 ghost use Rattle.grid_core.specs.Diagram.{IsGrid, size};
 ghost use Rattle.grid_canon.specs.Translation.{translate};
 ghost use Rattle.next_moves.specs.declared.offers.TheConstants.{MAX_OFFERS};
-ghost use Rattle.next_moves.specs.Tries.{shift_before, place_after_shift, column_trades, row_trades, destabilisation, destabilisations, stabilisations, stabilisation};
-ghost use Rattle.next_moves.specs.Extends.{Extends, column_trade, row_trade, next, row_of_both, counted};
+ghost use Rattle.next_moves.specs.Tries.{column_exchange, row_exchange, column_trades, row_trades, destabilisation, destabilisations, stabilisations, stabilisation};
+ghost use Rattle.next_moves.specs.Offers.{is_legal};
+ghost use Rattle.lane_spans.specs.Columns.{has_bit, trades};
+ghost use Rattle.next_moves.specs.Spans.{column_lows, column_highs, row_lows, row_highs};
+ghost use Rattle.next_moves.specs.Extends.{Extends, row_of_both, if_below};
 
 use crate::links::{Link, Offer};
 use crate::offers::MAX_OFFERS;
+use crate::side_by_side::{next, shift_before};
+use crate::spans::{Spans, has_bit};
 use arrayvec::ArrayVec;
 use grid_canon::{LeastKey, MAX_SHORT_SIZE, ShortGrid, canonical_key, translate};
 use grid_core::{Corner, Grid, Kind};
@@ -131,21 +136,55 @@ impl<'a> Tries<'a> {
         ensures offered { Extends self.now.diagram self.now.cap (flat_map (column_trades (size self.now.diagram)) (range_with_len 0 (size self.now.diagram))) list.old.items list.new.items }
         ensures fits { length list.new.items ≤ length list.old.items + size self.now.diagram }
     {
-        for c in 0..self.size() {
-            self.trade_column(list, c);
+        let size = self.size();
+        let spans = Spans::of_columns(self.grid());
+        let exchanges = spans.exchanges();
+        for c in 0..size {
+            self.trade_column(list, &spans, exchanges, c);
         }
     }
 
-    /// Appends the offer of the move by which a column and the next one trade places, where there is one.
-    fn trade_column(&self, list: &mut OfferList, c: u8)
+    /// Appends the offer of the move by which a column and the next one trade places, where there is one: by the spans of the columns, and the
+    /// mask of their exchanges.
+    fn trade_column(&self, list: &mut OfferList, spans: &Spans, exchanges: u64, c: u8)
         requires column { c < size self.now.diagram }
+        requires lows { spans.now.lows.items ≡ column_lows self.now.diagram }
+        requires highs { spans.now.highs.items ≡ column_highs self.now.diagram }
+        requires exchanges { has_bit exchanges c ≡ trades (column_lows self.now.diagram) (column_highs self.now.diagram) c }
+        requires room { length list.old.items < MAX_OFFERS }
+        ensures offered { Extends self.now.diagram self.now.cap (column_trades (size self.now.diagram) c) list.old.items list.new.items }
+        ensures fits { length list.new.items ≤ length list.old.items + 1 }
+    {
+        let size = self.size();
+        if has_bit(exchanges, c) {
+            self.exchange_columns(list, c);
+        } else if spans.touch_once(c, size) {
+            self.slide_columns(list, c);
+        }
+    }
+
+    /// Appends the exchange of a column and the next one, which is legal.
+    fn exchange_columns(&self, list: &mut OfferList, c: u8)
+        requires column { c < size self.now.diagram }
+        requires legal { is_legal self.now.diagram (column_exchange (size self.now.diagram) c) ≡ true }
         requires room { length list.old.items < MAX_OFFERS }
         ensures offered { Extends self.now.diagram self.now.cap (column_trades (size self.now.diagram) c) list.old.items list.new.items }
         ensures fits { length list.new.items ≤ length list.old.items + 1 }
     {
         let by = shift_before(c, self.size());
-        let step = column_trade(self.translated((by, 0)), c - by);
-        self.try_move(list, (by, 0), step);
+        self.try_move(list, (by, 0), Move::ExchangeColumns(c - by));
+    }
+
+    /// Appends the slide of a column and the next one, whose exchange is not legal.
+    fn slide_columns(&self, list: &mut OfferList, c: u8)
+        requires column { c < size self.now.diagram }
+        requires no_exchange { is_legal self.now.diagram (column_exchange (size self.now.diagram) c) ≡ false }
+        requires room { length list.old.items < MAX_OFFERS }
+        ensures offered { Extends self.now.diagram self.now.cap (column_trades (size self.now.diagram) c) list.old.items list.new.items }
+        ensures fits { length list.new.items ≤ length list.old.items + 1 }
+    {
+        let by = shift_before(c, self.size());
+        self.try_move(list, (by, 0), Move::SlideColumns(c - by));
     }
 
     /// Appends the exchanges and slides of neighbouring rows.
@@ -154,21 +193,55 @@ impl<'a> Tries<'a> {
         ensures offered { Extends self.now.diagram self.now.cap (flat_map (row_trades (size self.now.diagram)) (range_with_len 0 (size self.now.diagram))) list.old.items list.new.items }
         ensures fits { length list.new.items ≤ length list.old.items + size self.now.diagram }
     {
-        for r in 0..self.size() {
-            self.trade_row(list, r);
+        let size = self.size();
+        let spans = Spans::of_rows(self.grid());
+        let exchanges = spans.exchanges();
+        for r in 0..size {
+            self.trade_row(list, &spans, exchanges, r);
         }
     }
 
-    /// Appends the offer of the move by which a row and the next one trade places, where there is one.
-    fn trade_row(&self, list: &mut OfferList, r: u8)
+    /// Appends the offer of the move by which a row and the next one trade places, where there is one: by the spans of the rows, and the
+    /// mask of their exchanges.
+    fn trade_row(&self, list: &mut OfferList, spans: &Spans, exchanges: u64, r: u8)
         requires row { r < size self.now.diagram }
+        requires lows { spans.now.lows.items ≡ row_lows self.now.diagram }
+        requires highs { spans.now.highs.items ≡ row_highs self.now.diagram }
+        requires exchanges { has_bit exchanges r ≡ trades (row_lows self.now.diagram) (row_highs self.now.diagram) r }
+        requires room { length list.old.items < MAX_OFFERS }
+        ensures offered { Extends self.now.diagram self.now.cap (row_trades (size self.now.diagram) r) list.old.items list.new.items }
+        ensures fits { length list.new.items ≤ length list.old.items + 1 }
+    {
+        let size = self.size();
+        if has_bit(exchanges, r) {
+            self.exchange_rows(list, r);
+        } else if spans.touch_once(r, size) {
+            self.slide_rows(list, r);
+        }
+    }
+
+    /// Appends the exchange of a row and the next one, which is legal.
+    fn exchange_rows(&self, list: &mut OfferList, r: u8)
+        requires row { r < size self.now.diagram }
+        requires legal { is_legal self.now.diagram (row_exchange (size self.now.diagram) r) ≡ true }
         requires room { length list.old.items < MAX_OFFERS }
         ensures offered { Extends self.now.diagram self.now.cap (row_trades (size self.now.diagram) r) list.old.items list.new.items }
         ensures fits { length list.new.items ≤ length list.old.items + 1 }
     {
         let by = shift_before(r, self.size());
-        let step = row_trade(self.translated((0, by)), r - by);
-        self.try_move(list, (0, by), step);
+        self.try_move(list, (0, by), Move::ExchangeRows(r - by));
+    }
+
+    /// Appends the slide of a row and the next one, whose exchange is not legal.
+    fn slide_rows(&self, list: &mut OfferList, r: u8)
+        requires row { r < size self.now.diagram }
+        requires no_exchange { is_legal self.now.diagram (row_exchange (size self.now.diagram) r) ≡ false }
+        requires room { length list.old.items < MAX_OFFERS }
+        ensures offered { Extends self.now.diagram self.now.cap (row_trades (size self.now.diagram) r) list.old.items list.new.items }
+        ensures fits { length list.new.items ≤ length list.old.items + 1 }
+    {
+        let by = shift_before(r, self.size());
+        self.try_move(list, (0, by), Move::SlideRows(r - by));
     }
 
     /// Appends the destabilisations, by column and then by row.
@@ -182,39 +255,48 @@ impl<'a> Tries<'a> {
         }
     }
 
-    /// Appends the destabilisations at a column and the next one.
+    /// Appends the destabilisations at a column and the next one, by row. A block with three marks has both marks of one of its columns:
+    /// no other is tried.
     fn destabilise_column(&self, list: &mut OfferList, c: u8)
         requires column { c < size self.now.diagram }
         requires room { length list.old.items + 2 ≤ MAX_OFFERS }
         ensures offered { Extends self.now.diagram self.now.cap (destabilisations (size self.now.diagram) c) list.old.items list.new.items }
         ensures fits { length list.new.items ≤ length list.old.items + 2 }
     {
-        let size = self.size();
-        let blocks = Blocks {
-            column: c,
-            near: row_of_both(self.grid(), c),
-            far: row_of_both(self.grid(), next(c, size)),
-        };
-        for r in 0..size {
-            self.try_block(list, blocks, r);
+        let near = row_of_both(self.grid(), c);
+        let far = row_of_both(self.grid(), next(c, self.size()));
+        if near < far {
+            self.try_blocks(list, c, near, far);
+        } else if far < near {
+            self.try_blocks(list, c, far, near);
+        } else {
+            self.try_block(list, c, near);
         }
     }
 
-    /// Appends the destabilisation at the block of one row, where a column has both its marks there: no other block has three marks.
-    fn try_block(&self, list: &mut OfferList, blocks: Blocks, r: u8)
-        requires column { blocks.column < size self.now.diagram }
-        requires row { r < size self.now.diagram }
-        requires near { blocks.near ≡ row_of_both self.now.diagram blocks.column }
-        requires far { blocks.far ≡ row_of_both self.now.diagram (next (size self.now.diagram) blocks.column) }
-        requires room { length list.old.items + counted blocks.near r + counted blocks.far r ≤ MAX_OFFERS }
-        ensures offered { Extends self.now.diagram self.now.cap (destabilisation (size self.now.diagram) blocks.column r ∷ []) list.old.items list.new.items }
-        ensures fits { length list.new.items ≤ length list.old.items + counted blocks.near r + counted blocks.far r }
+    /// Appends the destabilisations at the blocks of two rows, where these are rows.
+    fn try_blocks(&self, list: &mut OfferList, c: u8, first: u8, second: u8)
+        requires column { c < size self.now.diagram }
+        requires room { length list.old.items + 2 ≤ MAX_OFFERS }
+        ensures offered { Extends self.now.diagram self.now.cap (map (destabilisation (size self.now.diagram) c) (if_below (size self.now.diagram) first ++ if_below (size self.now.diagram) second)) list.old.items list.new.items }
+        ensures fits { length list.new.items ≤ length list.old.items + 2 }
+    {
+        self.try_block(list, c, first);
+        self.try_block(list, c, second);
+    }
+
+    /// Appends the destabilisation at the block of one row, where that is a row.
+    fn try_block(&self, list: &mut OfferList, c: u8, r: u8)
+        requires column { c < size self.now.diagram }
+        requires room { length list.old.items < MAX_OFFERS }
+        ensures offered { Extends self.now.diagram self.now.cap (map (destabilisation (size self.now.diagram) c) (if_below (size self.now.diagram) r)) list.old.items list.new.items }
+        ensures fits { length list.new.items ≤ length list.old.items + 1 }
     {
         let size = self.size();
-        if r == blocks.near || r == blocks.far {
-            let before = (shift_before(blocks.column, size), shift_before(r, size));
+        if r < size {
+            let before = (shift_before(c, size), shift_before(r, size));
             let step = Move::Destabilise {
-                column: blocks.column - before.0,
+                column: c - before.0,
                 row: r - before.1,
             };
             self.try_move(list, before, step);
@@ -300,41 +382,6 @@ fn offer_of(found: LeastKey, before: (u8, u8), step: Move) -> Offer
     }
 }
 
-/// The only move by which columns c and c + 1 may trade places: a slide where they share a row, else an exchange.
-fn column_trade(grid: &Grid, c: u8) -> Move
-    requires { c + 1 < size grid.now }
-    ensures { result ≡ column_trade grid.now c }
-{
-    let _size = grid.size();
-    if grid.column_span(c).touches(grid.column_span(c + 1)) {
-        Move::SlideColumns(c)
-    } else {
-        Move::ExchangeColumns(c)
-    }
-}
-
-/// The only move by which rows r and r + 1 may trade places: a slide where they share a column, else an exchange.
-fn row_trade(grid: &Grid, r: u8) -> Move
-    requires { r + 1 < size grid.now }
-    ensures { result ≡ row_trade grid.now r }
-{
-    let _size = grid.size();
-    if grid.row_span(r).touches(grid.row_span(r + 1)) {
-        Move::SlideRows(r)
-    } else {
-        Move::ExchangeRows(r)
-    }
-}
-
-/// The blocks of a column and the next one of which one column has both its marks: in the row `near` and the next the column itself, in
-/// the row `far` and the next the next one. A row that is the size stands for none.
-#[derive(Clone, Copy)]
-struct Blocks {
-    column: u8,
-    near: u8,
-    far: u8,
-}
-
 /// The row of a block of two rows with both marks of a column, or the size where there is none.
 fn row_of_both(grid: &Grid, c: u8) -> u8
     requires { c < size grid.now }
@@ -350,28 +397,6 @@ fn row_of_both(grid: &Grid, c: u8) -> u8
     } else {
         size
     }
-}
-
-/// The next number, round the circle of as many as the size.
-fn next(c: u8, size: u8) -> u8
-    requires { c < size }
-    ensures next { result ≡ next size c }
-    ensures inside { result < size }
-{
-    if c + 1 == size { 0 } else { c + 1 }
-}
-
-/// The shift that brings c and the next number, round the circle, side by side: none but for the last, which then stands one lower.
-fn shift_before(c: u8, size: u8) -> u8
-    requires least { 2 ≤ size }
-    requires inside { c < size }
-    ensures shift { result ≡ shift_before size c }
-    ensures one { result ≤ 1 }
-    ensures low { result ≤ c }
-    ensures place { c - result ≡ place_after_shift size c }
-    ensures inside { c - result + 1 < size }
-{
-    if c + 1 == size { 1 } else { 0 }
 }
 
 /// A stabilisation: the mark of a kind in a column becomes a block of three, with the other kind in this corner.

@@ -1,53 +1,15 @@
 //! The path of an entry, as a list of moves.
-ghost use Rattle.std.specs.Prelude.{◌≡◌, ◌<◌, ◌++◌, ◌∷◌, [], length, IfOk};
+ghost use Rattle.std.specs.Prelude.{◌≡◌, ◌<◌, ◌++◌, length, IfOk};
 ghost use Rattle.std.specs.List.{All};
-ghost use Rattle.grid_canon.specs.Shifts.{column_shift, row_shift, shift_moves};
-ghost use Rattle.next_moves.specs.Links.{link_moves};
 ghost use Rattle.search_book.specs.Path.{path};
 ghost use Rattle.search_book.specs.JoiningWays.{ParentsComeFirst, own_moves, way_down};
 
 use crate::entry::{Entry, Origin};
+use grid_canon::push_shifts;
 use grid_moves::Move;
 use memory_core::OutOfMemory;
-use next_moves::Link;
+use next_moves::push_link;
 use std::alloc::Global;
-
-/// Puts the shifts of columns and of rows at the end, where a shift by 0 is left out.
-pub fn push_shifts(list: &mut Vec<Move>, columns: u8, rows: u8) -> Result<(), OutOfMemory>
-    ensures { IfOk result (λ _. list.new.items ≡ list.old.items ++ shift_moves columns rows) }
-{
-    push_columns(list, columns)?;
-    push_rows(list, rows)
-}
-
-/// Puts the shift of columns at the end, where it is not by 0.
-fn push_columns(list: &mut Vec<Move>, columns: u8) -> Result<(), OutOfMemory>
-    ensures { IfOk result (λ _. list.new.items ≡ list.old.items ++ column_shift columns) }
-{
-    if columns == 0 {
-        return Ok(());
-    }
-    Ok(list.push(Move::ShiftColumns(columns))?)
-}
-
-/// Puts the shift of rows at the end, where it is not by 0.
-fn push_rows(list: &mut Vec<Move>, rows: u8) -> Result<(), OutOfMemory>
-    ensures { IfOk result (λ _. list.new.items ≡ list.old.items ++ row_shift rows) }
-{
-    if rows == 0 {
-        return Ok(());
-    }
-    Ok(list.push(Move::ShiftRows(rows))?)
-}
-
-/// Puts the moves of a link at the end.
-pub fn push_link(list: &mut Vec<Move>, link: Link) -> Result<(), OutOfMemory>
-    ensures { IfOk result (λ _. list.new.items ≡ list.old.items ++ link_moves link) }
-{
-    push_shifts(list, link.before.0, link.before.1)?;
-    list.push(link.step)?;
-    push_shifts(list, link.after.0, link.after.1)
-}
 
 /// Puts what leads to an entry from its parent, or from its side's diagram, at the end.
 fn push_origin(list: &mut Vec<Move>, origin: Origin) -> Result<(), OutOfMemory>

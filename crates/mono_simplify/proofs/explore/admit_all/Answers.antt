@@ -10,11 +10,17 @@ counted members n b is full = length-map members (λ (m : Member). m.0) ∙ sym 
 
 pub returns-then-len-budget-clause-keys : goal.returns-then-len-budget-clause-keys
 returns-then-len-budget-clause-keys c =
-    (cut_full c.args.offers.now (keys_in c.args.class.now) (keys_in c.loop-offer.class) c.loop-offer.offer-index c.args.budget _ c.loop-offer-test.true c.loop-offer.invariant.0 (sym c.is_exchange.ensures ∙ c.if-not-is_exchange.false) (sym c.holds.ensures ∙ c.if-holds.false) (counted c.loop-offer.class c.len.result c.args.budget c.len.ensures c.if-len-budget.true)).0
+    (cut_full c.args.offers.now (keys_in c.args.class.now)
+    (keys_in c.loop-offer.class) c.loop-offer.offer-index c.args.budget _ c.loop-offer-test.true c.loop-offer.invariant.0
+    (sym c.is_exchange.ensures ∙ c.if-not-is_exchange.false) (sym c.holds.ensures ∙ c.if-holds.false)
+    (counted c.loop-offer.class c.len.result c.args.budget c.len.ensures c.if-len-budget.true)).0
 
 pub returns-then-len-budget-clause-over : goal.returns-then-len-budget-clause-over
 returns-then-len-budget-clause-over c =
-    (cut_full c.args.offers.now (keys_in c.args.class.now) (keys_in c.loop-offer.class) c.loop-offer.offer-index c.args.budget _ c.loop-offer-test.true c.loop-offer.invariant.0 (sym c.is_exchange.ensures ∙ c.if-not-is_exchange.false) (sym c.holds.ensures ∙ c.if-holds.false) (counted c.loop-offer.class c.len.result c.args.budget c.len.ensures c.if-len-budget.true)).1
+    (cut_full c.args.offers.now (keys_in c.args.class.now)
+    (keys_in c.loop-offer.class) c.loop-offer.offer-index c.args.budget _ c.loop-offer-test.true c.loop-offer.invariant.0
+    (sym c.is_exchange.ensures ∙ c.if-not-is_exchange.false) (sym c.holds.ensures ∙ c.if-holds.false)
+    (counted c.loop-offer.class c.len.result c.args.budget c.len.ensures c.if-len-budget.true)).1
 
 pub loop-offer-preserved : goal.loop-offer-preserved
 loop-offer-preserved c =

@@ -6,4 +6,5 @@ use Rattle.mono_simplify.proofs.explore.admit_all.Given as goal
 
 abbrev pub invariant-loop-offer : goal.invariant-loop-offer
 invariant-loop-offer l =
-    (keys_in l.class ≡ with_keys (keys_in l.fn.class) (exchanges_among (take l.offer-index l.offers))) × (length l.class ≤ l.budget) × Extends l.place (exchanges_among l.offers) l.fn.class l.class
+    (keys_in l.class ≡ with_keys (keys_in l.fn.class) (exchanges_among (take l.offer-index l.offers))) × (length l.class ≤ l.budget) × Extends l.place
+    (exchanges_among l.offers) l.fn.class l.class

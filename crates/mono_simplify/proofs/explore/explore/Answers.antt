@@ -20,7 +20,8 @@ pub loop-place-init : goal.loop-place-init
 loop-place-init c =
     let root = c.canonical_key-root.ensures in
     let is : c.in_ok-class.class ≡ (c.canonical_key-root.result.key, c.in_ok-class.ensures.0) ∷ [] = c.in_ok-class.ensures.1 in
-    let named : c.in_ok-class.class ≡ (key_of root.form, c.in_ok-class.ensures.0) ∷ [] = is ∙ ap (λ (k : Packed). (k, c.in_ok-class.ensures.0) ∷ []) (sym root.key) in (
+    let named : c.in_ok-class.class ≡ (key_of root.form, c.in_ok-class.ensures.0) ∷ [] = is ∙ ap (λ (k : Packed). (k, c.in_ok-class.ensures.0) ∷ [])
+    (sym root.key) in (
       omega arith,
       omega (arith, ap length is, c.requires),
       explored_start c.args.grid.now root.form c.args.budget (keys_in c.in_ok-class.class) c.requires root.least.canonical (ap keys_in named),
@@ -29,36 +30,44 @@ loop-place-init c =
 
 pub form_of-form-requires : goal.form_of-form-requires
 form_of-form-requires c =
-    let m = member_at c.args.grid.now c.args.budget c.loop-place.place c.loop-place.place (keys_in c.loop-place.class) c.key_at.result c.loop-place.over c.size-size.ensures.grid c.loop-place.invariant.2 c.key_at.ensures in
+    let m = member_at c.args.grid.now c.args.budget c.loop-place.place c.loop-place.place
+    (keys_in c.loop-place.class) c.key_at.result c.loop-place.over c.size-size.ensures.grid c.loop-place.invariant.2 c.key_at.ensures in
     (m.form, m.names)
 
 pub of-offers-requires-clause-canonical : goal.of-offers-requires-clause-canonical
 of-offers-requires-clause-canonical c =
-    let m = member_at c.args.grid.now c.args.budget c.loop-place.place c.loop-place.place (keys_in c.loop-place.class) c.key_at.result c.loop-place.over c.size-size.ensures.grid c.loop-place.invariant.2 c.key_at.ensures in
+    let m = member_at c.args.grid.now c.args.budget c.loop-place.place c.loop-place.place
+    (keys_in c.loop-place.class) c.key_at.result c.loop-place.over c.size-size.ensures.grid c.loop-place.invariant.2 c.key_at.ensures in
     subst (λ (e : Diagram). IsCanonical e) (sym (c.form_of-form.ensures m.form m.names)) m.own
 
 pub of-offers-requires-clause-least : goal.of-offers-requires-clause-least
 of-offers-requires-clause-least c =
-    let m = member_at c.args.grid.now c.args.budget c.loop-place.place c.loop-place.place (keys_in c.loop-place.class) c.key_at.result c.loop-place.over c.size-size.ensures.grid c.loop-place.invariant.2 c.key_at.ensures in
+    let m = member_at c.args.grid.now c.args.budget c.loop-place.place c.loop-place.place
+    (keys_in c.loop-place.class) c.key_at.result c.loop-place.over c.size-size.ensures.grid c.loop-place.invariant.2 c.key_at.ensures in
     omega (arith, ap size (c.form_of-form.ensures m.form m.names), m.long, c.size-size.ensures.size)
 
 pub grid_of-requires : goal.grid_of-requires
 grid_of-requires c =
     let d : Diagram = c.args.grid.now in
-    let m = member_at d c.args.budget c.loop-place.place c.loop-place.place (keys_in c.loop-place.class) c.key_at.result c.loop-place.over c.size-size.ensures.grid c.loop-place.invariant.2 c.key_at.ensures in
-    let list = asked d m.form c.form_of-form.result.grid c.size-size.result c.of-offers.result.offers c.offers.result.now c.of-offers.ensures.offers (c.form_of-form.ensures m.form m.names) c.size-size.ensures.size m.long c.offers.ensures.offers in
+    let m = member_at d c.args.budget c.loop-place.place c.loop-place.place
+    (keys_in c.loop-place.class) c.key_at.result c.loop-place.over c.size-size.ensures.grid c.loop-place.invariant.2 c.key_at.ensures in
+    let list = asked d m.form c.form_of-form.result.grid c.size-size.result c.of-offers.result.offers c.offers.result.now c.of-offers.ensures.offers
+    (c.form_of-form.ensures m.form m.names) c.size-size.ensures.size m.long c.offers.ensures.offers in
     let led = smaller_by_one m.form c.offers.result.now c.in-Some.offer m.names.grid list c.in-Some.ensures.some.0 c.in-Some.ensures.some.1 in
     (led.0, led.1.0)
 
 pub returns-in-Some : goal.returns-in-Some
 returns-in-Some c =
     let d : Diagram = c.args.grid.now in
-    let m = member_at d c.args.budget c.loop-place.place c.loop-place.place (keys_in c.loop-place.class) c.key_at.result c.loop-place.over c.size-size.ensures.grid c.loop-place.invariant.2 c.key_at.ensures in
-    let list = asked d m.form c.form_of-form.result.grid c.size-size.result c.of-offers.result.offers c.offers.result.now c.of-offers.ensures.offers (c.form_of-form.ensures m.form m.names) c.size-size.ensures.size m.long c.offers.ensures.offers in
+    let m = member_at d c.args.budget c.loop-place.place c.loop-place.place
+    (keys_in c.loop-place.class) c.key_at.result c.loop-place.over c.size-size.ensures.grid c.loop-place.invariant.2 c.key_at.ensures in
+    let list = asked d m.form c.form_of-form.result.grid c.size-size.result c.of-offers.result.offers c.offers.result.now c.of-offers.ensures.offers
+    (c.form_of-form.ensures m.form m.names) c.size-size.ensures.size m.long c.offers.ensures.offers in
     let led = smaller_by_one m.form c.offers.result.now c.in-Some.offer m.names.grid list c.in-Some.ensures.some.0 c.in-Some.ensures.some.1 in
     let is : c.grid_of.result ≡ led.0 = c.grid_of.ensures led.0 led.1.0 in
     let smaller : size led.0 + 1 ≡ size m.form = led.1.2 in (
-      subst (λ (e : Diagram). JoinsWithin (size d) d c.in_ok-moves.moves.items e) (sym is) (c.in_ok-moves.ensures.joined c.key_at.result m.form led.0 c.key_at.ensures m.names m.long led.1.1 (omega (arith, smaller, m.long))),
+      subst (λ (e : Diagram). JoinsWithin (size d) d c.in_ok-moves.moves.items e) (sym is)
+          (c.in_ok-moves.ensures.joined c.key_at.result m.form led.0 c.key_at.ensures m.names m.long led.1.1 (omega (arith, smaller, m.long))),
       omega (arith, ap size is, smaller, m.long),
       destabilised c.in_ok-moves.moves.items c.in-Some.offer.link.step c.in-Some.ensures.some.1 c.in_ok-moves.ensures.last,
       c.in_ok-moves.ensures.kept (monotonic_destabilisation c.in-Some.offer.link.step c.in-Some.ensures.some.1),
@@ -70,9 +79,11 @@ loop-place-preserved c =
     let key : Packed = c.key_at.result in
     let old : List Member = c.loop-place.class in
     let new : List Member = c.turn.new.class in
-    let m = member_at d c.args.budget c.loop-place.place c.loop-place.place (keys_in old) key c.loop-place.over c.size-size.ensures.grid c.loop-place.invariant.2 c.key_at.ensures in
+    let m = member_at d c.args.budget c.loop-place.place c.loop-place.place
+    (keys_in old) key c.loop-place.over c.size-size.ensures.grid c.loop-place.invariant.2 c.key_at.ensures in
     let seen : List Offer = c.offers-in-loop-place.result.now in
-    let list = asked d m.form c.form_of-form.result.grid c.size-size.result c.of-offers.result.offers seen c.of-offers.ensures.offers (c.form_of-form.ensures m.form m.names) c.size-size.ensures.size m.long c.offers-in-loop-place.ensures.offers in
+    let list = asked d m.form c.form_of-form.result.grid c.size-size.result c.of-offers.result.offers seen c.of-offers.ensures.offers
+    (c.form_of-form.ensures m.form m.names) c.size-size.ensures.size m.long c.offers-in-loop-place.ensures.offers in
     let one : c.offers.result.now ≡ seen = c.offers.ensures.offers ∙ sym c.offers-in-loop-place.ensures.offers in
     let none : All Keeps seen = subst (λ (os : List Offer). All Keeps os) one c.in_default.ensures.none in
     let exchanges = exchanges_offered m.form (size m.form) (size m.form) seen list in
@@ -85,12 +96,14 @@ loop-place-preserved c =
 
 pub returns-then-over : goal.returns-then-over
 returns-then-over c =
-    explored_more c.args.grid.now c.args.budget c.loop-place.place (keys_in c.loop-place.class) (subst (λ (b : Bool). IsExplored c.args.grid.now c.args.budget c.loop-place.place (keys_in c.loop-place.class) b) c.if-over.true c.loop-place.invariant.2)
+    explored_more c.args.grid.now c.args.budget c.loop-place.place (keys_in c.loop-place.class)
+    (subst (λ (b : Bool). IsExplored c.args.grid.now c.args.budget c.loop-place.place (keys_in c.loop-place.class) b) c.if-over.true c.loop-place.invariant.2)
     (omega (arith, c.loop-place-test.false, c.len.ensures, length-map c.loop-place.class (λ (m : Member). m.0)))
 
 pub returns : goal.returns
 returns c =
-    explored_whole c.args.grid.now c.args.budget c.loop-place.place (keys_in c.loop-place.class) c.size-size.ensures.grid (subst (λ (b : Bool). IsExplored c.args.grid.now c.args.budget c.loop-place.place (keys_in c.loop-place.class) b) c.if-over.false c.loop-place.invariant.2)
+    explored_whole c.args.grid.now c.args.budget c.loop-place.place (keys_in c.loop-place.class) c.size-size.ensures.grid
+    (subst (λ (b : Bool). IsExplored c.args.grid.now c.args.budget c.loop-place.place (keys_in c.loop-place.class) b) c.if-over.false c.loop-place.invariant.2)
     (omega (arith, c.loop-place-test.false, c.len.ensures, length-map c.loop-place.class (λ (m : Member). m.0)))
     (omega (arith, c.loop-place.invariant.0, length-map c.loop-place.class (λ (m : Member). m.0)))
     (omega (arith, c.loop-place.invariant.1, length-map c.loop-place.class (λ (m : Member). m.0)))

@@ -7,7 +7,8 @@ use Rattle.mono_simplify.proofs.simplified.simplify.Given as goal
 
 abbrev pub invariant-loop-moves : goal.invariant-loop-moves
 invariant-loop-moves l =
-    JoinsWithin (size l.grid) l.grid l.moves.items l.here × (list_any is_destabilisation l.moves.items ≡ false → (l.here ≡ l.grid) × (l.moves.items ≡ [])) × AreMonotonic l.moves.items
+    JoinsWithin (size l.grid) l.grid l.moves.items l.here × (list_any is_destabilisation l.moves.items ≡ false → (l.here ≡ l.grid) × (l.moves.items ≡ []))
+    × AreMonotonic l.moves.items
 
 abbrev pub decreases-loop-moves : goal.decreases-loop-moves
 decreases-loop-moves l = size l.here

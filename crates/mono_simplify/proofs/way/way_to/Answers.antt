@@ -20,7 +20,8 @@ pub origin_at-origin-requires : goal.origin_at-origin-requires
 origin_at-origin-requires c = c.loop-here.invariant.0
 
 pub loop-here-smaller : goal.loop-here-smaller
-loop-here-smaller c = parent_before c.args.grid.now c.args.class.now c.loop-here.here c.origin_at-origin.result c.origin_at-origin.ensures.0 c.loop-here-test.true c.requires.ways c.origin_at-origin.ensures.1
+loop-here-smaller c =
+    parent_before c.args.grid.now c.args.class.now c.loop-here.here c.origin_at-origin.result c.origin_at-origin.ensures.0 c.loop-here-test.true c.requires.ways c.origin_at-origin.ensures.1
 
 pub loop-here-preserved : goal.loop-here-preserved
 loop-here-preserved c =

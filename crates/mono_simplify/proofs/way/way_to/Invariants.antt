@@ -13,7 +13,8 @@ abbrev pub invariant-loop-here : goal.invariant-loop-here
 invariant-loop-here l =
     (l.here < length l.class)
     × Contains l.back.items l.fn.last.step
-    × ((key : Packed) (member to : Diagram) → slice_get (keys_in l.class) l.place ≡ Some key → IsKeyOf key member → size member ≡ size l.grid → Leads member l.fn.last to → size to ≤ size l.grid → Trails l.grid l.class l.here l.back.items to)
+    × ((key : Packed) (member to : Diagram) → slice_get (keys_in l.class) l.place ≡ Some key → IsKeyOf key member → size member ≡ size l.grid
+    → Leads member l.fn.last to → size to ≤ size l.grid → Trails l.grid l.class l.here l.back.items to)
     × (is_monotonic l.fn.last.step ≡ true → AreMonotonic l.back.items)
 
 abbrev pub decreases-loop-here : goal.decreases-loop-here

@@ -9,7 +9,8 @@ use Rattle.mono_simplify.proofs.class.Class.admit.Goals as goal
 pub returns : goal.returns
 returns c =
     let old : c.self.inside.index.entries ≡ c.args.self.now = c.self.view_is in
-    let absent : has_key (keys_in c.self.inside.index.entries) c.args.key ≡ false = ap (λ (ms : List Member). has_key (keys_in ms) c.args.key) old ∙ c.requires in
+    let absent : has_key (keys_in c.self.inside.index.entries) c.args.key ≡ false = ap (λ (ms : List Member). has_key (keys_in ms) c.args.key) old
+    ∙ c.requires in
     c.in_ok-insert.ensures.entries
     ∙ insert_entry-new same_key c.self.inside.index c.args.key c.args.origin (absent_key c.self.inside.index.entries c.args.key absent)
     ∙ ap (λ (ms : List Member). ms ++ (c.args.key, c.args.origin) ∷ []) old

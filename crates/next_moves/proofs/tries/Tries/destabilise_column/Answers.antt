@@ -1,18 +1,38 @@
-use Rattle.std.proofs.Common.{refl, arith}
-use Rattle.grid_core.specs.Diagram.{size}
-use Rattle.next_moves.specs.Tries.{destabilisation}
-use Rattle.next_moves.proofs.Extended.{extends_more}
-use Rattle.next_moves.proofs.Sides.{passed_more}
+use Rattle.std.proofs.Common.{◌≡◌, ◌∙◌, ℕ, arith, ap, sym}
+use Rattle.grid_core.specs.Diagram.{Diagram}
+use Rattle.next_moves.specs.Extends.{next, row_of_both}
+use Rattle.next_moves.proofs.FewRows.{one_row, two_rows}
 use Rattle.next_moves.proofs.tries.Tries.destabilise_column.Goals as goal
 
-pub loop-r-preserved : goal.loop-r-preserved
-loop-r-preserved c =
+pub returns-then-near-far-clause-offered : goal.returns-then-near-far-clause-offered
+returns-then-near-far-clause-offered c =
     let d = c.args.self.now.diagram in
-    let near = passed_more c.row_of_both.result c.loop-r.r in
-    let far = passed_more c.row_of_both-2.result c.loop-r.r in
-    record {
-      offered =
-          extends_more d c.args.self.now.cap (destabilisation (size d) c.args.c) c.loop-r.r _ c.args.list.now.items c.loop-r.list.items
-          c.try_block.new.list.items c.loop-r.invariant.offered refl c.try_block.ensures.offered;
-      fits = omega (arith, c.loop-r.invariant.fits, c.try_block.ensures.fits, near, far);
-    }
+    let near = c.row_of_both-near.ensures ∙ ap (λ (e : Diagram). row_of_both e c.args.c) c.grid.ensures in
+    let far =
+    c.row_of_both-far.ensures ∙ ap (λ (e : Diagram). row_of_both e c.next.result) c.grid-2.ensures
+    ∙ ap (λ (z : ℕ). row_of_both d z) (c.next.ensures.next ∙ ap (λ (n : ℕ). next n c.args.c) c.size.ensures.size) in
+    two_rows d c.args.self.now.cap c.args.c c.size.ensures.grid c.requires.column _ _ c.args.list.now.items c.try_blocks.new.list.items
+    c.if-near-far.true (λ r not_near not_far. (λ e. not_near (e ∙ sym near), λ e. not_far (e ∙ sym far)))
+    c.try_blocks.ensures.offered
+
+pub returns-then-far-near-clause-offered : goal.returns-then-far-near-clause-offered
+returns-then-far-near-clause-offered c =
+    let d = c.args.self.now.diagram in
+    let near = c.row_of_both-near.ensures ∙ ap (λ (e : Diagram). row_of_both e c.args.c) c.grid.ensures in
+    let far =
+    c.row_of_both-far.ensures ∙ ap (λ (e : Diagram). row_of_both e c.next.result) c.grid-2.ensures
+    ∙ ap (λ (z : ℕ). row_of_both d z) (c.next.ensures.next ∙ ap (λ (n : ℕ). next n c.args.c) c.size.ensures.size) in
+    two_rows d c.args.self.now.cap c.args.c c.size.ensures.grid c.requires.column _ _ c.args.list.now.items c.try_blocks-then-far-near.new.list.items
+    c.if-far-near.true (λ r not_far not_near. (λ e. not_near (e ∙ sym near), λ e. not_far (e ∙ sym far)))
+    c.try_blocks-then-far-near.ensures.offered
+
+pub returns-else-far-near-clause-offered : goal.returns-else-far-near-clause-offered
+returns-else-far-near-clause-offered c =
+    let d = c.args.self.now.diagram in
+    let near = c.row_of_both-near.ensures ∙ ap (λ (e : Diagram). row_of_both e c.args.c) c.grid.ensures in
+    let far =
+    c.row_of_both-far.ensures ∙ ap (λ (e : Diagram). row_of_both e c.next.result) c.grid-2.ensures
+    ∙ ap (λ (z : ℕ). row_of_both d z) (c.next.ensures.next ∙ ap (λ (n : ℕ). next n c.args.c) c.size.ensures.size) in
+    let same : c.row_of_both-near.result ≡ c.row_of_both-far.result = omega (arith, c.if-near-far.false, c.if-far-near.false) in
+    one_row d c.args.self.now.cap c.args.c c.size.ensures.grid c.requires.column _ c.args.list.now.items c.try_block.new.list.items
+    near (same ∙ far) c.try_block.ensures.offered

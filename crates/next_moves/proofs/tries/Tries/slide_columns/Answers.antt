@@ -1,0 +1,17 @@
+use Rattle.std.proofs.Common.{◌∙◌, ◌∷◌, [], ℕ, ap, subst}
+use Rattle.grid_core.specs.Diagram.{size}
+use Rattle.grid_moves.specs.declared.step.Move.TheVariants.{SlideColumns}
+use Rattle.next_moves.specs.Tries.{Try, shift_before, place_after_shift}
+use Rattle.next_moves.specs.Extends.{Extends}
+use Rattle.next_moves.proofs.Sides.{column_made}
+use Rattle.next_moves.proofs.Trades.{columns_slid}
+use Rattle.next_moves.proofs.tries.Tries.slide_columns.Goals as goal
+
+pub returns-clause-offered : goal.returns-clause-offered
+returns-clause-offered c =
+    let d = c.args.self.now.diagram in
+    let shift = c.shift_before-by.ensures.shift ∙ ap (λ (n : ℕ). shift_before n c.args.c) c.size.ensures.size in
+    let stands = c.shift_before-by.ensures.place ∙ ap (λ (n : ℕ). place_after_shift n c.args.c) c.size.ensures.size in
+    columns_slid d c.args.self.now.cap (size d) c.args.c c.args.list.now.items c.try_move.new.list.items c.requires.no_exchange
+    (subst (λ (t : Try). Extends d c.args.self.now.cap (t ∷ []) c.args.list.now.items c.try_move.new.list.items)
+    (column_made (λ q. SlideColumns q) (size d) c.args.c _ _ shift stands) c.try_move.ensures.offered)
