@@ -23,57 +23,75 @@ use Rattle.pair_verdict.proofs.FirstFound.{find_passes, holds_by}
 use Rattle.pair_verdict.proofs.Verdicts.{claims_within, holds_within}
 
 -- what was decided where no quandle separates the diagrams is true within the cap
-true_of : (p : Problem) (qs : List NamedQuandle) (v : Verdict) (kept : Option Finding) → Decides p qs v kept → first_separating p.first p.second qs ≡ None → IsTrueWithin p v
-true_of p qs v kept decides none = elim decides [
+true_of : (p : Problem) (qs : List NamedQuandle) (workers : ℕ) (v : Verdict) (kept : Option Finding) → Decides p qs workers v kept
+    → first_separating p.first p.second qs ≡ None → IsTrueWithin p v
+true_of p qs workers v kept decides none = elim decides [
   | inl told ↦ absurd (let wrong : ◌≡◌ {A = Option NamedQuandle} None (Some told.quandle) = sym none ∙ told.first_that_does in cc)
   | inr searched ↦ searched.true_within
 ]
 
 -- the verdict of each kind, where it is true
-pub joined_by : (p : Problem) (v : Verdict) (k : ℕ) → IsTrueWithin p v → WithinCap p.first p.second p.cap → HasMembers (IsReached p.first p.second p.cap) k → k ≤ p.budget → (moves : List Move) × (v ≡ Equal moves)
+pub joined_by : (p : Problem) (v : Verdict) (k : ℕ) → IsTrueWithin p v → WithinCap p.first p.second p.cap
+    → HasMembers (IsReached p.first p.second p.cap) k → k ≤ p.budget → (moves : List Move) × (v ≡ Equal moves)
 joined_by p (Equal moves) k is joined all few = (moves, refl)
 joined_by p (Different listed one two) k is joined all few = absurd is
-joined_by p (UnknownBudget budget) k is joined all few = absurd (let more = more_excluded (IsReached p.first p.second p.cap) k budget all is.1 in let same = is.0 in omega (arith, more, same, few))
+joined_by p (UnknownBudget budget) k is joined all few =
+    absurd (let more = more_excluded (IsReached p.first p.second p.cap) k budget all is.1 in let same = is.0 in omega (arith, more, same, few))
 joined_by p (UnknownExhausted cap m) k is joined all few = absurd (is.1.1.1 joined)
 
-pub joined_or_spent : (p : Problem) (v : Verdict) → IsTrueWithin p v → WithinCap p.first p.second p.cap → ((moves : List Move) × (v ≡ Equal moves)) ⊎ (v ≡ UnknownBudget p.budget)
+pub joined_or_spent : (p : Problem) (v : Verdict) → IsTrueWithin p v → WithinCap p.first p.second p.cap
+    → ((moves : List Move) × (v ≡ Equal moves)) ⊎ (v ≡ UnknownBudget p.budget)
 joined_or_spent p (Equal moves) is joined = inl (moves, refl)
 joined_or_spent p (Different listed one two) is joined = absurd is
 joined_or_spent p (UnknownBudget budget) is joined = inr (ap UnknownBudget is.0)
 joined_or_spent p (UnknownExhausted cap m) is joined = absurd (is.1.1.1 joined)
 
-pub exhausted_by : (p : Problem) (v : Verdict) (k : ℕ) → IsTrueWithin p v → (WithinCap p.first p.second p.cap → ⊥) → HasMembers (IsReached p.first p.second p.cap) k → k ≤ p.budget → v ≡ UnknownExhausted p.cap k
+pub exhausted_by : (p : Problem) (v : Verdict) (k : ℕ) → IsTrueWithin p v → (WithinCap p.first p.second p.cap → ⊥)
+    → HasMembers (IsReached p.first p.second p.cap) k → k ≤ p.budget → v ≡ UnknownExhausted p.cap k
 exhausted_by p (Equal moves) k is apart all few = absurd (apart (moves, is))
 exhausted_by p (Different listed one two) k is apart all few = absurd is
-exhausted_by p (UnknownBudget budget) k is apart all few = absurd (let more = more_excluded (IsReached p.first p.second p.cap) k budget all is.1 in let same = is.0 in omega (arith, more, same, few))
+exhausted_by p (UnknownBudget budget) k is apart all few =
+    absurd (let more = more_excluded (IsReached p.first p.second p.cap) k budget all is.1 in let same = is.0 in omega (arith, more, same, few))
 exhausted_by p (UnknownExhausted cap m) k is apart all few =
     ap (λ (n : ℕ). UnknownExhausted n m) is.0 ∙ ap (UnknownExhausted p.cap) (one_number (IsReached p.first p.second p.cap) m k is.1.1.0 all)
 
-pub spent_by : (p : Problem) (v : Verdict) → IsTrueWithin p v → (WithinCap p.first p.second p.cap → ⊥) → HasMoreMembers (IsReached p.first p.second p.cap) p.budget → v ≡ UnknownBudget p.budget
+pub spent_by : (p : Problem) (v : Verdict) → IsTrueWithin p v → (WithinCap p.first p.second p.cap → ⊥)
+    → HasMoreMembers (IsReached p.first p.second p.cap) p.budget → v ≡ UnknownBudget p.budget
 spent_by p (Equal moves) is apart more = absurd (apart (moves, is))
 spent_by p (Different listed one two) is apart more = absurd is
 spent_by p (UnknownBudget budget) is apart more = ap UnknownBudget is.0
-spent_by p (UnknownExhausted cap m) is apart more = absurd (let fewer = more_excluded (IsReached p.first p.second p.cap) m p.budget is.1.1.0 more in let few = is.1.0 in omega (arith, fewer, few))
+spent_by p (UnknownExhausted cap m) is apart more =
+    absurd (let fewer = more_excluded (IsReached p.first p.second p.cap) m p.budget is.1.1.0 more in let few = is.1.0 in omega (arith, fewer, few))
 
-pub joined : (p : Problem) (qs : List NamedQuandle) (v : Verdict) (kept : Option Finding) (k : ℕ) → Decides p qs v kept → first_separating p.first p.second qs ≡ None → WithinCap p.first p.second p.cap → HasMembers (IsReached p.first p.second p.cap) k → k ≤ p.budget → (moves : List Move) × (v ≡ Equal moves)
-joined p qs v kept k decides none = joined_by p v k (true_of p qs v kept decides none)
+pub joined : (p : Problem) (qs : List NamedQuandle) (workers : ℕ) (v : Verdict) (kept : Option Finding) (k : ℕ) → Decides p qs workers v kept
+    → first_separating p.first p.second qs ≡ None → WithinCap p.first p.second p.cap → HasMembers (IsReached p.first p.second p.cap) k → k ≤ p.budget
+    → (moves : List Move) × (v ≡ Equal moves)
+joined p qs workers v kept k decides none = joined_by p v k (true_of p qs workers v kept decides none)
 
-pub joined_beyond : (p : Problem) (qs : List NamedQuandle) (v : Verdict) (kept : Option Finding) → Decides p qs v kept → first_separating p.first p.second qs ≡ None → WithinCap p.first p.second p.cap → ((moves : List Move) × (v ≡ Equal moves)) ⊎ (v ≡ UnknownBudget p.budget)
-joined_beyond p qs v kept decides none = joined_or_spent p v (true_of p qs v kept decides none)
+pub joined_beyond : (p : Problem) (qs : List NamedQuandle) (workers : ℕ) (v : Verdict) (kept : Option Finding) → Decides p qs workers v kept
+    → first_separating p.first p.second qs ≡ None → WithinCap p.first p.second p.cap
+    → ((moves : List Move) × (v ≡ Equal moves)) ⊎ (v ≡ UnknownBudget p.budget)
+joined_beyond p qs workers v kept decides none = joined_or_spent p v (true_of p qs workers v kept decides none)
 
-pub apart : (p : Problem) (qs : List NamedQuandle) (v : Verdict) (kept : Option Finding) (k : ℕ) → Decides p qs v kept → first_separating p.first p.second qs ≡ None → (WithinCap p.first p.second p.cap → ⊥) → HasMembers (IsReached p.first p.second p.cap) k → k ≤ p.budget → v ≡ UnknownExhausted p.cap k
-apart p qs v kept k decides none = exhausted_by p v k (true_of p qs v kept decides none)
+pub apart : (p : Problem) (qs : List NamedQuandle) (workers : ℕ) (v : Verdict) (kept : Option Finding) (k : ℕ) → Decides p qs workers v kept
+    → first_separating p.first p.second qs ≡ None → (WithinCap p.first p.second p.cap → ⊥) → HasMembers (IsReached p.first p.second p.cap) k
+    → k ≤ p.budget → v ≡ UnknownExhausted p.cap k
+apart p qs workers v kept k decides none = exhausted_by p v k (true_of p qs workers v kept decides none)
 
-pub apart_beyond : (p : Problem) (qs : List NamedQuandle) (v : Verdict) (kept : Option Finding) → Decides p qs v kept → first_separating p.first p.second qs ≡ None → (WithinCap p.first p.second p.cap → ⊥) → HasMoreMembers (IsReached p.first p.second p.cap) p.budget → v ≡ UnknownBudget p.budget
-apart_beyond p qs v kept decides none = spent_by p v (true_of p qs v kept decides none)
+pub apart_beyond : (p : Problem) (qs : List NamedQuandle) (workers : ℕ) (v : Verdict) (kept : Option Finding) → Decides p qs workers v kept
+    → first_separating p.first p.second qs ≡ None → (WithinCap p.first p.second p.cap → ⊥)
+    → HasMoreMembers (IsReached p.first p.second p.cap) p.budget → v ≡ UnknownBudget p.budget
+apart_beyond p qs workers v kept decides none = spent_by p v (true_of p qs workers v kept decides none)
 
 -- ---- what a decision is worth
 
 told_holds_by : (p : Problem) (qs : List NamedQuandle) (v : Verdict) (kept : Option Finding) → IsToldApart p qs v kept → Holds p.first p.second v
-told_holds_by p qs v kept told = holds_by p.first p.second told.quandle v (find_passes (λ (q : NamedQuandle). separates p.first p.second q.table) qs told.quandle told.first_that_does) told.lists
+told_holds_by p qs v kept told =
+    holds_by p.first p.second told.quandle v (find_passes (λ (q : NamedQuandle). separates p.first p.second q.table) qs told.quandle told.first_that_does) told.lists
 
-pub holds_where_decided : (p : Problem) (qs : List NamedQuandle) (v : Verdict) (kept : Option Finding) → Decides p qs v kept → HasEvidence v → Holds p.first p.second v
-holds_where_decided p qs v kept decides has = elim decides [
+pub holds_where_decided : (p : Problem) (qs : List NamedQuandle) (workers : ℕ) (v : Verdict) (kept : Option Finding) → Decides p qs workers v kept
+    → HasEvidence v → Holds p.first p.second v
+holds_where_decided p qs workers v kept decides has = elim decides [
   | inl told ↦ told_holds_by p qs v kept told
   | inr searched ↦ holds_within p v searched.true_within has
 ]
@@ -90,8 +108,9 @@ claims_by d e q v w quandle lists holds same =
     let told : TellsApart q.table d e (lists_of lists.one) (lists_of lists.two) = subst (Holds d e) lists.verdict holds in
     subst (Claims d e) (sym lists.verdict ∙ same) (told_apart q.table d e (lists_of lists.one) (lists_of lists.two) quandle told)
 
-pub claims_where_decided : (p : Problem) (qs : List NamedQuandle) (v : Verdict) (kept : Option Finding) → All (λ (q : NamedQuandle). IsQuandle q.table) qs → Decides p qs v kept → Claims p.first p.second v
-claims_where_decided p qs v kept quandles decides = elim decides [
+pub claims_where_decided : (p : Problem) (qs : List NamedQuandle) (workers : ℕ) (v : Verdict) (kept : Option Finding)
+    → All (λ (q : NamedQuandle). IsQuandle q.table) qs → Decides p qs workers v kept → Claims p.first p.second v
+claims_where_decided p qs workers v kept quandles decides = elim decides [
   | inl told ↦ claims_by p.first p.second told.quandle v v (find_among (λ (q : NamedQuandle). IsQuandle q.table) (λ (q : NamedQuandle). separates p.first p.second q.table) qs told.quandle quandles told.first_that_does) told.lists (told_holds_by p qs v kept told) refl
   | inr searched ↦ claims_within p v searched.true_within
 ]

@@ -1,3 +1,5 @@
 pub mod FirstFound
+pub mod SameReach
+pub mod SimplifiedPairs
 mod Verdicts
 mod AnswerKinds

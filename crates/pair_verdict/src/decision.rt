@@ -1,17 +1,22 @@
 //! The decision on a problem.
-ghost use Rattle.std.specs.Prelude.{◌≡◌, ◌≤◌, ◌≢◌, None, IfOk};
+ghost use Rattle.std.specs.Prelude.{◌≡◌, ◌≤◌, ◌≢◌, Some, None, IfOk};
 ghost use Rattle.grid_core.specs.declared.grid.TheConstants.{MAX_SIZE};
 ghost use Rattle.grid_core.specs.Diagram.{size};
 ghost use Rattle.verdict_core.specs.Evidence.{Claims, Holds, HasEvidence};
 ghost use Rattle.search_book.specs.declared.problem.TheConstants.{MAX_BUDGET};
+ghost use Rattle.search_pool.specs.declared.many.TheConstants.{MAX_WORKERS};
+ghost use Rattle.pair_verdict.specs.Searched.{AreSimplified, searched};
 ghost use Rattle.pair_verdict.specs.Decided.{Decides, IsVerdictAt, JoinsWhereEqual};
 
+use crate::searched::SimplifiedPair;
 use crate::separating::told_apart;
 use grid_core::Items;
 use memory_core::OutOfMemory;
 use search_book::{Book, End, Problem};
-use search_pool::{Finding, alone};
+use search_pool::{Finding, Gate, alone, pool};
 use std::alloc::Global;
+use std::sync::Wait;
+use std::thread::Threads;
 use verdict_core::{Listed, Verdict};
 
 /// A verdict, and the search that it came from, if there was one.
@@ -21,20 +26,85 @@ pub struct Decision {
     pub kept: Option<Finding>,
 }
 
+impl Decision {
+    /// What a search of the simplified diagrams that is over comes to.
+    fn searched(
+        alloc: Global,
+        given: &Problem,
+        pair: SimplifiedPair,
+        finding: Finding,
+    ) -> Result<Decision, OutOfMemory>
+        requires first_fits { size given.now.first ≤ given.now.cap }
+        requires second_fits { size given.now.second ≤ given.now.cap }
+        requires simplified { AreSimplified given.now pair.first pair.second }
+        requires problem { finding.book.problem ≡ searched given.now pair.first pair.second }
+        requires over { finding.book.end ≢ None }
+        ensures kept { IfOk result (λ d. d.kept ≡ Some finding) }
+        ensures verdict { IfOk result (λ d. IsVerdictAt given.now pair.first pair.second finding.book finding.book.end d.verdict) }
+        ensures joins { IfOk result (λ d. JoinsWhereEqual given.now d.verdict) }
+    {
+        Ok(Decision {
+            verdict: verdict_of(alloc, given, pair, &finding.book)?,
+            kept: Some(finding),
+        })
+    }
+}
+
 /// The verdict on the two diagrams of a problem. `Different` by the first listed quandle that separates them, with both
-/// complete lists of colourings; a quandle that does not fit both is passed over. Where none separates them, what a search
-/// of the problem comes to: `Equal` with moves that join them, no diagram on the way larger than the cap; `UnknownBudget`
-/// only where moves within the cap reach more diagrams than the budget; `UnknownExhausted` only where they do not join the
-/// two, with the number that they reach, which is at most the budget. The search is handed out with the verdict.
+/// complete lists of colourings; a quandle that does not fit both is passed over. Where none separates them, each diagram is
+/// simplified with the budget of the problem, and the verdict is what a search between the simplified diagrams comes to, within
+/// the same cap and with the same budget: `Equal` with moves that join the given diagrams (the first simplification's, those that
+/// the search found, the second simplification's undone), no diagram on the way larger than the cap; `UnknownBudget` only where
+/// moves within the cap reach more diagrams than the budget; `UnknownExhausted` only where they do not join the two, with the
+/// number that they reach, which is at most the budget. The search is handed out with the verdict.
 ///
-/// Both sizes are at most the cap, the cap is at most `MAX_SIZE`, and the budget is from 2 to `MAX_BUDGET`.
-pub fn decide(alloc: Global, problem: Problem, quandles: &[Listed]) -> Result<Decision, OutOfMemory>
+/// One worker searches by `alone` and passes no gate, 2 to `MAX_WORKERS` by `pool`, and all this holds however they
+/// interleave, where the call returns. Both sizes are at most the cap, the cap is at most `MAX_SIZE`, and the budget is from 2 to `MAX_BUDGET`.
+pub fn decide<R: Threads + Wait + Sync, G: Gate + Sync>(
+    rt: &R,
+    alloc: Global,
+    problem: Problem,
+    quandles: &[Listed],
+    workers: u32,
+    gate: &G,
+) -> Result<Decision, OutOfMemory>
     requires first_fits { size problem.first ≤ problem.cap }
     requires second_fits { size problem.second ≤ problem.cap }
     requires cap { problem.cap ≤ MAX_SIZE }
     requires two { 2 ≤ problem.budget }
     requires most { problem.budget ≤ MAX_BUDGET }
-    ensures decides { IfOk result (λ d. Decides problem quandles.now d.verdict d.kept) }
+    requires some { 1 ≤ workers }
+    requires workers { workers ≤ MAX_WORKERS }
+    ensures decides { IfOk result (λ d. Decides problem quandles.now workers d.verdict d.kept) }
+    ensures claims { IfOk result (λ d. Claims problem.first problem.second d.verdict) }
+    ensures holds { IfOk result (λ d. HasEvidence d.verdict → Holds problem.first problem.second d.verdict) }
+{
+    if workers == 1 {
+        return decide_alone(alloc, problem, quandles);
+    }
+    if let Some(verdict) = told_apart(alloc, &problem.first, &problem.second, quandles)? {
+        return Ok(Decision {
+            verdict,
+            kept: None,
+        });
+    }
+    let pair = SimplifiedPair::of(alloc, &problem)?;
+    let finding = pool(rt, alloc, pair.problem(&problem), workers, gate)?;
+    Decision::searched(alloc, &problem, pair, finding)
+}
+
+/// What `decide` does with one worker. It takes no runtime, waits for nobody, and returns.
+pub fn decide_alone(
+    alloc: Global,
+    problem: Problem,
+    quandles: &[Listed],
+) -> Result<Decision, OutOfMemory>
+    requires first_fits { size problem.first ≤ problem.cap }
+    requires second_fits { size problem.second ≤ problem.cap }
+    requires cap { problem.cap ≤ MAX_SIZE }
+    requires two { 2 ≤ problem.budget }
+    requires most { problem.budget ≤ MAX_BUDGET }
+    ensures decides { IfOk result (λ d. Decides problem quandles.now 1 d.verdict d.kept) }
     ensures claims { IfOk result (λ d. Claims problem.first problem.second d.verdict) }
     ensures holds { IfOk result (λ d. HasEvidence d.verdict → Holds problem.first problem.second d.verdict) }
 {
@@ -44,29 +114,39 @@ pub fn decide(alloc: Global, problem: Problem, quandles: &[Listed]) -> Result<De
             kept: None,
         });
     }
-    let finding = alone(alloc, problem)?;
-    Ok(Decision {
-        verdict: verdict_of(alloc, &finding.book)?,
-        kept: Some(finding),
-    })
+    let pair = SimplifiedPair::of(alloc, &problem)?;
+    let finding = alone(alloc, pair.problem(&problem))?;
+    Decision::searched(alloc, &problem, pair, finding)
 }
 
-/// What the end of a book comes to.
-fn verdict_of(alloc: Global, book: &Book) -> Result<Verdict, OutOfMemory>
-    requires { book.now.end ≢ None }
-    ensures verdict { IfOk result (λ v. IsVerdictAt book.now book.now.end v) }
-    ensures joins { IfOk result (λ v. JoinsWhereEqual book.now.problem v) }
+/// What the end of a book of the simplified diagrams comes to.
+fn verdict_of(
+    alloc: Global,
+    given: &Problem,
+    pair: SimplifiedPair,
+    book: &Book,
+) -> Result<Verdict, OutOfMemory>
+    requires first_fits { size given.now.first ≤ given.now.cap }
+    requires second_fits { size given.now.second ≤ given.now.cap }
+    requires simplified { AreSimplified given.now pair.first pair.second }
+    requires problem { book.now.problem ≡ searched given.now pair.first pair.second }
+    requires over { book.now.end ≢ None }
+    ensures verdict { IfOk result (λ v. IsVerdictAt given.now pair.first pair.second book.now book.now.end v) }
+    ensures joins { IfOk result (λ v. JoinsWhereEqual given.now v) }
 {
     match book.end() {
         Some(End::Met(_)) => match book.joined(alloc)? {
-            Some(moves) => Ok(Verdict::Equal(Items::from_vec(moves))),
+            Some(between) => {
+                let list = pair.whole_list(alloc, given, between.as_slice())?;
+                Ok(Verdict::Equal(Items::from_vec(list)))
+            }
             None => unreachable!(),
         },
         Some(End::Spent { .. }) => Ok(Verdict::UnknownBudget {
-            budget: book.problem().budget,
+            budget: given.budget,
         }),
         Some(End::Exhausted) => Ok(Verdict::UnknownExhausted {
-            cap: u32::from(book.problem().cap),
+            cap: u32::from(given.cap),
             admitted: book.len(),
         }),
         None => unreachable!(),

@@ -1,7 +1,12 @@
 //! Verdicts beside what a plain breadth-first program reaches, and by lists of quandles that separate.
+ghost use Rattle.std.specs.Prelude.{◌≡◌, ◌≤◌};
+ghost use Rattle.search_book.specs.declared.problem.TheConstants.{MAX_BUDGET};
+
 mod atlas;
+mod many;
 mod searched;
 mod separated;
+mod simplified;
 mod steps;
 
 use crate::Decision;
@@ -15,7 +20,23 @@ use verdict_core::Listed;
 /// A budget that no search here spends.
 const BUDGET: u32 = 1_000;
 
-/// The decision on two grids within a cap.
+/// The problem of two grids within a cap.
+fn problem_of(first: &Grid, second: &Grid, cap: u8) -> Problem
+    ensures first { result.first ≡ first.now }
+    ensures second { result.second ≡ second.now }
+    ensures cap { result.cap ≡ cap }
+    ensures two { 2 ≤ result.budget }
+    ensures most { result.budget ≤ MAX_BUDGET }
+{
+    Problem {
+        first: first.copy(),
+        second: second.copy(),
+        cap,
+        budget: BUDGET,
+    }
+}
+
+/// The decision of one worker on two grids within a cap.
 fn decision(
     alloc: Global,
     first: &Grid,
@@ -26,13 +47,7 @@ fn decision(
     if first.size() > cap || second.size() > cap || cap as usize > MAX_SIZE {
         return Err(Fail::from("no cap"));
     }
-    let problem = Problem {
-        first: first.copy(),
-        second: second.copy(),
-        cap,
-        budget: BUDGET,
-    };
-    match crate::decide(alloc, problem, quandles) {
+    match crate::decide_alone(alloc, problem_of(first, second, cap), quandles) {
         Ok(decision) => Ok(decision),
         Err(_) => Err(Fail::from("no memory")),
     }

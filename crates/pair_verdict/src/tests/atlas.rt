@@ -25,12 +25,18 @@ pub(crate) struct Atlas {
     pub near: Vec<Vec<usize>>,
 }
 
-/// The atlas of all diagrams.
-pub(crate) fn whole(alloc: Global) -> Result<Atlas, OutOfMemory> {
+/// All diagrams of two to four columns.
+pub(crate) fn small(alloc: Global) -> Result<Vec<Named>, OutOfMemory> {
     let mut diagrams = Vec::new(alloc);
     add_size(&mut diagrams, 2, 2)?;
     add_size(&mut diagrams, 3, 6)?;
     add_size(&mut diagrams, 4, 24)?;
+    Ok(diagrams)
+}
+
+/// The atlas of all diagrams.
+pub(crate) fn whole(alloc: Global) -> Result<Atlas, OutOfMemory> {
+    let mut diagrams = small(alloc)?;
     add_size(&mut diagrams, GREATEST, 120)?;
     let mut near = Vec::new(alloc);
     for named in &diagrams {

@@ -105,7 +105,7 @@ fn agrees(decision: &Decision, first: &Root, second: &Root, cap: u8) -> bool {
 }
 
 /// Whether moves lead from a diagram to another.
-fn leads(first: &Grid, moves: &[Move], second: &Grid) -> bool {
+pub(crate) fn leads(first: &Grid, moves: &[Move], second: &Grid) -> bool {
     match apply_all(first, moves) {
         Ok(end) => end.same_as(second),
         Err(_) => false,
@@ -113,7 +113,7 @@ fn leads(first: &Grid, moves: &[Move], second: &Grid) -> bool {
 }
 
 /// Whether moves are legal one after another, and lead to no diagram that is greater than the cap.
-fn stays_within(first: &Grid, moves: &[Move], cap: u8) -> bool {
+pub(crate) fn stays_within(first: &Grid, moves: &[Move], cap: u8) -> bool {
     let mut here = first.copy();
     for step in moves {
         match apply(&here, *step) {

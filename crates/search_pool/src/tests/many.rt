@@ -82,6 +82,32 @@ fn claims(history: &[Event]) -> (u64, u64) {
     (of_first, of_others)
 }
 
+/// The most entries that were claimed and not yet settled at any time of a history.
+fn most_in_flight(history: &[Event]) -> u64 {
+    let (mut now, mut most) = (0u64, 0u64);
+    for event in history {
+        now = match *event {
+            Event::Claim { .. } => now.saturating_add(1),
+            Event::Settle { .. } => now.saturating_sub(1),
+        };
+        most = most.max(now);
+    }
+    most
+}
+
+/// Whether each event of a history is one of these workers, and each of them has one.
+fn are_of(history: &[Event], workers: u32) -> bool {
+    let mut seen = 0u64;
+    for event in history {
+        let (Event::Claim { worker } | Event::Settle { worker, .. }) = *event;
+        if worker >= workers || worker >= 64 {
+            return false;
+        }
+        seen |= 1u64 << worker;
+    }
+    seen.count_ones() == workers
+}
+
 #[test]
 fn two_workers_are_between_claim_and_settlement_at_once(rt: HostRuntime) -> Result<(), Fail> {
     let gate = Rendezvous::new(0, 2, TURNS);
@@ -99,6 +125,7 @@ fn two_workers_are_between_claim_and_settlement_at_once(rt: HostRuntime) -> Resu
     assert_eq!(rt; of_others, gate.of_others.load(Ordering::SeqCst));
     assert!(rt; of_first > 0);
     assert!(rt; of_others > 0);
+    assert_eq!(rt; most_in_flight(finding.book.history()), 2);
     Ok(())
 }
 
@@ -126,6 +153,22 @@ fn eight_workers_are_between_claim_and_settlement_at_once(rt: HostRuntime) -> Re
     assert_eq!(rt; gate.met.load(Ordering::SeqCst), 7);
     assert_eq!(rt; gate.in_vain.load(Ordering::SeqCst), 0);
     assert!(rt; finding.stray.is_none());
+    assert_eq!(rt; most_in_flight(finding.book.history()), 8);
+    assert!(rt; are_of(finding.book.history(), 8));
+    Ok(())
+}
+
+#[test]
+fn three_workers_are_between_claim_and_settlement_at_once(rt: HostRuntime) -> Result<(), Fail> {
+    let gate = Rendezvous::new(2, 3, TURNS);
+    let problem = problem_of(LEFT_TREFOIL, RIGHT_TREFOIL, 6, 20_000)?;
+    let Ok(finding) = pool(&rt, rt.alloc(), problem, 3, &gate) else {
+        return Err(Fail::from("no memory"));
+    };
+    assert_eq!(rt; gate.met.load(Ordering::SeqCst), 2);
+    assert_eq!(rt; gate.in_vain.load(Ordering::SeqCst), 0);
+    assert_eq!(rt; most_in_flight(finding.book.history()), 3);
+    assert!(rt; are_of(finding.book.history(), 3));
     Ok(())
 }
 

@@ -1,29 +1,35 @@
-use Rattle.std.proofs.Common.{subst, inr, Option, Some}
+use Rattle.std.proofs.Common.{subst, inl, inr, Option, IfOk}
+use Rattle.std.proofs.lemmas.Result.{IfOk-weaker}
 use Rattle.verdict_core.specs.declared.verdict.Verdict.{Verdict}
+use Rattle.search_book.specs.declared.problem.Problem.{Problem}
+use Rattle.search_pool.specs.Finding.{IsFinding}
 use Rattle.pair_verdict.specs.Separates.{first_separating, IsSeparation}
 use Rattle.pair_verdict.specs.Decided.{IsSearched}
-use Rattle.pair_verdict.proofs.FirstFound.{told_holds, none_told}
-use Rattle.pair_verdict.proofs.Verdicts.{claims_within, holds_within, searched}
+use Rattle.pair_verdict.proofs.FirstFound.{told_holds}
+use Rattle.pair_verdict.proofs.Verdicts.{claims_within, holds_within, made}
 use Rattle.pair_verdict.proofs.decision.decide.Goals as goal
-use Rattle.pair_verdict.proofs.decision.decide.Goals.{In_ok-verdict_of}
+use Rattle.pair_verdict.proofs.decision.decide.Goals.{After-searched}
 
 pub returns-in-Some-clause-holds : goal.returns-in-Some-clause-holds
-returns-in-Some-clause-holds c = λ has. told_holds c.args.problem.first c.args.problem.second c.args.quandles.now c.in-Some.verdict
-    (subst (λ (o : Option Verdict). IsSeparation c.args.problem.first c.args.problem.second (first_separating c.args.problem.first c.args.problem.second c.args.quandles.now) o) c.in-Some.is c.in_ok-verdict.ensures.verdict)
+returns-in-Some-clause-holds g c =
+    let p = c.args.problem in
+    let qs = c.args.quandles.now in
+    λ has. told_holds p.first p.second qs c.in-Some.verdict
+    (subst (λ (o : Option Verdict). IsSeparation p.first p.second (first_separating p.first p.second qs) o) c.in-Some.is c.in_ok-verdict.ensures.verdict)
 
-by_search : (c : In_ok-verdict_of) → IsSearched c.args.problem c.args.quandles.now c.in_ok-verdict_of.field-0 (Some c.in_ok-finding.finding)
-by_search c =
-    let none = none_told c.args.problem.first c.args.problem.second c.args.quandles.now
-    (subst (λ (o : Option Verdict). IsSeparation c.args.problem.first c.args.problem.second (first_separating c.args.problem.first c.args.problem.second c.args.quandles.now) o) c.in_default.is c.in_ok-verdict.ensures.verdict) in
-    searched c.args.problem c.args.quandles.now c.in_ok-finding.finding c.in_ok-verdict_of.field-0 none c.in_ok-finding.ensures.finding c.in_ok-finding.ensures.no_stray c.in_ok-finding.ensures.in_turn c.in_ok-finding.ensures.shows c.in_ok-verdict_of.ensures.verdict c.in_ok-verdict_of.ensures.joins
+by_search : (g : _) (c : After-searched g) → IfOk c.searched.result (λ d. IsSearched c.args.problem c.args.quandles.now c.args.workers d.verdict d.kept)
+by_search g c = made c.args.problem c.args.quandles.now c.args.workers _ c.in_ok-pair.pair.first c.in_ok-pair.pair.second c.in_ok-finding.finding c.searched.result
+    c.in_ok-verdict.ensures.verdict c.in_default.is c.in_ok-pair.ensures c.requires.first_fits c.requires.second_fits
+    (subst (λ (p : Problem). IsFinding p c.in_ok-finding.finding) c.problem.ensures.problem c.in_ok-finding.ensures.finding)
+    (λ one. absurd (c.if-workers-eq1.false one))
+    (λ either. elim either [ inl one ↦ absurd (c.if-workers-eq1.false one) | inr stray ↦ c.in_ok-finding.ensures.in_turn stray ])
+    c.in_ok-finding.ensures.shows c.searched.ensures.kept c.searched.ensures.verdict c.searched.ensures.joins
 
-pub returns-clause-decides :
-    goal.returns-clause-decides
-returns-clause-decides c = inr (by_search c)
+pub returns-clause-decides : goal.returns-clause-decides
+returns-clause-decides g c = IfOk-weaker c.searched.result _ _ (λ d is. inr is) (by_search g c)
 
-pub returns-clause-claims :
-    goal.returns-clause-claims
-returns-clause-claims c = claims_within c.args.problem c.in_ok-verdict_of.field-0 (by_search c).true_within
+pub returns-clause-claims : goal.returns-clause-claims
+returns-clause-claims g c = IfOk-weaker c.searched.result _ _ (λ d is. claims_within c.args.problem d.verdict is.true_within) (by_search g c)
 
 pub returns-clause-holds : goal.returns-clause-holds
-returns-clause-holds c = holds_within c.args.problem c.in_ok-verdict_of.field-0 (by_search c).true_within
+returns-clause-holds g c = IfOk-weaker c.searched.result _ _ (λ d is. holds_within c.args.problem d.verdict is.true_within) (by_search g c)
