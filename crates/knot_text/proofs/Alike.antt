@@ -17,7 +17,8 @@ alike_ok {R = R} {x = x} {y = y} related = record { of = λ z is. (y, refl, subs
 pub alike_err : {A : Type 0} {R : A → A → Type 0} {e : TextFault} {s : Result A TextFault} → Alike R (Err e) s
 alike_err = record { of = λ z is. absurd (let no = is in cc) }
 
-pub alike_bind : {A B : Type 0} {R : B → B → Type 0} {r s : Result A TextFault} {f g : A → Result B TextFault} (Q : A → A → Type 0) → Alike Q r s → ((x y : A) → Q x y → Alike R (f x) (g y)) → Alike R (r >>= f) (s >>= g)
+pub alike_bind : {A B : Type 0} {R : B → B → Type 0} {r s : Result A TextFault} {f g : A → Result B TextFault} (Q : A → A → Type 0) → Alike Q r s
+    → ((x y : A) → Q x y → Alike R (f x) (g y)) → Alike R (r >>= f) (s >>= g)
 alike_bind {r = r} {s = s} {f = f} {g = g} Q first second = record {
   of = λ z is.
       let b = bind_ok r f z is in
@@ -47,14 +48,17 @@ SameText s t = tokens_by_line s.lines ≡ tokens_by_line t.lines
 abbrev pub SameLeft : {A : Type 0} → A × Text → A × Text → Type 0
 SameLeft x y = (x.0 ≡ y.0) × SameText x.1 y.1
 
-pub same_bind : {A B : Type 0} {R : B → B → Type 0} {r s : Result A TextFault} {f g : A → Result B TextFault} → Alike Same r s → ((x : A) → Alike R (f x) (g x)) → Alike R (r >>= f) (s >>= g)
+pub same_bind : {A B : Type 0} {R : B → B → Type 0} {r s : Result A TextFault} {f g : A → Result B TextFault} → Alike Same r s
+    → ((x : A) → Alike R (f x) (g x)) → Alike R (r >>= f) (s >>= g)
 same_bind {R = R} {f = f} {g = g} first second = alike_bind Same first (λ x y same. subst (λ z. Alike R (f x) (g z)) same (second x))
 
 pub line_bind : {B : Type 0} {R : B → B → Type 0} {r s : Result NumberedLine TextFault} (f g : NumberedLine → Result B TextFault) → Alike SameLine r s
     → ((ts : List (List ℕ)) (n m : ℕ) → Alike R (f (line_of n ts)) (g (line_of m ts))) → Alike R (r >>= f) (s >>= g)
-line_bind {R = R} f g first second = alike_bind SameLine first (λ x y same. subst (λ (ts : List (List ℕ)). Alike R (f x) (g (line_of y.number ts))) same (second x.tokens x.number y.number))
+line_bind {R = R} f g first second =
+    alike_bind SameLine first (λ x y same. subst (λ (ts : List (List ℕ)). Alike R (f x) (g (line_of y.number ts))) same (second x.tokens x.number y.number))
 
-pub rest_bind : {A B : Type 0} {R : B → B → Type 0} {r s : Result (A × NumberedLine) TextFault} (f g : A × NumberedLine → Result B TextFault) → Alike SameRest r s
+pub rest_bind : {A B : Type 0} {R : B → B → Type 0} {r s : Result (A × NumberedLine) TextFault} (f g : A × NumberedLine → Result B TextFault)
+    → Alike SameRest r s
     → ((v : A) (ts : List (List ℕ)) (n m : ℕ) → Alike R (f (v, line_of n ts)) (g (v, line_of m ts))) → Alike R (r >>= f) (s >>= g)
 rest_bind {R = R} f g first second = alike_bind SameRest first (λ x y same.
     subst (λ v. Alike R (f x) (g (v, y.1))) same.0 (subst (λ (ts : List (List ℕ)). Alike R (f x) (g (x.0, line_of y.1.number ts))) same.1 (second x.0 x.1.tokens x.1.number y.1.number)))
@@ -99,6 +103,7 @@ starts_same w (x ∷ xs) (y ∷ ys) same =
 pub begins_same : (w : List ℕ) (t u : Text) → SameText t u → begins w t ≡ begins w u
 begins_same w t u same = starts_same w t.lines u.lines same
 
-pub begins_alike : {A : Type 0} {R : A → A → Type 0} {x y v w : Result A TextFault} (name : List ℕ) (t u : Text) → SameText t u → Alike R x v → Alike R y w → Alike R (cond (begins name t) x y) (cond (begins name u) v w)
+pub begins_alike : {A : Type 0} {R : A → A → Type 0} {x y v w : Result A TextFault} (name : List ℕ) (t u : Text) → SameText t u → Alike R x v
+    → Alike R y w → Alike R (cond (begins name t) x y) (cond (begins name u) v w)
 begins_alike {R = R} {x = x} {y = y} {v = v} {w = w} name t u same first second =
     subst (λ (b : Bool). Alike R (cond (begins name t) x y) (cond b v w)) (begins_same name t u same) (alike_if (begins name t) first second)

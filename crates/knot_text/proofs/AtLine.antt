@@ -1,5 +1,6 @@
 -- What is read of a line fails with that line's number alone, and keeps it.
-use Rattle.std.proofs.Common.{◌≡◌, ℕ, ◌==◌, ◌&&◌, List, [], ◌∷◌, length, Bool, true, false, cond, Option, Some, None, Result, Ok, Err, refl, sym, ap, subst, ◌∙◌, inl, inr, nat_le, nat_lt}
+use Rattle.std.proofs.Common.{◌≡◌, ℕ, ◌==◌, ◌&&◌, List, [], ◌∷◌, length, Bool, true, false, cond, Option, Some, None, Result, Ok, Err, refl}
+use Rattle.std.proofs.Common.{sym, ap, subst, ◌∙◌, inl, inr, nat_le, nat_lt}
 use Rattle.std.specs.List.{list_any, list_all}
 use Rattle.std.specs.Str.{bytes_eq}
 use Rattle.text_lines.specs.Lines.{NumberedLine}
@@ -7,7 +8,8 @@ use Rattle.text_lines.specs.Numbers.{number_of}
 use Rattle.knot_text.specs.declared.reading.TheConstants.{MAX_NUMBER}
 use Rattle.knot_text.specs.declared.fault.TextFault.{TextFault}
 use Rattle.knot_text.specs.declared.fault.TextFault.TheVariants.{Malformed, Limit}
-use Rattle.knot_text.specs.Reading.{◌>>=◌, next_token, line_end, word, or_malformed, number, last_number, last_count, at_most, token_among, no_token_among, each_token}
+use Rattle.knot_text.specs.Reading.{◌>>=◌, next_token, line_end, word, or_malformed, number, last_number, last_count, at_most, token_among}
+use Rattle.knot_text.specs.Reading.{no_token_among, each_token}
 use Rattle.knot_text.specs.Numbers.{numbers, is_long, numbers_below}
 use Rattle.knot_text.specs.FirstBadLine.{NamesLine}
 use Rattle.knot_text.proofs.Steady.{bind_ok, bind_err, ok_is}
@@ -49,12 +51,14 @@ keeps_ok n left x same y e = ap (λ z. (left z).number) (sym (ok_is x y e)) ∙ 
 pub keeps_err : {A : Type 0} (n : ℕ) (left : A → NumberedLine) (fault : TextFault) → Keeps n left (Err fault)
 keeps_err n left fault y e = absurd cc
 
-pub keeps_bind : {A B : Type 0} (n : ℕ) (left : B → NumberedLine) (r : Result A TextFault) (f : A → Result B TextFault) → ((x : A) → r ≡ Ok x → Keeps n left (f x)) → Keeps n left (r >>= f)
+pub keeps_bind : {A B : Type 0} (n : ℕ) (left : B → NumberedLine) (r : Result A TextFault) (f : A → Result B TextFault)
+    → ((x : A) → r ≡ Ok x → Keeps n left (f x)) → Keeps n left (r >>= f)
 keeps_bind n left r f second y e =
     let b = bind_ok r f y e in
     second b.0 b.1 y b.2
 
-pub keeps_cond : {A : Type 0} (n : ℕ) (left : A → NumberedLine) (b : Bool) (x y : Result A TextFault) → Keeps n left x → Keeps n left y → Keeps n left (cond b x y)
+pub keeps_cond : {A : Type 0} (n : ℕ) (left : A → NumberedLine) (b : Bool) (x y : Result A TextFault) → Keeps n left x → Keeps n left y
+    → Keeps n left (cond b x y)
 keeps_cond n left true x y first second = first
 keeps_cond n left false x y first second = second
 

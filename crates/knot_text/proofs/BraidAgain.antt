@@ -1,5 +1,6 @@
 -- The text of a braid is read as this braid.
-use Rattle.std.proofs.Common.{◌≡◌, ℕ, ◌≤◌, ◌+◌, ◌*◌, ◌||◌, ℤ, pos, negsuc, List, [], ◌∷◌, ◌++◌, length, map, Bool, true, false, Option, Some, None, Ok, refl, ap, subst, add-one, neg_ℤ, ◌∙◌, arith, codes, nat_lt, ◌==◌, unsigned_abs}
+use Rattle.std.proofs.Common.{◌≡◌, ℕ, ◌≤◌, ◌+◌, ◌*◌, ◌||◌, ℤ, pos, negsuc, List, [], ◌∷◌, ◌++◌, length, map, Bool, true, false, Option}
+use Rattle.std.proofs.Common.{Some, None, Ok, refl, ap, subst, add-one, neg_ℤ, ◌∙◌, arith, codes, nat_lt, ◌==◌, unsigned_abs}
 use Rattle.std.specs.Prelude.{is_none}
 use Rattle.std.specs.List.{AllByRecursion, list_all, list_any}
 use Rattle.std.specs.Fmt.{decimal}
@@ -46,7 +47,8 @@ letters_again m n (a ∷ ls) most all = rw (letter_again m a most all.0, letters
 
 none_long : (m : ℕ) (ls : List ℤ) → m ≤ MAX_STRANDS → AllByRecursion (IsLetter m) ls → list_any is_long_letter ls ≡ false
 none_long m [] most all = refl
-none_long m (a ∷ ls) most all = or_from (is_long_letter a) (list_any is_long_letter ls) (le-ltb _ (unsigned_abs a) (omega (arith, all.0.most, most))) (none_long m ls most all.1)
+none_long m (a ∷ ls) most all =
+    or_from (is_long_letter a) (list_any is_long_letter ls) (le-ltb _ (unsigned_abs a) (omega (arith, all.0.most, most))) (none_long m ls most all.1)
 
 -- ---- the line
 
@@ -74,7 +76,8 @@ letter_word m (negsuc k) most letter = signed (decimal (k + 1)) (decimal_word (k
 
 letters_words : (m : ℕ) (ls : List ℤ) → m ≤ MAX_STRANDS → AllByRecursion (IsLetter m) ls → list_all is_word (map letter_token ls) ≡ true
 letters_words m [] most all = refl
-letters_words m (a ∷ ls) most all = and_from (is_word (letter_token a)) (list_all is_word (map letter_token ls)) (letter_word m a most all.0) (letters_words m ls most all.1)
+letters_words m (a ∷ ls) most all =
+    and_from (is_word (letter_token a)) (list_all is_word (map letter_token ls)) (letter_word m a most all.0) (letters_words m ls most all.1)
 
 pub braid_words : (b : Word) → IsBraid b → list_all is_line (braid_lines b) ≡ true
 braid_words b braid =

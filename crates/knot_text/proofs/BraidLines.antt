@@ -1,5 +1,7 @@
 -- The line of a braid, by letters that were cut down to 127.
-use Rattle.std.proofs.Common.{◌≡◌, ℕ, ◌<◌, ◌≤◌, ◌+◌, ◌*◌, ◌&&◌, ◌||◌, not, ℤ, List, [], ◌∷◌, ◌++◌, length, map, Bool, true, false, cond, Option, Some, None, Ok, Err, refl, sym, ap, ap₂, ◌∙◌, inl, inr, ◌⊎◌, arith, nat_lt, nat_le, codes, unsigned_abs}
+use Rattle.std.proofs.Common.{◌≡◌, ℕ, ◌<◌, ◌≤◌, ◌+◌, ◌*◌, ◌&&◌, ◌||◌, not, ℤ, List, [], ◌∷◌, ◌++◌, length, map, Bool, true, false, cond}
+use Rattle.std.proofs.Common.{Option, Some, None, Ok, Err, refl, sym, ap, ap₂, ◌∙◌, inl, inr, ◌⊎◌, arith, nat_lt, nat_le, codes}
+use Rattle.std.proofs.Common.{unsigned_abs}
 use Rattle.std.specs.Prelude.{is_none}
 use Rattle.std.specs.List.{position_or_len, list_any, AllByRecursion}
 use Rattle.std.proofs.lemmas.Bool.{lt-ltb, le-ltb, ltb-true, ltb-false}
@@ -41,7 +43,8 @@ kept_more kept next a b ls tells room low first more long =
     record {
       first = first ∙ ap₂ (λ (xs : List ℤ) (y : ℤ). xs ++ y ∷ []) (tells.first ∙ take_all MAX_SIZE all (omega (arith, length-map ls low_letter, short))) low
           ∙ sym whole ∙ sym (take_all MAX_SIZE (map low_letter (ls ++ a ∷ [])) (omega (arith, length-map (ls ++ a ∷ []) low_letter, longer, short)));
-      more = more ∙ tells.more ∙ le-ltb MAX_SIZE (length ls) (omega (arith, short)) ∙ sym (le-ltb MAX_SIZE (length (ls ++ a ∷ [])) (omega (arith, longer, short)));
+      more =
+          more ∙ tells.more ∙ le-ltb MAX_SIZE (length ls) (omega (arith, short)) ∙ sym (le-ltb MAX_SIZE (length (ls ++ a ∷ [])) (omega (arith, longer, short)));
       long = long ∙ ap₂ (λ (s t : Bool). s || t) tells.long (or_false (is_long_letter a)) ∙ sym (list_any-append is_long_letter ls (a ∷ []));
     }
 
@@ -50,7 +53,8 @@ kept_more kept next a b ls tells room low first more long =
 kept_all : (kept : KeptLetters) (ls : List ℤ) → TellsLetters kept ls → length ls ≤ MAX_SIZE → kept.first.items ≡ map low_letter ls
 kept_all kept ls tells short = tells.first ∙ take_all MAX_SIZE (map low_letter ls) (omega (arith, length-map ls low_letter, short))
 
-size_by : (kept : KeptLetters) (ls : List ℤ) (m : ℕ) → TellsLetters kept ls → (t : Bool) → kept.more ≡ t → (kept.more || nat_lt MAX_SIZE (length kept.first.items + 2 * m)) ≡ nat_lt MAX_SIZE (length ls + 2 * m)
+size_by : (kept : KeptLetters) (ls : List ℤ) (m : ℕ) → TellsLetters kept ls → (t : Bool) → kept.more ≡ t
+    → (kept.more || nat_lt MAX_SIZE (length kept.first.items + 2 * m)) ≡ nat_lt MAX_SIZE (length ls + 2 * m)
 size_by kept ls m tells true is =
     let long : MAX_SIZE < length ls = ltb-true MAX_SIZE (length ls) (sym tells.more ∙ is) in
     rw is (sym (lt-ltb MAX_SIZE (length ls + 2 * m) (omega (arith, long))))
@@ -74,7 +78,8 @@ within m ls is =
 
 -- so many strands fit into a byte
 pub strands_fit : (kept : KeptLetters) (m : ℕ) → kept_exceeds m kept ≡ false → m ≤ MAX_STRANDS
-strands_fit kept m is = ltb-false MAX_STRANDS m (either_false (nat_lt MAX_STRANDS m) (kept.long || (kept.more || nat_lt MAX_SIZE (length kept.first.items + 2 * m))) is).0
+strands_fit kept m is =
+    ltb-false MAX_STRANDS m (either_false (nat_lt MAX_STRANDS m) (kept.long || (kept.more || nat_lt MAX_SIZE (length kept.first.items + 2 * m))) is).0
 
 -- ---- content
 
@@ -115,7 +120,8 @@ pub record IsRead (line : NumberedLine) (m : ℕ) (kept : KeptLetters) : Type 0 
   pub strands : number rest ≡ Ok (m, left)
   pub letters : KeepsLetters kept (letters left)
 
-braid_is : (line : NumberedLine) (m : ℕ) (kept : KeptLetters) (read : IsRead line m kept) → braid_at line ≡ braid_of line.number (word_of m read.letters.letters)
+braid_is : (line : NumberedLine) (m : ℕ) (kept : KeptLetters) (read : IsRead line m kept)
+    → braid_at line ≡ braid_of line.number (word_of m read.letters.letters)
 unfolding braid_at
 braid_is line m kept read = rw (read.name, read.strands, read.letters.is) refl
 
@@ -125,16 +131,19 @@ braid_over line m kept read over =
     braid_is line m kept read ∙ rw test refl
 
 -- the letters of a word that exceeds no limit were all kept
-same_fault : (line : NumberedLine) (m : ℕ) (kept : KeptLetters) (read : IsRead line m kept) → kept_exceeds m kept ≡ false → first_fault (word_of m read.letters.letters) ≡ first_fault (word_of m kept.first.items)
+same_fault : (line : NumberedLine) (m : ℕ) (kept : KeptLetters) (read : IsRead line m kept) → kept_exceeds m kept ≡ false
+    → first_fault (word_of m read.letters.letters) ≡ first_fault (word_of m kept.first.items)
 same_fault line m kept read fine =
     let ls = read.letters.letters in
     let limits = within m ls (sym (exceeds_same kept ls m read.letters.tells) ∙ fine) in
     sym (ap (λ (xs : List ℤ). first_fault (word_of m xs)) (kept_all kept ls read.letters.tells limits.size) ∙ fault_low m ls (omega (arith, limits.strands)))
 
-braid_bad : (line : NumberedLine) (m : ℕ) (kept : KeptLetters) (fault : BraidFault) → IsRead line m kept → kept_exceeds m kept ≡ false → first_fault (word_of m kept.first.items) ≡ Some fault → braid_at line ≡ Err (Malformed line.number)
+braid_bad : (line : NumberedLine) (m : ℕ) (kept : KeptLetters) (fault : BraidFault) → IsRead line m kept → kept_exceeds m kept ≡ false
+    → first_fault (word_of m kept.first.items) ≡ Some fault → braid_at line ≡ Err (Malformed line.number)
 braid_bad line m kept fault read fine bad =
     let test : exceeds (word_of m read.letters.letters) ≡ false = sym (exceeds_same kept read.letters.letters m read.letters.tells) ∙ fine in
-    let content : is_none (first_fault (word_of m read.letters.letters)) ≡ false = ap (λ (f : Option BraidFault). is_none f) (same_fault line m kept read fine ∙ bad) in
+    let content : is_none (first_fault (word_of m read.letters.letters)) ≡ false =
+    ap (λ (f : Option BraidFault). is_none f) (same_fault line m kept read fine ∙ bad) in
     braid_is line m kept read ∙ rw (test, content) refl
 
 pub braid_refused : (line : NumberedLine) (m : ℕ) (kept : KeptLetters) (fault : BraidFault) → IsRead line m kept → kept_exceeds m kept ≡ false
@@ -147,7 +156,8 @@ braid_refused line m kept Strands read fine (inr other) = absurd (let no = other
 braid_refused line m kept (Letter place) read fine (inr other) = absurd (let no = other.1 in cc)
 braid_refused line m kept Size read fine (inr other) = absurd (let no = other.1 in cc)
 
-pub braid_good : (line : NumberedLine) (m : ℕ) (kept : KeptLetters) → IsRead line m kept → kept_exceeds m kept ≡ false → first_fault (word_of m kept.first.items) ≡ None → braid_at line ≡ Ok (word_of m kept.first.items)
+pub braid_good : (line : NumberedLine) (m : ℕ) (kept : KeptLetters) → IsRead line m kept → kept_exceeds m kept ≡ false
+    → first_fault (word_of m kept.first.items) ≡ None → braid_at line ≡ Ok (word_of m kept.first.items)
 braid_good line m kept read fine none =
     let ls = read.letters.letters in
     let test : exceeds (word_of m ls) ≡ false = sym (exceeds_same kept ls m read.letters.tells) ∙ fine in

@@ -33,7 +33,8 @@ abbrev pub IsDue : {B : Type 0} → (Text → Result B TextFault) → Type 0
 IsDue read = (ending : ℕ) → read (lines_then [] ending) ≡ Err (Malformed ending)
 
 -- so one is taken
-used_start : {A : Type 0} (w : List ℕ) (q : Text → Result (A × Text) TextFault) (value : A) (used ls more : List NumberedLine) → IsDue q → ((ending : ℕ) → q (lines_then (used ++ []) ending) ≡ Ok (value, lines_then [] ending))
+used_start : {A : Type 0} (w : List ℕ) (q : Text → Result (A × Text) TextFault) (value : A) (used ls more : List NumberedLine) → IsDue q
+    → ((ending : ℕ) → q (lines_then (used ++ []) ending) ≡ Ok (value, lines_then [] ending))
     → first_starts w (used ++ more) ≡ first_starts w (used ++ ls)
 used_start w q value [] ls more due again = absurd (let no = sym (due 0) ∙ again 0 in cc)
 used_start w q value (x ∷ used) ls more due again = refl
@@ -77,7 +78,8 @@ failed_by w b c q agrees due steady text begin fault is = elim (steady.failed te
   | inr end ↦ inr (record { names = end.names; due = λ e. agrees (lines_then text.lines e) begin ∙ end.due e })
 ]
 
-pub choice_steady : {A : Type 0} (w : List ℕ) (r s : Text → Result (A × Text) TextFault) → IsDue r → IsDue s → Steady Anywhere r → Steady Anywhere s → Steady Anywhere (choice w r s)
+pub choice_steady : {A : Type 0} (w : List ℕ) (r s : Text → Result (A × Text) TextFault) → IsDue r → IsDue s → Steady Anywhere r → Steady Anywhere s
+    → Steady Anywhere (choice w r s)
 choice_steady {A} w r s r_due s_due first second = record {
   took = λ text value rest is. took text (first_starts w text.lines) refl value rest is;
   failed = λ text fault is. failed text (first_starts w text.lines) refl fault is;
@@ -86,11 +88,13 @@ choice_steady {A} w r s r_due s_due first second = record {
     due : IsDue (choice w r s)
     due ending = s_due ending
 
-    took : (text : Text) (t : Bool) → first_starts w text.lines ≡ t → (value : A) (rest : Text) → choice w r s text ≡ Ok (value, rest) → Took Anywhere (choice w r s) text value rest
+    took : (text : Text) (t : Bool) → first_starts w text.lines ≡ t → (value : A) (rest : Text) → choice w r s text ≡ Ok (value, rest)
+        → Took Anywhere (choice w r s) text value rest
     took text true begin value rest is = took_by w true (choice w r s) r (first_agrees w r s) r_due first text begin value rest is
     took text false begin value rest is = took_by w false (choice w r s) s (second_agrees w r s) s_due second text begin value rest is
 
-    failed : (text : Text) (t : Bool) → first_starts w text.lines ≡ t → (fault : TextFault) → choice w r s text ≡ Err fault → BadLine (choice w r s) text fault ⊎ FailsAtEnd (choice w r s) text fault
+    failed : (text : Text) (t : Bool) → first_starts w text.lines ≡ t → (fault : TextFault) → choice w r s text ≡ Err fault
+        → BadLine (choice w r s) text fault ⊎ FailsAtEnd (choice w r s) text fault
     failed text true begin fault is = failed_by w true (choice w r s) r (first_agrees w r s) due first text begin fault is
     failed text false begin fault is = failed_by w false (choice w r s) s (second_agrees w r s) due second text begin fault is
 
@@ -129,7 +133,8 @@ choice_fails w r s first second text fault is = by text (first_starts w text.lin
     none : AreGood (choice w r s) []
     none = nothing_good s second
 
-    by : (text : Text) (t : Bool) → first_starts w text.lines ≡ t → choice w r s text ≡ Err fault → FailsAtLine (choice w r s) text fault ⊎ FailsAtEnd (choice w r s) text fault
+    by : (text : Text) (t : Bool) → first_starts w text.lines ≡ t → choice w r s text ≡ Err fault
+        → FailsAtLine (choice w r s) text fault ⊎ FailsAtEnd (choice w r s) text fault
     by text true begin is = fails_by w true (choice w r s) r (first_agrees w r s) none first text begin fault is
     by text false begin is = fails_by w false (choice w r s) s (second_agrees w r s) none second text begin fault is
 

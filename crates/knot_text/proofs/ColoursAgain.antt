@@ -17,13 +17,15 @@ use Rattle.knot_text.specs.Colours.{colours_at, colours_item}
 use Rattle.knot_text.specs.Printed.{colours_lines}
 use Rattle.knot_text.proofs.StepsAgain.{line_of, lines_before, IsShort, word_again, values_again, none_long, all_short}
 
-behind_again : (n : ℕ) (cs : List ℕ) → length cs ≤ MAX_SIZE → AllByRecursion IsShort cs → numbers_behind (codes "colours") (line_of n (codes "colours" ∷ map decimal cs)) ≡ Ok cs
+behind_again : (n : ℕ) (cs : List ℕ) → length cs ≤ MAX_SIZE → AllByRecursion IsShort cs
+    → numbers_behind (codes "colours") (line_of n (codes "colours" ∷ map decimal cs)) ≡ Ok cs
 unfolding numbers_behind
 behind_again n cs fits few =
     let size : nat_lt MAX_SIZE (length cs) ≡ false = le-ltb MAX_SIZE (length cs) fits in
     rw (word_again (codes "colours") n (map decimal cs), values_again n cs few, size, none_long cs few) refl
 
-pub colours_again : (width order n : ℕ) (c : ArrayVec ℕ) (text : Text) → width ≤ MAX_SIZE → order ≤ MAX_ORDER → AreColours width order c.items → colours_item width order (lines_before (numbered n (colours_lines c)) text) ≡ Ok (c, text)
+pub colours_again : (width order n : ℕ) (c : ArrayVec ℕ) (text : Text) → width ≤ MAX_SIZE → order ≤ MAX_ORDER → AreColours width order c.items
+    → colours_item width order (lines_before (numbered n (colours_lines c)) text) ≡ Ok (c, text)
 unfolding colours_item colours_at next_line
 colours_again width order n c text fits most are =
     let few = all_short order c.items (omega (arith, most)) (recursion_from_All (λ y. y < order) c.items are.1) in

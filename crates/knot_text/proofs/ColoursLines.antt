@@ -13,15 +13,20 @@ use Rattle.knot_text.specs.Colours.{colours_at}
 use Rattle.knot_text.proofs.Cuts.{all_low, same_low}
 
 colours_test : (width order : ℕ) (cut values : List ℕ) → order ≤ 255 → cut ≡ map low values → are_colours width order cut ≡ are_colours width order values
-colours_test width order cut values most is = ap (are_colours width order) is ∙ ap₂ (λ (n : ℕ) (b : Bool). (n == width) && b) (length-map values low) (all_low order values most)
+colours_test width order cut values most is =
+    ap (are_colours width order) is ∙ ap₂ (λ (n : ℕ) (b : Bool). (n == width) && b) (length-map values low) (all_low order values most)
 
-pub colours_bad : (colours : ArrayVec ℕ) (width order : ℕ) (line : NumberedLine) → order ≤ 255 → CutsRead colours (numbers_behind (codes "colours") line) → are_colours width order colours.items ≡ false → colours_at width order line ≡ Err (Malformed line.number)
+pub colours_bad : (colours : ArrayVec ℕ) (width order : ℕ) (line : NumberedLine) → order ≤ 255
+    → CutsRead colours (numbers_behind (codes "colours") line) → are_colours width order colours.items ≡ false
+    → colours_at width order line ≡ Err (Malformed line.number)
 unfolding colours_at
 colours_bad colours width order line most read bad =
     let test : are_colours width order read.values ≡ false = sym (colours_test width order colours.items read.values most read.cut) ∙ bad in
     rw (read.is, test) refl
 
-pub colours_good : (colours : ArrayVec ℕ) (width order : ℕ) (line : NumberedLine) → order ≤ 255 → CutsRead colours (numbers_behind (codes "colours") line) → are_colours width order colours.items ≡ true → colours_at width order line ≡ Ok colours
+pub colours_good : (colours : ArrayVec ℕ) (width order : ℕ) (line : NumberedLine) → order ≤ 255
+    → CutsRead colours (numbers_behind (codes "colours") line) → are_colours width order colours.items ≡ true
+    → colours_at width order line ≡ Ok colours
 unfolding colours_at
 colours_good colours width order line most read good =
     let test : are_colours width order read.values ≡ true = sym (colours_test width order colours.items read.values most read.cut) ∙ good in

@@ -24,8 +24,10 @@ abbrev AreGiven : ℕ → Given → Type 0
 AreGiven width None = Unit {0}
 AreGiven width (Some given) = AreColours width given.0.table.order given.1.items
 
-tested : (width order n : ℕ) (cs : List ℕ) (c : ArrayVec ℕ) (t : Bool) → are_colours width order cs ≡ t → cond t (Ok (record { items = cs })) (Err (Malformed n)) ≡ Ok c → AreColours width order c.items
-tested width order n cs c true test is = subst (λ (x : ArrayVec ℕ). AreColours width order x.items) (ok_is (record { items = cs }) c is) (colours_from width order cs test)
+tested : (width order n : ℕ) (cs : List ℕ) (c : ArrayVec ℕ) (t : Bool) → are_colours width order cs ≡ t
+    → cond t (Ok (record { items = cs })) (Err (Malformed n)) ≡ Ok c → AreColours width order c.items
+tested width order n cs c true test is =
+    subst (λ (x : ArrayVec ℕ). AreColours width order x.items) (ok_is (record { items = cs }) c is) (colours_from width order cs test)
 tested width order n cs c false test is = absurd cc
 
 line_is : (width order : ℕ) (line : NumberedLine) (c : ArrayVec ℕ) → colours_at width order line ≡ Ok c → AreColours width order c.items
@@ -42,7 +44,8 @@ colours_are width order text c rest is =
     let same = ok_is (e.0, a.0.1) (c, rest) e.2 in
     subst (λ (y : ArrayVec ℕ × Text). AreColours width order y.0.items) {x = (e.0, a.0.1)} same (line_is width order a.0.0 e.0 e.1)
 
-some_are : (width : ℕ) (text : Text) (given : NamedQuandle × ArrayVec ℕ) (rest : Text) → coloured_item width text ≡ Ok (given, rest) → AreGiven width (Some given)
+some_are : (width : ℕ) (text : Text) (given : NamedQuandle × ArrayVec ℕ) (rest : Text) → coloured_item width text ≡ Ok (given, rest)
+    → AreGiven width (Some given)
 unfolding coloured_item
 some_are width text given rest is =
     let a = bind_ok (quandle_item text) (λ q. colours_item width q.0.table.order q.1 >>= λ c. Ok ((q.0, c.0), c.1)) (given, rest) is in
@@ -71,5 +74,6 @@ replay_given text r is =
     let same = ok_is (record { diagram = a.0.0; moves = b.0.0; colours = c.0.0 }) r e.2 in
     subst (λ (x : ReplayText). AreGiven (columns x.diagram) x.colours) {x = record { diagram = a.0.0; moves = b.0.0; colours = c.0.0 }} same (given_are (columns a.0.0) b.0.1 c.0.0 c.0.1 c.1)
 
-pub replay_colours : (text : Text) (r : ReplayText) (q : NamedQuandle) (c : ArrayVec ℕ) → replay_in text ≡ Ok r → r.colours ≡ Some (q, c) → AreColours (columns r.diagram) q.table.order c.items
+pub replay_colours : (text : Text) (r : ReplayText) (q : NamedQuandle) (c : ArrayVec ℕ) → replay_in text ≡ Ok r → r.colours ≡ Some (q, c)
+    → AreColours (columns r.diagram) q.table.order c.items
 replay_colours text r q c is given = subst (λ (g : Given). AreGiven (columns r.diagram) g) given (replay_given text r is)

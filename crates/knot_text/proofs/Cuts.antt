@@ -34,7 +34,8 @@ first_all kept values tells short = tells.first ∙ take_all MAX_SIZE (map low v
 abbrev are_below : List ℕ → ℕ → ℕ → Bool
 are_below values width order = (length values == width) && list_all (λ v. nat_lt v order) values
 
-below_by : (kept : Kept) (values : List ℕ) (width order : ℕ) → width ≤ MAX_SIZE → order ≤ 255 → Tells kept values → (t : Bool) → kept.more ≡ t → are_kept_below kept width order ≡ are_below values width order
+below_by : (kept : Kept) (values : List ℕ) (width order : ℕ) → width ≤ MAX_SIZE → order ≤ 255 → Tells kept values → (t : Bool) → kept.more ≡ t
+    → are_kept_below kept width order ≡ are_below values width order
 below_by kept values width order fits most tells true is =
     let long : MAX_SIZE < length values = ltb-true MAX_SIZE (length values) (sym tells.more ∙ is) in
     let other : (length values == width) ≡ false = ne_eqb (length values) width (λ e. omega (arith, e, long, fits)) in
@@ -46,18 +47,21 @@ below_by kept values width order fits most tells false is =
     one ∙ ap (λ (vs : List ℕ). (length vs == width) && list_all (λ v. nat_lt v order) vs) same
     ∙ ap₂ (λ (n : ℕ) (b : Bool). (n == width) && b) (length-map values low) (all_low order values most)
 
-below_test : (kept : Kept) (values : List ℕ) (width order : ℕ) → width ≤ MAX_SIZE → order ≤ 255 → Tells kept values → are_kept_below kept width order ≡ are_below values width order
+below_test : (kept : Kept) (values : List ℕ) (width order : ℕ) → width ≤ MAX_SIZE → order ≤ 255 → Tells kept values
+    → are_kept_below kept width order ≡ are_below values width order
 below_test kept values width order fits most tells = below_by kept values width order fits most tells kept.more refl
 
 -- ---- so many numbers below an order
 
-pub below_long : (kept : Kept) (width order : ℕ) (line : NumberedLine) → KeepsRead kept (numbers line) → kept.long ≡ true → numbers_below width order line ≡ Err (Limit line.number)
+pub below_long : (kept : Kept) (width order : ℕ) (line : NumberedLine) → KeepsRead kept (numbers line) → kept.long ≡ true
+    → numbers_below width order line ≡ Err (Limit line.number)
 unfolding numbers_below
 below_long kept width order line read long =
     let test : list_any is_long read.values ≡ true = sym read.tells.long ∙ long in
     rw (read.is, test) refl
 
-pub below_bad : (kept : Kept) (width order : ℕ) (line : NumberedLine) → width ≤ MAX_SIZE → order ≤ 255 → KeepsRead kept (numbers line) → kept.long ≡ false → are_kept_below kept width order ≡ false → numbers_below width order line ≡ Err (Malformed line.number)
+pub below_bad : (kept : Kept) (width order : ℕ) (line : NumberedLine) → width ≤ MAX_SIZE → order ≤ 255 → KeepsRead kept (numbers line)
+    → kept.long ≡ false → are_kept_below kept width order ≡ false → numbers_below width order line ≡ Err (Malformed line.number)
 unfolding numbers_below
 below_bad kept width order line fits most read long bad =
     let test : list_any is_long read.values ≡ false = sym read.tells.long ∙ long in
@@ -68,7 +72,8 @@ record GoodLine (kept : Kept) (width order : ℕ) (line : NumberedLine) : Type 0
   is : numbers_below width order line ≡ Ok kept.first.items
   len : length kept.first.items ≡ width
 
-good_line : (kept : Kept) (width order : ℕ) (line : NumberedLine) → width ≤ MAX_SIZE → order ≤ 255 → KeepsRead kept (numbers line) → kept.long ≡ false → are_kept_below kept width order ≡ true → GoodLine kept width order line
+good_line : (kept : Kept) (width order : ℕ) (line : NumberedLine) → width ≤ MAX_SIZE → order ≤ 255 → KeepsRead kept (numbers line) → kept.long ≡ false
+    → are_kept_below kept width order ≡ true → GoodLine kept width order line
 unfolding numbers_below
 good_line kept width order line fits most read long good =
     let values = read.values in
@@ -80,7 +85,8 @@ good_line kept width order line fits most read long good =
     let one : numbers_below width order line ≡ Ok values = rw (read.is, test, content) refl in
     record { is = one ∙ ap (λ (vs : List ℕ). Ok vs) (sym same); len = ap (λ (vs : List ℕ). length vs) same ∙ len }
 
-pub below_good : (kept : Kept) (width order : ℕ) (line : NumberedLine) → width ≤ MAX_SIZE → order ≤ 255 → KeepsRead kept (numbers line) → kept.long ≡ false → are_kept_below kept width order ≡ true → numbers_below width order line ≡ Ok kept.first.items
+pub below_good : (kept : Kept) (width order : ℕ) (line : NumberedLine) → width ≤ MAX_SIZE → order ≤ 255 → KeepsRead kept (numbers line)
+    → kept.long ≡ false → are_kept_below kept width order ≡ true → numbers_below width order line ≡ Ok kept.first.items
 below_good kept width order line fits most read long good = (good_line kept width order line fits most read long good).is
 
 pub below_len : (kept : Kept) (width order : ℕ) → are_kept_below kept width order ≡ true → length kept.first.items ≡ width

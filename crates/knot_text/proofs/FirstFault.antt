@@ -21,7 +21,8 @@ anywhere_seen = record { none = tt; front = λ xs ys h. tt; same = λ xs ys zs l
 pub nothing_good : {A : Type 0} (read : Text → Result A TextFault) → FailsFirst read → AreGood read []
 nothing_good {A} read fails ending = by (read (lines_then [] ending)) refl
   where
-    by : (r : Result A TextFault) → read (lines_then [] ending) ≡ r → IsOk (read (lines_then [] ending)) ⊎ (read (lines_then [] ending) ≡ Err (Malformed ending))
+    by : (r : Result A TextFault) → read (lines_then [] ending) ≡ r
+        → IsOk (read (lines_then [] ending)) ⊎ (read (lines_then [] ending) ≡ Err (Malformed ending))
     by (Ok x) is = inl (subst (λ (s : Result A TextFault). IsOk s) (sym is) refl)
     by (Err d) is =
         elim (fails (lines_then [] ending) d is) [
@@ -32,7 +33,8 @@ nothing_good {A} read fails ending = by (read (lines_then [] ending)) refl
 pub ok_again : {A : Type 0} (r s : Result A TextFault) → s ≡ r → IsOk r → IsOk s
 ok_again {A} r s same is = subst (λ (t : Result A TextFault). IsOk t) (sym same) is
 
-pub then_fails : {A B : Type 0} (Stops : Stop) (r : Text → Result (A × Text) TextFault) (k : A → Text → Result B TextFault) → IsSeenFirst Stops → Steady Stops r → ((a : A) → FailsFirst (k a)) → FailsFirst (then_read r k)
+pub then_fails : {A B : Type 0} (Stops : Stop) (r : Text → Result (A × Text) TextFault) (k : A → Text → Result B TextFault) → IsSeenFirst Stops
+    → Steady Stops r → ((a : A) → FailsFirst (k a)) → FailsFirst (then_read r k)
 then_fails {A} {B} Stops r k seen first second text fault is = elim (bind_err (r text) (λ x. k x.0 x.1) fault is) [
   | inl e ↦ elim (first.failed text fault e) [
     | inl bad ↦ inl (record {
@@ -100,7 +102,8 @@ end_fails {A} value text fault is = by text.lines text.ending is
     read : Text → Result A TextFault
     read text = text_end text >>= λ end. Ok value
 
-    by : (lines : List NumberedLine) (ending : ℕ) → read (lines_then lines ending) ≡ Err fault → FailsAtLine read (lines_then lines ending) fault ⊎ FailsAtEnd read (lines_then lines ending) fault
+    by : (lines : List NumberedLine) (ending : ℕ) → read (lines_then lines ending) ≡ Err fault
+        → FailsAtLine read (lines_then lines ending) fault ⊎ FailsAtEnd read (lines_then lines ending) fault
     by [] ending is = absurd cc
     by (line ∷ lines) ending is =
         let same : Malformed line.number ≡ fault = cc in

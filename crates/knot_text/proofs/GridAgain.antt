@@ -41,7 +41,8 @@ rows_are rows least each =
     and_from (nat_le 2 (length rows)) (is_one_each rows) (le-leb 2 (length rows) least)
     (and_from (list_all (λ r. nat_lt r (length rows)) rows) (not (list_any (λ c. is_repeated rows c) (range_with_len 0 (length rows)))) below (not_from_false (list_any (λ c. is_repeated rows c) (range_with_len 0 (length rows))) once))
 
-rows_again : (letter rows : List ℕ) (n : ℕ) → length rows ≤ MAX_SIZE → AllByRecursion IsShort rows → numbers_behind letter (line_of n (rows_tokens letter rows)) ≡ Ok rows
+rows_again : (letter rows : List ℕ) (n : ℕ) → length rows ≤ MAX_SIZE → AllByRecursion IsShort rows
+    → numbers_behind letter (line_of n (rows_tokens letter rows)) ≡ Ok rows
 unfolding numbers_behind
 rows_again letter rows n fits few =
     let size : nat_lt MAX_SIZE (length rows) ≡ false = le-ltb MAX_SIZE (length rows) fits in

@@ -1,5 +1,6 @@
 -- The lines of a grid, by numbers that were cut down to 255.
-use Rattle.std.proofs.Common.{◌≡◌, ℕ, ◌<◌, ◌≤◌, not, List, [], ◌∷◌, length, map, Bool, true, false, Option, Some, None, Ok, Err, refl, sym, ap, ◌∙◌, arith, nat_lt, nat_le, codes}
+use Rattle.std.proofs.Common.{◌≡◌, ℕ, ◌<◌, ◌≤◌, not, List, [], ◌∷◌, length, map, Bool, true, false, Option, Some, None, Ok, Err, refl, sym}
+use Rattle.std.proofs.Common.{ap, ◌∙◌, arith, nat_lt, nat_le, codes}
 use Rattle.std.specs.Prelude.{is_none}
 use Rattle.std.specs.List.{list_all, list_any, range_with_len, AllByRecursion}
 use Rattle.std.proofs.lemmas.Bool.{lt-ltb, both_ways, and_left, and_right, and_from, and_parts}
@@ -26,18 +27,21 @@ use Rattle.knot_text.proofs.Cuts.{all_low, same_low}
 abbrev has_repeat : List ℕ → Bool
 has_repeat rows = list_any (λ c. is_repeated rows c) (range_with_len 0 (length rows))
 
-pub repeat_at : (rows : List ℕ) (c : ℕ) → c < length rows → is_repeated rows c ≡ true → list_any (λ c. is_repeated rows c) (range_with_len 0 (length rows)) ≡ true
+pub repeat_at : (rows : List ℕ) (c : ℕ) → c < length rows → is_repeated rows c ≡ true
+    → list_any (λ c. is_repeated rows c) (range_with_len 0 (length rows)) ≡ true
 repeat_at rows c lt is =
     let at : get_or (range_with_len 0 (length rows)) c 0 ≡ c = get_or-range_with_len 0 (length rows) c 0 lt ∙ zero-add c in
     list_any_at (λ c. is_repeated rows c) (range_with_len 0 (length rows)) c 0 (omega (arith, length-range_with_len 0 (length rows), lt)) (ap (λ (k : ℕ). is_repeated rows k) at ∙ is)
 
-pub no_repeat : (rows : List ℕ) → ((k : ℕ) → k < length rows → is_repeated rows k ≡ false) → list_any (λ c. is_repeated rows c) (range_with_len 0 (length rows)) ≡ false
+pub no_repeat : (rows : List ℕ) → ((k : ℕ) → k < length rows → is_repeated rows k ≡ false)
+    → list_any (λ c. is_repeated rows c) (range_with_len 0 (length rows)) ≡ false
 no_repeat rows none =
     list_any_none (λ c. is_repeated rows c) (range_with_len 0 (length rows)) (λ k d lt.
     let within : k < length rows = omega (arith, length-range_with_len 0 (length rows), lt) in
     ap (λ (j : ℕ). is_repeated rows j) (get_or-range_with_len 0 (length rows) k d within ∙ zero-add k) ∙ none k within)
 
-one_each_by : (values : List ℕ) → length values ≤ 255 → (t : Bool) → list_all (λ v. nat_lt v (length values)) values ≡ t → are_rows (map low values) ≡ are_rows values
+one_each_by : (values : List ℕ) → length values ≤ 255 → (t : Bool) → list_all (λ v. nat_lt v (length values)) values ≡ t
+    → are_rows (map low values) ≡ are_rows values
 one_each_by values short true is = ap are_rows (same_low (length values) values short is)
 one_each_by values short false is =
     let len = length-map values low in
@@ -61,13 +65,15 @@ rows_same rows values cut short is =
 
 -- ---- the rows of the Xs
 
-pub x_bad : (rows : ArrayVec ℕ) (line : NumberedLine) → length rows.items ≤ MAX_SIZE → CutsRead rows (numbers_behind (codes "x") line) → are_rows rows.items ≡ false → x_at line ≡ Err (Malformed line.number)
+pub x_bad : (rows : ArrayVec ℕ) (line : NumberedLine) → length rows.items ≤ MAX_SIZE → CutsRead rows (numbers_behind (codes "x") line)
+    → are_rows rows.items ≡ false → x_at line ≡ Err (Malformed line.number)
 unfolding x_at
 x_bad rows line short read bad =
     let test : are_rows read.values ≡ false = sym (rows_test rows.items read.values read.cut short) ∙ bad in
     rw (read.is, test) refl
 
-pub x_good : (rows : ArrayVec ℕ) (line : NumberedLine) → length rows.items ≤ MAX_SIZE → CutsRead rows (numbers_behind (codes "x") line) → are_rows rows.items ≡ true → x_at line ≡ Ok rows.items
+pub x_good : (rows : ArrayVec ℕ) (line : NumberedLine) → length rows.items ≤ MAX_SIZE → CutsRead rows (numbers_behind (codes "x") line)
+    → are_rows rows.items ≡ true → x_at line ≡ Ok rows.items
 unfolding x_at
 x_good rows line short read good =
     let test : are_rows read.values ≡ true = sym (rows_test rows.items read.values read.cut short) ∙ good in
@@ -85,34 +91,44 @@ outside_fault : (x values : List ℕ) (f : Option GridFault) → first_fault x v
 outside_fault x values (Some e) is bad = refl
 outside_fault x values None is bad =
     let grid = accepted_lists x values is in
-    let all : list_all (λ v. nat_lt v (length x)) values ≡ true = all_test (length x) values (recursion_from_All (λ v. v < length x) values (each_below (length x) values grid.rings)) in
+    let all : list_all (λ v. nat_lt v (length x)) values ≡ true =
+    all_test (length x) values (recursion_from_All (λ v. v < length x) values (each_below (length x) values grid.rings)) in
     absurd (both_ways (list_all (λ v. nat_lt v (length x)) values) bad all)
 
-pub o_outside : (rows : ArrayVec ℕ) (x : List ℕ) (line : NumberedLine) → length x ≤ MAX_SIZE → CutsRead rows (numbers_behind (codes "o") line) → list_all (λ v. nat_lt v (length x)) rows.items ≡ false → o_at x line ≡ Err (Malformed line.number)
+pub o_outside : (rows : ArrayVec ℕ) (x : List ℕ) (line : NumberedLine) → length x ≤ MAX_SIZE → CutsRead rows (numbers_behind (codes "o") line)
+    → list_all (λ v. nat_lt v (length x)) rows.items ≡ false → o_at x line ≡ Err (Malformed line.number)
 unfolding o_at
 o_outside rows x line short read bad =
-    let out : list_all (λ v. nat_lt v (length x)) read.values ≡ false = sym (ap (list_all (λ v. nat_lt v (length x))) read.cut ∙ all_low (length x) read.values (omega arith)) ∙ bad in
+    let out : list_all (λ v. nat_lt v (length x)) read.values ≡ false =
+    sym (ap (list_all (λ v. nat_lt v (length x))) read.cut ∙ all_low (length x) read.values (omega arith)) ∙ bad in
     let test : is_none (first_fault x read.values) ≡ false = outside_fault x read.values (first_fault x read.values) refl out in
     rw (read.is, test) refl
 
 -- rows inside are all the numbers as they stand
-inside_same : (rows : ArrayVec ℕ) (x : List ℕ) (line : NumberedLine) (read : CutsRead rows (numbers_behind (codes "o") line)) → length x ≤ MAX_SIZE → list_all (λ v. nat_lt v (length x)) rows.items ≡ true → rows.items ≡ read.values
+inside_same : (rows : ArrayVec ℕ) (x : List ℕ) (line : NumberedLine) (read : CutsRead rows (numbers_behind (codes "o") line)) → length x ≤ MAX_SIZE
+    → list_all (λ v. nat_lt v (length x)) rows.items ≡ true → rows.items ≡ read.values
 inside_same rows x line read short good =
-    let all : list_all (λ v. nat_lt v (length x)) read.values ≡ true = sym (ap (list_all (λ v. nat_lt v (length x))) read.cut ∙ all_low (length x) read.values (omega arith)) ∙ good in
+    let all : list_all (λ v. nat_lt v (length x)) read.values ≡ true =
+    sym (ap (list_all (λ v. nat_lt v (length x))) read.cut ∙ all_low (length x) read.values (omega arith)) ∙ good in
     read.cut ∙ same_low (length x) read.values (omega arith) all
 
-pub o_bad : (rows : ArrayVec ℕ) (x : List ℕ) (line : NumberedLine) (fault : GridFault) → length x ≤ MAX_SIZE → CutsRead rows (numbers_behind (codes "o") line) → list_all (λ v. nat_lt v (length x)) rows.items ≡ true → first_fault x rows.items ≡ Some fault → o_at x line ≡ Err (Malformed line.number)
+pub o_bad : (rows : ArrayVec ℕ) (x : List ℕ) (line : NumberedLine) (fault : GridFault) → length x ≤ MAX_SIZE
+    → CutsRead rows (numbers_behind (codes "o") line) → list_all (λ v. nat_lt v (length x)) rows.items ≡ true → first_fault x rows.items ≡ Some fault
+    → o_at x line ≡ Err (Malformed line.number)
 unfolding o_at
 o_bad rows x line fault short read good bad =
     let same = inside_same rows x line read short good in
-    let test : is_none (first_fault x read.values) ≡ false = ap (λ (vs : List ℕ). is_none (first_fault x vs)) (sym same) ∙ ap (λ (f : Option GridFault). is_none f) bad in
+    let test : is_none (first_fault x read.values) ≡ false =
+    ap (λ (vs : List ℕ). is_none (first_fault x vs)) (sym same) ∙ ap (λ (f : Option GridFault). is_none f) bad in
     rw (read.is, test) refl
 
-pub o_good : (rows : ArrayVec ℕ) (x : List ℕ) (line : NumberedLine) → length x ≤ MAX_SIZE → CutsRead rows (numbers_behind (codes "o") line) → list_all (λ v. nat_lt v (length x)) rows.items ≡ true → first_fault x rows.items ≡ None
+pub o_good : (rows : ArrayVec ℕ) (x : List ℕ) (line : NumberedLine) → length x ≤ MAX_SIZE → CutsRead rows (numbers_behind (codes "o") line)
+    → list_all (λ v. nat_lt v (length x)) rows.items ≡ true → first_fault x rows.items ≡ None
     → o_at x line ≡ Ok (record { x = x; o = rows.items })
 unfolding o_at
 o_good rows x line short read good none =
     let same = inside_same rows x line read short good in
-    let test : is_none (first_fault x read.values) ≡ true = ap (λ (vs : List ℕ). is_none (first_fault x vs)) (sym same) ∙ ap (λ (f : Option GridFault). is_none f) none in
+    let test : is_none (first_fault x read.values) ≡ true =
+    ap (λ (vs : List ℕ). is_none (first_fault x vs)) (sym same) ∙ ap (λ (f : Option GridFault). is_none f) none in
     let one : o_at x line ≡ Ok (record { x = x; o = read.values }) = rw (read.is, test) refl in
     one ∙ ap (λ (vs : List ℕ). Ok (record { x = x; o = vs })) (sym same)

@@ -24,7 +24,8 @@ use Rattle.verdict_core.specs.Diagrams.{grid_of}
 use Rattle.knot_text.specs.Shapes.{braid_diagram, grid_diagram, diagram_item, problem_item}
 use Rattle.knot_text.proofs.Steady.{bind_ok, ok_is}
 
-tested : (x rows : List ℕ) (n : ℕ) (d : Marks) (f : Option GridFault) → first_fault x rows ≡ f → cond (is_none f) (Ok (record { x = x; o = rows })) (Err (Malformed n)) ≡ Ok d → IsGrid d
+tested : (x rows : List ℕ) (n : ℕ) (d : Marks) (f : Option GridFault) → first_fault x rows ≡ f
+    → cond (is_none f) (Ok (record { x = x; o = rows })) (Err (Malformed n)) ≡ Ok d → IsGrid d
 tested x rows n d (Some f) is e = absurd cc
 tested x rows n d None is e = subst IsGrid (ok_is (record { x = x; o = rows }) d e) (accepted_lists x rows is)
 

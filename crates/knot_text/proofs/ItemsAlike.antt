@@ -9,7 +9,6 @@ use Rattle.grid_core.specs.declared.grid.TheConstants.{MAX_SIZE}
 use Rattle.grid_core.specs.Fault.{first_fault}
 use Rattle.braid_core.specs.Braid.{Word}
 use Rattle.braid_core.specs.Fault.{first_fault as word_fault}
-use Rattle.grid_moves.specs.declared.step.Move.{Move}
 use Rattle.grid_moves.specs.declared.step.Move.TheVariants.{ShiftColumns, ShiftRows, ExchangeColumns, ExchangeRows, SlideColumns, SlideRows}
 use Rattle.quandle_core.specs.Fault.{first_fault as table_fault}
 use Rattle.text_lines.specs.Lines.{Text}
@@ -24,44 +23,46 @@ use Rattle.knot_text.specs.Numbers.{is_long, numbers_behind, numbers_below}
 use Rattle.knot_text.specs.Grids.{are_rows, x_at, o_at, grid_item}
 use Rattle.knot_text.specs.Braids.{letter_of, exceeds, braid_of, braid_at, braid_item}
 use Rattle.knot_text.specs.Moves.{last_place, one_place, shift, exchange, slide, kind_at, corner_at, stabilise, destabilise, move_at, next_move, moves_item}
-use Rattle.knot_text.specs.Quandles.{with_order, alexander_at, tetrahedral_at, written_at, is_over, meant, table_row, table_rows, table_item, quandle_of, quandle_at, quandle_item, surplus_quandle, quandles, quandle_list}
+use Rattle.knot_text.specs.Quandles.{with_order, alexander_at, tetrahedral_at, written_at, is_over, meant, table_row, table_rows}
+use Rattle.knot_text.specs.Quandles.{table_item, quandle_of, quandle_at, quandle_item, surplus_quandle, quandles, quandle_list}
 use Rattle.knot_text.specs.Colours.{colours_at, colours_item, coloured_item, coloured}
 use Rattle.knot_text.specs.Verdicts.{equal_at, colour_line, list_item, different_at, budget_at, exhausted_at, unknown_at, unknown_item, verdict_item}
 use Rattle.knot_text.proofs.StepsAgain.{line_of}
-use Rattle.knot_text.proofs.Alike.{Alike, alike_ok, alike_err, alike_if, Same, SameLine, SameRest, SameText, SameLeft, same_bind, line_bind, rest_bind, text_bind, next_bind, begins_alike}
+use Rattle.knot_text.proofs.Alike.{Alike, alike_ok, alike_err, alike_if, Same, SameLine, SameRest, SameText, SameLeft, same_bind, line_bind}
+use Rattle.knot_text.proofs.Alike.{rest_bind, text_bind, next_bind, begins_alike}
 
 -- ---- steps in a line
 
-token_alike : (ts : List (List ℕ)) (n m : ℕ) → Alike SameRest (next_token (line_of n ts)) (next_token (line_of m ts))
+pub token_alike : (ts : List (List ℕ)) (n m : ℕ) → Alike SameRest (next_token (line_of n ts)) (next_token (line_of m ts))
 unfolding next_token
 token_alike [] n m = alike_err
 token_alike (t ∷ ts) n m = alike_ok (refl, refl)
 
-end_alike : (ts : List (List ℕ)) (n m : ℕ) → Alike SameLine (line_end (line_of n ts)) (line_end (line_of m ts))
+pub end_alike : (ts : List (List ℕ)) (n m : ℕ) → Alike SameLine (line_end (line_of n ts)) (line_end (line_of m ts))
 unfolding line_end
 end_alike [] n m = alike_ok refl
 end_alike (t ∷ ts) n m = alike_err
 
-word_alike : (w : List ℕ) (ts : List (List ℕ)) (n m : ℕ) → Alike SameLine (word w (line_of n ts)) (word w (line_of m ts))
+pub word_alike : (w : List ℕ) (ts : List (List ℕ)) (n m : ℕ) → Alike SameLine (word w (line_of n ts)) (word w (line_of m ts))
 unfolding word
 word_alike w ts n m = rest_bind _ _ (token_alike ts n m) (λ t us i j. alike_if (bytes_eq t w) (alike_ok refl) alike_err)
 
-some_alike : {A : Type 0} (o : Option A) (n m : ℕ) → Alike Same (or_malformed n o) (or_malformed m o)
+pub some_alike : {A : Type 0} (o : Option A) (n m : ℕ) → Alike Same (or_malformed n o) (or_malformed m o)
 some_alike None n m = alike_err
 some_alike (Some x) n m = alike_ok refl
 
-number_alike : (ts : List (List ℕ)) (n m : ℕ) → Alike SameRest (number (line_of n ts)) (number (line_of m ts))
+pub number_alike : (ts : List (List ℕ)) (n m : ℕ) → Alike SameRest (number (line_of n ts)) (number (line_of m ts))
 unfolding number
 number_alike ts n m = rest_bind _ _ (token_alike ts n m) (λ t us i j. same_bind (some_alike (number_of t) n m) (λ v. alike_ok (refl, refl)))
 
-last_alike : (ts : List (List ℕ)) (n m : ℕ) → Alike SameRest (last_number (line_of n ts)) (last_number (line_of m ts))
+pub last_alike : (ts : List (List ℕ)) (n m : ℕ) → Alike SameRest (last_number (line_of n ts)) (last_number (line_of m ts))
 unfolding last_number
 last_alike ts n m = rest_bind _ _ (number_alike ts n m) (λ v us i j. line_bind _ _ (end_alike us i j) (λ vs k l. alike_ok (refl, refl)))
 
-most_alike : (most value n m : ℕ) → Alike Same (at_most most n value) (at_most most m value)
+pub most_alike : (most value n m : ℕ) → Alike Same (at_most most n value) (at_most most m value)
 most_alike most value n m = alike_if (nat_le value most) (alike_ok refl) alike_err
 
-count_alike : (ts : List (List ℕ)) (n m : ℕ) → Alike Same (last_count (line_of n ts)) (last_count (line_of m ts))
+pub count_alike : (ts : List (List ℕ)) (n m : ℕ) → Alike Same (last_count (line_of n ts)) (last_count (line_of m ts))
 unfolding last_count
 count_alike ts n m = rest_bind _ _ (last_alike ts n m) (λ v us i j. most_alike MAX_NUMBER v i j)
 
@@ -74,7 +75,8 @@ behind_alike : (w : List ℕ) (ts : List (List ℕ)) (n m : ℕ) → Alike Same 
 unfolding numbers_behind
 behind_alike w ts n m = line_bind _ _ (word_alike w ts n m) (λ us i j. same_bind (each_alike number_of us i j) (λ vs. alike_if (nat_lt MAX_SIZE (length vs) || list_any is_long vs) alike_err (alike_ok refl)))
 
-below_alike : (width order : ℕ) (ts : List (List ℕ)) (n m : ℕ) → Alike Same (numbers_below width order (line_of n ts)) (numbers_below width order (line_of m ts))
+pub below_alike : (width order : ℕ) (ts : List (List ℕ)) (n m : ℕ)
+    → Alike Same (numbers_below width order (line_of n ts)) (numbers_below width order (line_of m ts))
 unfolding numbers_below
 below_alike width order ts n m = same_bind (each_alike number_of ts n m) (λ vs. alike_if (list_any is_long vs) alike_err (alike_if ((length vs == width) && list_all (λ v. nat_lt v order) vs) (alike_ok refl) alike_err))
 
@@ -109,7 +111,8 @@ colours_at_alike width order ts n m = same_bind (behind_alike (codes "colours") 
 
 pub colours_alike : (width order : ℕ) (t u : Text) → SameText t u → Alike SameLeft (colours_item width order t) (colours_item width order u)
 unfolding colours_item
-colours_alike width order t u same = next_bind _ _ _ _ same (λ ts n m v w behind. same_bind (colours_at_alike width order ts n m) (λ c. alike_ok (refl, behind)))
+colours_alike width order t u same =
+    next_bind _ _ _ _ same (λ ts n m v w behind. same_bind (colours_at_alike width order ts n m) (λ c. alike_ok (refl, behind)))
 
 -- ---- moves
 
@@ -117,7 +120,7 @@ place_alike : (ts : List (List ℕ)) (n m : ℕ) → Alike Same (last_place (lin
 unfolding last_place
 place_alike ts n m = rest_bind _ _ (last_alike ts n m) (λ v us i j. most_alike MAX_PLACE v i j)
 
-one_alike : (make : ℕ → Move) (ts : List (List ℕ)) (n m : ℕ) → Alike Same (one_place make (line_of n ts)) (one_place make (line_of m ts))
+pub one_alike : {A : Type 0} (make : ℕ → A) (ts : List (List ℕ)) (n m : ℕ) → Alike Same (one_place make (line_of n ts)) (one_place make (line_of m ts))
 one_alike make ts n m = same_bind (place_alike ts n m) (λ k. alike_ok refl)
 
 shift_alike : (ts : List (List ℕ)) (n m : ℕ) → Alike Same (shift (line_of n ts)) (shift (line_of m ts))
@@ -144,7 +147,8 @@ corner_alike ts n m = rest_bind _ _ (token_alike ts n m) (λ t us i j.
 
 stabilise_alike : (ts : List (List ℕ)) (n m : ℕ) → Alike Same (stabilise (line_of n ts)) (stabilise (line_of m ts))
 unfolding stabilise
-stabilise_alike ts n m = rest_bind _ _ (number_alike ts n m) (λ c us i j. rest_bind _ _ (kind_alike us i j) (λ kind vs k l. rest_bind _ _ (corner_alike vs k l) (λ corner ws a b.
+stabilise_alike ts n m =
+    rest_bind _ _ (number_alike ts n m) (λ c us i j. rest_bind _ _ (kind_alike us i j) (λ kind vs k l. rest_bind _ _ (corner_alike vs k l) (λ corner ws a b.
     line_bind _ _ (end_alike ws a b) (λ xs p q. same_bind (most_alike MAX_PLACE c p q) (λ place. alike_ok refl)))))
 
 destabilise_alike : (ts : List (List ℕ)) (n m : ℕ) → Alike Same (destabilise (line_of n ts)) (destabilise (line_of m ts))
@@ -162,10 +166,12 @@ next_move_alike : (t u : Text) → SameText t u → Alike SameLeft (next_move t)
 unfolding next_move
 next_move_alike t u same = next_bind _ _ _ _ same (λ ts n m v w behind. same_bind (move_alike ts n m) (λ move. alike_ok (refl, behind)))
 
-turns_alike : {A : Type 0} (item : Text → Result (A × Text) TextFault) → ((t u : Text) → SameText t u → Alike SameLeft (item t) (item u)) → (count : ℕ) (t u : Text) → SameText t u → Alike SameLeft (in_turn item count t) (in_turn item count u)
+pub turns_alike : {A : Type 0} (item : Text → Result (A × Text) TextFault) → ((t u : Text) → SameText t u → Alike SameLeft (item t) (item u))
+    → (count : ℕ) (t u : Text) → SameText t u → Alike SameLeft (in_turn item count t) (in_turn item count u)
 unfolding in_turn
 turns_alike item each zero t u same = alike_ok (refl, same)
-turns_alike item each (suc count) t u same = text_bind _ _ (each t u same) (λ first v w behind. text_bind _ _ (turns_alike item each count v w behind) (λ others p q left. alike_ok (refl, left)))
+turns_alike item each (suc count) t u same =
+    text_bind _ _ (each t u same) (λ first v w behind. text_bind _ _ (turns_alike item each count v w behind) (λ others p q left. alike_ok (refl, left)))
 
 pub moves_alike : (t u : Text) → SameText t u → Alike SameLeft (moves_item t) (moves_item u)
 unfolding moves_item
@@ -191,21 +197,24 @@ written_alike ts n m = rest_bind _ _ (token_alike ts n m) (λ t us i j.
     (alike_if (bytes_eq t (codes "tetrahedral")) (tetrahedral_alike us i j) (alike_if (bytes_eq t (codes "alexander")) (alexander_alike us i j)
     (alike_if (bytes_eq t (codes "table")) (order_alike (λ k. written.Table k) us i j) alike_err)))))
 
-row_alike : (order : ℕ) (t u : Text) → SameText t u → Alike SameLeft (table_row order t) (table_row order u)
+row_alike : (order bound : ℕ) (t u : Text) → SameText t u → Alike SameLeft (table_row order bound t) (table_row order bound u)
 unfolding table_row
-row_alike order t u same = next_bind _ _ _ _ same (λ ts n m v w behind. same_bind (below_alike order order ts n m) (λ row. alike_ok (refl, behind)))
+row_alike order bound t u same = next_bind _ _ _ _ same (λ ts n m v w behind. same_bind (below_alike order bound ts n m) (λ row. alike_ok (refl, behind)))
 
-rows_alike : (order count : ℕ) (t u : Text) → SameText t u → Alike SameLeft (table_rows order count t) (table_rows order count u)
+pub rows_alike : (order bound count : ℕ) (t u : Text) → SameText t u
+    → Alike SameLeft (table_rows order bound count t) (table_rows order bound count u)
 unfolding table_rows
-rows_alike order zero t u same = alike_ok (refl, same)
-rows_alike order (suc count) t u same = text_bind _ _ (row_alike order t u same) (λ row v w behind. text_bind _ _ (rows_alike order count v w behind) (λ rows p q left. alike_ok (refl, left)))
+rows_alike order bound zero t u same = alike_ok (refl, same)
+rows_alike order bound (suc count) t u same = text_bind _ _ (row_alike order bound t u same) (λ row v w behind.
+    text_bind _ _ (rows_alike order bound count v w behind) (λ rows p q left. alike_ok (refl, left)))
 
 table_alike : (order : ℕ) (t u : Text) → SameText t u → Alike SameLeft (table_item order t) (table_item order u)
 unfolding table_item
-table_alike order t u same = text_bind _ _ (rows_alike order (order - 1) t u same) (λ front v w behind. next_bind _ _ _ _ behind (λ ts n m p q left. same_bind (below_alike order order ts n m) (λ row.
+table_alike order t u same = text_bind _ _ (rows_alike order order (order - 1) t u same) (λ front v w behind. next_bind _ _ _ _ behind (λ ts n m p q left. same_bind (below_alike order order ts n m) (λ row.
     alike_if (is_none (table_fault (record { order = order; entries = front ++ row }))) (alike_ok (refl, left)) alike_err)))
 
-untabled_alike : (w : Written) (n m : ℕ) (t u : Text) → SameText t u → Alike SameLeft (or_malformed n (meant w) >>= λ q. Ok (q, t)) (or_malformed m (meant w) >>= λ q. Ok (q, u))
+untabled_alike : (w : Written) (n m : ℕ) (t u : Text) → SameText t u
+    → Alike SameLeft (or_malformed n (meant w) >>= λ q. Ok (q, t)) (or_malformed m (meant w) >>= λ q. Ok (q, u))
 untabled_alike w n m t u same = same_bind (some_alike (meant w) n m) (λ q. alike_ok (refl, same))
 
 of_alike : (w : Written) (n m : ℕ) (t u : Text) → SameText t u → Alike SameLeft (quandle_of n w t) (quandle_of m w u)
@@ -221,7 +230,8 @@ quandle_at_alike ts n m t u same = rest_bind _ _ (written_alike ts n m) (λ w us
 
 pub quandle_alike : (t u : Text) → SameText t u → Alike SameLeft (quandle_item t) (quandle_item u)
 unfolding quandle_item
-quandle_alike t u same = next_bind _ _ _ _ same (λ ts n m v w behind. line_bind _ _ (word_alike (codes "quandle") ts n m) (λ us i j. quandle_at_alike us i j v w behind))
+quandle_alike t u same =
+    next_bind _ _ _ _ same (λ ts n m v w behind. line_bind _ _ (word_alike (codes "quandle") ts n m) (λ us i j. quandle_at_alike us i j v w behind))
 
 surplus_alike : (t u : Text) → SameText t u → Alike SameLeft (surplus_quandle t) (surplus_quandle u)
 unfolding surplus_quandle
@@ -246,18 +256,22 @@ coloured_alike width t u same = begins_alike (codes "quandle") t u same
 
 colour_line_alike : (width order : ℕ) (t u : Text) → SameText t u → Alike SameLeft (colour_line width order t) (colour_line width order u)
 unfolding colour_line
-colour_line_alike width order t u same = next_bind _ _ _ _ same (λ ts n m v w behind. same_bind (below_alike width order ts n m) (λ cs. alike_ok (refl, behind)))
+colour_line_alike width order t u same =
+    next_bind _ _ _ _ same (λ ts n m v w behind. same_bind (below_alike width order ts n m) (λ cs. alike_ok (refl, behind)))
 
 lists_alike : (width order : ℕ) (t u : Text) → SameText t u → Alike SameLeft (list_item width order t) (list_item width order u)
 unfolding list_item
-lists_alike width order t u same = next_bind _ _ _ _ same (λ ts n m v w behind. line_bind _ _ (word_alike (codes "list") ts n m) (λ us i j. rest_bind _ _ (last_alike us i j) (λ count vs k l.
+lists_alike width order t u same =
+    next_bind _ _ _ _ same (λ ts n m v w behind. line_bind _ _ (word_alike (codes "list") ts n m) (λ us i j. rest_bind _ _ (last_alike us i j) (λ count vs k l.
     same_bind (most_alike MAX_COLOURINGS count k l) (λ few. turns_alike (colour_line width order) (colour_line_alike width order) few v w behind))))
 
 equal_alike : (ts : List (List ℕ)) (n m : ℕ) (t u : Text) → SameText t u → Alike SameLeft (equal_at (line_of n ts) t) (equal_at (line_of m ts) u)
 unfolding equal_at
-equal_alike ts n m t u same = same_bind (count_alike ts n m) (λ count. text_bind _ _ (turns_alike next_move next_move_alike count t u same) (λ moves v w behind. alike_ok (refl, behind)))
+equal_alike ts n m t u same =
+    same_bind (count_alike ts n m) (λ count. text_bind _ _ (turns_alike next_move next_move_alike count t u same) (λ moves v w behind. alike_ok (refl, behind)))
 
-different_alike : (one two : ℕ) (ts : List (List ℕ)) (n m : ℕ) (t u : Text) → SameText t u → Alike SameLeft (different_at one two (line_of n ts) t) (different_at one two (line_of m ts) u)
+different_alike : (one two : ℕ) (ts : List (List ℕ)) (n m : ℕ) (t u : Text) → SameText t u
+    → Alike SameLeft (different_at one two (line_of n ts) t) (different_at one two (line_of m ts) u)
 unfolding different_at
 different_alike one two ts n m t u same = text_bind _ _ (quandle_at_alike ts n m t u same) (λ q v w behind. text_bind _ _ (lists_alike one q.table.order v w behind) (λ first p s left. text_bind _ _ (lists_alike two q.table.order p s left) (λ second x y rest. alike_ok (refl, rest))))
 

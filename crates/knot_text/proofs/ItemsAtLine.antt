@@ -13,7 +13,8 @@ use Rattle.braid_core.specs.Braid.{Word}
 use Rattle.braid_core.specs.Fault.{first_fault as braid_fault}
 use Rattle.colour_rows.specs.Colouring.{are_colours}
 use Rattle.grid_moves.specs.declared.step.Move.{Move}
-use Rattle.grid_moves.specs.declared.step.Move.TheVariants.{ShiftColumns, ShiftRows, ExchangeColumns, ExchangeRows, SlideColumns, SlideRows, Stabilise, Destabilise}
+use Rattle.grid_moves.specs.declared.step.Move.TheVariants.{ShiftColumns, ShiftRows, ExchangeColumns, ExchangeRows, SlideColumns, SlideRows}
+use Rattle.grid_moves.specs.declared.step.Move.TheVariants.{Stabilise, Destabilise}
 use Rattle.text_lines.specs.Lines.{NumberedLine}
 use Rattle.knot_text.specs.declared.fault.TextFault.{TextFault}
 use Rattle.knot_text.specs.declared.fault.TextFault.TheVariants.{Malformed, Limit}
@@ -30,7 +31,10 @@ use Rattle.knot_text.specs.Colours.{colours_at}
 use Rattle.knot_text.specs.Moves.{last_place, one_place, shift, exchange, slide, kind_at, corner_at, stabilise, destabilise, move_at}
 use Rattle.knot_text.specs.Quandles.{with_order, alexander_at, tetrahedral_at, written_at}
 use Rattle.knot_text.specs.Verdicts.{budget_at, exhausted_at, unknown_at}
-use Rattle.knot_text.proofs.AtLine.{At, Keeps, at_ok, at_malformed, at_limit, at_bind, at_cond, at_same, keeps_ok, keeps_err, keeps_bind, keeps_cond, keeps_same, next_token_at, next_token_keeps, line_end_at, line_end_keeps, word_at, word_keeps, number_at, number_keeps, last_number_at, last_number_keeps, at_most_at, counted_at, last_count_at, tokens_at, numbers_at}
+use Rattle.knot_text.proofs.AtLine.{At, Keeps, at_ok, at_malformed, at_limit, at_bind, at_cond, at_same, keeps_ok, keeps_err, keeps_bind}
+use Rattle.knot_text.proofs.AtLine.{keeps_cond, keeps_same, next_token_at, next_token_keeps, line_end_at, line_end_keeps, word_at}
+use Rattle.knot_text.proofs.AtLine.{word_keeps, number_at, number_keeps, last_number_at, last_number_keeps, at_most_at, counted_at}
+use Rattle.knot_text.proofs.AtLine.{last_count_at, tokens_at, numbers_at}
 
 -- ---- grids
 
@@ -94,7 +98,7 @@ place_at : (line : NumberedLine) → At line.number (last_place line)
 unfolding last_place
 place_at line = counted_at MAX_PLACE line
 
-one_place_at : (make : ℕ → Move) (line : NumberedLine) → At line.number (one_place make line)
+pub one_place_at : {A : Type 0} (make : ℕ → A) (line : NumberedLine) → At line.number (one_place make line)
 one_place_at make line = at_bind line.number (last_place line) (λ p. Ok (make p)) (place_at line) (λ p e. at_ok line.number (make p))
 
 -- columns or rows
@@ -119,10 +123,13 @@ unfolding slide
 slide_at line = axis_at (λ c. SlideColumns c) (λ r. SlideRows r) line
 
 -- a word that stands for something
-named_at : {A : Type 0} (f : List ℕ → NumberedLine → Result (A × NumberedLine) TextFault) (line : NumberedLine) → ((t : List ℕ) (rest : NumberedLine) → At rest.number (f t rest)) → At line.number (next_token line >>= λ t. f t.0 t.1)
+named_at : {A : Type 0} (f : List ℕ → NumberedLine → Result (A × NumberedLine) TextFault) (line : NumberedLine)
+    → ((t : List ℕ) (rest : NumberedLine) → At rest.number (f t rest)) → At line.number (next_token line >>= λ t. f t.0 t.1)
 named_at f line each = at_bind line.number (next_token line) (λ t. f t.0 t.1) (next_token_at line) (λ t e. at_same line.number t.1.number (f t.0 t.1) (next_token_keeps line t e) (each t.0 t.1))
 
-named_keeps : {A : Type 0} (f : List ℕ → NumberedLine → Result (A × NumberedLine) TextFault) (line : NumberedLine) → ((t : List ℕ) (rest : NumberedLine) → Keeps rest.number (λ x. x.1) (f t rest)) → Keeps line.number (λ x. x.1) (next_token line >>= λ t. f t.0 t.1)
+named_keeps : {A : Type 0} (f : List ℕ → NumberedLine → Result (A × NumberedLine) TextFault) (line : NumberedLine)
+    → ((t : List ℕ) (rest : NumberedLine) → Keeps rest.number (λ x. x.1) (f t rest))
+    → Keeps line.number (λ x. x.1) (next_token line >>= λ t. f t.0 t.1)
 named_keeps f line each = keeps_bind line.number (λ x. x.1) (next_token line) (λ t. f t.0 t.1) (λ t e. keeps_same line.number t.1.number (λ x. x.1) (f t.0 t.1) (next_token_keeps line t e) (each t.0 t.1))
 
 abbrev kind_of : List ℕ → NumberedLine → Result (Kind × NumberedLine) TextFault
@@ -142,7 +149,8 @@ kind_keeps line = named_keeps kind_of line (λ t rest.
 
 -- one of four words
 abbrev two_of : List ℕ → NumberedLine → Result (Corner × NumberedLine) TextFault
-two_of t rest = cond (bytes_eq t (codes "highleft")) (Ok (HighLeft, rest)) (cond (bytes_eq t (codes "highright")) (Ok (HighRight, rest)) (Err (Malformed rest.number)))
+two_of t rest =
+    cond (bytes_eq t (codes "highleft")) (Ok (HighLeft, rest)) (cond (bytes_eq t (codes "highright")) (Ok (HighRight, rest)) (Err (Malformed rest.number)))
 
 abbrev three_of : List ℕ → NumberedLine → Result (Corner × NumberedLine) TextFault
 three_of t rest = cond (bytes_eq t (codes "lowright")) (Ok (LowRight, rest)) (two_of t rest)
@@ -186,7 +194,8 @@ stabilise_at line =
     (λ place e5. at_ok n (Stabilise place kind.0 corner.0))))))
 
 -- two numbers that end a line, each with a limit
-two_numbers_at : {A : Type 0} (most : ℕ) (make : ℕ → ℕ → A) (line : NumberedLine) → At line.number (number line >>= λ a. last_number a.1 >>= λ b. at_most most b.1.number a.0 >>= λ x. at_most most b.1.number b.0 >>= λ y. Ok (make x y))
+two_numbers_at : {A : Type 0} (most : ℕ) (make : ℕ → ℕ → A) (line : NumberedLine)
+    → At line.number (number line >>= λ a. last_number a.1 >>= λ b. at_most most b.1.number a.0 >>= λ x. at_most most b.1.number b.0 >>= λ y. Ok (make x y))
 two_numbers_at most make line =
     let n = line.number in
     at_bind n (number line) (λ a. last_number a.1 >>= λ b. at_most most b.1.number a.0 >>= λ x. at_most most b.1.number b.0 >>= λ y. Ok (make x y)) (number_at line)
@@ -203,7 +212,8 @@ unfolding destabilise
 destabilise_at line = two_numbers_at MAX_PLACE (λ c r. Destabilise c r) line
 
 abbrev others : List ℕ → NumberedLine → Result Move TextFault
-others t rest = cond (bytes_eq t (codes "stabilise")) (stabilise rest) (cond (bytes_eq t (codes "destabilise")) (destabilise rest) (Err (Malformed rest.number)))
+others t rest =
+    cond (bytes_eq t (codes "stabilise")) (stabilise rest) (cond (bytes_eq t (codes "destabilise")) (destabilise rest) (Err (Malformed rest.number)))
 
 abbrev slides : List ℕ → NumberedLine → Result Move TextFault
 slides t rest = cond (bytes_eq t (codes "slide")) (slide rest) (others t rest)
@@ -212,7 +222,8 @@ abbrev moves : List ℕ → NumberedLine → Result Move TextFault
 moves t rest = cond (bytes_eq t (codes "shift")) (shift rest) (cond (bytes_eq t (codes "exchange")) (exchange rest) (slides t rest))
 
 -- what a first word leads to
-pub chosen_at : {A : Type 0} (f : List ℕ → NumberedLine → Result A TextFault) (line : NumberedLine) → ((t : List ℕ) (rest : NumberedLine) → At rest.number (f t rest)) → At line.number (next_token line >>= λ t. f t.0 t.1)
+pub chosen_at : {A : Type 0} (f : List ℕ → NumberedLine → Result A TextFault) (line : NumberedLine)
+    → ((t : List ℕ) (rest : NumberedLine) → At rest.number (f t rest)) → At line.number (next_token line >>= λ t. f t.0 t.1)
 chosen_at f line each = at_bind line.number (next_token line) (λ t. f t.0 t.1) (next_token_at line) (λ t e. at_same line.number t.1.number (f t.0 t.1) (next_token_keeps line t e) (each t.0 t.1))
 
 pub move_at_at : (line : NumberedLine) → At line.number (move_at line)
@@ -225,7 +236,8 @@ move_at_at line = chosen_at moves line (λ t rest.
     (at_cond rest.number (bytes_eq t (codes "destabilise")) (destabilise rest) (Err (Malformed rest.number)) (destabilise_at rest) (at_malformed rest.number))))))
 
 -- a word, and a number that ends the line
-pub word_count_at : (w : List ℕ) (most : ℕ) (line : NumberedLine) → At line.number (word w line >>= λ rest. last_number rest >>= λ v. at_most most v.1.number v.0)
+pub word_count_at : (w : List ℕ) (most : ℕ) (line : NumberedLine)
+    → At line.number (word w line >>= λ rest. last_number rest >>= λ v. at_most most v.1.number v.0)
 word_count_at w most line = at_bind line.number (word w line) (λ rest. last_number rest >>= λ v. at_most most v.1.number v.0) (word_at w line)
     (λ rest e. at_same line.number rest.number (last_number rest >>= λ v. at_most most v.1.number v.0) (word_keeps w line rest e) (counted_at most rest))
 
@@ -249,7 +261,8 @@ alexander_keeps line = keeps_bind line.number (λ x. x.1) (number line) (λ o. l
 
 tetrahedral_at_at : (line : NumberedLine) → At line.number (tetrahedral_at line)
 unfolding tetrahedral_at
-tetrahedral_at_at line = at_bind line.number (line_end line) (λ end. Ok (written.Tetrahedral, end)) (line_end_at line) (λ end e. at_ok line.number (written.Tetrahedral, end))
+tetrahedral_at_at line =
+    at_bind line.number (line_end line) (λ end. Ok (written.Tetrahedral, end)) (line_end_at line) (λ end e. at_ok line.number (written.Tetrahedral, end))
 
 tetrahedral_keeps : (line : NumberedLine) → Keeps line.number (λ x. x.1) (tetrahedral_at line)
 unfolding tetrahedral_at

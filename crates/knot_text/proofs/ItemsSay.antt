@@ -1,5 +1,7 @@
 -- A grid, a braid, moves and colours that were read are written there.
-use Rattle.std.proofs.Common.{◌≡◌, ℕ, zero, suc, ◌≤◌, ◌==◌, ◌||◌, ℤ, List, [], ◌∷◌, ◌++◌, length, map, Bool, true, false, cond, Option, Some, None, Result, Ok, Err, refl, sym, ap, ap₂, subst, ◌∙◌, arith, codes, nat_lt, add-one, neg_ℤ, unsigned_abs}
+use Rattle.std.proofs.Common.{◌≡◌, ℕ, zero, suc, ◌≤◌, ◌==◌, ◌||◌, ℤ, List, [], ◌∷◌, ◌++◌, length, map, Bool, true, false, cond, Option}
+use Rattle.std.proofs.Common.{Some, None, Result, Ok, Err, refl, sym, ap, ap₂, subst, ◌∙◌, arith, codes, nat_lt, add-one, neg_ℤ}
+use Rattle.std.proofs.Common.{unsigned_abs}
 use Rattle.std.specs.Prelude.{is_none, pos}
 use Rattle.std.specs.Option.{option_map}
 use Rattle.std.specs.List.{AllByRecursion, list_any}
@@ -26,7 +28,8 @@ use Rattle.braid_closure.specs.Closure.{closure_size}
 use Rattle.colour_rows.specs.Colouring.{AreColours, are_colours}
 use Rattle.colour_rows.proofs.Colourings.{colours_from}
 use Rattle.grid_moves.specs.declared.step.Move.{Move}
-use Rattle.grid_moves.specs.declared.step.Move.TheVariants.{ShiftColumns, ShiftRows, ExchangeColumns, ExchangeRows, SlideColumns, SlideRows, Stabilise, Destabilise}
+use Rattle.grid_moves.specs.declared.step.Move.TheVariants.{ShiftColumns, ShiftRows, ExchangeColumns, ExchangeRows, SlideColumns, SlideRows}
+use Rattle.grid_moves.specs.declared.step.Move.TheVariants.{Stabilise, Destabilise}
 use Rattle.text_lines.specs.Lines.{NumberedLine, Text}
 use Rattle.text_lines.specs.Numbers.{number_of}
 use Rattle.knot_text.specs.declared.fault.TextFault.{TextFault}
@@ -34,12 +37,16 @@ use Rattle.knot_text.specs.declared.reading.TheConstants.{MAX_NUMBER, MAX_PLACE}
 use Rattle.knot_text.specs.Reading.{◌>>=◌, next_line, in_turn, each_token}
 use Rattle.knot_text.specs.Grids.{x_at, o_at, grid_item, are_rows}
 use Rattle.knot_text.specs.Braids.{letter_of, is_long_letter, exceeds, braid_of, braid_at, braid_item}
-use Rattle.knot_text.specs.Moves.{last_place, one_place, shift, exchange, slide, kind_at, corner_at, stabilise, destabilise, move_at, next_move, move_lines, moves_item}
+use Rattle.knot_text.specs.Moves.{last_place, one_place, shift, exchange, slide, kind_at, corner_at, stabilise, destabilise, move_at}
+use Rattle.knot_text.specs.Moves.{next_move, move_lines, moves_item}
 use Rattle.knot_text.specs.Colours.{colours_at, colours_item}
-use Rattle.knot_text.specs.Printed.{rows_tokens, grid_lines, kind_word, corner_word, move_tokens, moves_lines, HasMoveText, HaveText, letter_token, braid_lines, colours_lines}
+use Rattle.knot_text.specs.Printed.{rows_tokens, grid_lines, kind_word, corner_word, move_tokens, moves_lines, HasMoveText, HaveText}
+use Rattle.knot_text.specs.Printed.{letter_token, braid_lines, colours_lines}
 use Rattle.knot_text.specs.WrittenThere.{StandInFront}
 use Rattle.knot_text.proofs.Says.{Says, says_ok, says_err, says_bind, says_if, says_more, no_lines_in_front, in_front_of, in_front_is, IsNext, next_says}
-use Rattle.knot_text.proofs.LineSays.{IsFirst, next_token_says, HasNone, line_end_says, is_word, word_says, or_malformed_says, IsNumberFirst, number_says, IsNumberAlone, last_number_says, at_most_says, last_count_says, spelled, AreBehind, numbers_behind_says}
+use Rattle.knot_text.proofs.LineSays.{IsFirst, next_token_says, HasNone, line_end_says, is_word, word_says, or_malformed_says}
+use Rattle.knot_text.proofs.LineSays.{IsNumberFirst, number_says, IsNumberAlone, last_number_says, at_most_says, last_count_says, spelled}
+use Rattle.knot_text.proofs.LineSays.{AreBehind, numbers_behind_says}
 
 -- the value has this, and its printed lines stand in front of the rest
 abbrev pub IsWritten : {A : Type 0} → (A → Type 0) → (A → List (List (List ℕ))) → Text → A × Text → Type 0
@@ -49,7 +56,8 @@ IsWritten Has lines text x = Has x.0 × StandInFront (lines x.0) text x.1
 abbrev pub IsLine : {A : Type 0} → (A → Type 0) → (A → List (List ℕ)) → NumberedLine → A → Type 0
 IsLine Has tokens line x = Has x × (line.tokens ≡ tokens x)
 
-pub line_says : {A : Type 0} (Has : A → Type 0) (tokens : A → List (List ℕ)) (g : NumberedLine → Result A TextFault) → ((line : NumberedLine) → Says (g line) (IsLine Has tokens line))
+pub line_says : {A : Type 0} (Has : A → Type 0) (tokens : A → List (List ℕ)) (g : NumberedLine → Result A TextFault)
+    → ((line : NumberedLine) → Says (g line) (IsLine Has tokens line))
     → (text : Text) → Says (next_line text >>= λ line. g line.0 >>= λ x. Ok (x, line.1)) (IsWritten Has (λ x. tokens x ∷ []) text)
 line_says Has tokens g says text = says_bind (IsNext text) (next_says text) (λ line there.
     says_bind (IsLine Has tokens line.0) (says line.0) (λ x is.
@@ -61,7 +69,8 @@ pub record AreWritten {A : Type 0} (Has : A → Type 0) (tokens : A → List (Li
   pub each : AllByRecursion Has x.0
   pub there : StandInFront (map tokens x.0) text x.1
 
-pub turns_say : {A : Type 0} (Has : A → Type 0) (tokens : A → List (List ℕ)) (item : Text → Result (A × Text) TextFault) → ((text : Text) → Says (item text) (IsWritten Has (λ x. tokens x ∷ []) text))
+pub turns_say : {A : Type 0} (Has : A → Type 0) (tokens : A → List (List ℕ)) (item : Text → Result (A × Text) TextFault)
+    → ((text : Text) → Says (item text) (IsWritten Has (λ x. tokens x ∷ []) text))
     → (count : ℕ) (text : Text) → Says (in_turn item count text) (AreWritten Has tokens count text)
 unfolding in_turn
 turns_say Has tokens item says zero text = says_ok ([], text) (record { count = refl; each = tt; there = no_lines_in_front text })
@@ -89,7 +98,8 @@ o_by x rows line e None is tokens = says_ok (record { x = x; o = rows }) (record
 
 o_says : (x : List ℕ) (line : NumberedLine) → Says (o_at x line) (IsGridLine x line)
 unfolding o_at
-o_says x line = says_bind (AreBehind (codes "o") line) (numbers_behind_says (codes "o") line) (λ rows is. o_by x rows line _ (first_fault x rows) refl is.tokens)
+o_says x line =
+    says_bind (AreBehind (codes "o") line) (numbers_behind_says (codes "o") line) (λ rows is. o_by x rows line _ (first_fault x rows) refl is.tokens)
 
 pub grid_says : (text : Text) → Says (grid_item text) (IsWritten IsGrid grid_lines text)
 unfolding grid_item
@@ -103,7 +113,8 @@ grid_says text = says_bind (IsNext text) (next_says text) (λ first there.
 -- ---- braids
 
 -- a letter that is not 0 has one spelling
-negative_by : (bs : List ℕ) (o : Option ℕ) → number_of bs ≡ o → (a : ℤ) → option_map (λ k. neg_ℤ (pos k)) o ≡ Some a → unsigned_abs a ≤ MAX_NUMBER → 1 ≤ unsigned_abs a → 45 ∷ bs ≡ letter_token a
+negative_by : (bs : List ℕ) (o : Option ℕ) → number_of bs ≡ o → (a : ℤ) → option_map (λ k. neg_ℤ (pos k)) o ≡ Some a → unsigned_abs a ≤ MAX_NUMBER
+    → 1 ≤ unsigned_abs a → 45 ∷ bs ≡ letter_token a
 negative_by bs None is a e few some = absurd cc
 negative_by bs (Some zero) is a e few some =
     let same : pos 0 ≡ a = cc in
@@ -120,7 +131,8 @@ positive_by t (Some k) is a e few =
     let low : k ≤ MAX_NUMBER = subst (λ (z : ℤ). unsigned_abs z ≤ MAX_NUMBER) (sym same) few in
     spelled t k is low ∙ ap letter_token same
 
-letter_by : (b : ℕ) (bs : List ℕ) (t : Bool) → (b == 45) ≡ t → (a : ℤ) → cond t (option_map (λ k. neg_ℤ (pos k)) (number_of bs)) (option_map (λ k. pos k) (number_of (b ∷ bs))) ≡ Some a
+letter_by : (b : ℕ) (bs : List ℕ) (t : Bool) → (b == 45) ≡ t → (a : ℤ)
+    → cond t (option_map (λ k. neg_ℤ (pos k)) (number_of bs)) (option_map (λ k. pos k) (number_of (b ∷ bs))) ≡ Some a
     → unsigned_abs a ≤ MAX_NUMBER → 1 ≤ unsigned_abs a → b ∷ bs ≡ letter_token a
 letter_by b bs true sign a e few some = ap (λ (c : ℕ). c ∷ bs) (eqb-true b 45 sign) ∙ negative_by bs (number_of bs) refl a e few some
 letter_by b bs false sign a e few some = positive_by (b ∷ bs) (number_of (b ∷ bs)) refl a e few
@@ -151,7 +163,8 @@ braid_tokens b = codes "braid" ∷ decimal b.strands ∷ map letter_token b.lett
 
 -- what the line says, if its letters are those of a braid
 record IsBraidLine (line : NumberedLine) (b : Word) : Type 0 where
-  strands : b.strands ≤ MAX_NUMBER → list_any is_long_letter b.letters ≡ false → AllByRecursion (λ (a : ℤ). 1 ≤ unsigned_abs a) b.letters → line.tokens ≡ braid_tokens b
+  strands : b.strands ≤ MAX_NUMBER → list_any is_long_letter b.letters ≡ false → AllByRecursion (λ (a : ℤ). 1 ≤ unsigned_abs a) b.letters
+      → line.tokens ≡ braid_tokens b
 
 braid_by : (line : NumberedLine) (b : Word) (n : ℕ) (f : Option BraidFault) → word_fault b ≡ f → IsBraidLine line b → exceeds b ≡ false → (e : TextFault)
     → Says (cond (is_none f) (Ok b) (Err e)) (IsLine IsBraid braid_tokens line)
@@ -195,11 +208,13 @@ record MovesAlong (name axis : List ℕ) (make : ℕ → Move) : Type 0 where
   fits : (k : ℕ) → k ≤ MAX_PLACE → HasMoveText (make k)
   tokens : (k : ℕ) → name ∷ axis ∷ decimal k ∷ [] ≡ move_tokens (make k)
 
-one_says : (name axis : List ℕ) (make : ℕ → Move) → MovesAlong name axis make → (tokens : List (List ℕ)) (t : List ℕ × NumberedLine) → IsFirst tokens t → t.0 ≡ axis → Says (one_place make t.1) (IsMoveBehind (name ∷ []) tokens)
+one_says : (name axis : List ℕ) (make : ℕ → Move) → MovesAlong name axis make → (tokens : List (List ℕ)) (t : List ℕ × NumberedLine)
+    → IsFirst tokens t → t.0 ≡ axis → Says (one_place make t.1) (IsMoveBehind (name ∷ []) tokens)
 one_says name axis make along tokens t is same = says_bind (λ (k : ℕ). (k ≤ MAX_PLACE) × (t.1.tokens ≡ decimal k ∷ [])) (place_says t.1) (λ k place.
     says_ok (make k) (along.fits k place.0, ap (λ (ts : List (List ℕ)). name ∷ ts) (is ∙ ap₂ (λ (s : List ℕ) (ts : List (List ℕ)). s ∷ ts) same place.1) ∙ along.tokens k))
 
-along_say : (name : List ℕ) (columns rows : ℕ → Move) → MovesAlong name (codes "columns") columns → MovesAlong name (codes "rows") rows → (tokens : List (List ℕ)) (e : TextFault) (t : List ℕ × NumberedLine) → IsFirst tokens t
+along_say : (name : List ℕ) (columns rows : ℕ → Move) → MovesAlong name (codes "columns") columns → MovesAlong name (codes "rows") rows
+    → (tokens : List (List ℕ)) (e : TextFault) (t : List ℕ × NumberedLine) → IsFirst tokens t
     → Says (cond (bytes_eq t.0 (codes "columns")) (one_place columns t.1) (cond (bytes_eq t.0 (codes "rows")) (one_place rows t.1) (Err e))) (IsMoveBehind (name ∷ []) tokens)
 along_say name columns rows first second tokens e t is =
     says_if (bytes_eq t.0 (codes "columns")) (λ same. one_says name (codes "columns") columns first tokens t is (is_word t.0 (codes "columns") same)) (λ other.
@@ -262,11 +277,13 @@ destabilise_says line = says_bind (IsNumberFirst line.tokens) (number_says line)
     says_bind (λ (k : ℕ). (column.0 ≡ k) × (k ≤ MAX_PLACE)) (at_most_says MAX_PLACE row.1.number column.0) (λ left few.
     says_bind (λ (k : ℕ). (row.0 ≡ k) × (k ≤ MAX_PLACE)) (at_most_says MAX_PLACE row.1.number row.0) (λ low small.
     let behind : column.1.tokens ≡ decimal low ∷ [] = second (omega (arith, small.0, small.1)) ∙ ap (λ (k : ℕ). decimal k ∷ []) small.0 in
-    let all : line.tokens ≡ decimal left ∷ decimal low ∷ [] = first (omega (arith, few.0, few.1)) ∙ ap₂ (λ (k : ℕ) (ts : List (List ℕ)). decimal k ∷ ts) few.0 behind in
+    let all : line.tokens ≡ decimal left ∷ decimal low ∷ [] =
+    first (omega (arith, few.0, few.1)) ∙ ap₂ (λ (k : ℕ) (ts : List (List ℕ)). decimal k ∷ ts) few.0 behind in
     says_ok (Destabilise left low) ((few.1, small.1), ap (λ (ts : List (List ℕ)). codes "destabilise" ∷ ts) all)))))
 
 -- behind the name of a move
-behind_says : (name : List ℕ) (line : NumberedLine) (t : List ℕ × NumberedLine) {r : Result Move TextFault} → IsFirst line.tokens t → bytes_eq t.0 name ≡ true → Says r (IsMoveBehind (name ∷ []) t.1.tokens) → Says r (IsLine HasMoveText move_tokens line)
+behind_says : (name : List ℕ) (line : NumberedLine) (t : List ℕ × NumberedLine) {r : Result Move TextFault} → IsFirst line.tokens t
+    → bytes_eq t.0 name ≡ true → Says r (IsMoveBehind (name ∷ []) t.1.tokens) → Says r (IsLine HasMoveText move_tokens line)
 behind_says name line t is same says = says_more (λ move there. (there.0, is ∙ ap (λ (s : List ℕ). s ∷ t.1.tokens) (is_word t.0 name same) ∙ there.1)) says
 
 move_says : (line : NumberedLine) → Says (move_at line) (IsLine HasMoveText move_tokens line)
@@ -283,7 +300,8 @@ unfolding next_move
 next_move_says text = line_says HasMoveText move_tokens move_at move_says text
 
 -- so many moves behind the line that counts them
-pub counted_moves_say : (name : List ℕ) (line : NumberedLine × Text) (text : Text) (count : ℕ) → IsNext text line → count ≤ MAX_NUMBER → line.0.tokens ≡ name ∷ decimal count ∷ []
+pub counted_moves_say : (name : List ℕ) (line : NumberedLine × Text) (text : Text) (count : ℕ) → IsNext text line → count ≤ MAX_NUMBER
+    → line.0.tokens ≡ name ∷ decimal count ∷ []
     → Says (move_lines count line.1) (IsWritten HaveText (moves_lines name) text)
 counted_moves_say name line text count there few tokens = says_more (λ moves are. (
   record { count = omega (arith, are.count, few); each = are.each },
@@ -303,7 +321,8 @@ moves_say text = says_bind (IsNext text) (next_says text) (λ line there.
 abbrev colours_tokens : ArrayVec ℕ → List (List ℕ)
 colours_tokens c = codes "colours" ∷ map decimal c.items
 
-colours_at_says : (width order : ℕ) (line : NumberedLine) → Says (colours_at width order line) (IsLine (λ c. AreColours width order c.items) colours_tokens line)
+colours_at_says : (width order : ℕ) (line : NumberedLine)
+    → Says (colours_at width order line) (IsLine (λ c. AreColours width order c.items) colours_tokens line)
 unfolding colours_at
 colours_at_says width order line = says_bind (AreBehind (codes "colours") line) (numbers_behind_says (codes "colours") line) (λ cs is.
     says_if (are_colours width order cs) (λ fits. says_ok (record { items = cs }) (colours_from width order cs fits, is.tokens)) (λ other. says_err))

@@ -1,5 +1,6 @@
 -- Each item takes lines from the front alone, and fails at the first bad one.
-use Rattle.std.proofs.Common.{◌≡◌, ℕ, zero, suc, ◌-◌, List, [], ◌++◌, Bool, true, false, cond, Option, Some, None, Result, Ok, Err, refl, ap, ◌∙◌, inl, inr, ◌⊎◌, codes, nat_le}
+use Rattle.std.proofs.Common.{◌≡◌, ℕ, zero, suc, ◌-◌, List, [], ◌++◌, Bool, true, false, cond, Option, Some, None, Result, Ok, Err, refl}
+use Rattle.std.proofs.Common.{ap, ◌∙◌, inl, inr, ◌⊎◌, codes, nat_le}
 use Rattle.std.specs.Prelude.{is_none}
 use Rattle.std.specs.Str.{bytes_eq}
 use Rattle.arrayvec.specs.ArrayVec.{ArrayVec}
@@ -25,7 +26,8 @@ use Rattle.knot_text.specs.Quandles.{written_at, is_over, meant, table_row, tabl
 use Rattle.knot_text.specs.Verdicts.{equal_at, colour_line, list_item, different_at, unknown_at, unknown_item, verdict_item}
 use Rattle.knot_text.proofs.Steady.{Steady, Anywhere, then_read, line_steady, pure_steady, same_steady, then_steady, turns_steady}
 use Rattle.knot_text.proofs.AtLine.{At, at_ok, at_malformed, at_limit, at_bind, at_cond, at_same, word_at, word_keeps, last_count_at, numbers_below_at}
-use Rattle.knot_text.proofs.ItemsAtLine.{x_at_at, o_at_at, braid_at_at, colours_at_at, move_at_at, chosen_at, word_count_at, written_at_at, written_keeps, unknown_at_at}
+use Rattle.knot_text.proofs.ItemsAtLine.{x_at_at, o_at_at, braid_at_at, colours_at_at, move_at_at, chosen_at, word_count_at, written_at_at}
+use Rattle.knot_text.proofs.ItemsAtLine.{written_keeps, unknown_at_at}
 
 -- ---- a line, and what follows from it
 
@@ -36,7 +38,8 @@ with_rest r text = r >>= λ x. Ok (x, text)
 abbrev of_line : {A : Type 0} → Result (NumberedLine × Text) TextFault → (NumberedLine → Result A TextFault) → Result (A × Text) TextFault
 of_line r g = r >>= λ line. with_rest (g line.0) line.1
 
-flat_line : {A B : Type 0} (s : Result A TextFault) (text : Text) (k : A → Text → Result B TextFault) → (s >>= λ x. k x text) ≡ (with_rest s text >>= λ y. k y.0 y.1)
+flat_line : {A B : Type 0} (s : Result A TextFault) (text : Text) (k : A → Text → Result B TextFault)
+    → (s >>= λ x. k x text) ≡ (with_rest s text >>= λ y. k y.0 y.1)
 flat_line (Ok x) text k = refl
 flat_line (Err e) text k = refl
 
@@ -45,7 +48,8 @@ flat : {A B : Type 0} (r : Result (NumberedLine × Text) TextFault) (g : Numbere
 flat (Ok line) g k = flat_line (g line.0) line.1 k
 flat (Err e) g k = refl
 
-pub line_then : {A B : Type 0} (g : NumberedLine → Result A TextFault) (k : A → Text → Result (B × Text) TextFault) → ((line : NumberedLine) → At line.number (g line)) → ((a : A) → Steady Anywhere (k a))
+pub line_then : {A B : Type 0} (g : NumberedLine → Result A TextFault) (k : A → Text → Result (B × Text) TextFault)
+    → ((line : NumberedLine) → At line.number (g line)) → ((a : A) → Steady Anywhere (k a))
     → Steady Anywhere (λ text. next_line text >>= λ line. g line.0 >>= λ x. k x line.1)
 line_then g k names steady =
     let first = λ (text : Text). of_line (next_line text) g in
@@ -53,7 +57,8 @@ line_then g k names steady =
     (then_steady Anywhere first k (line_steady g (λ line fault e. names line fault e)) steady)
 
 -- two steps in the line
-flat_steps : {X A B : Type 0} (s : Result X TextFault) (h : X → Result A TextFault) (text : Text) (k : A → Text → Result B TextFault) → (s >>= λ x. h x >>= λ a. k a text) ≡ ((s >>= h) >>= λ a. k a text)
+flat_steps : {X A B : Type 0} (s : Result X TextFault) (h : X → Result A TextFault) (text : Text) (k : A → Text → Result B TextFault)
+    → (s >>= λ x. h x >>= λ a. k a text) ≡ ((s >>= h) >>= λ a. k a text)
 flat_steps (Ok x) h text k = refl
 flat_steps (Err e) h text k = refl
 
@@ -62,7 +67,8 @@ flat_two : {X A B : Type 0} (r : Result (NumberedLine × Text) TextFault) (g : N
 flat_two (Ok line) g h k = flat_steps (g line.0) h line.1 k
 flat_two (Err e) g h k = refl
 
-pub line_then_two : {X A B : Type 0} (g : NumberedLine → Result X TextFault) (h : X → Result A TextFault) (k : A → Text → Result (B × Text) TextFault) → ((line : NumberedLine) → At line.number (g line >>= h)) → ((a : A) → Steady Anywhere (k a))
+pub line_then_two : {X A B : Type 0} (g : NumberedLine → Result X TextFault) (h : X → Result A TextFault) (k : A → Text → Result (B × Text) TextFault)
+    → ((line : NumberedLine) → At line.number (g line >>= h)) → ((a : A) → Steady Anywhere (k a))
     → Steady Anywhere (λ text. next_line text >>= λ line. g line.0 >>= λ x. h x >>= λ a. k a line.1)
 line_then_two g h k names steady =
     same_steady Anywhere (λ text. next_line text >>= λ line. (g line.0 >>= h) >>= λ a. k a line.1) (λ text. next_line text >>= λ line. g line.0 >>= λ x. h x >>= λ a. k a line.1) (λ text. flat_two (next_line text) g h k)
@@ -99,16 +105,59 @@ moves_steady = line_then_two (word (codes "moves")) last_count (λ count text. m
 
 -- ---- tables
 
-row_steady : (order : ℕ) → Steady Anywhere (table_row order)
+row_steady : (order bound : ℕ) → Steady Anywhere (table_row order bound)
 unfolding table_row
-row_steady order = line_steady (numbers_below order order) (λ line fault e. numbers_below_at order order line fault e)
+row_steady order bound = line_steady (numbers_below order bound) (λ line fault e. numbers_below_at order bound line fault e)
 
-rows_steady : (order count : ℕ) → Steady Anywhere (table_rows order count)
+pub rows_steady : (order bound count : ℕ) → Steady Anywhere (table_rows order bound count)
 unfolding table_rows
-rows_steady order zero = pure_steady []
-rows_steady order (suc count) =
-    then_steady Anywhere (table_row order) (λ row text. table_rows order count text >>= λ rows. Ok (row ++ rows.0, rows.1)) (row_steady order)
-    (λ row. then_steady Anywhere (table_rows order count) (λ rows text. Ok (row ++ rows, text)) (rows_steady order count) (λ rows. pure_steady (row ++ rows)))
+rows_steady order bound zero = pure_steady []
+rows_steady order bound (suc count) =
+    then_steady Anywhere (table_row order bound) (λ row text. table_rows order bound count text >>= λ rows. Ok (row ++ rows.0, rows.1)) (row_steady order bound)
+    (λ row. then_steady Anywhere (table_rows order bound count) (λ rows text. Ok (row ++ rows, text)) (rows_steady order bound count)
+    (λ rows. pure_steady (row ++ rows)))
+
+-- the last line of a square table, with which the entries are to pass a test
+last_row : {A : Type 0} → (List ℕ → Bool) → (List ℕ → A) → ℕ → ℕ → List ℕ → NumberedLine → Result A TextFault
+last_row test make order bound front line =
+    numbers_below order bound line >>= λ row. cond (test (front ++ row)) (Ok (make (front ++ row))) (Err (Malformed line.number))
+
+last_row_at : {A : Type 0} (test : List ℕ → Bool) (make : List ℕ → A) (order bound : ℕ) (front : List ℕ) (line : NumberedLine)
+    → At line.number (last_row test make order bound front line)
+unfolding last_row
+last_row_at test make order bound front line =
+    let n = line.number in
+    at_bind n (numbers_below order bound line) (λ row. cond (test (front ++ row)) (Ok (make (front ++ row))) (Err (Malformed n))) (numbers_below_at order bound line)
+    (λ row e. at_cond n (test (front ++ row)) (Ok (make (front ++ row))) (Err (Malformed n)) (at_ok n (make (front ++ row))) (at_malformed n))
+
+flat_test : {A : Type 0} (b : Bool) (x : A) (d : TextFault) (text : Text) → cond b (Ok (x, text)) (Err d) ≡ with_rest (cond b (Ok x) (Err d)) text
+flat_test true x d text = refl
+flat_test false x d text = refl
+
+flat_row : {A : Type 0} (test : List ℕ → Bool) (make : List ℕ → A) (n : ℕ) (front : List ℕ) (s : Result (List ℕ) TextFault) (text : Text)
+    → (s >>= λ row. cond (test (front ++ row)) (Ok (make (front ++ row), text)) (Err (Malformed n)))
+    ≡ with_rest (s >>= λ row. cond (test (front ++ row)) (Ok (make (front ++ row))) (Err (Malformed n))) text
+flat_row test make n front (Ok row) text = flat_test (test (front ++ row)) (make (front ++ row)) (Malformed n) text
+flat_row test make n front (Err e) text = refl
+
+abbrev pub last_read : {A : Type 0} → (List ℕ → Bool) → (List ℕ → A) → ℕ → ℕ → List ℕ → Text → Result (A × Text) TextFault
+last_read test make order bound front text =
+    next_line text >>= λ line. numbers_below order bound line.0 >>= λ row. cond (test (front ++ row)) (Ok (make (front ++ row), line.1)) (Err (Malformed line.0.number))
+
+flat_last : {A : Type 0} (test : List ℕ → Bool) (make : List ℕ → A) (order bound : ℕ) (front : List ℕ) (r : Result (NumberedLine × Text) TextFault)
+    → (r >>= λ line. numbers_below order bound line.0 >>= λ row. cond (test (front ++ row)) (Ok (make (front ++ row), line.1)) (Err (Malformed line.0.number)))
+    ≡ of_line r (last_row test make order bound front)
+unfolding last_row
+flat_last test make order bound front (Ok line) = flat_row test make line.0.number front (numbers_below order bound line.0) line.1
+flat_last test make order bound front (Err e) = refl
+
+pub last_steady : {A : Type 0} (test : List ℕ → Bool) (make : List ℕ → A) (order bound : ℕ) (front : List ℕ)
+    → Steady Anywhere (last_read test make order bound front)
+last_steady test make order bound front =
+    let last = last_row test make order bound front in
+    same_steady Anywhere (λ text. of_line (next_line text) last) (last_read test make order bound front)
+    (λ text. flat_last test make order bound front (next_line text))
+    (line_steady last (λ line fault e. last_row_at test make order bound front line fault e))
 
 abbrev is_table : ℕ → List ℕ → Bool
 is_table order entries = is_none (first_fault (record { order = order; entries = entries }))
@@ -116,44 +165,11 @@ is_table order entries = is_none (first_fault (record { order = order; entries =
 abbrev of_entries : ℕ → List ℕ → NamedQuandle
 of_entries order entries = called name.Table (record { order = order; entries = entries })
 
--- the last line, with which the table is to be a quandle
-last_row : ℕ → List ℕ → NumberedLine → Result NamedQuandle TextFault
-last_row order front line = numbers_below order order line >>= λ row. cond (is_table order (front ++ row)) (Ok (of_entries order (front ++ row))) (Err (Malformed line.number))
-
-last_row_at : (order : ℕ) (front : List ℕ) (line : NumberedLine) → At line.number (last_row order front line)
-unfolding last_row
-last_row_at order front line =
-    at_bind line.number (numbers_below order order line) (λ row. cond (is_table order (front ++ row)) (Ok (of_entries order (front ++ row))) (Err (Malformed line.number))) (numbers_below_at order order line)
-    (λ row e. at_cond line.number (is_table order (front ++ row)) (Ok (of_entries order (front ++ row))) (Err (Malformed line.number)) (at_ok line.number (of_entries order (front ++ row))) (at_malformed line.number))
-
-flat_test : {A : Type 0} (b : Bool) (x : A) (d : TextFault) (text : Text) → cond b (Ok (x, text)) (Err d) ≡ with_rest (cond b (Ok x) (Err d)) text
-flat_test true x d text = refl
-flat_test false x d text = refl
-
-flat_row : (order n : ℕ) (front : List ℕ) (s : Result (List ℕ) TextFault) (text : Text)
-    → (s >>= λ row. cond (is_table order (front ++ row)) (Ok (of_entries order (front ++ row), text)) (Err (Malformed n)))
-    ≡ with_rest (s >>= λ row. cond (is_table order (front ++ row)) (Ok (of_entries order (front ++ row))) (Err (Malformed n))) text
-flat_row order n front (Ok row) text = flat_test (is_table order (front ++ row)) (of_entries order (front ++ row)) (Malformed n) text
-flat_row order n front (Err e) text = refl
-
-abbrev last_read : ℕ → List ℕ → Text → Result (NamedQuandle × Text) TextFault
-last_read order front text = next_line text >>= λ line. numbers_below order order line.0 >>= λ row. cond (is_table order (front ++ row)) (Ok (of_entries order (front ++ row), line.1)) (Err (Malformed line.0.number))
-
-flat_last : (order : ℕ) (front : List ℕ) (r : Result (NumberedLine × Text) TextFault)
-    → (r >>= λ line. numbers_below order order line.0 >>= λ row. cond (is_table order (front ++ row)) (Ok (of_entries order (front ++ row), line.1)) (Err (Malformed line.0.number)))
-    ≡ of_line r (last_row order front)
-unfolding last_row
-flat_last order front (Ok line) = flat_row order line.0.number front (numbers_below order order line.0) line.1
-flat_last order front (Err e) = refl
-
-last_steady : (order : ℕ) (front : List ℕ) → Steady Anywhere (last_read order front)
-last_steady order front =
-    same_steady Anywhere (λ text. of_line (next_line text) (last_row order front)) (last_read order front) (λ text. flat_last order front (next_line text))
-    (line_steady (last_row order front) (λ line fault e. last_row_at order front line fault e))
-
 pub table_steady : (order : ℕ) → Steady Anywhere (table_item order)
 unfolding table_item
-table_steady order = then_steady Anywhere (table_rows order (order - 1)) (λ front text. last_read order front text) (rows_steady order (order - 1)) (last_steady order)
+table_steady order =
+    let last = last_read (is_table order) (of_entries order) order order in
+    then_steady Anywhere (table_rows order order (order - 1)) last (rows_steady order order (order - 1)) (last_steady (is_table order) (of_entries order) order order)
 
 -- ---- quandles
 
@@ -206,7 +222,8 @@ flat_ready : (o : Option NamedQuandle) (n : ℕ) (text : Text) → (or_malformed
 flat_ready None n text = refl
 flat_ready (Some q) n text = refl
 
-flat_table : (order n : ℕ) (b : Bool) (text : Text) → cond b (table_item order text) (Err (Malformed n)) ≡ (cond b (Ok (inr order)) (Err (Malformed n)) >>= λ p. go p text)
+flat_table : (order n : ℕ) (b : Bool) (text : Text)
+    → cond b (table_item order text) (Err (Malformed n)) ≡ (cond b (Ok (inr order)) (Err (Malformed n)) >>= λ p. go p text)
 flat_table order n true text = refl
 flat_table order n false text = refl
 
@@ -217,11 +234,13 @@ flat_name n (written.Dihedral k) text = flat_ready (meant (written.Dihedral k)) 
 flat_name n written.Tetrahedral text = flat_ready (meant written.Tetrahedral) n text
 flat_name n (written.Alexander k a) text = flat_ready (meant (written.Alexander k a)) n text
 
-flat_over : (b : Bool) (n : ℕ) (w : Written) (text : Text) → cond b (Err (Limit n)) (quandle_of n w text) ≡ (cond b (Err (Limit n)) (plan_of n w) >>= λ p. go p text)
+flat_over : (b : Bool) (n : ℕ) (w : Written) (text : Text)
+    → cond b (Err (Limit n)) (quandle_of n w text) ≡ (cond b (Err (Limit n)) (plan_of n w) >>= λ p. go p text)
 flat_over true n w text = refl
 flat_over false n w text = flat_name n w text
 
-flat_written : (s : Result (Written × NumberedLine) TextFault) (text : Text) → (s >>= λ w. cond (is_over w.0) (Err (Limit w.1.number)) (quandle_of w.1.number w.0 text)) ≡ (plan_by s >>= λ p. go p text)
+flat_written : (s : Result (Written × NumberedLine) TextFault) (text : Text)
+    → (s >>= λ w. cond (is_over w.0) (Err (Limit w.1.number)) (quandle_of w.1.number w.0 text)) ≡ (plan_by s >>= λ p. go p text)
 flat_written (Ok w) text = flat_over (is_over w.0) w.1.number w.0 text
 flat_written (Err e) text = refl
 
@@ -306,7 +325,8 @@ take_course one two (inr (inl p)) text = go p text >>= λ q. two_lists one two q
 take_course one two (inr (inr v)) text = Ok (v, text)
 
 course_steady : (one two : ℕ) (c : Course) → Steady Anywhere (take_course one two c)
-course_steady one two (inl count) = then_steady Anywhere (move_lines count) (λ m text. Ok (Equal m, text)) (move_lines_steady count) (λ m. pure_steady (Equal m))
+course_steady one two (inl count) =
+    then_steady Anywhere (move_lines count) (λ m text. Ok (Equal m, text)) (move_lines_steady count) (λ m. pure_steady (Equal m))
 course_steady one two (inr (inl p)) =
     then_steady Anywhere (go p) (λ q text. two_lists one two q text) (go_steady p)
     (λ q. then_steady Anywhere (list_item one q.table.order) (λ a text. list_item two q.table.order text >>= λ b. Ok (Different q a b.0, b.1)) (list_steady one q.table.order)
@@ -331,32 +351,39 @@ course_at line = chosen_at courses line (λ t rest.
     (at_cond m (bytes_eq t (codes "different")) (plan rest >>= λ p. Ok (inr (inl p))) (other_courses t rest) (at_bind m (plan rest) (λ p. Ok (inr (inl p))) (plan_at rest) (λ p e. at_ok m (inr (inl p))))
     (at_cond m (bytes_eq t (codes "unknown")) (unknown_at rest >>= λ v. Ok (inr (inr v))) (Err (Malformed m)) (at_bind m (unknown_at rest) (λ v. Ok (inr (inr v))) (unknown_at_at rest) (λ v e. at_ok m (inr (inr v)))) (at_malformed m))))
 
-flat_counted : (one two : ℕ) (s : Result ℕ TextFault) (text : Text) → (s >>= λ count. move_lines count text >>= λ m. Ok (Equal m.0, m.1)) ≡ ((s >>= λ c. Ok (inl c)) >>= λ c. take_course one two c text)
+flat_counted : (one two : ℕ) (s : Result ℕ TextFault) (text : Text)
+    → (s >>= λ count. move_lines count text >>= λ m. Ok (Equal m.0, m.1)) ≡ ((s >>= λ c. Ok (inl c)) >>= λ c. take_course one two c text)
 flat_counted one two (Ok count) text = refl
 flat_counted one two (Err e) text = refl
 
-flat_equal : (one two : ℕ) (rest : NumberedLine) (text : Text) → equal_at rest text ≡ ((last_count rest >>= λ c. Ok (inl c)) >>= λ c. take_course one two c text)
+flat_equal : (one two : ℕ) (rest : NumberedLine) (text : Text)
+    → equal_at rest text ≡ ((last_count rest >>= λ c. Ok (inl c)) >>= λ c. take_course one two c text)
 unfolding equal_at
 flat_equal one two rest text = flat_counted one two (last_count rest) text
 
-flat_planned : (one two : ℕ) (s : Result Plan TextFault) (text : Text) → ((s >>= λ p. go p text) >>= λ q. two_lists one two q.0 q.1) ≡ ((s >>= λ p. Ok (inr (inl p))) >>= λ c. take_course one two c text)
+flat_planned : (one two : ℕ) (s : Result Plan TextFault) (text : Text)
+    → ((s >>= λ p. go p text) >>= λ q. two_lists one two q.0 q.1) ≡ ((s >>= λ p. Ok (inr (inl p))) >>= λ c. take_course one two c text)
 flat_planned one two (Ok p) text = refl
 flat_planned one two (Err e) text = refl
 
-flat_different : (one two : ℕ) (rest : NumberedLine) (text : Text) → different_at one two rest text ≡ ((plan rest >>= λ p. Ok (inr (inl p))) >>= λ c. take_course one two c text)
+flat_different : (one two : ℕ) (rest : NumberedLine) (text : Text)
+    → different_at one two rest text ≡ ((plan rest >>= λ p. Ok (inr (inl p))) >>= λ c. take_course one two c text)
 unfolding different_at
 flat_different one two rest text = ap (λ r. r >>= λ q. two_lists one two q.0 q.1) (flat_quandle rest text) ∙ flat_planned one two (plan rest) text
 
-flat_said : (one two : ℕ) (s : Result Verdict TextFault) (text : Text) → (s >>= λ v. Ok (v, text)) ≡ ((s >>= λ v. Ok (inr (inr v))) >>= λ c. take_course one two c text)
+flat_said : (one two : ℕ) (s : Result Verdict TextFault) (text : Text)
+    → (s >>= λ v. Ok (v, text)) ≡ ((s >>= λ v. Ok (inr (inr v))) >>= λ c. take_course one two c text)
 flat_said one two (Ok v) text = refl
 flat_said one two (Err e) text = refl
 
-flat_unknown : (one two : ℕ) (rest : NumberedLine) (text : Text) → unknown_item rest text ≡ ((unknown_at rest >>= λ v. Ok (inr (inr v))) >>= λ c. take_course one two c text)
+flat_unknown : (one two : ℕ) (rest : NumberedLine) (text : Text)
+    → unknown_item rest text ≡ ((unknown_at rest >>= λ v. Ok (inr (inr v))) >>= λ c. take_course one two c text)
 unfolding unknown_item
 flat_unknown one two rest text = flat_said one two (unknown_at rest) text
 
 -- a choice, and what follows from it
-flat_choice : {A B : Type 0} (b : Bool) (x y : Result B TextFault) (u v : Result A TextFault) (f : A → Result B TextFault) → x ≡ (u >>= f) → y ≡ (v >>= f) → cond b x y ≡ (cond b u v >>= f)
+flat_choice : {A B : Type 0} (b : Bool) (x y : Result B TextFault) (u v : Result A TextFault) (f : A → Result B TextFault) → x ≡ (u >>= f)
+    → y ≡ (v >>= f) → cond b x y ≡ (cond b u v >>= f)
 flat_choice true x y u v f first second = first
 flat_choice false x y u v f first second = second
 

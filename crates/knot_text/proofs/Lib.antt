@@ -7,6 +7,7 @@ pub mod ColoursLines
 pub mod TableLines
 pub mod Lists
 pub mod LineTexts
+pub mod LetterTexts
 pub mod StepsAgain
 pub mod MovesAgain
 pub mod GridAgain
@@ -22,6 +23,10 @@ pub mod FirstFault
 pub mod Choices
 pub mod QuandlesSteady
 pub mod ShapesFail
+pub mod BraidStepLines
+pub mod BraidChecksFail
+pub mod BraidChecksAlike
+pub mod WeightsFail
 pub mod GridsRead
 pub mod ColoursRead
 pub mod BraidAgain
@@ -33,12 +38,18 @@ pub mod ItemsSay
 pub mod QuandleSays
 pub mod VerdictSays
 pub mod ShapesSay
+pub mod WeightsSay
 pub mod Alike
 pub mod ItemsAlike
 pub mod ColoursAgain
 pub mod WrittenAgain
 pub mod ShapesAgain
+pub mod WeightsAgain
 pub mod PrintedTexts
 pub mod Readings
 mod WorkedRows
+mod WorkedSteps
 mod WrittenRows
+mod SpelledNumbers
+mod LineFaults
+mod StepFaults

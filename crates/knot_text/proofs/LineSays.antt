@@ -119,6 +119,7 @@ pub record AreColoursAlone (width order : ℕ) (line : NumberedLine) (values : L
 
 pub numbers_below_says : (width order : ℕ) (line : NumberedLine) → Says (numbers_below width order line) (AreColoursAlone width order line)
 unfolding numbers_below
-numbers_below_says width order line = says_bind (λ (vs : List ℕ). list_any is_long vs ≡ false → line.tokens ≡ map decimal vs) (each_says line.number line.tokens) (λ vs written.
+numbers_below_says width order line =
+    says_bind (λ (vs : List ℕ). list_any is_long vs ≡ false → line.tokens ≡ map decimal vs) (each_says line.number line.tokens) (λ vs written.
     says_if (list_any is_long vs) (λ over. says_err) (λ short.
     says_if (are_colours width order vs) (λ fits. says_ok vs (record { tokens = written short; colours = colours_from width order vs fits })) (λ other. says_err)))

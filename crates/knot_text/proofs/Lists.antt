@@ -14,10 +14,12 @@ pub quandle_more : (front : List NamedQuandle) (most i : ℕ) (text : Text) (q :
 unfolding quandles
 quandle_more front most i text q after total lt more h so_far =
     let k : most - i ≡ suc (most - (i + 1)) = omega arith in
-    let one : with_front front (quandles (most - i) text) ≡ with_front (front ++ q ∷ []) (quandles (most - (i + 1)) after) = rw (k, more, h) (regroup front q (quandles (most - (i + 1)) after)) in
+    let one : with_front front (quandles (most - i) text) ≡ with_front (front ++ q ∷ []) (quandles (most - (i + 1)) after) =
+    rw (k, more, h) (regroup front q (quandles (most - (i + 1)) after)) in
     sym one ∙ so_far
 
-pub quandle_fails : (e : TextFault) (front : List NamedQuandle) (most i : ℕ) (text : Text) (total : Result (List NamedQuandle × Text) TextFault) → i < most → begins (codes "quandle") text ≡ true → Fails e (quandle_item text)
+pub quandle_fails : (e : TextFault) (front : List NamedQuandle) (most i : ℕ) (text : Text) (total : Result (List NamedQuandle × Text) TextFault)
+    → i < most → begins (codes "quandle") text ≡ true → Fails e (quandle_item text)
     → with_front front (quandles (most - i) text) ≡ total → Fails e total
 unfolding quandles
 quandle_fails fault.OutOfMemory front most i text total lt more h so_far = tt
@@ -36,14 +38,16 @@ unfolding quandles
 ended zero text other = rw other refl
 ended (suc k) text other = rw other refl
 
-pub quandles_end : (front : List NamedQuandle) (k : ℕ) (text : Text) (total : Result (List NamedQuandle × Text) TextFault) → begins (codes "quandle") text ≡ false
+pub quandles_end : (front : List NamedQuandle) (k : ℕ) (text : Text) (total : Result (List NamedQuandle × Text) TextFault)
+    → begins (codes "quandle") text ≡ false
     → with_front front (quandles k text) ≡ total → total ≡ Ok (front, text)
 quandles_end front k text total other so_far =
     sym so_far ∙ ap (with_front front) (ended k text other) ∙ ap (λ ns. Ok (ns, text)) (append-nil front)
 
 -- ---- one quandle too many
 
-front_same : {A : Type 0} (front : List NamedQuandle) (r : Result A TextFault) (k : A → Result (List NamedQuandle × Text) TextFault) → ((x : A) → with_front front (k x) ≡ k x) → with_front front (r >>= k) ≡ (r >>= k)
+front_same : {A : Type 0} (front : List NamedQuandle) (r : Result A TextFault) (k : A → Result (List NamedQuandle × Text) TextFault)
+    → ((x : A) → with_front front (k x) ≡ k x) → with_front front (r >>= k) ≡ (r >>= k)
 front_same front (Ok x) k same = same x
 front_same front (Err e) k same = refl
 
@@ -54,7 +58,8 @@ surplus_front front text =
     front_same front (word (codes "quandle") line.0) (λ rest. written_at rest >>= λ name. Err (fault.Limit name.1.number)) (λ rest.
     front_same front (written_at rest) (λ name. Err (fault.Limit name.1.number)) (λ name. refl)))
 
-pub quandles_over : (front : List NamedQuandle) (most i : ℕ) (text : Text) (total : Result (List NamedQuandle × Text) TextFault) → most ≤ i → begins (codes "quandle") text ≡ true
+pub quandles_over : (front : List NamedQuandle) (most i : ℕ) (text : Text) (total : Result (List NamedQuandle × Text) TextFault) → most ≤ i
+    → begins (codes "quandle") text ≡ true
     → with_front front (quandles (most - i) text) ≡ total → total ≡ surplus_quandle text
 unfolding quandles
 quandles_over front most i text total le more so_far =

@@ -7,7 +7,8 @@ use Rattle.grid_core.specs.declared.mark.Kind.TheVariants.{Cross, Ring}
 use Rattle.grid_core.specs.declared.mark.Corner.{Corner}
 use Rattle.grid_core.specs.declared.mark.Corner.TheVariants.{LowLeft, LowRight, HighLeft, HighRight}
 use Rattle.grid_moves.specs.declared.step.Move.{Move}
-use Rattle.grid_moves.specs.declared.step.Move.TheVariants.{ShiftColumns, ShiftRows, ExchangeColumns, ExchangeRows, SlideColumns, SlideRows, Stabilise, Destabilise}
+use Rattle.grid_moves.specs.declared.step.Move.TheVariants.{ShiftColumns, ShiftRows, ExchangeColumns, ExchangeRows, SlideColumns, SlideRows}
+use Rattle.grid_moves.specs.declared.step.Move.TheVariants.{Stabilise, Destabilise}
 use Rattle.text_lines.specs.Lines.{Text}
 use Rattle.text_lines.specs.Spelled.{numbered}
 use Rattle.knot_text.specs.declared.reading.TheConstants.{MAX_PLACE}
@@ -32,7 +33,8 @@ corner_again LowRight n tokens = refl
 corner_again HighLeft n tokens = refl
 corner_again HighRight n tokens = refl
 
-stabilise_again : (c n : ℕ) (kind : Kind) (corner : Corner) → c ≤ MAX_PLACE → stabilise (line_of n (decimal c ∷ kind_word kind ∷ corner_word corner ∷ [])) ≡ Ok (Stabilise c kind corner)
+stabilise_again : (c n : ℕ) (kind : Kind) (corner : Corner) → c ≤ MAX_PLACE
+    → stabilise (line_of n (decimal c ∷ kind_word kind ∷ corner_word corner ∷ [])) ≡ Ok (Stabilise c kind corner)
 unfolding stabilise line_end
 stabilise_again c n kind corner few =
     rw (number_again c n (kind_word kind ∷ corner_word corner ∷ []) (omega arith), kind_again kind n (corner_word corner ∷ []), corner_again corner n [], most_again MAX_PLACE n c few) refl
@@ -57,10 +59,12 @@ next_again : (k : ℕ) (move : Move) (rest : Text) → HasMoveText move → next
 unfolding next_move next_line
 next_again k move rest fits = rw (move_again (k + 1) move fits) refl
 
-pub move_lines_again : (n : ℕ) (moves : List Move) (text : Text) → AllByRecursion HasMoveText moves → move_lines (length moves) (lines_before (numbered n (map move_tokens moves)) text) ≡ Ok (moves, text)
+pub move_lines_again : (n : ℕ) (moves : List Move) (text : Text) → AllByRecursion HasMoveText moves
+    → move_lines (length moves) (lines_before (numbered n (map move_tokens moves)) text) ≡ Ok (moves, text)
 move_lines_again n moves text fits = turns_again next_move move_tokens HasMoveText n moves text next_again fits
 
-pub moves_again : (n : ℕ) (moves : List Move) (text : Text) → HaveText moves → moves_item (lines_before (numbered n (moves_lines (codes "moves") moves)) text) ≡ Ok (moves, text)
+pub moves_again : (n : ℕ) (moves : List Move) (text : Text) → HaveText moves
+    → moves_item (lines_before (numbered n (moves_lines (codes "moves") moves)) text) ≡ Ok (moves, text)
 unfolding moves_item next_line
 moves_again n moves text fits =
     let w = word_again (codes "moves") (n + 1) (decimal (length moves) ∷ []) in

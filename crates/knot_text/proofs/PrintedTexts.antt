@@ -22,8 +22,11 @@ use Rattle.knot_text.specs.declared.shapes.ReplayText.{ReplayText}
 use Rattle.verdict_core.specs.Names.{NamedQuandle}
 use Rattle.verdict_core.specs.Diagrams.{columns}
 use Rattle.knot_text.specs.Shapes.{problem_of, check_of, replay_of}
-use Rattle.knot_text.specs.Printed.{grid_lines, grid_text, moves_lines, moves_text, HaveText, quandle_lines, quandle_text, HasQuandleText, list_lines, verdict_lines, HasListText, HasVerdictText, diagram_lines, HasDiagramText, colours_lines, colours_text}
-use Rattle.knot_text.specs.WrittenThere.{tokens_by_line, said_by, listed_lines, HasProblemText, problem_lines, given_lines, HasGivenText, HasReplayText, replay_lines}
+use Rattle.knot_text.specs.Printed.{grid_lines, grid_text, moves_lines, moves_text, HaveText, quandle_lines, quandle_text, HasQuandleText}
+use Rattle.knot_text.specs.Printed.{list_lines, verdict_lines, HasListText, HasVerdictText, diagram_lines, HasDiagramText, colours_lines}
+use Rattle.knot_text.specs.Printed.{colours_text}
+use Rattle.knot_text.specs.WrittenThere.{tokens_by_line, said_by, listed_lines, HasProblemText, problem_lines, given_lines, HasGivenText}
+use Rattle.knot_text.specs.WrittenThere.{HasReplayText, replay_lines}
 use Rattle.knot_text.proofs.StepsAgain.{all_short}
 use Rattle.verdict_core.proofs.Named.{names_order}
 use Rattle.knot_text.proofs.Words.{grid_words, moves_words, verdict_words, numbers_words}
@@ -53,7 +56,8 @@ diagram_words (Braid b) braid = braid_words b braid
 quandle_words : (q : NamedQuandle) → HasQuandleText q → list_all is_line (quandle_lines (codes "quandle") q) ≡ true
 quandle_words q fits =
     let none : HasListText 1 q.table.order [] = record { count = omega arith; each = tt } in
-    let all : list_all is_line (verdict_lines (Different q [] [])) ≡ true = verdict_words 1 1 (Different q [] []) (omega arith) (omega arith) (fits, none, none) in
+    let all : list_all is_line (verdict_lines (Different q [] [])) ≡ true =
+    verdict_words 1 1 (Different q [] []) (omega arith) (omega arith) (fits, none, none) in
     front_lines (quandle_lines (codes "different") q) (list_lines [] ++ list_lines []) all
 
 listed_words : (listed : List NamedQuandle) → AllByRecursion HasQuandleText listed → list_all is_line (listed_lines listed) ≡ true
@@ -83,9 +87,11 @@ printed_says lines all =
     ap said_by (sym (append-nil (lines_text lines))) ∙ ap (λ t. tokens_by_line t.lines) (lines_read 0 lines [] all) ∙ ap tokens_by_line (append-nil (numbered 0 lines)) ∙ numbered_tokens 0 lines
 
 pub problem_printed : (listed : List NamedQuandle) (p : ProblemText) → HasProblemText listed p → problem_of (lines_text (problem_lines listed p)) ≡ Ok p
-problem_printed listed p has = problem_in_written (text_of (lines_text (problem_lines listed p))) p (listed, has, printed_says (problem_lines listed p) (problem_words listed p has))
+problem_printed listed p has =
+    problem_in_written (text_of (lines_text (problem_lines listed p))) p (listed, has, printed_says (problem_lines listed p) (problem_words listed p has))
 
-pub check_printed : (listed : List NamedQuandle) (p : ProblemText) (v : Verdict) → HasProblemText listed p → HasVerdictText (columns p.first) (columns p.second) v → check_of (lines_text (problem_lines listed p ++ verdict_lines v)) ≡ Ok (p, v)
+pub check_printed : (listed : List NamedQuandle) (p : ProblemText) (v : Verdict) → HasProblemText listed p
+    → HasVerdictText (columns p.first) (columns p.second) v → check_of (lines_text (problem_lines listed p ++ verdict_lines v)) ≡ Ok (p, v)
 check_printed listed p v has fits =
     let some : 1 ≤ columns p.first = omega (arith, (diagram_grid p.first has.first).least) in
     let also : 1 ≤ columns p.second = omega (arith, (diagram_grid p.second has.second).least) in
@@ -104,20 +110,25 @@ replay_printed r has =
 text_parts : (xs ys : List (List (List ℕ))) → lines_text (xs ++ ys) ≡ lines_text xs ++ lines_text ys
 text_parts xs ys = flat_map-append line_text xs ys
 
-pub moves_replay : (d : Marks) (moves : List Move) → IsGrid d → HaveText moves → replay_of (grid_text d ++ moves_text moves) ≡ Ok (record { diagram = Grid d; moves = moves; colours = None })
+pub moves_replay : (d : Marks) (moves : List Move) → IsGrid d → HaveText moves
+    → replay_of (grid_text d ++ moves_text moves) ≡ Ok (record { diagram = Grid d; moves = moves; colours = None })
 moves_replay d moves grid fits =
     let r : ReplayText = record { diagram = Grid d; moves = moves; colours = None } in
     let lines = moves_lines (codes "moves") moves in
-    let text : grid_text d ++ moves_text moves ≡ lines_text (replay_lines r) = ap (λ ls. grid_text d ++ lines_text ls) (sym (append-nil lines)) ∙ sym (text_parts (grid_lines d) (lines ++ [])) in
+    let text : grid_text d ++ moves_text moves ≡ lines_text (replay_lines r) =
+    ap (λ ls. grid_text d ++ lines_text ls) (sym (append-nil lines)) ∙ sym (text_parts (grid_lines d) (lines ++ [])) in
     ap replay_of text ∙ replay_printed r (record { diagram = grid; moves = fits; colours = tt })
 
-pub coloured_replay : (d : Marks) (moves : List Move) (q : NamedQuandle) (c : ArrayVec ℕ) → IsGrid d → HaveText moves → HasQuandleText q → AreColours (size d) q.table.order c.items
+pub coloured_replay : (d : Marks) (moves : List Move) (q : NamedQuandle) (c : ArrayVec ℕ) → IsGrid d → HaveText moves → HasQuandleText q
+    → AreColours (size d) q.table.order c.items
     → replay_of (grid_text d ++ (moves_text moves ++ (quandle_text q ++ colours_text c))) ≡ Ok (record { diagram = Grid d; moves = moves; colours = Some (q, c) })
 coloured_replay d moves q c grid fits has are =
     let r : ReplayText = record { diagram = Grid d; moves = moves; colours = Some (q, c) } in
     let lines = moves_lines (codes "moves") moves in
     let given = quandle_lines (codes "quandle") q ++ colours_lines c in
     let last : quandle_text q ++ colours_text c ≡ lines_text given = sym (text_parts (quandle_lines (codes "quandle") q) (colours_lines c)) in
-    let behind : moves_text moves ++ (quandle_text q ++ colours_text c) ≡ lines_text (lines ++ given) = ap (λ (t : List ℕ). moves_text moves ++ t) last ∙ sym (text_parts lines given) in
-    let text : grid_text d ++ (moves_text moves ++ (quandle_text q ++ colours_text c)) ≡ lines_text (replay_lines r) = ap (λ (t : List ℕ). grid_text d ++ t) behind ∙ sym (text_parts (grid_lines d) (lines ++ given)) in
+    let behind : moves_text moves ++ (quandle_text q ++ colours_text c) ≡ lines_text (lines ++ given) =
+    ap (λ (t : List ℕ). moves_text moves ++ t) last ∙ sym (text_parts lines given) in
+    let text : grid_text d ++ (moves_text moves ++ (quandle_text q ++ colours_text c)) ≡ lines_text (replay_lines r) =
+    ap (λ (t : List ℕ). grid_text d ++ t) behind ∙ sym (text_parts (grid_lines d) (lines ++ given)) in
     ap replay_of text ∙ replay_printed r (record { diagram = grid; moves = fits; colours = (has, are) })

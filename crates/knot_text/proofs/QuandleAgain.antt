@@ -1,5 +1,6 @@
 -- A quandle that was printed is read again.
-use Rattle.std.proofs.Common.{◌≡◌, ℕ, zero, suc, ◌<◌, ◌≤◌, ◌+◌, ◌-◌, ◌&&◌, List, [], ◌∷◌, ◌++◌, length, map, true, false, cond, Result, Ok, Err, refl, sym, ap, ap₂, ◌∙◌, arith, nat_le, nat_lt}
+use Rattle.std.proofs.Common.{◌≡◌, ℕ, zero, suc, ◌<◌, ◌≤◌, ◌+◌, ◌-◌, ◌&&◌, List, [], ◌∷◌, ◌++◌, length, map, true, false, cond, Result, Ok}
+use Rattle.std.proofs.Common.{Err, refl, sym, ap, ap₂, ◌∙◌, arith, nat_le, nat_lt}
 use Rattle.std.specs.Prelude.{is_none}
 use Rattle.std.specs.List.{flat_map, range_with_len}
 use Rattle.std.specs.Fmt.{decimal}
@@ -25,7 +26,7 @@ use Rattle.knot_text.specs.Quandles.{written_at, alexander_at, tetrahedral_at, t
 use Rattle.knot_text.specs.Printed.{name_tokens, row_tokens, table_lines, HasFactor}
 use Rattle.knot_text.proofs.LineTexts.{map_decimals}
 use Rattle.knot_text.proofs.StepsAgain.{line_of, lines_before, number_again, last_again, below_again}
-use Rattle.knot_text.proofs.Tables.{row, row_below, rows_last}
+use Rattle.knot_text.proofs.Tables.{row, IsWithin, row_below, rows_last}
 
 order_test : (n : ℕ) → IsOrder n → is_order n ≡ true
 order_test n is = and_from (nat_le 1 n) (nat_le n MAX_ORDER) (le-leb 1 n is.0) (le-leb n MAX_ORDER is.1)
@@ -38,11 +39,13 @@ within_limit n is = le-ltb MAX_ORDER n is.1
 
 -- ---- names without a table
 
-trivial_again : (n k : ℕ) (text : Text) → IsOrder k → quandle_at (line_of n (name_tokens (name.Trivial k) 0)) text ≡ Ok (called (name.Trivial k) (trivial k), text)
+trivial_again : (n k : ℕ) (text : Text) → IsOrder k
+    → quandle_at (line_of n (name_tokens (name.Trivial k) 0)) text ≡ Ok (called (name.Trivial k) (trivial k), text)
 unfolding quandle_at written_at next_token
 trivial_again n k text is = rw (last_again k n (order_few k is), within_limit k is, order_test k is) refl
 
-dihedral_again : (n k : ℕ) (text : Text) → IsOrder k → quandle_at (line_of n (name_tokens (name.Dihedral k) 0)) text ≡ Ok (called (name.Dihedral k) (dihedral k), text)
+dihedral_again : (n k : ℕ) (text : Text) → IsOrder k
+    → quandle_at (line_of n (name_tokens (name.Dihedral k) 0)) text ≡ Ok (called (name.Dihedral k) (dihedral k), text)
 unfolding quandle_at written_at next_token
 dihedral_again n k text is = rw (last_again k n (order_few k is), within_limit k is, order_test k is) refl
 
@@ -50,7 +53,8 @@ tetrahedral_again : (n : ℕ) (text : Text) → quandle_at (line_of n (name_toke
 unfolding quandle_at written_at tetrahedral_at next_token line_end
 tetrahedral_again n text = refl
 
-alexander_again : (n k a : ℕ) (text : Text) → IsOrder k → is_unit k a ≡ true → a < k → quandle_at (line_of n (name_tokens (name.Alexander k a) 0)) text ≡ Ok (called (name.Alexander k a) (alexander k a), text)
+alexander_again : (n k a : ℕ) (text : Text) → IsOrder k → is_unit k a ≡ true → a < k
+    → quandle_at (line_of n (name_tokens (name.Alexander k a) 0)) text ≡ Ok (called (name.Alexander k a) (alexander k a), text)
 unfolding quandle_at written_at alexander_at next_token
 alexander_again n k a text is unit low =
     let few = order_few k is in
@@ -62,28 +66,31 @@ alexander_again n k a text is unit low =
 -- ---- tables
 
 -- row x of a table, in line n
-line_again : (t : Table) (n x : ℕ) → IsQuandle t → x < t.order → numbers_below t.order t.order (line_of n (row_tokens t x)) ≡ Ok (row t x)
-line_again t n x is lt =
+pub line_again : (t : Table) (bound n x : ℕ) → bound ≤ 255 → IsWithin t bound → x < t.order
+    → numbers_below t.order bound (line_of n (row_tokens t x)) ≡ Ok (row t x)
+line_again t bound n x most within lt =
     let len : length (row t x) ≡ t.order = length-map (range_with_len 0 t.order) (over t x) ∙ length-range_with_len 0 t.order in
-    ap (λ (ts : List (List ℕ)). numbers_below t.order t.order (line_of n ts)) (sym (map_decimals (over t x) (range_with_len 0 t.order)))
-    ∙ below_again t.order t.order n (row t x) len (omega (arith, is.most)) (row_below t x is lt)
+    ap (λ (ts : List (List ℕ)). numbers_below t.order bound (line_of n ts)) (sym (map_decimals (over t x) (range_with_len 0 t.order)))
+    ∙ below_again t.order bound n (row t x) len most (row_below t bound x within lt)
 
-row_again : (t : Table) (n x : ℕ) (text : Text) → IsQuandle t → x < t.order → table_row t.order (lines_before (line_of n (row_tokens t x) ∷ []) text) ≡ Ok (row t x, text)
+row_again : (t : Table) (bound n x : ℕ) (text : Text) → bound ≤ 255 → IsWithin t bound → x < t.order
+    → table_row t.order bound (lines_before (line_of n (row_tokens t x) ∷ []) text) ≡ Ok (row t x, text)
 unfolding table_row next_line
-row_again t n x text is lt = rw (line_again t n x is lt) refl
+row_again t bound n x text most within lt = rw (line_again t bound n x most within lt) refl
 
 -- so many rows, behind which one more stands
-rows_again : (t : Table) (n a count : ℕ) (text : Text) → IsQuandle t → a + count < t.order
-    → table_rows t.order count (lines_before (numbered n (map (row_tokens t) (range_with_len a (suc count)))) text)
+pub rows_again : (t : Table) (bound n a count : ℕ) (text : Text) → bound ≤ 255 → IsWithin t bound → a + count < t.order
+    → table_rows t.order bound count (lines_before (numbered n (map (row_tokens t) (range_with_len a (suc count)))) text)
     ≡ Ok (flat_map (row t) (range_with_len a count), lines_before (line_of (n + count + 1) (row_tokens t (a + count)) ∷ []) text)
 unfolding table_rows
-rows_again t n a zero text is lt =
+rows_again t bound n a zero text most within lt =
     let number : n + 1 ≡ n + 0 + 1 = omega arith in
     let place : a ≡ a + 0 = omega arith in
     ap₂ (λ (j x : ℕ). Ok ([], lines_before (line_of j (row_tokens t x) ∷ []) text)) number place
-rows_again t n a (suc count) text is lt =
-    let one = row_again t (n + 1) a (lines_before (numbered (n + 1) (map (row_tokens t) (range_with_len (a + 1) (suc count)))) text) is (omega arith) in
-    let others = rows_again t (n + 1) (a + 1) count text is (omega arith) in
+rows_again t bound n a (suc count) text most within lt =
+    let behind = lines_before (numbered (n + 1) (map (row_tokens t) (range_with_len (a + 1) (suc count)))) text in
+    let one = row_again t bound (n + 1) a behind most within (omega arith) in
+    let others = rows_again t bound (n + 1) (a + 1) count text most within (omega arith) in
     let number : n + 1 + count + 1 ≡ n + suc count + 1 = omega arith in
     let place : a + 1 + count ≡ a + suc count = omega arith in
     rw (one, others) (ap₂ (λ (j x : ℕ). Ok (flat_map (row t) (range_with_len a (suc count)), lines_before (line_of j (row_tokens t x) ∷ []) text)) number place)
@@ -92,7 +99,8 @@ rows_again t n a (suc count) text is lt =
 abbrev tested : ℕ → List ℕ → ℕ → Text → Result (NamedQuandle × Text) TextFault
 tested order entries n text = cond (is_none (first_fault (record { order = order; entries = entries }))) (Ok (called name.Table (record { order = order; entries = entries }), text)) (Err (Malformed n))
 
-table_by : (t : Table) (n k : ℕ) (text : Text) → IsQuandle t → t.order ≡ suc k → table_item t.order (lines_before (numbered n (table_lines name.Table t)) text) ≡ Ok (called name.Table t, text)
+table_by : (t : Table) (n k : ℕ) (text : Text) → IsQuandle t → t.order ≡ suc k
+    → table_item t.order (lines_before (numbered n (table_lines name.Table t)) text) ≡ Ok (called name.Table t, text)
 unfolding table_item next_line
 table_by t n k text is size =
     let order = t.order in
@@ -100,15 +108,17 @@ table_by t n k text is size =
     let last : 0 + k ≡ k = omega arith in
     let fewer : order - 1 ≡ k = omega (arith, size) in
     let lines = numbered n (map (row_tokens t) (range_with_len 0 (suc k))) in
-    let rows = rows_again t n 0 k text is (omega (arith, size)) in
-    let end = line_again t (n + k + 1) (0 + k) is (omega (arith, size)) in
-    let whole : front ++ row t (0 + k) ≡ t.entries = ap (λ (x : ℕ). front ++ row t x) last ∙ rows_last t k is size in
+    let most : order ≤ 255 = omega (arith, is.most) in
+    let rows = rows_again t order n 0 k text most is.within (omega (arith, size)) in
+    let end = line_again t order (n + k + 1) (0 + k) most is.within (omega (arith, size)) in
+    let whole : front ++ row t (0 + k) ≡ t.entries = ap (λ (x : ℕ). front ++ row t x) last ∙ rows_last t k is.square size in
     let none : is_none (first_fault t) ≡ true = ap (λ f. is_none f) (none_from_quandle t is) in
     let read : table_item order (lines_before lines text) ≡ tested order (front ++ row t (0 + k)) (n + k + 1) text = rw (fewer, rows, end) refl in
     let passes : tested order t.entries (n + k + 1) text ≡ Ok (called name.Table t, text) = rw none refl in
     ap (λ (j : ℕ). table_item order (lines_before (numbered n (map (row_tokens t) (range_with_len 0 j))) text)) size ∙ read ∙ ap (λ (es : List ℕ). tested order es (n + k + 1) text) whole ∙ passes
 
-table_again : (n : ℕ) (t : Table) (text : Text) → IsQuandle t → quandle_at (line_of n (name_tokens name.Table t.order)) (lines_before (numbered n (table_lines name.Table t)) text) ≡ Ok (called name.Table t, text)
+table_again : (n : ℕ) (t : Table) (text : Text) → IsQuandle t
+    → quandle_at (line_of n (name_tokens name.Table t.order)) (lines_before (numbered n (table_lines name.Table t)) text) ≡ Ok (called name.Table t, text)
 unfolding quandle_at written_at next_token
 table_again n t text is =
     let some : nat_le 1 t.order ≡ true = le-leb 1 t.order is.least in
@@ -121,7 +131,9 @@ table_again n t text is =
 pub quandle_again : (n : ℕ) (called_so : QuandleName) (t : Table) (text : Text) → Names called_so t → HasFactor called_so
     → quandle_at (line_of n (name_tokens called_so t.order)) (lines_before (numbered n (table_lines called_so t)) text) ≡ Ok (called called_so t, text)
 quandle_again n (name.Trivial k) t text names factor = trivial_again n k text names.0 ∙ ap (λ (s : Table). Ok (called (name.Trivial k) s, text)) (sym names.1)
-quandle_again n (name.Dihedral k) t text names factor = dihedral_again n k text names.0 ∙ ap (λ (s : Table). Ok (called (name.Dihedral k) s, text)) (sym names.1)
+quandle_again n (name.Dihedral k) t text names factor =
+    dihedral_again n k text names.0 ∙ ap (λ (s : Table). Ok (called (name.Dihedral k) s, text)) (sym names.1)
 quandle_again n name.Tetrahedral t text names factor = tetrahedral_again n text ∙ ap (λ (s : Table). Ok (called name.Tetrahedral s, text)) (sym names)
-quandle_again n (name.Alexander k a) t text names factor = alexander_again n k a text names.0 names.1 factor ∙ ap (λ (s : Table). Ok (called (name.Alexander k a) s, text)) (sym names.2)
+quandle_again n (name.Alexander k a) t text names factor =
+    alexander_again n k a text names.0 names.1 factor ∙ ap (λ (s : Table). Ok (called (name.Alexander k a) s, text)) (sym names.2)
 quandle_again n name.Table t text names factor = table_again n t text names

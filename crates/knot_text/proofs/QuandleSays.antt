@@ -1,5 +1,7 @@
 -- A quandle that was read is written there, and so is a list of quandles.
-use Rattle.std.proofs.Common.{◌≡◌, ℕ, zero, suc, ◌≤◌, ◌+◌, ◌-◌, ◌*◌, ◌&&◌, List, [], ◌∷◌, ◌++◌, length, get_or, map, Bool, true, false, cond, Option, Some, None, Ok, Err, refl, sym, ap, ap₂, subst, ◌∙◌, append_assoc, arith, codes, nat_le, nat_lt, length-append}
+use Rattle.std.proofs.Common.{◌≡◌, ℕ, zero, suc, ◌≤◌, ◌+◌, ◌-◌, ◌*◌, ◌&&◌, List, [], ◌∷◌, ◌++◌, length, get_or, map, Bool, true, false}
+use Rattle.std.proofs.Common.{cond, Option, Some, None, Ok, Err, refl, sym, ap, ap₂, subst, ◌∙◌, append_assoc, arith, codes, nat_le, nat_lt}
+use Rattle.std.proofs.Common.{length-append}
 use Rattle.std.specs.Prelude.{is_none}
 use Rattle.std.specs.List.{AllByRecursion, range_with_len}
 use Rattle.std.specs.Str.{bytes_eq}
@@ -25,24 +27,26 @@ use Rattle.verdict_core.proofs.Named.{some_if, order_is}
 use Rattle.verdict_core.specs.Names.{NamedQuandle, is_order, called}
 use Rattle.knot_text.specs.Reading.{◌>>=◌, or_malformed}
 use Rattle.knot_text.specs.Numbers.{numbers_below, is_long}
-use Rattle.knot_text.specs.Quandles.{with_order, alexander_at, tetrahedral_at, written_at, is_over, meant, table_row, table_rows, table_item, quandle_of, quandle_at, quandle_item, surplus_quandle, quandles}
+use Rattle.knot_text.specs.Quandles.{with_order, alexander_at, tetrahedral_at, written_at, is_over, meant, table_row, table_rows}
+use Rattle.knot_text.specs.Quandles.{table_item, quandle_of, quandle_at, quandle_item, surplus_quandle, quandles}
 use Rattle.knot_text.specs.Printed.{name_tokens, row_tokens, table_lines, quandle_lines, HasQuandleText}
 use Rattle.knot_text.specs.WrittenThere.{StandInFront, listed_lines}
 use Rattle.knot_text.proofs.LineTexts.{map_decimals}
 use Rattle.knot_text.proofs.Tables.{row}
 use Rattle.knot_text.proofs.Says.{Says, says_ok, says_err, says_bind, says_if, says_more, no_lines_in_front, in_front_of, in_front_is, IsNext, next_says}
-use Rattle.knot_text.proofs.LineSays.{IsFirst, next_token_says, HasNone, line_end_says, is_word, word_says, or_malformed_says, IsNumberFirst, number_says, IsNumberAlone, last_number_says, AreColoursAlone, numbers_below_says}
+use Rattle.knot_text.proofs.LineSays.{IsFirst, next_token_says, HasNone, line_end_says, is_word, word_says, or_malformed_says}
+use Rattle.knot_text.proofs.LineSays.{IsNumberFirst, number_says, IsNumberAlone, last_number_says, AreColoursAlone, numbers_below_says}
 use Rattle.knot_text.proofs.ItemsSay.{IsWritten, line_says}
 use Rattle.grid_core.proofs.Accepted.{either_false}
 
 -- ---- the rows of a table
 
 -- rows one behind the other
-abbrev joined : List (List ℕ) → List ℕ
+abbrev pub joined : List (List ℕ) → List ℕ
 joined [] = []
 joined (r ∷ rows) = r ++ joined rows
 
-abbrev row_line : List ℕ → List (List ℕ)
+abbrev pub row_line : List ℕ → List (List ℕ)
 row_line r = map decimal r
 
 row_is : (t : Table) (x : ℕ) (before r rest : List ℕ) → t.entries ≡ before ++ (r ++ rest) → length before ≡ x * t.order → length r ≡ t.order → row t x ≡ r
@@ -55,7 +59,8 @@ row_is t x before r rest is start len =
 row_tokens_are : (t : Table) (x : ℕ) (r : List ℕ) → row t x ≡ r → row_tokens t x ≡ row_line r
 row_tokens_are t x r is = sym (map_decimals (over t x) (range_with_len 0 t.order)) ∙ ap row_line is
 
-rows_are : (t : Table) (a : ℕ) (before : List ℕ) (rows : List (List ℕ)) → t.entries ≡ before ++ joined rows → length before ≡ a * t.order → AllByRecursion (λ (r : List ℕ). length r ≡ t.order) rows
+rows_are : (t : Table) (a : ℕ) (before : List ℕ) (rows : List (List ℕ)) → t.entries ≡ before ++ joined rows → length before ≡ a * t.order
+    → AllByRecursion (λ (r : List ℕ). length r ≡ t.order) rows
     → map (row_tokens t) (range_with_len a (length rows)) ≡ map row_line rows
 rows_are t a before [] is start each = refl
 rows_are t a before (r ∷ rows) is start each =
@@ -64,23 +69,26 @@ rows_are t a before (r ∷ rows) is start each =
     ap₂ (λ (ts : List (List ℕ)) (tss : List (List (List ℕ))). ts ∷ tss) (row_tokens_are t a r (row_is t a before r (joined rows) is start each.0))
     (rows_are t (a + 1) (before ++ r) rows (is ∙ sym (append_assoc before r (joined rows))) len each.1)
 
-row_says : (order : ℕ) (text : Text) → Says (table_row order text) (IsWritten (λ r. AreColours order order r) (λ r. row_line r ∷ []) text)
+row_says : (order bound : ℕ) (text : Text)
+    → Says (table_row order bound text) (IsWritten (λ r. AreColours order bound r) (λ r. row_line r ∷ []) text)
 unfolding table_row
-row_says order text = line_says (λ r. AreColours order order r) row_line (numbers_below order order) (λ line. says_more (λ r are. (are.colours, are.tokens)) (numbers_below_says order order line)) text
+row_says order bound text = line_says (λ r. AreColours order bound r) row_line (numbers_below order bound)
+    (λ line. says_more (λ r are. (are.colours, are.tokens)) (numbers_below_says order bound line)) text
 
 -- so many rows were read
-record AreRows (order many : ℕ) (text : Text) (x : List ℕ × Text) : Type 0 where
-  rows : List (List ℕ)
-  number : length rows ≡ many
-  each : AllByRecursion (λ (r : List ℕ). length r ≡ order) rows
-  entries : x.0 ≡ joined rows
-  there : StandInFront (map row_line rows) text x.1
+pub record AreRows (order many : ℕ) (text : Text) (x : List ℕ × Text) : Type 0 where
+  pub rows : List (List ℕ)
+  pub number : length rows ≡ many
+  pub each : AllByRecursion (λ (r : List ℕ). length r ≡ order) rows
+  pub entries : x.0 ≡ joined rows
+  pub there : StandInFront (map row_line rows) text x.1
 
-rows_say : (order count : ℕ) (text : Text) → Says (table_rows order count text) (AreRows order count text)
+pub rows_say : (order bound count : ℕ) (text : Text) → Says (table_rows order bound count text) (AreRows order count text)
 unfolding table_rows
-rows_say order zero text = says_ok ([], text) (record { rows = []; number = refl; each = tt; entries = refl; there = no_lines_in_front text })
-rows_say order (suc count) text = says_bind (IsWritten (λ r. AreColours order order r) (λ r. row_line r ∷ []) text) (row_says order text) (λ first is.
-    says_bind (AreRows order count first.1) (rows_say order count first.1) (λ others are.
+rows_say order bound zero text = says_ok ([], text) (record { rows = []; number = refl; each = tt; entries = refl; there = no_lines_in_front text })
+rows_say order bound (suc count) text =
+    says_bind (IsWritten (λ r. AreColours order bound r) (λ r. row_line r ∷ []) text) (row_says order bound text) (λ first is.
+    says_bind (AreRows order count first.1) (rows_say order bound count first.1) (λ others are.
     says_ok (first.0 ++ others.0, others.1) (record {
       rows = first.0 ∷ are.rows;
       number = ap suc are.number;
@@ -101,24 +109,35 @@ joined_last : (rows : List (List ℕ)) (r : List ℕ) → joined (rows ++ r ∷ 
 joined_last [] r = append-nil r
 joined_last (s ∷ rows) r = ap (λ (es : List ℕ). s ++ es) (joined_last rows r) ∙ sym (append_assoc s (joined rows) r)
 
-each_last : (order : ℕ) (rows : List (List ℕ)) (r : List ℕ) → AllByRecursion (λ (s : List ℕ). length s ≡ order) rows → length r ≡ order → AllByRecursion (λ (s : List ℕ). length s ≡ order) (rows ++ r ∷ [])
+each_last : (order : ℕ) (rows : List (List ℕ)) (r : List ℕ) → AllByRecursion (λ (s : List ℕ). length s ≡ order) rows → length r ≡ order
+    → AllByRecursion (λ (s : List ℕ). length s ≡ order) (rows ++ r ∷ [])
 each_last order [] r all len = (len, tt)
 each_last order (s ∷ rows) r all len = (all.0, each_last order rows r all.1 len)
 
-table_is : (order : ℕ) (text : Text) (front : List ℕ × Text) (line : NumberedLine × Text) (r : List ℕ) → AreRows order (order - 1) text front → IsNext front.1 line → AreColoursAlone order order line.0 r → IsQuandle (record { order = order; entries = front.0 ++ r })
+-- the rows of a square table were read, the last one behind the others
+pub rows_printed : (t : Table) (text : Text) (front : List ℕ × Text) (line : NumberedLine × Text) (r : List ℕ) → 1 ≤ t.order → t.entries ≡ front.0 ++ r
+    → AreRows t.order (t.order - 1) text front → IsNext front.1 line → line.0.tokens ≡ row_line r → length r ≡ t.order
+    → StandInFront (map (row_tokens t) (range_with_len 0 t.order)) text line.1
+rows_printed t text front line r some is are there tokens len =
+    let all = are.rows ++ r ∷ [] in
+    let entries : t.entries ≡ joined all = is ∙ ap (λ (es : List ℕ). es ++ r) are.entries ∙ sym (joined_last are.rows r) in
+    let number : length all ≡ t.order = omega (arith, length-append are.rows (r ∷ []), are.number, some) in
+    let none : length {A = ℕ} [] ≡ 0 * t.order = omega arith in
+    let lines : map (row_tokens t) (range_with_len 0 (length all)) ≡ map row_line all = rows_are t 0 [] all entries none (each_last t.order are.rows r are.each len) in
+    let printed : map row_line are.rows ++ line.0.tokens ∷ [] ≡ map (row_tokens t) (range_with_len 0 t.order) =
+    ap (λ (ts : List (List ℕ)). map row_line are.rows ++ ts ∷ []) tokens ∙ sym (map-append row_line are.rows (r ∷ [])) ∙ sym lines
+    ∙ ap (λ (j : ℕ). map (row_tokens t) (range_with_len 0 j)) number in
+    in_front_is printed (in_front_of are.there there)
+
+table_is : (order : ℕ) (text : Text) (front : List ℕ × Text) (line : NumberedLine × Text) (r : List ℕ) → AreRows order (order - 1) text front
+    → IsNext front.1 line → AreColoursAlone order order line.0 r → IsQuandle (record { order = order; entries = front.0 ++ r })
     → IsTable order text (called name.Table (record { order = order; entries = front.0 ++ r }), line.1)
 table_is order text front line r are there last quandle =
     let t : Table = record { order = order; entries = front.0 ++ r } in
-    let all = are.rows ++ r ∷ [] in
-    let entries : front.0 ++ r ≡ joined all = ap (λ (es : List ℕ). es ++ r) are.entries ∙ sym (joined_last are.rows r) in
-    let number : length all ≡ order = omega (arith, length-append are.rows (r ∷ []), are.number, quandle.least) in
-    let none : length {A = ℕ} [] ≡ 0 * order = omega arith in
-    let lines : map (row_tokens t) (range_with_len 0 (length all)) ≡ map row_line all = rows_are t 0 [] all entries none (each_last order are.rows r are.each last.colours.0) in
-    let printed : map row_line are.rows ++ line.0.tokens ∷ [] ≡ map (row_tokens t) (range_with_len 0 order) =
-    ap (λ (ts : List (List ℕ)). map row_line are.rows ++ ts ∷ []) last.tokens ∙ sym (map-append row_line are.rows (r ∷ [])) ∙ sym lines ∙ ap (λ (j : ℕ). map (row_tokens t) (range_with_len 0 j)) number in
-    ((refl, quandle, refl), in_front_is printed (in_front_of are.there there))
+    ((refl, quandle, refl), rows_printed t text front line r quandle.least refl are there last.tokens last.colours.0)
 
-table_by : (order : ℕ) (text : Text) (front : List ℕ × Text) (line : NumberedLine × Text) (r : List ℕ) → AreRows order (order - 1) text front → IsNext front.1 line → AreColoursAlone order order line.0 r
+table_by : (order : ℕ) (text : Text) (front : List ℕ × Text) (line : NumberedLine × Text) (r : List ℕ) → AreRows order (order - 1) text front
+    → IsNext front.1 line → AreColoursAlone order order line.0 r
     → (f : Option QuandleFault) → first_fault (record { order = order; entries = front.0 ++ r }) ≡ f → (e : TextFault)
     → Says (cond (is_none f) (Ok (called name.Table (record { order = order; entries = front.0 ++ r }), line.1)) (Err e)) (IsTable order text)
 table_by order text front line r are there last (Some fault) is e = says_err
@@ -127,7 +146,7 @@ table_by order text front line r are there last None is e =
 
 table_says : (order : ℕ) (text : Text) → Says (table_item order text) (IsTable order text)
 unfolding table_item
-table_says order text = says_bind (AreRows order (order - 1) text) (rows_say order (order - 1) text) (λ front are.
+table_says order text = says_bind (AreRows order (order - 1) text) (rows_say order order (order - 1) text) (λ front are.
     says_bind (IsNext front.1) (next_says front.1) (λ line there.
     says_bind (AreColoursAlone order order line.0) (numbers_below_says order order line.0) (λ r last.
     table_by order text front line r are there last (first_fault (record { order = order; entries = front.0 ++ r })) refl _)))
@@ -153,12 +172,14 @@ record NamesOrder (family : List ℕ) (make : ℕ → Written) : Type 0 where
   over : (n : ℕ) → is_over (make n) ≡ nat_lt MAX_ORDER n
   tokens : (n : ℕ) → family ∷ decimal n ∷ [] ≡ written_tokens (make n)
 
-order_says : (family : List ℕ) (make : ℕ → Written) → NamesOrder family make → (tokens : List (List ℕ)) (t : List ℕ × NumberedLine) → IsFirst tokens t → bytes_eq t.0 family ≡ true → Says (with_order make t.1) (IsName tokens)
+order_says : (family : List ℕ) (make : ℕ → Written) → NamesOrder family make → (tokens : List (List ℕ)) (t : List ℕ × NumberedLine) → IsFirst tokens t
+    → bytes_eq t.0 family ≡ true → Says (with_order make t.1) (IsName tokens)
 order_says family make names tokens t is same = says_bind (IsNumberAlone t.1.tokens) (last_number_says t.1) (λ n there.
     says_ok (make n.0, n.1) (λ within.
     is ∙ ap₂ (λ (s : List ℕ) (ts : List (List ℕ)). s ∷ ts) (is_word t.0 family same) (there (few_order n.0 (sym (names.over n.0) ∙ within))) ∙ names.tokens n.0))
 
-alexander_says : (tokens : List (List ℕ)) (t : List ℕ × NumberedLine) → IsFirst tokens t → bytes_eq t.0 (codes "alexander") ≡ true → Says (alexander_at t.1) (IsName tokens)
+alexander_says : (tokens : List (List ℕ)) (t : List ℕ × NumberedLine) → IsFirst tokens t → bytes_eq t.0 (codes "alexander") ≡ true
+    → Says (alexander_at t.1) (IsName tokens)
 unfolding alexander_at
 alexander_says tokens t is same = says_bind (IsNumberFirst t.1.tokens) (number_says t.1) (λ n first.
     says_bind (IsNumberAlone n.1.tokens) (last_number_says n.1) (λ a second.
@@ -167,7 +188,8 @@ alexander_says tokens t is same = says_bind (IsNumberFirst t.1.tokens) (number_s
     is ∙ ap₂ (λ (s : List ℕ) (ts : List (List ℕ)). s ∷ ts) (is_word t.0 (codes "alexander") same)
     (first (few_order n.0 both.0) ∙ ap (λ (ts : List (List ℕ)). decimal n.0 ∷ ts) (second (ltb-false MAX_NUMBER a.0 both.1))))))
 
-tetrahedral_says : (tokens : List (List ℕ)) (t : List ℕ × NumberedLine) → IsFirst tokens t → bytes_eq t.0 (codes "tetrahedral") ≡ true → Says (tetrahedral_at t.1) (IsName tokens)
+tetrahedral_says : (tokens : List (List ℕ)) (t : List ℕ × NumberedLine) → IsFirst tokens t → bytes_eq t.0 (codes "tetrahedral") ≡ true
+    → Says (tetrahedral_at t.1) (IsName tokens)
 unfolding tetrahedral_at
 tetrahedral_says tokens t is same = says_bind (HasNone t.1.tokens) (line_end_says t.1) (λ end none.
     says_ok (written.Tetrahedral, end) (λ within. is ∙ ap₂ (λ (s : List ℕ) (ts : List (List ℕ)). s ∷ ts) (is_word t.0 (codes "tetrahedral") same) none.0))
@@ -216,12 +238,15 @@ pub record IsQuandleAt (words : List (List ℕ)) (lines : Text) (x : NamedQuandl
   pub tokens : words ≡ name_tokens x.0.name x.0.table.order
   pub there : StandInFront (table_lines x.0.name x.0.table) lines x.1
 
-untabled_says : (w : Written) (tokens : List (List ℕ)) (n : ℕ) (lines : Text) → tokens ≡ written_tokens w → Says (or_malformed n (meant w) >>= λ q. Ok (q, lines)) (IsQuandleAt tokens lines)
+untabled_says : (w : Written) (tokens : List (List ℕ)) (n : ℕ) (lines : Text) → tokens ≡ written_tokens w
+    → Says (or_malformed n (meant w) >>= λ q. Ok (q, lines)) (IsQuandleAt tokens lines)
 untabled_says w tokens n lines is = says_bind (λ (q : NamedQuandle). meant w ≡ Some q) (or_malformed_says n (meant w)) (λ q e.
     let m = meant_named w q e in
     says_ok (q, lines) (record { text = m.text; tokens = is ∙ m.tokens; there = in_front_is m.lines (no_lines_in_front lines) }))
 
-tabled : (order : ℕ) (tokens : List (List ℕ)) (lines : Text) (called_so : QuandleName) (t : Table) (rest : Text) → tokens ≡ codes "table" ∷ decimal order ∷ [] → IsTable order lines (called called_so t, rest) → IsQuandleAt tokens lines (called called_so t, rest)
+tabled : (order : ℕ) (tokens : List (List ℕ)) (lines : Text) (called_so : QuandleName) (t : Table) (rest : Text)
+    → tokens ≡ codes "table" ∷ decimal order ∷ [] → IsTable order lines (called called_so t, rest)
+    → IsQuandleAt tokens lines (called called_so t, rest)
 tabled order tokens lines called_so t rest is table =
     let same : name.Table ≡ called_so = sym table.0.0 in
     subst (λ (m : QuandleName). IsQuandleAt tokens lines (called m t, rest)) same (record {
@@ -268,7 +293,8 @@ surplus_says P text = says_bind (IsNext text) (next_says text) (λ line there.
 
 pub quandles_say : (room : ℕ) (text : Text) → Says (quandles room text) (AreItems room text)
 unfolding quandles
-quandles_say zero text = says_if (begins (codes "quandle") text) (λ more. surplus_says (AreItems zero text) text) (λ none. says_ok ([], text) (no_items zero text))
+quandles_say zero text =
+    says_if (begins (codes "quandle") text) (λ more. surplus_says (AreItems zero text) text) (λ none. says_ok ([], text) (no_items zero text))
 quandles_say (suc room) text = says_if (begins (codes "quandle") text) (λ more.
     says_bind (IsWritten HasQuandleText (quandle_lines (codes "quandle")) text) (quandle_says text) (λ first is.
     says_bind (AreItems room first.1) (quandles_say room first.1) (λ others are.

@@ -36,17 +36,20 @@ other_behind [] ys other end = end
 other_behind (x ∷ xs) ys other end = other
 
 -- the same where the first line begins with `quandle`
-begins_same : (xs ys zs : List NumberedLine) (line : NumberedLine) → first_starts (codes "quandle") (xs ++ line ∷ ys) ≡ true → first_starts (codes "quandle") (xs ++ line ∷ zs) ≡ true
+begins_same : (xs ys zs : List NumberedLine) (line : NumberedLine) → first_starts (codes "quandle") (xs ++ line ∷ ys) ≡ true
+    → first_starts (codes "quandle") (xs ++ line ∷ zs) ≡ true
 begins_same [] ys zs line is = is
 begins_same (x ∷ xs) ys zs line is = is
 
-begins_used : (used rest more : List NumberedLine) → first_starts (codes "quandle") (used ++ rest) ≡ true → AtOther rest → first_starts (codes "quandle") (used ++ more) ≡ true
+begins_used : (used rest more : List NumberedLine) → first_starts (codes "quandle") (used ++ rest) ≡ true → AtOther rest
+    → first_starts (codes "quandle") (used ++ more) ≡ true
 begins_used [] rest more is other = absurd (both_ways (first_starts (codes "quandle") rest) other is)
 begins_used (x ∷ used) rest more is other = is
 
 -- ---- a map behind a reader that stops at other lines
 
-pub map_steady : {A B : Type 0} (Stops : Stop) (r : Text → Result (A × Text) TextFault) (f : A → B) → Steady Stops r → Steady Stops (then_read r (λ x text. Ok (f x, text)))
+pub map_steady : {A B : Type 0} (Stops : Stop) (r : Text → Result (A × Text) TextFault) (f : A → B) → Steady Stops r
+    → Steady Stops (then_read r (λ x text. Ok (f x, text)))
 map_steady {A} {B} Stops r f steady = record {
   took = λ text value rest is.
       let b = bind_ok (r text) (λ x. Ok (f x.0, x.1)) (value, rest) is in
@@ -86,7 +89,8 @@ abbrev surplus_line : NumberedLine → Result (List NamedQuandle × Text) TextFa
 surplus_line line = word (codes "quandle") line >>= λ rest. written_at rest >>= λ name. Err (Limit name.1.number)
 
 surplus_at : (line : NumberedLine) → At line.number (surplus_line line)
-surplus_at line = at_bind line.number (word (codes "quandle") line) (λ rest. written_at rest >>= λ name. Err (Limit name.1.number)) (word_at (codes "quandle") line)
+surplus_at line =
+    at_bind line.number (word (codes "quandle") line) (λ rest. written_at rest >>= λ name. Err (Limit name.1.number)) (word_at (codes "quandle") line)
     (λ rest e. at_bind line.number (written_at rest) (λ name. Err (Limit name.1.number)) (at_same line.number rest.number (written_at rest) (word_keeps (codes "quandle") line rest e) (written_at_at rest))
     (λ name g. at_same line.number name.1.number (Err (Limit name.1.number)) (written_keeps rest name g ∙ word_keeps (codes "quandle") line rest e) (at_limit name.1.number)))
 
@@ -100,11 +104,13 @@ surplus_not_read line x is =
 -- ---- quandle items
 
 -- no item is left to be read
-none_took : (room : ℕ) (text : Text) (value : List NamedQuandle) (rest : Text) → ((more : List NumberedLine) (e : ℕ) → AtOther more → quandles room (lines_then more e) ≡ Ok ([], lines_then more e)) → AtOther text.lines
+none_took : (room : ℕ) (text : Text) (value : List NamedQuandle) (rest : Text)
+    → ((more : List NumberedLine) (e : ℕ) → AtOther more → quandles room (lines_then more e) ≡ Ok ([], lines_then more e)) → AtOther text.lines
     → ◌≡◌ {A = Result (List NamedQuandle × Text) TextFault} (Ok ([], text)) (Ok (value, rest)) → Took AtOther (quandles room) text value rest
 none_took room text value rest ends other is =
     let same = ok_is ([], text) (value, rest) is in
-    let made : Took AtOther (quandles room) text [] text = record { used = []; lines = refl; ending = refl; stops = other; again = λ more e stop. ends more e stop } in
+    let made : Took AtOther (quandles room) text [] text =
+    record { used = []; lines = refl; ending = refl; stops = other; again = λ more e stop. ends more e stop } in
     subst (λ (y : List NamedQuandle × Text). Took AtOther (quandles room) text y.0 y.1) same made
 
 pub ends_here : (room : ℕ) (more : List NumberedLine) (e : ℕ) → AtOther more → quandles room (lines_then more e) ≡ Ok ([], lines_then more e)
@@ -113,16 +119,21 @@ ends_here zero more e other = rw other refl
 ends_here (suc room) more e other = rw other refl
 
 -- no room is left
-over_is : (line : NumberedLine) (lines : List NumberedLine) (e : ℕ) → first_starts (codes "quandle") (line ∷ lines) ≡ true → quandles zero (lines_then (line ∷ lines) e) ≡ surplus_line line
+over_is : (line : NumberedLine) (lines : List NumberedLine) (e : ℕ) → first_starts (codes "quandle") (line ∷ lines) ≡ true
+    → quandles zero (lines_then (line ∷ lines) e) ≡ surplus_line line
 unfolding quandles surplus_quandle next_line
 over_is line lines e is = rw is refl
 
-zero_took : (lines : List NumberedLine) (ending : ℕ) (t : Bool) → first_starts (codes "quandle") lines ≡ t → (value : List NamedQuandle) (rest : Text) → quandles zero (lines_then lines ending) ≡ Ok (value, rest) → Took AtOther (quandles zero) (lines_then lines ending) value rest
-zero_took lines ending false begin value rest is = none_took zero (lines_then lines ending) value rest (ends_here zero) begin (sym (ends_here zero lines ending begin) ∙ is)
+zero_took : (lines : List NumberedLine) (ending : ℕ) (t : Bool) → first_starts (codes "quandle") lines ≡ t → (value : List NamedQuandle) (rest : Text)
+    → quandles zero (lines_then lines ending) ≡ Ok (value, rest) → Took AtOther (quandles zero) (lines_then lines ending) value rest
+zero_took lines ending false begin value rest is =
+    none_took zero (lines_then lines ending) value rest (ends_here zero) begin (sym (ends_here zero lines ending begin) ∙ is)
 zero_took [] ending true begin value rest is = absurd cc
 zero_took (line ∷ lines) ending true begin value rest is = absurd (surplus_not_read line (value, rest) (sym (over_is line lines ending begin) ∙ is))
 
-zero_failed : (lines : List NumberedLine) (ending : ℕ) (t : Bool) → first_starts (codes "quandle") lines ≡ t → (fault : TextFault) → quandles zero (lines_then lines ending) ≡ Err fault → BadLine (quandles zero) (lines_then lines ending) fault ⊎ FailsAtEnd (quandles zero) (lines_then lines ending) fault
+zero_failed : (lines : List NumberedLine) (ending : ℕ) (t : Bool) → first_starts (codes "quandle") lines ≡ t → (fault : TextFault)
+    → quandles zero (lines_then lines ending) ≡ Err fault
+    → BadLine (quandles zero) (lines_then lines ending) fault ⊎ FailsAtEnd (quandles zero) (lines_then lines ending) fault
 zero_failed lines ending false begin fault is = absurd (let no = sym (ends_here zero lines ending begin) ∙ is in cc)
 zero_failed [] ending true begin fault is = absurd cc
 zero_failed (line ∷ lines) ending true begin fault is =
@@ -151,11 +162,14 @@ some_is : (room : ℕ) (text : Text) → first_starts (codes "quandle") text.lin
 unfolding quandles
 some_is room text is = rw is refl
 
-suc_took : (room : ℕ) → Steady AtOther (some_items room) → (text : Text) (t : Bool) → first_starts (codes "quandle") text.lines ≡ t → (value : List NamedQuandle) (rest : Text) → quandles (suc room) text ≡ Ok (value, rest) → Took AtOther (quandles (suc room)) text value rest
-suc_took room steady text false begin value rest is = none_took (suc room) text value rest (ends_here (suc room)) begin (sym (ends_here (suc room) text.lines text.ending begin) ∙ is)
+suc_took : (room : ℕ) → Steady AtOther (some_items room) → (text : Text) (t : Bool) → first_starts (codes "quandle") text.lines ≡ t
+    → (value : List NamedQuandle) (rest : Text) → quandles (suc room) text ≡ Ok (value, rest) → Took AtOther (quandles (suc room)) text value rest
+suc_took room steady text false begin value rest is =
+    none_took (suc room) text value rest (ends_here (suc room)) begin (sym (ends_here (suc room) text.lines text.ending begin) ∙ is)
 suc_took room steady text true begin value rest is =
     let t = steady.took text value rest (sym (some_is room text begin) ∙ is) in
-    let start : first_starts (codes "quandle") (t.used ++ rest.lines) ≡ true = subst (λ (ls : List NumberedLine). first_starts (codes "quandle") ls ≡ true) t.lines begin in
+    let start : first_starts (codes "quandle") (t.used ++ rest.lines) ≡ true =
+    subst (λ (ls : List NumberedLine). first_starts (codes "quandle") ls ≡ true) t.lines begin in
     record {
       used = t.used;
       lines = t.lines;
@@ -165,18 +179,22 @@ suc_took room steady text true begin value rest is =
     }
 
 -- the lines before a bad one
-suc_good : (room : ℕ) (front behind : List NumberedLine) (line : NumberedLine) → first_starts (codes "quandle") (front ++ line ∷ behind) ≡ true → AreTaken (some_items room) front → AreTaken (quandles (suc room)) front
+suc_good : (room : ℕ) (front behind : List NumberedLine) (line : NumberedLine) → first_starts (codes "quandle") (front ++ line ∷ behind) ≡ true
+    → AreTaken (some_items room) front → AreTaken (quandles (suc room)) front
 suc_good room [] behind line begin good e = inl ([], ends_here (suc room) [] e refl)
 suc_good room (x ∷ front) behind line begin good e = elim (good e) [
   | inl taken ↦ inl (taken.0, some_is room (lines_then (x ∷ front) e) begin ∙ taken.1)
   | inr due ↦ inr (some_is room (lines_then (x ∷ front) e) begin ∙ due)
 ]
 
-suc_failed : (room : ℕ) → Steady AtOther (some_items room) → (text : Text) (t : Bool) → first_starts (codes "quandle") text.lines ≡ t → (fault : TextFault) → quandles (suc room) text ≡ Err fault → BadLine (quandles (suc room)) text fault ⊎ FailsAtEnd (quandles (suc room)) text fault
+suc_failed : (room : ℕ) → Steady AtOther (some_items room) → (text : Text) (t : Bool) → first_starts (codes "quandle") text.lines ≡ t
+    → (fault : TextFault) → quandles (suc room) text ≡ Err fault
+    → BadLine (quandles (suc room)) text fault ⊎ FailsAtEnd (quandles (suc room)) text fault
 suc_failed room steady text false begin fault is = absurd (let no = sym (ends_here (suc room) text.lines text.ending begin) ∙ is in cc)
 suc_failed room steady text true begin fault is = elim (steady.failed text fault (sym (some_is room text begin) ∙ is)) [
   | inl bad ↦
-      let start : first_starts (codes "quandle") (bad.front ++ bad.line ∷ bad.behind) ≡ true = subst (λ (ls : List NumberedLine). first_starts (codes "quandle") ls ≡ true) bad.lines begin in
+      let start : first_starts (codes "quandle") (bad.front ++ bad.line ∷ bad.behind) ≡ true =
+      subst (λ (ls : List NumberedLine). first_starts (codes "quandle") ls ≡ true) bad.lines begin in
       inl (record {
         front = bad.front;
         line = bad.line;

@@ -36,14 +36,16 @@ use Rattle.knot_text.proofs.ShapesFail.{problem_stable}
 pub grid_read : (n : ℕ) (d : Marks) (more : List ℕ) → IsGrid d → grid_item (text_from n (grid_text d ++ more)) ≡ Ok (d, text_from (n + 2) more)
 grid_read n d more grid = ap grid_item (lines_read n (grid_lines d) more (grid_words d grid)) ∙ grid_again n d (text_from (n + 2) more) grid
 
-pub moves_read : (n : ℕ) (moves : List Move) (more : List ℕ) → HaveText moves → moves_item (text_from n (moves_text moves ++ more)) ≡ Ok (moves, text_from (n + (length moves + 1)) more)
+pub moves_read : (n : ℕ) (moves : List Move) (more : List ℕ) → HaveText moves
+    → moves_item (text_from n (moves_text moves ++ more)) ≡ Ok (moves, text_from (n + (length moves + 1)) more)
 moves_read n moves more fits =
     let count : n + length (moves_lines (codes "moves") moves) ≡ n + (length moves + 1) = omega (arith, length-map moves move_tokens) in
     ap moves_item (lines_read n (moves_lines (codes "moves") moves) more (moves_words moves fits))
     ∙ moves_again n moves (text_from (n + length (moves_lines (codes "moves") moves)) more) fits
     ∙ ap (λ (k : ℕ). Ok (moves, text_from k more)) count
 
-pub verdict_read : (n one two : ℕ) (v : Verdict) (more : List ℕ) → 1 ≤ one → 1 ≤ two → HasVerdictText one two v → verdict_item one two (text_from n (verdict_text v ++ more)) ≡ Ok (v, text_from (n + length (verdict_lines v)) more)
+pub verdict_read : (n one two : ℕ) (v : Verdict) (more : List ℕ) → 1 ≤ one → 1 ≤ two → HasVerdictText one two v
+    → verdict_item one two (text_from n (verdict_text v ++ more)) ≡ Ok (v, text_from (n + length (verdict_lines v)) more)
 verdict_read n one two v more some also fits =
     ap (verdict_item one two) (lines_read n (verdict_lines v) more (verdict_words one two v some also fits)) ∙ verdict_again one two n v (text_from (n + length (verdict_lines v)) more) fits
 
@@ -82,7 +84,8 @@ judged p v text = text_end text >>= λ end. Ok (p, v)
 abbrev behind_problem : ℕ → ℕ → ProblemText → Text → Result (ProblemText × Verdict) TextFault
 behind_problem one two p text = verdict_item one two text >>= λ w. judged p w.0 w.1
 
-verdict_ends : (n one two : ℕ) (p : ProblemText) (v : Verdict) → 1 ≤ one → 1 ≤ two → HasVerdictText one two v → behind_problem one two p (text_from n (verdict_text v)) ≡ Ok (p, v)
+verdict_ends : (n one two : ℕ) (p : ProblemText) (v : Verdict) → 1 ≤ one → 1 ≤ two → HasVerdictText one two v
+    → behind_problem one two p (text_from n (verdict_text v)) ≡ Ok (p, v)
 verdict_ends n one two p v some also fits =
     let k = n + length (verdict_lines v) in
     let read : verdict_item one two (text_from n (verdict_text v)) ≡ Ok (v, text_from k []) =
@@ -129,7 +132,8 @@ no_quandles text other = ap (λ r. r >>= λ q. Ok (or_built_in q.0, q.1)) (ends_
 abbrev pub two_grids : Marks → Marks → ProblemText
 two_grids a b = record { first = Grid a; second = Grid b; quandles = built_in }
 
-pub certificate_read : (a b : Marks) (v : Verdict) → IsGrid a → IsGrid b → HasVerdictText (size a) (size b) v → check_of (grid_text a ++ (grid_text b ++ verdict_text v)) ≡ Ok (two_grids a b, v)
+pub certificate_read : (a b : Marks) (v : Verdict) → IsGrid a → IsGrid b → HasVerdictText (size a) (size b) v
+    → check_of (grid_text a ++ (grid_text b ++ verdict_text v)) ≡ Ok (two_grids a b, v)
 unfolding check_in problem_item
 certificate_read a b v first second fits =
     let some : 1 ≤ size a = omega (arith, first.least) in

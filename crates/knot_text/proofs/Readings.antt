@@ -14,12 +14,14 @@ use Rattle.knot_text.specs.Grids.{grid_item}
 use Rattle.knot_text.specs.Moves.{moves_item}
 use Rattle.knot_text.specs.Verdicts.{verdict_item}
 use Rattle.knot_text.specs.Shapes.{problem_of, check_of, replay_of, colour_of, close_of, lone_diagram_of}
+use Rattle.knot_text.specs.Pairs.{pair_of}
 use Rattle.knot_text.specs.Printed.{grid_text, moves_text, HaveText, verdict_text, HasVerdictText}
-use Rattle.knot_text.specs.WrittenThere.{said_by, IsProblemText, IsCheckText, IsColourText, IsCloseText}
+use Rattle.knot_text.specs.WrittenThere.{said_by, IsProblemText, IsCheckText, IsColourText, IsCloseText, IsPairText}
 use Rattle.knot_text.proofs.Steady.{ok_is}
 use Rattle.knot_text.proofs.ReadBack.{grid_read, moves_read, verdict_read}
-use Rattle.knot_text.proofs.ShapesSay.{problem_in_says, check_in_says, replay_in_says, colour_in_says, close_in_says, lone_diagram_in_says}
-use Rattle.knot_text.proofs.ShapesAgain.{problem_in_written, check_in_written, replay_in_written, colour_in_written, close_in_written, lone_diagram_in_written}
+use Rattle.knot_text.proofs.ShapesSay.{problem_in_says, check_in_says, replay_in_says, colour_in_says, close_in_says, lone_diagram_in_says, pair_in_says}
+use Rattle.knot_text.proofs.ShapesAgain.{problem_in_written, check_in_written, replay_in_written, colour_in_written, close_in_written}
+use Rattle.knot_text.proofs.ShapesAgain.{lone_diagram_in_written, pair_in_written}
 
 -- ---- texts that say the same
 
@@ -45,10 +47,14 @@ diagram_again a b d same is =
     let w = (lone_diagram_in_says (text_of a)).of d is in
     lone_diagram_in_written (text_of b) d w.0 (sym same ∙ w.1)
 
+pub pair_again : (a b : List ℕ) (d e : Diagram) → said_by a ≡ said_by b → pair_of a ≡ Ok (d, e) → pair_of b ≡ Ok (d, e)
+pair_again a b d e same is = pair_in_written (text_of b) d e (subst (λ ls. IsPairText ls (d, e)) same ((pair_in_says (text_of a)).of (d, e) is))
+
 -- ---- printed texts, which are read
 
 -- what is read from the same bytes is the same
-once : {A : Type 0} (read : Text → Result (A × Text) TextFault) (first second : List ℕ) (x y : A) (s t : Text) → read (text_from 0 (first ++ [])) ≡ Ok (x, s) → read (text_from 0 (second ++ [])) ≡ Ok (y, t) → first ≡ second → x ≡ y
+once : {A : Type 0} (read : Text → Result (A × Text) TextFault) (first second : List ℕ) (x y : A) (s t : Text)
+    → read (text_from 0 (first ++ [])) ≡ Ok (x, s) → read (text_from 0 (second ++ [])) ≡ Ok (y, t) → first ≡ second → x ≡ y
 once {A} read first second x y s t one two same =
     ap (λ (z : A × Text). z.0) (ok_is (x, s) (y, t) (sym one ∙ ap (λ (bytes : List ℕ). read (text_from 0 (bytes ++ []))) same ∙ two))
 
@@ -58,5 +64,6 @@ grid_once d e one two same = once grid_item (grid_text d) (grid_text e) d e _ _ 
 pub moves_once : (a b : List Move) → HaveText a → HaveText b → moves_text a ≡ moves_text b → a ≡ b
 moves_once a b one two same = once moves_item (moves_text a) (moves_text b) a b _ _ (moves_read 0 a [] one) (moves_read 0 b [] two) same
 
-pub verdict_once : (one two : ℕ) (v w : Verdict) → 1 ≤ one → 1 ≤ two → HasVerdictText one two v → HasVerdictText one two w → verdict_text v ≡ verdict_text w → v ≡ w
+pub verdict_once : (one two : ℕ) (v w : Verdict) → 1 ≤ one → 1 ≤ two → HasVerdictText one two v → HasVerdictText one two w
+    → verdict_text v ≡ verdict_text w → v ≡ w
 verdict_once one two v w some also first second same = once (verdict_item one two) (verdict_text v) (verdict_text w) v w _ _ (verdict_read 0 one two v [] some also first) (verdict_read 0 one two w [] some also second) same

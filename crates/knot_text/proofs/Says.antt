@@ -17,7 +17,8 @@ says_ok {P = P} x holds = record { of = λ y is. subst P (ok_is x y is) holds }
 pub says_err : {A : Type 0} {P : A → Type 0} {e : TextFault} → Says (Err e) P
 says_err = record { of = λ y is. absurd (let no = is in cc) }
 
-pub says_bind : {A B : Type 0} {P : B → Type 0} {r : Result A TextFault} {f : A → Result B TextFault} (Q : A → Type 0) → Says r Q → ((x : A) → Q x → Says (f x) P) → Says (r >>= f) P
+pub says_bind : {A B : Type 0} {P : B → Type 0} {r : Result A TextFault} {f : A → Result B TextFault} (Q : A → Type 0) → Says r Q
+    → ((x : A) → Q x → Says (f x) P) → Says (r >>= f) P
 says_bind {r = r} {f = f} Q first second = record {
   of = λ y is.
       let b = bind_ok r f y is in
@@ -41,7 +42,8 @@ pub in_front_of : {a b : List (List (List ℕ))} {text mid rest : Text} → Stan
 in_front_of {rest = rest} first second = record {
   front = first.front ++ second.front;
   lines = first.lines ∙ ap (λ (ls : List NumberedLine). first.front ++ ls) second.lines ∙ sym (append_assoc first.front second.front rest.lines);
-  tokens = map-append (λ (line : NumberedLine). line.tokens) first.front second.front ∙ ap₂ (λ (xs ys : List (List (List ℕ))). xs ++ ys) first.tokens second.tokens;
+  tokens =
+      map-append (λ (line : NumberedLine). line.tokens) first.front second.front ∙ ap₂ (λ (xs ys : List (List (List ℕ))). xs ++ ys) first.tokens second.tokens;
   ending = second.ending ∙ first.ending;
 }
 
@@ -55,7 +57,8 @@ IsNext text line = StandInFront (line.0.tokens ∷ []) text line.1
 
 among_says : (lines : List NumberedLine) (ending : ℕ) → Says (line_among lines ending) (IsNext (record { lines = lines; ending = ending }))
 among_says [] ending = says_err
-among_says (line ∷ lines) ending = says_ok (line, record { lines = lines; ending = ending }) (record { front = line ∷ []; lines = refl; tokens = refl; ending = refl })
+among_says (line ∷ lines) ending =
+    says_ok (line, record { lines = lines; ending = ending }) (record { front = line ∷ []; lines = refl; tokens = refl; ending = refl })
 
 pub next_says : (text : Text) → Says (next_line text) (IsNext text)
 unfolding next_line

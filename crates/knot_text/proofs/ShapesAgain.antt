@@ -1,5 +1,6 @@
 -- A whole text that says the lines of a value is read as this value.
-use Rattle.std.proofs.Common.{◌≡◌, ℕ, zero, suc, ◌≤◌, List, [], ◌∷◌, ◌++◌, length, true, false, Option, Some, None, Ok, refl, sym, ap, ap₂, subst, ◌∙◌, append_assoc, arith, codes}
+use Rattle.std.proofs.Common.{◌≡◌, ℕ, zero, suc, ◌≤◌, List, [], ◌∷◌, ◌++◌, length, true, false, Option, Some, None, Ok, refl, sym, ap, ap₂}
+use Rattle.std.proofs.Common.{subst, ◌∙◌, append_assoc, arith, codes}
 use Rattle.std.specs.List.{AllByRecursion}
 use Rattle.std.proofs.lemmas.List.{append-nil}
 use Rattle.arrayvec.specs.ArrayVec.{ArrayVec}
@@ -22,8 +23,11 @@ use Rattle.knot_text.specs.Quandles.{quandles, quandle_list}
 use Rattle.knot_text.specs.Colours.{coloured_item, coloured}
 use Rattle.verdict_core.specs.Diagrams.{grid_of, columns}
 use Rattle.knot_text.specs.Shapes.{diagram_item, problem_item, problem_in, check_in, replay_in, colour_in, close_in, lone_diagram_in}
+use Rattle.knot_text.specs.Pairs.{pair_in}
 use Rattle.knot_text.specs.Printed.{moves_lines, quandle_lines, HasQuandleText, diagram_lines, HasDiagramText, colours_lines, verdict_lines}
-use Rattle.knot_text.specs.WrittenThere.{tokens_by_line, StandInFront, AreListed, listed_lines, HasProblemText, problem_lines, IsProblemText, IsCheckText, given_lines, HasGivenText, HasReplayText, replay_lines, IsColourText, IsCloseText}
+use Rattle.knot_text.specs.WrittenThere.{tokens_by_line, StandInFront, AreListed, listed_lines, HasProblemText, problem_lines}
+use Rattle.knot_text.specs.WrittenThere.{IsProblemText, IsCheckText, given_lines, HasGivenText, HasReplayText, replay_lines, IsColourText}
+use Rattle.knot_text.specs.WrittenThere.{IsCloseText, IsPairText}
 use Rattle.verdict_core.proofs.Named.{names_order}
 use Rattle.knot_text.proofs.QuandlesSteady.{AtOther, ends_here}
 use Rattle.knot_text.proofs.WrittenAgain.{one_rest, grid_written, braid_written, moves_written, quandle_written, colours_written, verdict_written}
@@ -38,7 +42,8 @@ record Parts (a b : List (List (List ℕ))) (front : List NumberedLine) : Type 0
   first : tokens_by_line one ≡ a
   second : tokens_by_line two ≡ b
 
-parted_more : (x : List (List ℕ)) (a b : List (List (List ℕ))) (line : NumberedLine) (front : List NumberedLine) → line.tokens ≡ x → Parts a b front → Parts (x ∷ a) b (line ∷ front)
+parted_more : (x : List (List ℕ)) (a b : List (List (List ℕ))) (line : NumberedLine) (front : List NumberedLine) → line.tokens ≡ x → Parts a b front
+    → Parts (x ∷ a) b (line ∷ front)
 parted_more x a b line front here p = record {
   one = line ∷ p.one;
   two = p.two;
@@ -56,12 +61,12 @@ parted (x ∷ a) b (line ∷ front) is =
     parted_more x a b line front here (parted a b front behind)
 
 -- what is behind the first of two
-record Cut (a b : List (List (List ℕ))) (text rest : Text) : Type 0 where
-  mid : Text
-  first : StandInFront a text mid
-  second : StandInFront b mid rest
+pub record Cut (a b : List (List (List ℕ))) (text rest : Text) : Type 0 where
+  pub mid : Text
+  pub first : StandInFront a text mid
+  pub second : StandInFront b mid rest
 
-cut : (a b : List (List (List ℕ))) (text rest : Text) → StandInFront (a ++ b) text rest → Cut a b text rest
+pub cut : (a b : List (List (List ℕ))) (text rest : Text) → StandInFront (a ++ b) text rest → Cut a b text rest
 cut a b text rest there =
     let p = parted a b there.front there.tokens in
     record {
@@ -71,20 +76,22 @@ cut a b text rest there =
     }
 
 -- nothing is behind all lines
-abbrev nothing_behind : Text → Text
+abbrev pub nothing_behind : Text → Text
 nothing_behind text = record { lines = []; ending = text.ending }
 
-whole : (printed : List (List (List ℕ))) (text : Text) → tokens_by_line text.lines ≡ printed → StandInFront printed text (nothing_behind text)
+pub whole : (printed : List (List (List ℕ))) (text : Text) → tokens_by_line text.lines ≡ printed → StandInFront printed text (nothing_behind text)
 whole printed text is = record { front = text.lines; lines = sym (append-nil text.lines); tokens = is; ending = refl }
 
 -- the first word of the first line
-front_starts : (w : List ℕ) (first : List (List ℕ)) (others : List (List (List ℕ))) (front behind : List NumberedLine) → tokens_by_line front ≡ first ∷ others → first_starts w (front ++ behind) ≡ starts w first
+front_starts : (w : List ℕ) (first : List (List ℕ)) (others : List (List (List ℕ))) (front behind : List NumberedLine)
+    → tokens_by_line front ≡ first ∷ others → first_starts w (front ++ behind) ≡ starts w first
 front_starts w first others [] behind is = absurd cc
 front_starts w first others (line ∷ front) behind is =
     let here : line.tokens ≡ first = cc in
     ap (starts w) here
 
-begins_with : (w : List ℕ) (first : List (List ℕ)) (others : List (List (List ℕ))) (text rest : Text) → StandInFront (first ∷ others) text rest → begins w text ≡ starts w first
+begins_with : (w : List ℕ) (first : List (List ℕ)) (others : List (List (List ℕ))) (text rest : Text) → StandInFront (first ∷ others) text rest
+    → begins w text ≡ starts w first
 begins_with w first others text rest there = ap (first_starts w) there.lines ∙ front_starts w first others there.front rest.lines there.tokens
 
 -- ---- diagrams
@@ -104,7 +111,8 @@ diagram_grid (Braid b) braid = closure_grid b braid
 
 -- ---- lists of quandles
 
-quandles_written : (room : ℕ) (listed : List NamedQuandle) (text rest : Text) → length listed ≤ room → AllByRecursion HasQuandleText listed → StandInFront (listed_lines listed) text rest → AtOther rest.lines → quandles room text ≡ Ok (listed, rest)
+quandles_written : (room : ℕ) (listed : List NamedQuandle) (text rest : Text) → length listed ≤ room → AllByRecursion HasQuandleText listed
+    → StandInFront (listed_lines listed) text rest → AtOther rest.lines → quandles room text ≡ Ok (listed, rest)
 unfolding quandles
 quandles_written room [] text rest few each there other =
     let here : rest ≡ text = one_rest there (record { front = []; lines = refl; tokens = refl; ending = refl }) in
@@ -117,7 +125,8 @@ quandles_written (suc room) (q ∷ listed) text rest few each there other =
     let others = quandles_written room listed c.mid rest (omega (arith, few)) each.1 c.second other in
     rw (same, item, others) refl
 
-list_written : (listed values : List NamedQuandle) (text rest : Text) → AreListed listed values → StandInFront (listed_lines listed) text rest → AtOther rest.lines → quandle_list text ≡ Ok (values, rest)
+list_written : (listed values : List NamedQuandle) (text rest : Text) → AreListed listed values → StandInFront (listed_lines listed) text rest
+    → AtOther rest.lines → quandle_list text ≡ Ok (values, rest)
 unfolding quandle_list
 list_written listed values text rest are there other =
     let read = quandles_written MAX_QUANDLES listed text rest are.few are.each there other in
@@ -125,7 +134,8 @@ list_written listed values text rest are there other =
 
 -- ---- colours
 
-given_written : (d : Diagram) (given : Option (NamedQuandle × ArrayVec ℕ)) (text rest : Text) → HasDiagramText d → HasGivenText (columns d) given → StandInFront (given_lines given) text rest → AtOther rest.lines → coloured (columns d) text ≡ Ok (given, rest)
+given_written : (d : Diagram) (given : Option (NamedQuandle × ArrayVec ℕ)) (text rest : Text) → HasDiagramText d → HasGivenText (columns d) given
+    → StandInFront (given_lines given) text rest → AtOther rest.lines → coloured (columns d) text ≡ Ok (given, rest)
 unfolding coloured coloured_item
 given_written d None text rest has fits there other =
     let here : rest ≡ text = one_rest there (record { front = []; lines = refl; tokens = refl; ending = refl }) in
@@ -140,11 +150,12 @@ given_written d (Some given) text rest has fits there other =
 
 -- ---- whole texts
 
-end_read : (text : Text) → text_end (nothing_behind text) ≡ Ok tt
+pub end_read : (text : Text) → text_end (nothing_behind text) ≡ Ok tt
 unfolding text_end
 end_read text = refl
 
-problem_written : (listed : List NamedQuandle) (p : ProblemText) (text rest : Text) → HasProblemText listed p → StandInFront (problem_lines listed p) text rest → AtOther rest.lines → problem_item text ≡ Ok (p, rest)
+problem_written : (listed : List NamedQuandle) (p : ProblemText) (text rest : Text) → HasProblemText listed p
+    → StandInFront (problem_lines listed p) text rest → AtOther rest.lines → problem_item text ≡ Ok (p, rest)
 unfolding problem_item
 problem_written listed p text rest has there other =
     let a = cut (diagram_lines p.first) (diagram_lines p.second ++ listed_lines listed) text rest there in
@@ -196,3 +207,10 @@ close_in_written text c is =
 pub lone_diagram_in_written : (text : Text) (d : Diagram) → HasDiagramText d → tokens_by_line text.lines ≡ diagram_lines d → lone_diagram_in text ≡ Ok d
 unfolding lone_diagram_in
 lone_diagram_in_written text d has is = rw (diagram_written text d (nothing_behind text) has (whole (diagram_lines d) text is), end_read text) refl
+
+pub pair_in_written : (text : Text) (d e : Diagram) → IsPairText (tokens_by_line text.lines) (d, e) → pair_in text ≡ Ok (d, e)
+unfolding pair_in
+pair_in_written text d e is =
+    let end = nothing_behind text in
+    let a = cut (diagram_lines d) (diagram_lines e) text end (whole (diagram_lines d ++ diagram_lines e) text is.2) in
+    rw (diagram_written text d a.mid is.0 a.first, diagram_written a.mid e end is.1 a.second, end_read text) refl

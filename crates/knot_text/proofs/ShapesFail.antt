@@ -14,7 +14,9 @@ use Rattle.knot_text.specs.Quandles.{quandle_list}
 use Rattle.knot_text.specs.Colours.{coloured_item, coloured}
 use Rattle.knot_text.specs.Verdicts.{verdict_item}
 use Rattle.verdict_core.specs.Diagrams.{columns}
-use Rattle.knot_text.specs.Shapes.{braid_diagram, grid_diagram, diagram_item, problem_item, problem_in, check_in, replay_in, colour_in, close_in, lone_diagram_in}
+use Rattle.knot_text.specs.Shapes.{braid_diagram, grid_diagram, diagram_item, problem_item, problem_in, check_in, replay_in, colour_in}
+use Rattle.knot_text.specs.Shapes.{close_in, lone_diagram_in}
+use Rattle.knot_text.specs.Pairs.{pair_in}
 use Rattle.knot_text.specs.FirstBadLine.{lines_then, put_behind, FailsFirst}
 use Rattle.knot_text.proofs.Steady.{Anywhere, Steady, then_read, then_steady, regroup}
 use Rattle.knot_text.proofs.ItemsSteady.{grid_steady, braid_steady, moves_steady, coloured_steady, verdict_steady}
@@ -116,9 +118,16 @@ pub lone_diagram_fails : FailsFirst lone_diagram_in
 unfolding lone_diagram_in
 lone_diagram_fails = then_fails Anywhere diagram_item (λ d text. text_end text >>= λ end. Ok d) anywhere_seen diagram_steady end_fails
 
+pub pair_fails : FailsFirst pair_in
+unfolding pair_in
+pair_fails =
+    then_fails Anywhere diagram_item (λ d text. diagram_item text >>= λ e. text_end e.1 >>= λ end. Ok (d, e.0)) anywhere_seen diagram_steady
+    (λ d. then_fails Anywhere diagram_item (λ e text. text_end text >>= λ end. Ok (d, e)) anywhere_seen diagram_steady (λ e. end_fails (d, e)))
+
 -- ---- a problem, and lines behind it that begin with no `quandle`
 
-pub problem_stable : (text : Text) (p : ProblemText) (rest : Text) → problem_item text ≡ Ok (p, rest) → (more : List NumberedLine) (ending : ℕ) → AtOther more → problem_item (put_behind text more ending) ≡ Ok (p, put_behind rest more ending)
+pub problem_stable : (text : Text) (p : ProblemText) (rest : Text) → problem_item text ≡ Ok (p, rest) → (more : List NumberedLine) (ending : ℕ)
+    → AtOther more → problem_item (put_behind text more ending) ≡ Ok (p, put_behind rest more ending)
 problem_stable text p rest is more ending other =
     let t = problem_steady.took text p rest is in
     ap (λ (ls : List NumberedLine). problem_item (lines_then (ls ++ more) ending)) t.lines

@@ -16,8 +16,12 @@ use Rattle.knot_text.specs.Quandles.{quandle_list}
 use Rattle.knot_text.specs.Colours.{coloured_item, coloured}
 use Rattle.verdict_core.specs.Diagrams.{columns}
 use Rattle.knot_text.specs.Shapes.{diagram_item, problem_item, problem_in, check_in, replay_in, colour_in, close_in, lone_diagram_in}
-use Rattle.knot_text.specs.Printed.{grid_lines, moves_lines, HaveText, quandle_lines, HasQuandleText, verdict_lines, HasVerdictText, braid_lines, diagram_lines, HasDiagramText, colours_lines}
-use Rattle.knot_text.specs.WrittenThere.{tokens_by_line, StandInFront, AreListed, listed_lines, HasProblemText, problem_lines, IsProblemText, IsCheckText, given_lines, HasGivenText, HasReplayText, replay_lines, IsColourText, IsCloseText}
+use Rattle.knot_text.specs.Pairs.{pair_in}
+use Rattle.knot_text.specs.Printed.{grid_lines, moves_lines, HaveText, quandle_lines, HasQuandleText, verdict_lines, HasVerdictText}
+use Rattle.knot_text.specs.Printed.{braid_lines, diagram_lines, HasDiagramText, colours_lines}
+use Rattle.knot_text.specs.WrittenThere.{tokens_by_line, StandInFront, AreListed, listed_lines, HasProblemText, problem_lines}
+use Rattle.knot_text.specs.WrittenThere.{IsProblemText, IsCheckText, given_lines, HasGivenText, HasReplayText, replay_lines, IsColourText}
+use Rattle.knot_text.specs.WrittenThere.{IsCloseText, IsPairText}
 use Rattle.knot_text.proofs.Says.{Says, says_ok, says_err, says_bind, says_if, no_lines_in_front, in_front_of}
 use Rattle.knot_text.proofs.ItemsSay.{IsWritten, grid_says, braid_says, moves_say, colours_say}
 use Rattle.knot_text.proofs.QuandleSays.{AreItems, quandle_says, quandles_say}
@@ -29,12 +33,12 @@ none_says : (lines : List NumberedLine) → Says (no_line_among lines) (λ end. 
 none_says [] = says_ok tt refl
 none_says (line ∷ lines) = says_err
 
-end_says : (text : Text) → Says (text_end text) (λ end. text.lines ≡ [])
+pub end_says : (text : Text) → Says (text_end text) (λ end. text.lines ≡ [])
 unfolding text_end
 end_says text = none_says text.lines
 
 -- the lines in front of the end are all lines
-all_lines : {printed : List (List (List ℕ))} {text rest : Text} → StandInFront printed text rest → rest.lines ≡ [] → tokens_by_line text.lines ≡ printed
+pub all_lines : {printed : List (List (List ℕ))} {text rest : Text} → StandInFront printed text rest → rest.lines ≡ [] → tokens_by_line text.lines ≡ printed
 all_lines there none = ap tokens_by_line (there.lines ∙ ap (λ (ls : List NumberedLine). there.front ++ ls) none ∙ append-nil there.front) ∙ there.tokens
 
 -- ---- diagrams, lists of quandles, colours
@@ -127,3 +131,10 @@ unfolding lone_diagram_in
 lone_diagram_in_says text = says_bind (IsWritten HasDiagramText diagram_lines text) (diagram_says text) (λ d a.
     says_bind (λ (end : Unit {0}). d.1.lines ≡ []) (end_says d.1) (λ end none.
     says_ok d.0 (a.0, all_lines a.1 none)))
+
+pub pair_in_says : (text : Text) → Says (pair_in text) (λ p. IsPairText (tokens_by_line text.lines) p)
+unfolding pair_in
+pair_in_says text = says_bind (IsWritten HasDiagramText diagram_lines text) (diagram_says text) (λ d a.
+    says_bind (IsWritten HasDiagramText diagram_lines d.1) (diagram_says d.1) (λ e b.
+    says_bind (λ (end : Unit {0}). e.1.lines ≡ []) (end_says e.1) (λ end none.
+    says_ok (d.0, e.0) (a.0, b.0, all_lines (in_front_of a.1 b.1) none))))

@@ -47,7 +47,8 @@ pub bind_ok : {A B : Type 0} (r : Result A TextFault) (f : A → Result B TextFa
 bind_ok (Ok x) f y e = (x, refl, e)
 bind_ok (Err d) f y e = absurd cc
 
-pub bind_err : {A B : Type 0} (r : Result A TextFault) (f : A → Result B TextFault) (d : TextFault) → (r >>= f) ≡ Err d → (r ≡ Err d) ⊎ ((x : A) × (r ≡ Ok x) × (f x ≡ Err d))
+pub bind_err : {A B : Type 0} (r : Result A TextFault) (f : A → Result B TextFault) (d : TextFault) → (r >>= f) ≡ Err d
+    → (r ≡ Err d) ⊎ ((x : A) × (r ≡ Ok x) × (f x ≡ Err d))
 bind_err (Ok x) f d e = inr (x, refl, e)
 bind_err (Err c) f d e = let same : c ≡ d = cc in inl (ap (λ (x : TextFault). Err x) same)
 
@@ -58,7 +59,8 @@ then_read r k text = r text >>= λ x. k x.0 x.1
 pub then_ok : {A B : Type 0} (r : Text → Result (A × Text) TextFault) (k : A → Text → Result B TextFault) (text : Text) (a : A) (mid : Text) (y : Result B TextFault) → r text ≡ Ok (a, mid) → k a mid ≡ y → then_read r k text ≡ y
 then_ok r k text a mid y first second = ap (λ s. s >>= λ x. k x.0 x.1) first ∙ second
 
-pub then_err : {A B : Type 0} (r : Text → Result (A × Text) TextFault) (k : A → Text → Result B TextFault) (text : Text) (d : TextFault) → r text ≡ Err d → then_read r k text ≡ Err d
+pub then_err : {A B : Type 0} (r : Text → Result (A × Text) TextFault) (k : A → Text → Result B TextFault) (text : Text) (d : TextFault)
+    → r text ≡ Err d → then_read r k text ≡ Err d
 then_err r k text d first = ap (λ s. s >>= λ x. k x.0 x.1) first
 
 abbrev done : {A : Type 0} → A → Result A TextFault
@@ -84,7 +86,8 @@ regroup a b c ending = ap (λ (ls : List NumberedLine). lines_then ls ending) (a
 pub on_nothing : {A : Type 0} (Stops : Stop) (read : Text → Result (A × Text) TextFault) → Steady Stops read → AreTaken read []
 on_nothing {A} Stops read steady ending = by (read (lines_then [] ending)) refl
   where
-    by : (r : Result (A × Text) TextFault) → read (lines_then [] ending) ≡ r → ((value : A) × (read (lines_then [] ending) ≡ Ok (value, lines_then [] ending))) ⊎ (read (lines_then [] ending) ≡ Err (Malformed ending))
+    by : (r : Result (A × Text) TextFault) → read (lines_then [] ending) ≡ r
+        → ((value : A) × (read (lines_then [] ending) ≡ Ok (value, lines_then [] ending))) ⊎ (read (lines_then [] ending) ≡ Err (Malformed ending))
     by (Ok x) is =
         let t = steady.took (lines_then [] ending) x.0 x.1 is in
         let none : x.1.lines ≡ [] = both_empty t.used x.1.lines t.lines in
@@ -98,7 +101,8 @@ on_nothing {A} Stops read steady ending = by (read (lines_then [] ending)) refl
 
 -- ---- a reader of one line
 
-pub line_steady : {A : Type 0} (g : NumberedLine → Result A TextFault) → ((line : NumberedLine) (fault : TextFault) → g line ≡ Err fault → NamesLine fault line.number)
+pub line_steady : {A : Type 0} (g : NumberedLine → Result A TextFault)
+    → ((line : NumberedLine) (fault : TextFault) → g line ≡ Err fault → NamesLine fault line.number)
     → Steady Anywhere (λ text. next_line text >>= λ line. g line.0 >>= λ x. Ok (x, line.1))
 unfolding next_line
 line_steady {A} g names = record {
@@ -109,7 +113,8 @@ line_steady {A} g names = record {
     read : Text → Result (A × Text) TextFault
     read text = next_line text >>= λ line. g line.0 >>= λ x. Ok (x, line.1)
 
-    took_by : (lines : List NumberedLine) (ending : ℕ) (value : A) (rest : Text) → read (lines_then lines ending) ≡ Ok (value, rest) → Took Anywhere read (lines_then lines ending) value rest
+    took_by : (lines : List NumberedLine) (ending : ℕ) (value : A) (rest : Text) → read (lines_then lines ending) ≡ Ok (value, rest)
+        → Took Anywhere read (lines_then lines ending) value rest
     took_by [] ending value rest is = absurd cc
     took_by (line ∷ lines) ending value rest is =
         let b = bind_ok (g line) (λ x. Ok (x, lines_then lines ending)) (value, rest) is in
@@ -123,7 +128,8 @@ line_steady {A} g names = record {
         } in
         subst (λ (y : A × Text). Took Anywhere read (lines_then (line ∷ lines) ending) y.0 y.1) same made
 
-    failed_by : (lines : List NumberedLine) (ending : ℕ) (fault : TextFault) → read (lines_then lines ending) ≡ Err fault → BadLine read (lines_then lines ending) fault ⊎ FailsAtEnd read (lines_then lines ending) fault
+    failed_by : (lines : List NumberedLine) (ending : ℕ) (fault : TextFault) → read (lines_then lines ending) ≡ Err fault
+        → BadLine read (lines_then lines ending) fault ⊎ FailsAtEnd read (lines_then lines ending) fault
     failed_by [] ending fault is =
         let same : Malformed ending ≡ fault = cc in
         inr (record { names = sym same; due = λ e. refl })
@@ -147,7 +153,8 @@ pub pure_steady : {A : Type 0} (value : A) → Steady Anywhere (λ text. Ok (val
 pure_steady {A} value = record {
   took = λ text v rest is.
       let same = ok_is (value, text) (v, rest) is in
-      let made : Took Anywhere (λ t. Ok (value, t)) text value text = record { used = []; lines = refl; ending = refl; stops = tt; again = λ more e stop. refl } in
+      let made : Took Anywhere (λ t. Ok (value, t)) text value text =
+      record { used = []; lines = refl; ending = refl; stops = tt; again = λ more e stop. refl } in
       subst (λ (y : A × Text). Took Anywhere (λ t. Ok (value, t)) text y.0 y.1) same made;
   failed = λ text fault is. absurd (let no = is in cc);
 }
@@ -179,7 +186,8 @@ same_steady Stops r s same steady = record {
 
 -- ---- a reader behind a reader
 
-pub then_steady : {A B : Type 0} (Stops : Stop) (r : Text → Result (A × Text) TextFault) (k : A → Text → Result (B × Text) TextFault) → Steady Anywhere r → ((a : A) → Steady Stops (k a)) → Steady Stops (then_read r k)
+pub then_steady : {A B : Type 0} (Stops : Stop) (r : Text → Result (A × Text) TextFault) (k : A → Text → Result (B × Text) TextFault)
+    → Steady Anywhere r → ((a : A) → Steady Stops (k a)) → Steady Stops (then_read r k)
 then_steady {A} {B} Stops r k first second = record { took = took_both; failed = failed_both }
   where
     took_both : (text : Text) (value : B) (rest : Text) → then_read r k text ≡ Ok (value, rest) → Took Stops (then_read r k) text value rest
@@ -199,7 +207,8 @@ then_steady {A} {B} Stops r k first second = record { took = took_both; failed =
               ∙ then_ok r k (lines_then (t.used ++ (u.used ++ more)) e) a (lines_then (u.used ++ more) e) (Ok (value, lines_then more e)) (t.again (u.used ++ more) e tt) (u.again more e stop);
         }
 
-    failed_both : (text : Text) (fault : TextFault) → then_read r k text ≡ Err fault → BadLine (then_read r k) text fault ⊎ FailsAtEnd (then_read r k) text fault
+    failed_both : (text : Text) (fault : TextFault) → then_read r k text ≡ Err fault
+        → BadLine (then_read r k) text fault ⊎ FailsAtEnd (then_read r k) text fault
     failed_both text fault is = elim (bind_err (r text) (λ x. k x.0 x.1) fault is) [
       | inl e ↦ elim (first.failed text fault e) [
         | inl bad ↦ inl (record {

@@ -65,7 +65,8 @@ pub all_short : (q : ℕ) (ks : List ℕ) → q ≤ 255 → AllByRecursion (λ k
 all_short q [] most all = tt
 all_short q (k ∷ ks) most all = (omega (arith, all.0, most), all_short q ks most all.1)
 
-pub below_again : (width order n : ℕ) (ks : List ℕ) → length ks ≡ width → order ≤ 255 → AllByRecursion (λ k. k < order) ks → numbers_below width order (line_of n (map decimal ks)) ≡ Ok ks
+pub below_again : (width order n : ℕ) (ks : List ℕ) → length ks ≡ width → order ≤ 255 → AllByRecursion (λ k. k < order) ks
+    → numbers_below width order (line_of n (map decimal ks)) ≡ Ok ks
 unfolding numbers_below
 below_again width order n ks len most all =
     let few = all_short order ks most all in

@@ -10,7 +10,8 @@ use Rattle.knot_text.specs.Reading.{◌>>=◌, Fails, in_turn}
 abbrev pub with_front : {A : Type 0} → List A → Result (List A × Text) TextFault → Result (List A × Text) TextFault
 with_front front read = read >>= λ x. Ok (front ++ x.0, x.1)
 
-pub regroup : {A : Type 0} (front : List A) (n : A) (read : Result (List A × Text) TextFault) → with_front front (read >>= λ x. Ok (n ∷ x.0, x.1)) ≡ with_front (front ++ n ∷ []) read
+pub regroup : {A : Type 0} (front : List A) (n : A) (read : Result (List A × Text) TextFault)
+    → with_front front (read >>= λ x. Ok (n ∷ x.0, x.1)) ≡ with_front (front ++ n ∷ []) read
 regroup front n (Ok x) = ap (λ ns. Ok (ns, x.1)) (simp append_assoc)
 regroup front n (Err e) = refl
 
@@ -19,7 +20,8 @@ pub turn_more : {A : Type 0} (item : Text → Result (A × Text) TextFault) (fro
 unfolding in_turn
 turn_more item front count i text n after total lt h so_far =
     let k : count - i ≡ suc (count - (i + 1)) = omega arith in
-    let one : with_front front (in_turn item (count - i) text) ≡ with_front (front ++ n ∷ []) (in_turn item (count - (i + 1)) after) = rw (k, h) (regroup front n (in_turn item (count - (i + 1)) after)) in
+    let one : with_front front (in_turn item (count - i) text) ≡ with_front (front ++ n ∷ []) (in_turn item (count - (i + 1)) after) =
+    rw (k, h) (regroup front n (in_turn item (count - (i + 1)) after)) in
     sym one ∙ so_far
 
 pub turn_fails : {A : Type 0} (item : Text → Result (A × Text) TextFault) (e : TextFault) (front : List A) (count i : ℕ) (text : Text) (total : Result (List A × Text) TextFault) → i < count → Fails e (item text)

@@ -15,7 +15,8 @@ pub record GoesOn {A : Type 0} (value : List ℕ → Option A) (Kept : List A �
   pub kept : Kept values
   pub read : with_values values (each_token value n tokens) ≡ total
 
-regroup_values : {A : Type 0} (front : List A) (v : A) (read : Result (List A) TextFault) → with_values front (read >>= λ vs. Ok (v ∷ vs)) ≡ with_values (front ++ v ∷ []) read
+regroup_values : {A : Type 0} (front : List A) (v : A) (read : Result (List A) TextFault)
+    → with_values front (read >>= λ vs. Ok (v ∷ vs)) ≡ with_values (front ++ v ∷ []) read
 regroup_values front v (Ok vs) = ap (λ ns. Ok ns) (simp append_assoc)
 regroup_values front v (Err e) = refl
 
@@ -40,7 +41,8 @@ value_fails value Kept token tokens rest n total is number so_far =
     sym so_far.read ∙ ap (with_values so_far.values) one
 
 -- no token is left
-pub values_done : {A : Type 0} (value : List ℕ → Option A) (Kept : List A → Type 0) (tokens : List (List ℕ)) (n : ℕ) (total : Result (List A) TextFault) → tokens ≡ [] → (so_far : GoesOn value Kept tokens total n) → total ≡ Ok so_far.values
+pub values_done : {A : Type 0} (value : List ℕ → Option A) (Kept : List A → Type 0) (tokens : List (List ℕ)) (n : ℕ) (total : Result (List A) TextFault)
+    → tokens ≡ [] → (so_far : GoesOn value Kept tokens total n) → total ≡ Ok so_far.values
 unfolding each_token
 values_done {A = A} value Kept tokens n total is so_far =
     let one : each_token value n tokens ≡ Ok [] = rw is refl in

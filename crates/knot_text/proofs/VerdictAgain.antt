@@ -28,7 +28,8 @@ numbered_parted n (x ∷ xs) ys =
     let e : n + 1 + length xs ≡ n + length (x ∷ xs) = omega arith in
     ap (λ (ls : List NumberedLine). line_of (n + 1) x ∷ ls) (numbered_parted (n + 1) xs ys ∙ ap (λ (k : ℕ). numbered (n + 1) xs ++ numbered k ys) e)
 
-pub parted : (n : ℕ) (xs ys : List (List (List ℕ))) (text : Text) → lines_before (numbered n (xs ++ ys)) text ≡ lines_before (numbered n xs) (lines_before (numbered (n + length xs) ys) text)
+pub parted : (n : ℕ) (xs ys : List (List (List ℕ))) (text : Text)
+    → lines_before (numbered n (xs ++ ys)) text ≡ lines_before (numbered n xs) (lines_before (numbered (n + length xs) ys) text)
 parted n xs ys text =
     let lines : numbered n (xs ++ ys) ++ text.lines ≡ numbered n xs ++ (numbered (n + length xs) ys ++ text.lines) =
     ap (λ (ls : List NumberedLine). ls ++ text.lines) (numbered_parted n xs ys) ∙ append_assoc (numbered n xs) (numbered (n + length xs) ys) text.lines in
@@ -36,11 +37,14 @@ parted n xs ys text =
 
 -- ---- lists of colourings
 
-colours_again : (width order : ℕ) → order ≤ 255 → (k : ℕ) (c : ArrayVec ℕ) (rest : Text) → AreColours width order c.items → colour_line width order (lines_before (line_of (k + 1) (map decimal c.items) ∷ []) rest) ≡ Ok (c, rest)
+colours_again : (width order : ℕ) → order ≤ 255 → (k : ℕ) (c : ArrayVec ℕ) (rest : Text) → AreColours width order c.items
+    → colour_line width order (lines_before (line_of (k + 1) (map decimal c.items) ∷ []) rest) ≡ Ok (c, rest)
 unfolding colour_line next_line
-colours_again width order most k c rest fits = rw (below_again width order (k + 1) c.items fits.0 most (recursion_from_All (λ y. y < order) c.items fits.1)) refl
+colours_again width order most k c rest fits =
+    rw (below_again width order (k + 1) c.items fits.0 most (recursion_from_All (λ y. y < order) c.items fits.1)) refl
 
-list_again : (width order n : ℕ) (lists : List (ArrayVec ℕ)) (text : Text) → order ≤ 255 → HasListText width order lists → list_item width order (lines_before (numbered n (list_lines lists)) text) ≡ Ok (lists, text)
+list_again : (width order n : ℕ) (lists : List (ArrayVec ℕ)) (text : Text) → order ≤ 255 → HasListText width order lists
+    → list_item width order (lines_before (numbered n (list_lines lists)) text) ≡ Ok (lists, text)
 unfolding list_item next_line
 list_again width order n lists text most fits =
     let w = word_again (codes "list") (n + 1) (decimal (length lists) ∷ []) in
@@ -69,7 +73,8 @@ different_again one two n q first second text fits =
     let read : different_at one two (line_of (n + 1) (name_tokens q.name order)) (lines_before (numbered (n + 1) table) both) ≡ Ok (Different q first second, text) = rw (named, one_is, two_is) refl in
     ap (different_at one two (line_of (n + 1) (name_tokens q.name order))) text_is ∙ read
 
-equal_again : (n : ℕ) (moves : List Move) (text : Text) → HaveText moves → equal_at (line_of (n + 1) (decimal (length moves) ∷ [])) (lines_before (numbered (n + 1) (map move_tokens moves)) text) ≡ Ok (Equal moves, text)
+equal_again : (n : ℕ) (moves : List Move) (text : Text) → HaveText moves
+    → equal_at (line_of (n + 1) (decimal (length moves) ∷ [])) (lines_before (numbered (n + 1) (map move_tokens moves)) text) ≡ Ok (Equal moves, text)
 unfolding equal_at
 equal_again n moves text fits = rw (count_again (length moves) (n + 1) fits.count, move_lines_again (n + 1) moves text fits.each) refl
 
@@ -79,9 +84,11 @@ budget_again n k few = rw (count_again k n few) refl
 
 exhausted_again : (n cap k : ℕ) → cap ≤ MAX_NUMBER → k ≤ MAX_NUMBER → exhausted_at (line_of n (decimal cap ∷ decimal k ∷ [])) ≡ Ok (UnknownExhausted cap k)
 unfolding exhausted_at
-exhausted_again n cap k few small = rw (number_again cap n (decimal k ∷ []) few, last_again k n small, most_again MAX_NUMBER n cap few, most_again MAX_NUMBER n k small) refl
+exhausted_again n cap k few small =
+    rw (number_again cap n (decimal k ∷ []) few, last_again k n small, most_again MAX_NUMBER n cap few, most_again MAX_NUMBER n k small) refl
 
-pub verdict_again : (one two n : ℕ) (v : Verdict) (text : Text) → HasVerdictText one two v → verdict_item one two (lines_before (numbered n (verdict_lines v)) text) ≡ Ok (v, text)
+pub verdict_again : (one two n : ℕ) (v : Verdict) (text : Text) → HasVerdictText one two v
+    → verdict_item one two (lines_before (numbered n (verdict_lines v)) text) ≡ Ok (v, text)
 unfolding verdict_item unknown_item unknown_at next_line next_token
 verdict_again one two n (Equal moves) text fits = equal_again n moves text fits
 verdict_again one two n (Different q first second) text fits = different_again one two n q first second text fits

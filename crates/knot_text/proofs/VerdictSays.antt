@@ -12,7 +12,8 @@ use Rattle.verdict_core.specs.declared.verdict.Verdict.TheVariants.{Equal, Diffe
 use Rattle.knot_text.specs.Verdicts.{equal_at, colour_line, list_item, different_at, budget_at, exhausted_at, unknown_at, unknown_item, verdict_item}
 use Rattle.knot_text.specs.Printed.{moves_lines, HaveText, list_lines, verdict_lines, HasListText, HasVerdictText}
 use Rattle.knot_text.proofs.Says.{Says, says_ok, says_err, says_bind, says_if, says_more, in_front_of, in_front_is, IsNext, next_says}
-use Rattle.knot_text.proofs.LineSays.{IsFirst, next_token_says, is_word, word_says, IsNumberFirst, number_says, IsNumberAlone, last_number_says, at_most_says, last_count_says, AreColoursAlone, numbers_below_says}
+use Rattle.knot_text.proofs.LineSays.{IsFirst, next_token_says, is_word, word_says, IsNumberFirst, number_says, IsNumberAlone}
+use Rattle.knot_text.proofs.LineSays.{last_number_says, at_most_says, last_count_says, AreColoursAlone, numbers_below_says}
 use Rattle.knot_text.proofs.ItemsSay.{IsWritten, turns_say, counted_moves_say}
 use Rattle.knot_text.proofs.QuandleSays.{IsQuandleAt, quandle_at_says}
 
@@ -21,7 +22,8 @@ use Rattle.knot_text.proofs.QuandleSays.{IsQuandleAt, quandle_at_says}
 abbrev colours_tokens : ArrayVec ℕ → List (List ℕ)
 colours_tokens c = map decimal c.items
 
-colour_line_says : (width order : ℕ) (text : Text) → Says (colour_line width order text) (IsWritten (λ c. AreColours width order c.items) (λ c. colours_tokens c ∷ []) text)
+colour_line_says : (width order : ℕ) (text : Text)
+    → Says (colour_line width order text) (IsWritten (λ c. AreColours width order c.items) (λ c. colours_tokens c ∷ []) text)
 unfolding colour_line
 colour_line_says width order text = says_bind (IsNext text) (next_says text) (λ line there.
     says_bind (AreColoursAlone width order line.0) (numbers_below_says width order line.0) (λ cs are.
@@ -44,13 +46,15 @@ list_says width order text = says_bind (IsNext text) (next_says text) (λ line t
 abbrev IsVerdict : ℕ → ℕ → Text → Verdict × Text → Type 0
 IsVerdict one two text = IsWritten (HasVerdictText one two) verdict_lines text
 
-equal_says : (one two : ℕ) (text : Text) (line : NumberedLine × Text) (t : List ℕ × NumberedLine) → IsNext text line → IsFirst line.0.tokens t → bytes_eq t.0 (codes "equal") ≡ true → Says (equal_at t.1 line.1) (IsVerdict one two text)
+equal_says : (one two : ℕ) (text : Text) (line : NumberedLine × Text) (t : List ℕ × NumberedLine) → IsNext text line → IsFirst line.0.tokens t
+    → bytes_eq t.0 (codes "equal") ≡ true → Says (equal_at t.1 line.1) (IsVerdict one two text)
 unfolding equal_at
 equal_says one two text line t there is same = says_bind (λ (k : ℕ). (k ≤ MAX_NUMBER) × (t.1.tokens ≡ decimal k ∷ [])) (last_count_says t.1) (λ count alone.
     says_bind (IsWritten HaveText (moves_lines (codes "equal")) text) (counted_moves_say (codes "equal") line text count there alone.0 (is ∙ ap₂ (λ (s : List ℕ) (ts : List (List ℕ)). s ∷ ts) (is_word t.0 (codes "equal") same) alone.1)) (λ moves are.
     says_ok (Equal moves.0, moves.1) are))
 
-different_says : (one two : ℕ) (text : Text) (line : NumberedLine × Text) (t : List ℕ × NumberedLine) → IsNext text line → IsFirst line.0.tokens t → bytes_eq t.0 (codes "different") ≡ true → Says (different_at one two t.1 line.1) (IsVerdict one two text)
+different_says : (one two : ℕ) (text : Text) (line : NumberedLine × Text) (t : List ℕ × NumberedLine) → IsNext text line → IsFirst line.0.tokens t
+    → bytes_eq t.0 (codes "different") ≡ true → Says (different_at one two t.1 line.1) (IsVerdict one two text)
 unfolding different_at
 different_says one two text line t there is same = says_bind (IsQuandleAt t.1.tokens line.1) (quandle_at_says t.1 line.1) (λ q quandle.
     says_bind (IsWritten (HasListText one q.0.table.order) list_lines q.1) (list_says one q.0.table.order q.1) (λ first a.
@@ -79,10 +83,12 @@ unknown_says one two line = says_bind (IsFirst line.tokens) (next_token_says lin
     says_bind (λ (k : ℕ). (cap.0 ≡ k) × (k ≤ MAX_NUMBER)) (at_most_says MAX_NUMBER admitted.1.number cap.0) (λ most few.
     says_bind (λ (k : ℕ). (admitted.0 ≡ k) × (k ≤ MAX_NUMBER)) (at_most_says MAX_NUMBER admitted.1.number admitted.0) (λ entries small.
     let behind : cap.1.tokens ≡ decimal entries ∷ [] = second (omega (arith, small.0, small.1)) ∙ ap (λ (k : ℕ). decimal k ∷ []) small.0 in
-    let all : t.1.tokens ≡ decimal most ∷ decimal entries ∷ [] = first (omega (arith, few.0, few.1)) ∙ ap₂ (λ (k : ℕ) (ts : List (List ℕ)). decimal k ∷ ts) few.0 behind in
+    let all : t.1.tokens ≡ decimal most ∷ decimal entries ∷ [] =
+    first (omega (arith, few.0, few.1)) ∙ ap₂ (λ (k : ℕ) (ts : List (List ℕ)). decimal k ∷ ts) few.0 behind in
     says_ok (UnknownExhausted most entries) ((few.1, small.1), cause (codes "exhausted") same (decimal most ∷ decimal entries ∷ []) all)))))) (λ none. says_err)))
 
-unknown_item_says : (one two : ℕ) (text : Text) (line : NumberedLine × Text) (t : List ℕ × NumberedLine) → IsNext text line → IsFirst line.0.tokens t → bytes_eq t.0 (codes "unknown") ≡ true → Says (unknown_item t.1 line.1) (IsVerdict one two text)
+unknown_item_says : (one two : ℕ) (text : Text) (line : NumberedLine × Text) (t : List ℕ × NumberedLine) → IsNext text line → IsFirst line.0.tokens t
+    → bytes_eq t.0 (codes "unknown") ≡ true → Says (unknown_item t.1 line.1) (IsVerdict one two text)
 unfolding unknown_item
 unknown_item_says one two text line t there is same = says_bind (IsUnknown one two t.1.tokens) (unknown_says one two t.1) (λ v known.
     says_ok (v, line.1) (known.0, in_front_is (ap (λ (ts : List (List ℕ)). ts ∷ []) (is ∙ ap (λ (s : List ℕ). s ∷ t.1.tokens) (is_word t.0 (codes "unknown") same)) ∙ known.1) there))

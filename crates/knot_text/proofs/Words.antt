@@ -1,5 +1,6 @@
 -- Printed lines are lines of words.
-use Rattle.std.proofs.Common.{◌≡◌, ℕ, zero, suc, ◌<◌, ◌≤◌, ◌+◌, ◌-◌, ◌==◌, ◌&&◌, not, List, [], ◌∷◌, ◌++◌, length, map, Bool, true, refl, ap, ◌∙◌, arith, codes, All}
+use Rattle.std.proofs.Common.{◌≡◌, ℕ, zero, suc, ◌<◌, ◌≤◌, ◌+◌, ◌-◌, ◌==◌, ◌&&◌, not, List, [], ◌∷◌, ◌++◌, length, map, Bool, true, refl}
+use Rattle.std.proofs.Common.{ap, ◌∙◌, arith, codes, All}
 use Rattle.std.specs.List.{AllByRecursion, list_all, range_with_len}
 use Rattle.std.specs.Fmt.{decimal}
 use Rattle.std.specs.Char.{digit_value}
@@ -18,7 +19,8 @@ use Rattle.grid_core.specs.declared.mark.Corner.TheVariants.{LowLeft, LowRight, 
 use Rattle.grid_core.specs.Diagram.{Diagram, IsGrid}
 use Rattle.grid_core.proofs.OneEach.{each_below}
 use Rattle.grid_moves.specs.declared.step.Move.{Move}
-use Rattle.grid_moves.specs.declared.step.Move.TheVariants.{ShiftColumns, ShiftRows, ExchangeColumns, ExchangeRows, SlideColumns, SlideRows, Stabilise, Destabilise}
+use Rattle.grid_moves.specs.declared.step.Move.TheVariants.{ShiftColumns, ShiftRows, ExchangeColumns, ExchangeRows, SlideColumns, SlideRows}
+use Rattle.grid_moves.specs.declared.step.Move.TheVariants.{Stabilise, Destabilise}
 use Rattle.quandle_core.specs.Quandle.{Table, IsQuandle, over}
 use Rattle.text_lines.specs.Spelled.{is_plain, is_word, is_line}
 use Rattle.knot_text.specs.declared.reading.TheConstants.{MAX_NUMBER}
@@ -27,7 +29,9 @@ use Rattle.verdict_core.specs.declared.names.QuandleName.TheVariants as name
 use Rattle.verdict_core.specs.declared.verdict.Verdict.{Verdict}
 use Rattle.verdict_core.specs.declared.verdict.Verdict.TheVariants.{Equal, Different, UnknownBudget, UnknownExhausted}
 use Rattle.verdict_core.specs.Names.{Names}
-use Rattle.knot_text.specs.Printed.{grid_lines, kind_word, corner_word, move_tokens, moves_lines, HasMoveText, HaveText, name_tokens, row_tokens, table_lines, quandle_lines, HasFactor, list_lines, verdict_lines, HasListText, HasVerdictText}
+use Rattle.knot_text.specs.Printed.{grid_lines, kind_word, corner_word, move_tokens, moves_lines, HasMoveText, HaveText, name_tokens}
+use Rattle.knot_text.specs.Printed.{row_tokens, table_lines, quandle_lines, HasFactor, list_lines, verdict_lines, HasListText}
+use Rattle.knot_text.specs.Printed.{HasVerdictText}
 use Rattle.knot_text.proofs.StepsAgain.{IsShort, all_short}
 use Rattle.verdict_core.proofs.Named.{names_order}
 
@@ -67,7 +71,8 @@ numbers_line (k ∷ ks) some few =
 
 pub grid_words : (d : Diagram) → IsGrid d → list_all is_line (grid_lines d) ≡ true
 grid_words d grid =
-    let below : (rows : List ℕ) → All (λ r. r < length d.x) rows → AllByRecursion IsShort rows = λ rows all. all_short (length d.x) rows (omega (arith, grid.most)) (recursion_from_All (λ r. r < length d.x) rows all) in
+    let below : (rows : List ℕ) → All (λ r. r < length d.x) rows → AllByRecursion IsShort rows =
+    λ rows all. all_short (length d.x) rows (omega (arith, grid.most)) (recursion_from_All (λ r. r < length d.x) rows all) in
     let x = numbers_words d.x (below d.x (each_below (length d.x) d.x grid.crosses)) in
     let o = numbers_words d.o (below d.o (each_below (length d.x) d.o grid.rings)) in
     rw (x, o) refl
@@ -94,9 +99,11 @@ move_line (SlideRows r) few = rw (decimal_word r (omega arith)) refl
 move_line (Stabilise c kind corner) few = rw (decimal_word c (omega arith), kind_is_word kind, corner_is_word corner) refl
 move_line (Destabilise c r) few = rw (decimal_word c (omega (arith, few.0)), decimal_word r (omega (arith, few.1))) refl
 
-pub all_lines : {A : Type 0} (tokens : A → List (List ℕ)) (Fits : A → Type 0) (xs : List A) → ((x : A) → Fits x → is_line (tokens x) ≡ true) → AllByRecursion Fits xs → list_all is_line (map tokens xs) ≡ true
+pub all_lines : {A : Type 0} (tokens : A → List (List ℕ)) (Fits : A → Type 0) (xs : List A) → ((x : A) → Fits x → is_line (tokens x) ≡ true)
+    → AllByRecursion Fits xs → list_all is_line (map tokens xs) ≡ true
 all_lines tokens Fits [] each fits = refl
-all_lines tokens Fits (x ∷ xs) each fits = and_from (is_line (tokens x)) (list_all is_line (map tokens xs)) (each x fits.0) (all_lines tokens Fits xs each fits.1)
+all_lines tokens Fits (x ∷ xs) each fits =
+    and_from (is_line (tokens x)) (list_all is_line (map tokens xs)) (each x fits.0) (all_lines tokens Fits xs each fits.1)
 
 move_words : (moves : List Move) → AllByRecursion HasMoveText moves → list_all is_line (map move_tokens moves) ≡ true
 move_words moves fits = all_lines move_tokens HasMoveText moves move_line fits
@@ -112,14 +119,16 @@ all_both p (x ∷ xs) ys first second =
     let h = and_parts (p x) (list_all p xs) first in
     and_from (p x) (list_all p (xs ++ ys)) h.0 (all_both p xs ys h.1 second)
 
-name_words : (called_so : QuandleName) (t : Table) → Names called_so t → HasFactor called_so → is_line (codes "different" ∷ name_tokens called_so t.order) ≡ true
+name_words : (called_so : QuandleName) (t : Table) → Names called_so t → HasFactor called_so
+    → is_line (codes "different" ∷ name_tokens called_so t.order) ≡ true
 name_words (name.Trivial n) t names factor = rw (decimal_word n (omega (arith, names.0.1))) refl
 name_words (name.Dihedral n) t names factor = rw (decimal_word n (omega (arith, names.0.1))) refl
 name_words name.Tetrahedral t names factor = refl
 name_words (name.Alexander n a) t names factor = rw (decimal_word n (omega (arith, names.0.1)), decimal_word a (omega (arith, names.0.1, factor))) refl
 name_words name.Table t names factor = rw (decimal_word t.order (omega (arith, names.most))) refl
 
-range_short : (t : Table) (x a n : ℕ) → ((y : ℕ) → a ≤ y → y < a + n → over t x y ≤ MAX_NUMBER) → list_all is_word (map (λ y. decimal (over t x y)) (range_with_len a n)) ≡ true
+range_short : (t : Table) (x a n : ℕ) → ((y : ℕ) → a ≤ y → y < a + n → over t x y ≤ MAX_NUMBER)
+    → list_all is_word (map (λ y. decimal (over t x y)) (range_with_len a n)) ≡ true
 range_short t x a zero each = refl
 range_short t x a (suc n) each =
     and_from (is_word (decimal (over t x a))) (list_all is_word (map (λ y. decimal (over t x y)) (range_with_len (a + 1) n))) (decimal_word (over t x a) (each a (omega arith) (omega arith))) (range_short t x (a + 1) n (λ y low high. each y (omega arith) (omega arith)))
@@ -153,7 +162,8 @@ colours_line : (width order : ℕ) → 1 ≤ width → order ≤ 255 → (c : Ar
 colours_line width order some most c fits =
     numbers_line c.items (omega (arith, fits.0)) (all_short order c.items most (recursion_from_All (λ y. y < order) c.items fits.1))
 
-list_words : (width order : ℕ) (lists : List (ArrayVec ℕ)) → 1 ≤ width → order ≤ 255 → HasListText width order lists → list_all is_line (list_lines lists) ≡ true
+list_words : (width order : ℕ) (lists : List (ArrayVec ℕ)) → 1 ≤ width → order ≤ 255 → HasListText width order lists
+    → list_all is_line (list_lines lists) ≡ true
 list_words width order lists some most fits =
     let lines = all_lines (λ (c : ArrayVec ℕ). map decimal c.items) (λ (c : ArrayVec ℕ). AreColours width order c.items) lists (colours_line width order some most) fits.each in
     rw (decimal_word (length lists) (omega (arith, fits.count)), lines) refl

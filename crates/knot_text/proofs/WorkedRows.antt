@@ -18,7 +18,8 @@ use Rattle.knot_text.specs.Colours.{colours_at, colours_item, coloured_item, col
 use Rattle.knot_text.specs.Moves.{last_place, shift, kind_at, corner_at, stabilise, destabilise, move_at, next_move, moves_item}
 use Rattle.knot_text.specs.Quandles.{written_at, table_row, table_rows, table_item, quandle_at, quandle_item, quandles, quandle_list}
 use Rattle.knot_text.specs.Verdicts.{exhausted_at, unknown_at, unknown_item, verdict_item}
-use Rattle.knot_text.specs.Shapes.{diagram_item, problem_item, problem_in, check_in, replay_in, close_in, lone_diagram_in, problem_of, check_of, replay_of, close_of, lone_diagram_of}
+use Rattle.knot_text.specs.Shapes.{diagram_item, problem_item, problem_in, check_in, replay_in, close_in, lone_diagram_in, problem_of}
+use Rattle.knot_text.specs.Shapes.{check_of, replay_of, close_of, lone_diagram_of}
 
 -- ---- grids: no line, one number, a number twice, both marks in a cell
 

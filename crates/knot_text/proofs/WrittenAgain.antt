@@ -21,7 +21,8 @@ use Rattle.knot_text.specs.Moves.{moves_item}
 use Rattle.knot_text.specs.Quandles.{quandle_item}
 use Rattle.knot_text.specs.Colours.{colours_item}
 use Rattle.knot_text.specs.Verdicts.{verdict_item}
-use Rattle.knot_text.specs.Printed.{grid_lines, braid_lines, moves_lines, HaveText, name_tokens, quandle_lines, HasQuandleText, colours_lines, verdict_lines, HasVerdictText}
+use Rattle.knot_text.specs.Printed.{grid_lines, braid_lines, moves_lines, HaveText, name_tokens, quandle_lines, HasQuandleText}
+use Rattle.knot_text.specs.Printed.{colours_lines, verdict_lines, HasVerdictText}
 use Rattle.knot_text.specs.WrittenThere.{tokens_by_line, StandInFront}
 use Rattle.knot_text.proofs.StepsAgain.{lines_before, word_again}
 use Rattle.knot_text.proofs.GridAgain.{grid_again}
@@ -47,7 +48,8 @@ tokens_parted : (xs ys : List NumberedLine) → tokens_by_line (xs ++ ys) ≡ to
 tokens_parted xs ys = map-append (λ (line : NumberedLine). line.tokens) xs ys
 
 -- the tokens of the text are these, and those of the rest
-front_tokens : {printed : List (List (List ℕ))} {text rest : Text} → StandInFront printed text rest → tokens_by_line text.lines ≡ printed ++ tokens_by_line rest.lines
+front_tokens : {printed : List (List (List ℕ))} {text rest : Text} → StandInFront printed text rest
+    → tokens_by_line text.lines ≡ printed ++ tokens_by_line rest.lines
 front_tokens {rest = rest} there =
     ap tokens_by_line there.lines ∙ tokens_parted there.front rest.lines ∙ ap (λ (ls : List (List (List ℕ))). ls ++ tokens_by_line rest.lines) there.tokens
 
@@ -67,7 +69,8 @@ one_rest first second =
 -- ---- an item
 
 -- one that is read behind no lines is read from each text with its tokens
-pub read_again : {A : Type 0} (Has : A → Type 0) (lines : A → List (List (List ℕ))) (item : Text → Result (A × Text) TextFault) → ((t u : Text) → SameText t u → Alike SameLeft (item t) (item u)) → ((t : Text) → Says (item t) (IsWritten Has lines t))
+pub read_again : {A : Type 0} (Has : A → Type 0) (lines : A → List (List (List ℕ))) (item : Text → Result (A × Text) TextFault)
+    → ((t u : Text) → SameText t u → Alike SameLeft (item t) (item u)) → ((t : Text) → Says (item t) (IsWritten Has lines t))
     → (value : A) (text rest : Text) → item (lines_before (numbered 0 (lines value)) rest) ≡ Ok (value, rest) → StandInFront (lines value) text rest → item text ≡ Ok (value, rest)
 read_again Has lines item alike says value text rest again there =
     let t = lines_before (numbered 0 (lines value)) rest in
@@ -83,20 +86,27 @@ grid_written text d rest grid there = read_again IsGrid grid_lines grid_item gri
 pub braid_written : (text : Text) (b : Word) (rest : Text) → IsBraid b → StandInFront (braid_lines b) text rest → braid_item text ≡ Ok (b, rest)
 braid_written text b rest braid there = read_again IsBraid braid_lines braid_item braid_alike braid_says b text rest (braid_again 0 b rest braid) there
 
-pub moves_written : (text : Text) (moves : List Move) (rest : Text) → HaveText moves → StandInFront (moves_lines (codes "moves") moves) text rest → moves_item text ≡ Ok (moves, rest)
-moves_written text moves rest fits there = read_again HaveText (moves_lines (codes "moves")) moves_item moves_alike moves_say moves text rest (moves_again 0 moves rest fits) there
+pub moves_written : (text : Text) (moves : List Move) (rest : Text) → HaveText moves → StandInFront (moves_lines (codes "moves") moves) text rest
+    → moves_item text ≡ Ok (moves, rest)
+moves_written text moves rest fits there =
+    read_again HaveText (moves_lines (codes "moves")) moves_item moves_alike moves_say moves text rest (moves_again 0 moves rest fits) there
 
-item_again : (q : NamedQuandle) (rest : Text) → HasQuandleText q → quandle_item (lines_before (numbered 0 (quandle_lines (codes "quandle") q)) rest) ≡ Ok (q, rest)
+item_again : (q : NamedQuandle) (rest : Text) → HasQuandleText q
+    → quandle_item (lines_before (numbered 0 (quandle_lines (codes "quandle") q)) rest) ≡ Ok (q, rest)
 unfolding quandle_item next_line
 item_again q rest fits = rw (word_again (codes "quandle") 1 (name_tokens q.name q.table.order), quandle_again 1 q.name q.table rest fits.names fits.factor) refl
 
-pub quandle_written : (text : Text) (q : NamedQuandle) (rest : Text) → HasQuandleText q → StandInFront (quandle_lines (codes "quandle") q) text rest → quandle_item text ≡ Ok (q, rest)
-quandle_written text q rest fits there = read_again HasQuandleText (quandle_lines (codes "quandle")) quandle_item quandle_alike quandle_says q text rest (item_again q rest fits) there
+pub quandle_written : (text : Text) (q : NamedQuandle) (rest : Text) → HasQuandleText q → StandInFront (quandle_lines (codes "quandle") q) text rest
+    → quandle_item text ≡ Ok (q, rest)
+quandle_written text q rest fits there =
+    read_again HasQuandleText (quandle_lines (codes "quandle")) quandle_item quandle_alike quandle_says q text rest (item_again q rest fits) there
 
-pub colours_written : (width order : ℕ) (text : Text) (c : ArrayVec ℕ) (rest : Text) → width ≤ MAX_SIZE → order ≤ MAX_ORDER → AreColours width order c.items → StandInFront (colours_lines c) text rest → colours_item width order text ≡ Ok (c, rest)
+pub colours_written : (width order : ℕ) (text : Text) (c : ArrayVec ℕ) (rest : Text) → width ≤ MAX_SIZE → order ≤ MAX_ORDER
+    → AreColours width order c.items → StandInFront (colours_lines c) text rest → colours_item width order text ≡ Ok (c, rest)
 colours_written width order text c rest fits most are there =
     read_again (λ c. AreColours width order c.items) colours_lines (colours_item width order) (colours_alike width order) (colours_say width order) c text rest (colours_again width order 0 c rest fits most are) there
 
-pub verdict_written : (one two : ℕ) (text : Text) (v : Verdict) (rest : Text) → HasVerdictText one two v → StandInFront (verdict_lines v) text rest → verdict_item one two text ≡ Ok (v, rest)
+pub verdict_written : (one two : ℕ) (text : Text) (v : Verdict) (rest : Text) → HasVerdictText one two v → StandInFront (verdict_lines v) text rest
+    → verdict_item one two text ≡ Ok (v, rest)
 verdict_written one two text v rest fits there =
     read_again (HasVerdictText one two) verdict_lines (verdict_item one two) (verdict_alike one two) (verdict_says one two) v text rest (verdict_again one two 0 v rest fits) there

@@ -1,5 +1,6 @@
 -- A braid as a text: `braid`, the number of strands, and the letters from the lowest crossing to the highest, in one line.
-use Rattle.std.specs.Prelude.{ℕ, ℤ, pos, neg_ℤ, unsigned_abs, ◌==◌, ◌||◌, Bool, List, [], ◌∷◌, codes, Option, None, Result, Ok, Err, is_none, nat_lt, if◌then◌else◌}
+use Rattle.std.specs.Prelude.{ℕ, ℤ, pos, neg_ℤ, unsigned_abs, ◌==◌, ◌||◌, Bool, List, [], ◌∷◌, codes, Option, None, Result, Ok, Err}
+use Rattle.std.specs.Prelude.{is_none, nat_lt, if◌then◌else◌}
 use Rattle.std.specs.Option.{option_map}
 use Rattle.std.specs.List.{list_any}
 use Rattle.grid_core.specs.declared.grid.TheConstants.{MAX_SIZE}

@@ -6,7 +6,8 @@ use Rattle.grid_core.specs.declared.mark.Kind.TheVariants.{Cross, Ring}
 use Rattle.grid_core.specs.declared.mark.Corner.{Corner}
 use Rattle.grid_core.specs.declared.mark.Corner.TheVariants.{LowLeft, LowRight, HighLeft, HighRight}
 use Rattle.grid_moves.specs.declared.step.Move.{Move}
-use Rattle.grid_moves.specs.declared.step.Move.TheVariants.{ShiftColumns, ShiftRows, ExchangeColumns, ExchangeRows, SlideColumns, SlideRows, Stabilise, Destabilise}
+use Rattle.grid_moves.specs.declared.step.Move.TheVariants.{ShiftColumns, ShiftRows, ExchangeColumns, ExchangeRows, SlideColumns, SlideRows}
+use Rattle.grid_moves.specs.declared.step.Move.TheVariants.{Stabilise, Destabilise}
 use Rattle.text_lines.specs.Lines.{NumberedLine, Text}
 use Rattle.knot_text.specs.declared.fault.TextFault.{TextFault}
 use Rattle.knot_text.specs.declared.fault.TextFault.TheVariants.{Malformed}
@@ -19,7 +20,8 @@ last_place line = do
   value ← last_number line
   at_most MAX_PLACE value.1.number value.0
 
-abbrev pub one_place : (ℕ → Move) → NumberedLine → Result Move TextFault
+-- a move or a step that is told by its word and this place
+abbrev pub one_place : {A : Type 0} → (ℕ → A) → NumberedLine → Result A TextFault
 one_place make line = do
   place ← last_place line
   Ok (make place)

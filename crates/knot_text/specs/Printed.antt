@@ -10,7 +10,8 @@ use Rattle.grid_core.specs.declared.mark.Corner.TheVariants.{LowLeft, LowRight, 
 use Rattle.grid_core.specs.Diagram.{Diagram as Marks, IsGrid}
 use Rattle.braid_core.specs.Braid.{Word, IsBraid}
 use Rattle.grid_moves.specs.declared.step.Move.{Move}
-use Rattle.grid_moves.specs.declared.step.Move.TheVariants.{ShiftColumns, ShiftRows, ExchangeColumns, ExchangeRows, SlideColumns, SlideRows, Stabilise, Destabilise}
+use Rattle.grid_moves.specs.declared.step.Move.TheVariants.{ShiftColumns, ShiftRows, ExchangeColumns, ExchangeRows, SlideColumns, SlideRows}
+use Rattle.grid_moves.specs.declared.step.Move.TheVariants.{Stabilise, Destabilise}
 use Rattle.quandle_core.specs.Quandle.{Table, over}
 use Rattle.colour_list.specs.declared.limits.TheConstants.{MAX_COLOURINGS}
 use Rattle.colour_rows.specs.Colouring.{AreColours}
@@ -36,7 +37,7 @@ grid_lines d = rows_tokens (codes "x") d.x ∷ rows_tokens (codes "o") d.o ∷ [
 abbrev pub grid_text : Marks → List ℕ
 grid_text d = lines_text (grid_lines d)
 
--- ---- braids, which no call prints
+-- ---- braids, and words of any length
 
 abbrev pub letter_token : ℤ → List ℕ
 letter_token (pos k) = decimal k

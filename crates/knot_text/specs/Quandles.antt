@@ -1,5 +1,6 @@
 -- A quandle as a text: `quandle` and its name, and behind `table n` the n lines of its table.
-use Rattle.std.specs.Prelude.{ℕ, zero, suc, ◌-◌, ◌||◌, Bool, false, List, [], ◌∷◌, ◌++◌, codes, Option, None, Result, Ok, Err, is_none, nat_le, nat_lt, if◌then◌else◌}
+use Rattle.std.specs.Prelude.{ℕ, zero, suc, ◌-◌, ◌||◌, Bool, false, List, [], ◌∷◌, ◌++◌, codes, Option, None, Result, Ok, Err, is_none}
+use Rattle.std.specs.Prelude.{nat_le, nat_lt, if◌then◌else◌}
 use Rattle.std.specs.Str.{bytes_eq}
 use Rattle.quandle_core.specs.declared.quandle.TheConstants.{MAX_ORDER}
 use Rattle.quandle_core.specs.Fault.{first_fault}
@@ -63,25 +64,25 @@ meant written.Tetrahedral = quandle_named name.Tetrahedral
 meant (written.Alexander n a) = if nat_lt a n then quandle_named (name.Alexander n a) else None
 meant (written.Table n) = None
 
--- a line of a table, row x of which has the numbers x ▷ 0 to x ▷ n-1
-unfoldable pub table_row : ℕ → Text → Result (List ℕ × Text) TextFault
-table_row order text = do
+-- a line of a square table of numbers below a bound, as many as the order
+unfoldable pub table_row : ℕ → ℕ → Text → Result (List ℕ × Text) TextFault
+table_row order bound text = do
   line ← next_line text
-  row ← numbers_below order order line.0
+  row ← numbers_below order bound line.0
   Ok (row, line.1)
 
 -- the entries of so many lines
-unfoldable pub table_rows : ℕ → ℕ → Text → Result (List ℕ × Text) TextFault
-table_rows order zero text = Ok ([], text)
-table_rows order (suc count) text = do
-  row ← table_row order text
-  rows ← table_rows order count row.1
+unfoldable pub table_rows : ℕ → ℕ → ℕ → Text → Result (List ℕ × Text) TextFault
+table_rows order bound zero text = Ok ([], text)
+table_rows order bound (suc count) text = do
+  row ← table_row order bound text
+  rows ← table_rows order bound count row.1
   Ok (row.0 ++ rows.0, rows.1)
 
--- the lines of a table; one that fails a law of quandles is malformed at its last line
+-- the lines of a table, row x of which has the numbers x ▷ 0 to x ▷ n-1; one that fails a law of quandles is malformed at its last line
 unfoldable pub table_item : ℕ → Text → Result (NamedQuandle × Text) TextFault
 table_item order text = do
-  front ← table_rows order (order - 1) text
+  front ← table_rows order order (order - 1) text
   line ← next_line front.1
   row ← numbers_below order order line.0
   if is_none (first_fault (record { order = order; entries = front.0 ++ row }))

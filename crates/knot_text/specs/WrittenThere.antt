@@ -1,19 +1,26 @@
 -- What it means that a value is written in a text, where it is read: the printed lines of the value stand there, token for token.
-use Rattle.std.specs.Prelude.{◌≡◌, ◌≤◌, ℕ, List, [], ◌++◌, codes, length, map, Option, Some, None}
-use Rattle.std.specs.List.{AllByRecursion, flat_map}
+use Rattle.std.specs.Prelude.{◌≡◌, ◌≤◌, ℕ, List, [], ◌∷◌, ◌++◌, codes, length, map, Option, Some, None}
+use Rattle.std.specs.List.{AllByRecursion, flat_map, range_with_len}
+use Rattle.std.specs.Fmt.{decimal}
 use Rattle.arrayvec.specs.ArrayVec.{ArrayVec}
 use Rattle.braid_core.specs.Braid.{IsBraid}
 use Rattle.colour_rows.specs.Colouring.{AreColours}
+use Rattle.colour_weights.specs.Cocycle.{Cochain, IsCocycle, value}
+use Rattle.quandle_core.specs.Quandle.{Table}
 use Rattle.text_lines.specs.Lines.{NumberedLine, Text, text_of}
 use Rattle.verdict_core.specs.declared.verdict.Verdict.{Verdict}
 use Rattle.knot_text.specs.declared.quandles.TheConstants.{MAX_QUANDLES}
+use Rattle.verdict_core.specs.declared.diagrams.Diagram.{Diagram}
 use Rattle.verdict_core.specs.declared.problem.ProblemText.{ProblemText}
 use Rattle.knot_text.specs.declared.shapes.ReplayText.{ReplayText}
 use Rattle.knot_text.specs.declared.shapes.ColourText.{ColourText}
 use Rattle.knot_text.specs.declared.shapes.CloseText.{CloseText}
+use Rattle.knot_text.specs.declared.weights.TheConstants.{MAX_MODULUS}
+use Rattle.knot_text.specs.declared.weights.WeightText.{WeightText}
 use Rattle.verdict_core.specs.Names.{NamedQuandle}
 use Rattle.knot_text.specs.Quandles.{or_built_in}
-use Rattle.knot_text.specs.Printed.{moves_lines, HaveText, quandle_lines, HasQuandleText, verdict_lines, HasVerdictText, braid_lines, diagram_lines, HasDiagramText, colours_lines}
+use Rattle.knot_text.specs.Printed.{moves_lines, HaveText, quandle_lines, HasQuandleText, verdict_lines, HasVerdictText, braid_lines}
+use Rattle.knot_text.specs.Printed.{diagram_lines, HasDiagramText, colours_lines}
 use Rattle.verdict_core.specs.Diagrams.{columns}
 
 -- the tokens of each line
@@ -87,3 +94,34 @@ IsColourText lines c =
 abbrev pub IsCloseText : List (List (List ℕ)) → CloseText → Type 0
 IsCloseText lines c =
     (listed : List NamedQuandle) × IsBraid c.braid × AreListed listed c.quandles × (lines ≡ braid_lines c.braid ++ listed_lines listed)
+
+-- two diagrams
+abbrev pub IsPairText : List (List (List ℕ)) → Diagram × Diagram → Type 0
+IsPairText lines p = HasDiagramText p.0 × HasDiagramText p.1 × (lines ≡ diagram_lines p.0 ++ diagram_lines p.1)
+
+-- row x of the table of a cocycle: the numbers φ(x, 0) to φ(x, q-1)
+abbrev pub value_tokens : Cochain → ℕ → List (List ℕ)
+value_tokens w x = map (λ y. decimal (value w x y)) (range_with_len 0 w.quandle.order)
+
+abbrev pub value_lines : Cochain → List (List (List ℕ))
+value_lines w = map (value_tokens w) (range_with_len 0 w.quandle.order)
+
+-- its modulus, and its table
+abbrev pub cocycle_lines : Cochain → List (List (List ℕ))
+cocycle_lines w = (codes "weight" ∷ decimal w.modulus ∷ []) ∷ value_lines w
+
+-- a cocycle of the quandle, whose modulus is within its limit
+pub record HasCocycleText (quandle : Table) (w : Cochain) : Type 0 where
+  pub cocycle : IsCocycle w
+  pub same : w.quandle ≡ quandle
+  pub few : w.modulus ≤ MAX_MODULUS
+
+-- two diagrams, a quandle and a cocycle of it
+pub record HasWeightText (w : WeightText) : Type 0 where
+  pub first : HasDiagramText w.first
+  pub second : HasDiagramText w.second
+  pub listed : HasQuandleText w.listed
+  pub cocycle : HasCocycleText w.listed.table w.cocycle
+
+abbrev pub weight_lines : WeightText → List (List (List ℕ))
+weight_lines w = diagram_lines w.first ++ (diagram_lines w.second ++ (quandle_lines (codes "quandle") w.listed ++ cocycle_lines w.cocycle))

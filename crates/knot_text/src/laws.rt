@@ -12,20 +12,29 @@ ghost use Rattle.text_lines.specs.Spelled.{lines_text};
 ghost use Rattle.verdict_core.specs.declared.diagrams.Diagram.TheVariants as diagram;
 ghost use Rattle.verdict_core.specs.Names.{NamedQuandle};
 ghost use Rattle.knot_text.specs.Quandles.{built_in};
-ghost use Rattle.knot_text.specs.Grids.{grid_item};
+ghost use Rattle.knot_text.specs.Numbers.{numbers_below};
+ghost use Rattle.knot_text.specs.Grids.{x_at, o_at, grid_item};
 ghost use Rattle.knot_text.specs.Braids.{braid_item};
 ghost use Rattle.knot_text.specs.Moves.{moves_item};
 ghost use Rattle.knot_text.specs.Quandles.{quandle_item};
-ghost use Rattle.knot_text.specs.Colours.{colours_item};
+ghost use Rattle.knot_text.specs.Colours.{colours_at, colours_item};
 ghost use Rattle.knot_text.specs.Verdicts.{verdict_item};
 ghost use Rattle.verdict_core.specs.Diagrams.{grid_of, columns};
 ghost use Rattle.knot_text.specs.Shapes.{diagram_item, problem_item, problem_in, check_in, replay_in, colour_in, close_in, lone_diagram_in, problem_of, check_of, replay_of, colour_of, close_of, lone_diagram_of};
+ghost use Rattle.knot_text.specs.Pairs.{pair_in, pair_of};
+ghost use Rattle.knot_text.specs.BraidSteps.{step_at, steps_item};
+ghost use Rattle.knot_text.specs.BraidChecks.{braidcheck_in, braidcheck_of};
+ghost use Rattle.knot_text.specs.Weights.{weight_in, weight_of};
 ghost use Rattle.knot_text.specs.Printed.{grid_text, braid_text, moves_text, verdict_lines, verdict_text, HaveText, HasVerdictText};
 ghost use Rattle.knot_text.specs.Printed.{grid_lines, moves_lines, quandle_lines, quandle_text, braid_lines, diagram_lines, colours_lines, colours_text, HasQuandleText, HasDiagramText};
-ghost use Rattle.knot_text.specs.WrittenThere.{StandInFront, said_by, HasProblemText, problem_lines, IsProblemText, IsCheckText, HasReplayText, replay_lines, IsColourText, IsCloseText};
+ghost use Rattle.knot_text.specs.WrittenThere.{StandInFront, said_by, HasProblemText, problem_lines, IsProblemText, IsCheckText, HasReplayText, replay_lines, IsColourText, IsCloseText, IsPairText};
+ghost use Rattle.knot_text.specs.WrittenThere.{HasWeightText, weight_lines};
+ghost use Rattle.knot_text.specs.LineKinds.{FailsByKind, x_kind, o_kind, colours_kind, below_kind, step_kind};
 ghost use Rattle.knot_text.specs.FirstBadLine.{put_behind, IsStable, FailsFirst};
 
+use crate::braid_checks::BraidCheckText;
 use crate::shapes::{CloseText, ColourText, ReplayText};
+use crate::weights::WeightText;
 use grid_moves::Move;
 use verdict_core::{Diagram, ProblemText, Verdict};
 
@@ -80,6 +89,9 @@ pub fn a_text_has_one_reading()
     ensures colour { (a b : List ℕ) (c : ColourText) → said_by a ≡ said_by b → colour_of a ≡ Ok c → colour_of b ≡ Ok c }
     ensures close { (a b : List ℕ) (c : CloseText) → said_by a ≡ said_by b → close_of a ≡ Ok c → close_of b ≡ Ok c }
     ensures diagram { (a b : List ℕ) (d : Diagram) → said_by a ≡ said_by b → lone_diagram_of a ≡ Ok d → lone_diagram_of b ≡ Ok d }
+    ensures pair { (a b : List ℕ) (d e : Diagram) → said_by a ≡ said_by b → pair_of a ≡ Ok (d, e) → pair_of b ≡ Ok (d, e) }
+    ensures braidcheck { (a b : List ℕ) (i : BraidCheckText) → said_by a ≡ said_by b → braidcheck_of a ≡ Ok i → braidcheck_of b ≡ Ok i }
+    ensures weights { (a b : List ℕ) (w : WeightText) → said_by a ≡ said_by b → weight_of a ≡ Ok w → weight_of b ≡ Ok w }
 {}
 
 /// A printed text is that of one value alone.
@@ -99,6 +111,19 @@ pub fn a_fault_is_that_of_the_first_bad_line()
     ensures colour { FailsFirst colour_in }
     ensures close { FailsFirst close_in }
     ensures diagram { FailsFirst lone_diagram_in }
+    ensures pair { FailsFirst pair_in }
+    ensures braidcheck { FailsFirst braidcheck_in }
+    ensures weights { FailsFirst weight_in }
+{}
+
+/// A line is over a limit exactly where it has the form of its kind and exceeds a limit, and malformed exactly where it has
+/// not the form, or has it, exceeds no limit, and says what can't be. Form, limits and content are those of `LineKinds`.
+pub fn a_line_fails_by_its_form_then_its_limits_then_its_content()
+    ensures x { FailsByKind x_kind x_at }
+    ensures o { (x : List ℕ) → FailsByKind (o_kind x) (o_at x) }
+    ensures colours { (width order : ℕ) → FailsByKind (colours_kind width order) (colours_at width order) }
+    ensures below { (width order : ℕ) → FailsByKind (below_kind width order) (numbers_below width order) }
+    ensures step { FailsByKind step_kind step_at }
 {}
 
 /// An item is read from the front of a text in the same way whatever whole lines are put behind the text.
@@ -108,6 +133,7 @@ pub fn items_are_read_whatever_stands_behind()
     ensures diagram { IsStable diagram_item }
     ensures quandle { IsStable quandle_item }
     ensures moves { IsStable moves_item }
+    ensures steps { IsStable steps_item }
     ensures colours { (width order : ℕ) → IsStable (colours_item width order) }
     ensures verdict { (one two : ℕ) → IsStable (verdict_item one two) }
 {}
@@ -163,6 +189,8 @@ pub fn a_text_is_read_as_what_it_says()
     ensures close { (bytes : List ℕ) (c : CloseText) → close_of bytes ≡ Ok c ↔ IsCloseText (said_by bytes) c }
     ensures diagram { (bytes : List ℕ) (d : Diagram)
         → lone_diagram_of bytes ≡ Ok d ↔ (HasDiagramText d × (said_by bytes ≡ diagram_lines d)) }
+    ensures pair { (bytes : List ℕ) (d e : Diagram) → pair_of bytes ≡ Ok (d, e) ↔ IsPairText (said_by bytes) (d, e) }
+    ensures weights { (bytes : List ℕ) (w : WeightText) → weight_of bytes ≡ Ok w ↔ (HasWeightText w × (said_by bytes ≡ weight_lines w)) }
 {}
 
 /// A printed grid and printed moves are read as a replay, and with a printed quandle and printed colours behind them as one

@@ -14,7 +14,7 @@ use text_lines::{Line, Lines};
 
 /// The one place of a move that ends its line.
 #[tactic(auto, unfolding(crate::specs::Moves::last_place))]
-fn last_place(line: &mut Line) -> Result<u8, TextFault>
+pub(crate) fn last_place(line: &mut Line) -> Result<u8, TextFault>
     ensures { Gives (λ n. n) result (last_place line.old) }
 {
     let value = last_number(line)?;

@@ -1,12 +1,14 @@
 //! The texts of grids, moves and verdicts.
-ghost use Rattle.std.specs.Prelude.{◌≡◌, ◌<◌, ◌++◌, codes, map, length, IfOk, OnOk};
+ghost use Rattle.std.specs.Prelude.{◌≡◌, ◌<◌, ◌++◌, codes, map, length, IfOk, OnOk, OnErr};
 ghost use Rattle.std.specs.List.{range_with_len};
 ghost use Rattle.std.specs.Fmt.{decimal};
 ghost use Rattle.quandle_core.specs.Quandle.{over};
 ghost use Rattle.text_lines.specs.Spelled.{line_text, lines_text};
+ghost use Rattle.text_lines.specs.Appended.{AppendsPart};
 ghost use Rattle.verdict_core.specs.Names.{NamedQuandle};
 ghost use Rattle.knot_text.specs.Printed.{kind_word, corner_word, grid_text, move_tokens, moves_lines, moves_text, row_tokens, table_lines, quandle_lines, name_tokens, list_lines, verdict_text};
 
+use crate::colour_lines::push_colour_line;
 use arrayvec::ArrayVec;
 use colour_rows::Colouring;
 use grid_core::{Corner, Grid, Kind};
@@ -173,7 +175,8 @@ fn corner_word(corner: Corner) -> &'static [u8]
 /// Appends a line of a word and the name of a quandle, and behind it the lines of a table.
 /// Where memory is wanting, a part of it may have been appended.
 pub fn push_quandle(out: &mut Vec<u8>, word: &[u8], listed: &Listed) -> Result<(), AllocError>
-    ensures { OnOk result (out.new.items ≡ out.old.items ++ lines_text (quandle_lines word.now listed.now)) }
+    ensures text { OnOk result (out.new.items ≡ out.old.items ++ lines_text (quandle_lines word.now listed.now)) }
+    ensures part { OnErr result (AppendsPart out.old.items out.new.items (lines_text (quandle_lines word.now listed.now))) }
 {
     out.extend_from_slice(word)?;
     match listed.name() {
@@ -189,7 +192,8 @@ pub fn push_quandle(out: &mut Vec<u8>, word: &[u8], listed: &Listed) -> Result<(
 
 /// Appends `table` with the order of a quandle behind a word, and its lines.
 fn push_table(out: &mut Vec<u8>, quandle: &Quandle) -> Result<(), AllocError>
-    ensures { OnOk result (out.new.items ≡ out.old.items ++ ((codes " table " ++ (decimal quandle.now.order ++ codes "\n")) ++ lines_text (map (row_tokens quandle.now) (range_with_len 0 quandle.now.order)))) }
+    ensures text { OnOk result (out.new.items ≡ out.old.items ++ ((codes " table " ++ (decimal quandle.now.order ++ codes "\n")) ++ lines_text (map (row_tokens quandle.now) (range_with_len 0 quandle.now.order)))) }
+    ensures part { OnErr result (AppendsPart out.old.items out.new.items ((codes " table " ++ (decimal quandle.now.order ++ codes "\n")) ++ lines_text (map (row_tokens quandle.now) (range_with_len 0 quandle.now.order)))) }
 {
     push_counted(out, b" table ", u64::from(quandle.order()))?;
     push_rows(out, quandle)
@@ -197,7 +201,8 @@ fn push_table(out: &mut Vec<u8>, quandle: &Quandle) -> Result<(), AllocError>
 
 /// Appends a line for each row of a table.
 fn push_rows(out: &mut Vec<u8>, quandle: &Quandle) -> Result<(), AllocError>
-    ensures { OnOk result (out.new.items ≡ out.old.items ++ lines_text (map (row_tokens quandle.now) (range_with_len 0 quandle.now.order))) }
+    ensures text { OnOk result (out.new.items ≡ out.old.items ++ lines_text (map (row_tokens quandle.now) (range_with_len 0 quandle.now.order))) }
+    ensures part { OnErr result (AppendsPart out.old.items out.new.items (lines_text (map (row_tokens quandle.now) (range_with_len 0 quandle.now.order)))) }
 {
     for x in 0..quandle.order() {
         push_number_line(out, row_of(quandle, x).as_slice())?;
@@ -220,7 +225,8 @@ fn row_of(quandle: &Quandle, x: u8) -> ArrayVec<u8, MAX_ORDER>
 /// Appends `list` with how many colourings there are, and a line of colours by column for each.
 /// Where memory is wanting, a part of it may have been appended.
 pub fn push_list(out: &mut Vec<u8>, colourings: &[Colouring]) -> Result<(), AllocError>
-    ensures { OnOk result (out.new.items ≡ out.old.items ++ lines_text (list_lines colourings.now)) }
+    ensures text { OnOk result (out.new.items ≡ out.old.items ++ lines_text (list_lines colourings.now)) }
+    ensures part { OnErr result (AppendsPart out.old.items out.new.items (lines_text (list_lines colourings.now))) }
 {
     push_counted(out, b"list ", colourings.len() as u64)?;
     push_colourings(out, colourings)
@@ -228,10 +234,11 @@ pub fn push_list(out: &mut Vec<u8>, colourings: &[Colouring]) -> Result<(), Allo
 
 /// Appends a line of colours for each colouring.
 fn push_colourings(out: &mut Vec<u8>, colourings: &[Colouring]) -> Result<(), AllocError>
-    ensures { OnOk result (out.new.items ≡ out.old.items ++ lines_text (map (λ c. map decimal c.items) colourings.now)) }
+    ensures text { OnOk result (out.new.items ≡ out.old.items ++ lines_text (map (λ c. map decimal c.items) colourings.now)) }
+    ensures part { OnErr result (AppendsPart out.old.items out.new.items (lines_text (map (λ c. map decimal c.items) colourings.now))) }
 {
     for colours in colourings {
-        push_number_line(out, colours.as_slice())?;
+        push_colour_line(out, colours)?;
     }
     Ok(())
 }

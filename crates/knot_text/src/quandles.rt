@@ -99,34 +99,38 @@ fn meant(written: Written) -> Option<Listed>
     }
 }
 
-/// A line of a table.
+/// A line of a square table of numbers below the bound.
 #[tactic(auto, unfolding(crate::specs::Quandles::table_row))]
-fn table_row(order: u8, lines: &mut Lines) -> Result<Rows, TextFault>
+fn table_row(order: u8, bound: u8, lines: &mut Lines) -> Result<Rows, TextFault>
     requires { order ≤ MAX_ORDER }
-    ensures row { Gives (λ r. (r.items, lines.new)) result (table_row order lines.old) }
+    ensures row { Gives (λ r. (r.items, lines.new)) result (table_row order bound lines.old) }
     ensures len { IfOk result (λ r. array_vec_len r ≡ order) }
 {
     let mut line = next_line(lines)?;
-    numbers_below(order, order, &mut line)
+    numbers_below(order, bound, &mut line)
 }
 
 /// Appends a line of a table to its entries.
-fn append(entries: &mut ArrayVec<u8, MAX_TABLE>, row: &[u8])
+pub(crate) fn append(entries: &mut ArrayVec<u8, MAX_TABLE>, row: &[u8])
     requires { array_vec_len entries.old + length row.now ≤ MAX_TABLE }
     ensures { entries.new.items ≡ entries.old.items ++ row.now }
 {
     entries.try_extend_from_slice(row).unwrap();
 }
 
-/// The entries of all lines of a table but the last.
-fn table_front(order: u8, lines: &mut Lines) -> Result<ArrayVec<u8, MAX_TABLE>, TextFault>
+/// The entries of all lines of a square table but the last, each below the bound.
+pub(crate) fn table_front(
+    order: u8,
+    bound: u8,
+    lines: &mut Lines,
+) -> Result<ArrayVec<u8, MAX_TABLE>, TextFault>
     requires { (1 ≤ order) × (order ≤ MAX_ORDER) }
-    ensures rows { Gives (λ v. (v.items, lines.new)) result (table_rows order (order - 1) lines.old) }
+    ensures rows { Gives (λ v. (v.items, lines.new)) result (table_rows order bound (order - 1) lines.old) }
     ensures len { IfOk result (λ v. array_vec_len v ≡ (order - 1) * order) }
 {
     let mut entries = ArrayVec::new();
     for _ in 1..order {
-        let row = table_row(order, lines)?;
+        let row = table_row(order, bound, lines)?;
         append(&mut entries, row.as_slice());
     }
     Ok(entries)
@@ -138,7 +142,7 @@ fn table_item(order: u8, lines: &mut Lines) -> Result<Listed, TextFault>
     requires { (1 ≤ order) × (order ≤ MAX_ORDER) }
     ensures { Gives (λ q. (q, lines.new)) result (table_item order lines.old) }
 {
-    let mut entries = table_front(order, lines)?;
+    let mut entries = table_front(order, order, lines)?;
     let mut line = next_line(lines)?;
     let at = line.number();
     let row = numbers_below(order, order, &mut line)?;

@@ -8,8 +8,11 @@ use text_lines::{Line, Lines};
 /// The greatest number that a text may have, of nine digits: each one above it exceeds a limit.
 pub const MAX_NUMBER: u32 = 999_999_999;
 
-/// The greatest number of a move line.
+/// The greatest number of a move line or a step line.
 pub const MAX_PLACE: u32 = u8::MAX as u32;
+
+/// The greatest absolute value of a letter of a step line.
+pub const MAX_LETTER: u64 = i8::MAX as u64;
 
 /// The line that is due.
 #[tactic(auto, unfolding(crate::specs::Reading::next_line))]

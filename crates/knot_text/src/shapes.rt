@@ -125,7 +125,7 @@ pub fn read_diagram(alloc: Global, bytes: &[u8]) -> Result<Diagram, TextFault>
 
 /// A braid where a line that begins with `braid` is next, else a grid. Takes memory for the letters of a braid alone.
 #[tactic(auto, unfolding(crate::specs::Shapes::diagram_item))]
-fn diagram_item(alloc: Global, lines: &mut Lines) -> Result<Diagram, TextFault>
+pub(crate) fn diagram_item(alloc: Global, lines: &mut Lines) -> Result<Diagram, TextFault>
     ensures { Gives (λ d. (d, lines.new)) result (diagram_item lines.old) }
 {
     if lines.begins(b"braid") {

@@ -5,6 +5,8 @@ mod grids;
 mod printed;
 mod quandles;
 mod replays;
+mod steps;
+mod weights;
 
 use crate::fault::TextFault;
 

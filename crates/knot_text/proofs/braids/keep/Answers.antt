@@ -11,7 +11,8 @@ pub returns-else-is_full : goal.returns-else-is_full
 returns-else-is_full c =
     let kept = c.args.kept.now in
     let next : KeptLetters = record { first = c.push.new.self; more = kept.more; long = c.if-kept.kept } in
-    let long : next.long ≡ (kept.long || is_long_letter c.args.letter) = elim c.if-kept.branch [ then-kept w ↦ (search rules) | else-kept w ↦ (search rules) ] in
+    let long : next.long ≡ (kept.long || is_long_letter c.args.letter) =
+    elim c.if-kept.branch [ then-kept w ↦ (search rules) | else-kept w ↦ (search rules) ] in
     let low : c.low_letter.result ≡ low_letter c.args.letter = search rules in
     let first : next.first.items ≡ kept.first.items ++ c.low_letter.result ∷ [] = search rules in
     let room : length kept.first.items < MAX_SIZE = grind (arith, c.is_full.ensures.value, c.is_full.ensures.fits, c.if-is_full.false) in

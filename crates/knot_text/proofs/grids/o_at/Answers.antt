@@ -23,7 +23,8 @@ returns-in-Ok c =
     let fits : length x ≤ MAX_SIZE = subst (λ (n : ℕ). n ≤ MAX_SIZE) c.len.ensures.value c.len.ensures.fits in
     let test : list_all (λ v. nat_lt v (length x)) rows.items ≡ true =
     sym (c.all_below.ensures ∙ ap₂ (λ (vs : List ℕ) (n : ℕ). list_all (λ v. nat_lt v n) vs) c.as_slice.ensures.value c.len.ensures.value) ∙ c.if-not-all_below.false in
-    let none : first_fault x rows.items ≡ None = ap₂ first_fault (sym c.as_slice-2.ensures.value) (sym c.as_slice-3.ensures.value) ∙ sym c.in-Ok.ensures.fault in
+    let none : first_fault x rows.items ≡ None =
+    ap₂ first_fault (sym c.as_slice-2.ensures.value) (sym c.as_slice-3.ensures.value) ∙ sym c.in-Ok.ensures.fault in
     let grid : c.in-Ok.grid ≡ record { x = x; o = rows.items } =
     c.in-Ok.ensures.grid ∙ ap₂ (λ (xs os : List ℕ). record { x = xs; o = os }) c.as_slice-2.ensures.value c.as_slice-3.ensures.value in
     o_good rows x c.args.line.now fits c.in_ok-rows.ensures test none ∙ ap (λ (d : Diagram). Ok d) (sym grid)
@@ -35,5 +36,6 @@ returns-in-Err c =
     let fits : length x ≤ MAX_SIZE = subst (λ (n : ℕ). n ≤ MAX_SIZE) c.len.ensures.value c.len.ensures.fits in
     let test : list_all (λ v. nat_lt v (length x)) rows.items ≡ true =
     sym (c.all_below.ensures ∙ ap₂ (λ (vs : List ℕ) (n : ℕ). list_all (λ v. nat_lt v n) vs) c.as_slice.ensures.value c.len.ensures.value) ∙ c.if-not-all_below.false in
-    let some : first_fault x rows.items ≡ Some c.in-Err.field-0 = ap₂ first_fault (sym c.as_slice-2.ensures.value) (sym c.as_slice-3.ensures.value) ∙ sym c.in-Err.ensures.fault in
+    let some : first_fault x rows.items ≡ Some c.in-Err.field-0 =
+    ap₂ first_fault (sym c.as_slice-2.ensures.value) (sym c.as_slice-3.ensures.value) ∙ sym c.in-Err.ensures.fault in
     o_bad rows x c.args.line.now c.in-Err.field-0 fits c.in_ok-rows.ensures test some ∙ ap (λ n. Err (Malformed n)) (sym c.number-at.ensures)

@@ -1,4 +1,6 @@
-use Rattle.knot_text.proofs.ShapesFail.{problem_fails, check_fails, replay_fails, colour_fails, close_fails, lone_diagram_fails}
+use Rattle.knot_text.proofs.ShapesFail.{problem_fails, check_fails, replay_fails, colour_fails, close_fails, lone_diagram_fails, pair_fails}
+use Rattle.knot_text.proofs.BraidChecksFail.{braidcheck_fails}
+use Rattle.knot_text.proofs.WeightsFail.{weight_fails}
 use Rattle.knot_text.proofs.laws.a_fault_is_that_of_the_first_bad_line.Goals as goal
 
 pub returns-clause-problem : goal.returns-clause-problem
@@ -18,3 +20,12 @@ returns-clause-close c = close_fails
 
 pub returns-clause-diagram : goal.returns-clause-diagram
 returns-clause-diagram c = lone_diagram_fails
+
+pub returns-clause-pair : goal.returns-clause-pair
+returns-clause-pair c = pair_fails
+
+pub returns-clause-braidcheck : goal.returns-clause-braidcheck
+returns-clause-braidcheck c = braidcheck_fails
+
+pub returns-clause-weights : goal.returns-clause-weights
+returns-clause-weights c = weight_fails

@@ -1,4 +1,6 @@
-use Rattle.knot_text.proofs.Readings.{problem_again, check_again, replay_again, colour_again, close_again, diagram_again}
+use Rattle.knot_text.proofs.Readings.{problem_again, check_again, replay_again, colour_again, close_again, diagram_again, pair_again}
+use Rattle.knot_text.proofs.BraidChecksAlike.{braidcheck_again}
+use Rattle.knot_text.proofs.WeightsAgain.{weight_again}
 use Rattle.knot_text.proofs.laws.a_text_has_one_reading.Goals as goal
 
 pub returns-clause-problem : goal.returns-clause-problem
@@ -18,3 +20,12 @@ returns-clause-close c = close_again
 
 pub returns-clause-diagram : goal.returns-clause-diagram
 returns-clause-diagram c = diagram_again
+
+pub returns-clause-pair : goal.returns-clause-pair
+returns-clause-pair c = pair_again
+
+pub returns-clause-braidcheck : goal.returns-clause-braidcheck
+returns-clause-braidcheck c = braidcheck_again
+
+pub returns-clause-weights : goal.returns-clause-weights
+returns-clause-weights c = weight_again

@@ -1,6 +1,9 @@
 use Rattle.text_lines.specs.Lines.{text_of}
-use Rattle.knot_text.proofs.ShapesSay.{problem_in_says, check_in_says, replay_in_says, colour_in_says, close_in_says, lone_diagram_in_says}
-use Rattle.knot_text.proofs.ShapesAgain.{problem_in_written, check_in_written, replay_in_written, colour_in_written, close_in_written, lone_diagram_in_written}
+use Rattle.knot_text.proofs.ShapesSay.{problem_in_says, check_in_says, replay_in_says, colour_in_says, close_in_says, lone_diagram_in_says, pair_in_says}
+use Rattle.knot_text.proofs.ShapesAgain.{problem_in_written, check_in_written, replay_in_written, colour_in_written, close_in_written}
+use Rattle.knot_text.proofs.ShapesAgain.{lone_diagram_in_written, pair_in_written}
+use Rattle.knot_text.proofs.WeightsSay.{weight_in_says}
+use Rattle.knot_text.proofs.WeightsAgain.{weight_in_written}
 use Rattle.knot_text.proofs.laws.a_text_is_read_as_what_it_says.Goals as goal
 
 pub returns-clause-problem : goal.returns-clause-problem
@@ -20,3 +23,9 @@ returns-clause-close c = λ bytes r. ((close_in_says (text_of bytes)).of r, clos
 
 pub returns-clause-diagram : goal.returns-clause-diagram
 returns-clause-diagram c = λ bytes d. ((lone_diagram_in_says (text_of bytes)).of d, λ w. lone_diagram_in_written (text_of bytes) d w.0 w.1)
+
+pub returns-clause-pair : goal.returns-clause-pair
+returns-clause-pair c = λ bytes d e. ((pair_in_says (text_of bytes)).of (d, e), pair_in_written (text_of bytes) d e)
+
+pub returns-clause-weights : goal.returns-clause-weights
+returns-clause-weights c = λ bytes w. ((weight_in_says (text_of bytes)).of w, λ x. weight_in_written (text_of bytes) w x.0 x.1)

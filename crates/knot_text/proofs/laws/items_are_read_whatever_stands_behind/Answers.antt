@@ -1,6 +1,7 @@
 use Rattle.knot_text.specs.Grids.{grid_item}
 use Rattle.knot_text.specs.Braids.{braid_item}
 use Rattle.knot_text.specs.Moves.{moves_item}
+use Rattle.knot_text.specs.BraidSteps.{steps_item}
 use Rattle.knot_text.specs.Quandles.{quandle_item}
 use Rattle.knot_text.specs.Colours.{colours_item}
 use Rattle.knot_text.specs.Verdicts.{verdict_item}
@@ -8,6 +9,7 @@ use Rattle.knot_text.specs.Shapes.{diagram_item}
 use Rattle.knot_text.proofs.Steady.{stable}
 use Rattle.knot_text.proofs.ItemsSteady.{grid_steady, braid_steady, moves_steady, quandle_steady, colours_steady, verdict_steady}
 use Rattle.knot_text.proofs.ShapesFail.{diagram_steady}
+use Rattle.knot_text.proofs.BraidChecksFail.{steps_steady}
 use Rattle.knot_text.proofs.laws.items_are_read_whatever_stands_behind.Goals as goal
 
 pub returns-clause-grid : goal.returns-clause-grid
@@ -30,3 +32,6 @@ returns-clause-colours c = λ width order. stable (colours_item width order) (co
 
 pub returns-clause-verdict : goal.returns-clause-verdict
 returns-clause-verdict c = λ one two. stable (verdict_item one two) (verdict_steady one two)
+
+pub returns-clause-steps : goal.returns-clause-steps
+returns-clause-steps c = stable steps_item steps_steady

@@ -6,7 +6,8 @@ use Rattle.knot_text.proofs.printed.row_of.Goals as goal
 
 pub push-requires : goal.push-requires
 push-requires c =
-    let len : length c.loop-y.row.items ≡ c.loop-y.y = ap (λ (xs : List ℕ). length xs) c.loop-y.invariant ∙ length-map-range_with_len (over c.args.quandle.now c.args.x) 0 c.loop-y.y in
+    let len : length c.loop-y.row.items ≡ c.loop-y.y =
+    ap (λ (xs : List ℕ). length xs) c.loop-y.invariant ∙ length-map-range_with_len (over c.args.quandle.now c.args.x) 0 c.loop-y.y in
     (omega arith, omega (arith, len, c.order-y-end.ensures.order, c.order-y-end.ensures.quandle.most))
 
 pub loop-y-preserved : goal.loop-y-preserved

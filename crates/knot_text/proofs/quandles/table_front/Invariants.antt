@@ -6,5 +6,5 @@ use Rattle.knot_text.proofs.quandles.table_front.Given as goal
 abbrev pub invariant-loop : goal.invariant-loop
 invariant-loop l = record {
   len : length l.entries.items ≡ (l.counter - 1) * l.order;
-  read : with_front l.entries.items (table_rows l.order (l.order - l.counter) l.lines) ≡ table_rows l.order (l.order - 1) l.fn.lines;
+  read : with_front l.entries.items (table_rows l.order l.bound (l.order - l.counter) l.lines) ≡ table_rows l.order l.bound (l.order - 1) l.fn.lines;
 }

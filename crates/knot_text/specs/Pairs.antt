@@ -1,0 +1,19 @@
+-- The whole text of two diagrams.
+use Rattle.std.specs.Prelude.{ℕ, List, Result, Ok}
+use Rattle.text_lines.specs.Lines.{Text, text_of}
+use Rattle.verdict_core.specs.declared.diagrams.Diagram.{Diagram}
+use Rattle.knot_text.specs.declared.fault.TextFault.{TextFault}
+use Rattle.knot_text.specs.Reading.{◌>>=◌, text_end}
+use Rattle.knot_text.specs.Shapes.{diagram_item}
+
+-- two diagrams, and nothing behind them
+unfoldable pub pair_in : Text → Result (Diagram × Diagram) TextFault
+pair_in text = do
+  first ← diagram_item text
+  second ← diagram_item first.1
+  end ← text_end second.1
+  Ok (first.0, second.0)
+
+-- the same of bytes
+abbrev pub pair_of : List ℕ → Result (Diagram × Diagram) TextFault
+pair_of bytes = pair_in (text_of bytes)

@@ -1,0 +1,23 @@
+//! The text of two diagrams.
+ghost use Rattle.std.specs.Prelude.{◌≡◌};
+ghost use Rattle.knot_text.specs.Reading.{Gives};
+ghost use Rattle.knot_text.specs.Pairs.{pair_of};
+
+use crate::fault::TextFault;
+use crate::reading::text_end;
+use crate::shapes::diagram_item;
+use std::alloc::Global;
+use text_lines::Lines;
+use verdict_core::Diagram;
+
+/// Two diagrams, and nothing behind them. Else the fault of the first bad line, or want of memory.
+#[tactic(auto, unfolding(crate::specs::Pairs::pair_in))]
+pub fn read_pair(alloc: Global, bytes: &[u8]) -> Result<(Diagram, Diagram), TextFault>
+    ensures { Gives (λ p. p) result (pair_of bytes.now) }
+{
+    let mut lines = Lines::new(bytes);
+    let first = diagram_item(alloc, &mut lines)?;
+    let second = diagram_item(alloc, &mut lines)?;
+    text_end(&mut lines)?;
+    Ok((first, second))
+}
