@@ -1,9 +1,11 @@
 //! The program: standard input and output, and the status as the exit status.
-//! All that it does is `run`; the words come from the system, and where it gives none main ends by itself.
+//! All that it does is `run`, with a gate that lets everyone pass; the words come from the system, and where it gives none main
+//! ends by itself.
 #![tactic(auto)]
 
 use knot_jobs::run;
 use knot_ports::{StdSink, StdSource};
+use search_pool::OpenGate;
 use std::io;
 use std::process::ExitCode;
 
@@ -28,6 +30,14 @@ fn main(rt: HostRuntime) -> ExitCode {
     let mut source = StdSource::new(rt.stdin());
     let mut sink = StdSink::new(rt.stdout());
     let mut kept = None;
-    let status = run(alloc, words.as_slice(), &mut source, &mut sink, &mut kept);
+    let status = run(
+        &rt,
+        alloc,
+        words.as_slice(),
+        &mut source,
+        &mut sink,
+        &OpenGate,
+        &mut kept,
+    );
     ExitCode::from(status.number())
 }

@@ -64,16 +64,16 @@ quandles_text bytes p is =
 
 -- the law that a decision has a text
 abbrev pub HaveTexts : Type 0
-HaveTexts = (p : Problem) (quandles : List NamedQuandle) (v : Verdict) (kept : Option Finding) → IsGrid p.first → IsGrid p.second
-    → AllByRecursion HasQuandleText quandles → Decides p quandles v kept → IsShort v → HasVerdictText (size p.first) (size p.second) v
+HaveTexts = (p : Problem) (quandles : List NamedQuandle) (workers : ℕ) (v : Verdict) (kept : Option Finding) → IsGrid p.first → IsGrid p.second
+    → AllByRecursion HasQuandleText quandles → Decides p quandles workers v kept → IsShort v → HasVerdictText (size p.first) (size p.second) v
 
-pub has_text : HaveTexts → (bytes : List ℕ) (asked : Asked) (input : ProblemText) (v : Verdict) (kept : Option Finding) → problem_of bytes ≡ Ok input
-    → Decides (problem_for asked (grid_of input.first) (grid_of input.second)) input.quandles v kept
+pub has_text : HaveTexts → (bytes : List ℕ) (asked : Asked) (input : ProblemText) (workers : ℕ) (v : Verdict) (kept : Option Finding) → problem_of bytes ≡ Ok input
+    → Decides (problem_for asked (grid_of input.first) (grid_of input.second)) input.quandles workers v kept
     → IsShort v → HasVerdictText (columns input.first) (columns input.second) v
-has_text texts bytes asked input v kept read decides short =
+has_text texts bytes asked input workers v kept read decides short =
     let p = problem_for asked (grid_of input.first) (grid_of input.second) in
     let grids = grids_of_problem bytes input read in
-    texts p input.quandles v kept grids.0 grids.1 (quandles_text bytes input read) decides short
+    texts p input.quandles workers v kept grids.0 grids.1 (quandles_text bytes input read) decides short
 
 -- ---- a verdict has a line for each of its moves
 

@@ -1,24 +1,27 @@
 -- How a call ends, from what was answered and what was written.
-use Rattle.std.proofs.Common.{◌≡◌, ◌≤◌, ◌+◌, ◌++◌, ℕ, List, [], Bool, true, false, length, take, Option, Some, None, is_some, arith, refl, sym, ap, subst, ◌∙◌, inl, inr, ◌⊎◌, if◌then◌else◌}
+use Rattle.std.proofs.Common.{◌≡◌, ◌≤◌, ◌+◌, ◌++◌, ℕ, List, [], Bool, true, false, length, take, Option, Some, None, is_some, Result, Ok, Err, IfOk, IfErr, arith, refl, sym, ap, subst, ◌∙◌, inl, inr, ◌⊎◌, if◌then◌else◌}
 use Rattle.std.specs.Io.KnownBytes.{Appends, Consumes, IsAtEnd}
 use Rattle.std.proofs.lemmas.Bool.{cases_lt}
 use Rattle.std.proofs.lemmas.List.{append-nil, take_at, take_all, length-take-le}
 use Rattle.search_pool.specs.declared.finding.Finding.{Finding}
 use Rattle.knot_jobs.specs.declared.reply.Reply.{Reply}
-use Rattle.knot_jobs.specs.declared.words.Job.TheVariants.{Decide}
+use Rattle.knot_jobs.specs.declared.words.Job.{Job}
 use Rattle.knot_jobs.specs.declared.words.Asked.{Asked}
+use Rattle.knot_jobs.specs.declared.words.WordsFault.{WordsFault}
+use Rattle.knot_jobs.specs.declared.words.WordsFault.TheVariants as bad_words
 use Rattle.knot_jobs.specs.declared.status.Status.{Status}
 use Rattle.knot_jobs.specs.declared.status.Status.TheVariants as status
 use Rattle.knot_jobs.specs.Words.{Asks, AsksNothing}
 use Rattle.knot_jobs.specs.Status.{IsOfAnswer}
 use Rattle.knot_jobs.specs.Reply.{without_search, too_long}
-use Rattle.knot_jobs.specs.Answer.{limit_of, part_for, IsOver, IsWithin, AnswersText, Answers}
-use Rattle.knot_jobs.specs.Call.{Call, Change, IsUntouched, Failed, TakesAll, Comes}
-use Rattle.knot_jobs.specs.Ending.{usage_line, IsReplyTo, IsAnswered, IsMisused, IsDue, IsCutOff, Writes, Ends}
+use Rattle.knot_jobs.specs.Jobs.Decide.{with_workers}
+use Rattle.knot_jobs.specs.Answer.{limit_of, part_for, leaves_no_choice, IsOver, IsWithin, AnswersText, Answers}
+use Rattle.knot_jobs.specs.Call.{Call, Change, IsUntouched, Failed, TakesAll, Comes, Loses}
+use Rattle.knot_jobs.specs.Ending.{usage_line, IsReplyTo, IsAnswered, IsMisused, IsDue, IsCutOff, LosesInput, Writes, Ends}
 use Rattle.knot_jobs.specs.Truth.{IsTrueReply, TellsOnlyTruth}
-use Rattle.knot_jobs.specs.Delivered.{IsWritten, IsDelivered}
+use Rattle.knot_jobs.specs.Delivered.{IsWritten, IsDelivered, IsRefused, IsWithoutReply, IsEnded}
 use Rattle.knot_jobs.proofs.AskedOnce.{asked_once, never_both}
-use Rattle.knot_jobs.proofs.OneAnswer.{answer_status, answers_once, not_over}
+use Rattle.knot_jobs.proofs.OneAnswer.{answer_status, answers_once, not_decide, by_so_many, not_over}
 
 pub usage_ends : (call : Call) (s : Status) → AsksNothing call.words → IsUntouched call.source → IsWritten call.sink usage_line status.Usage s
     → Ends call s None
@@ -29,6 +32,20 @@ usage_ends call s refused source written =
       | inl whole ↦ subst (λ z. Ends call z None) (sym whole.0) (record { text = usage_line; is = misused; written = whole.1 })
       | inr cut ↦ subst (λ z. Ends call z None) (sym cut.0) (record { failed = cut.1.0; reply = usage; due = inr misused; front = cut.1.1 }, refl)
     ]
+
+-- the words are refused, or memory is wanting for them
+pub refused_ends : (call : Call) (fault : WordsFault) (s : Status) (kept : Option Finding) → (fault ≡ bad_words.Usage → AsksNothing call.words)
+    → IsUntouched call.source → IsRefused fault call.sink s → kept ≡ None → Ends call s kept
+refused_ends call bad_words.Usage s kept usage source refused none =
+    subst (λ k. Ends call s k) (sym none) (usage_ends call s (usage refl) source refused)
+refused_ends call bad_words.OutOfMemory s kept usage source refused none =
+    subst (λ z. Ends call z kept) (sym refused.0) ((inl source, refused.1), none)
+
+pub refused_truth : (call : Call) (fault : WordsFault) (s : Status) → (fault ≡ bad_words.Usage → AsksNothing call.words) → IsRefused fault call.sink s
+    → TellsOnlyTruth call s
+refused_truth call bad_words.Usage s usage refused = λ asked asks done. absurd (never_both call.words asked asks (usage refl))
+refused_truth call bad_words.OutOfMemory s usage refused = λ asked asks done.
+    absurd (let wrong : status.OutOfMemory ≡ status.Done = sym refused.0 ∙ done in cc)
 
 -- ---- an answer that was written
 
@@ -67,7 +84,8 @@ answer_ends call reply s kept a delivered = elim delivered [
       let same : reply ≡ record { status = s; text = reply.text; kept = kept } =
       λ i. record { status = sym whole.0.0 i; text = reply.text; kept = sym whole.0.1 i } in
       let b = subst (IsAnswered call) same a in
-      let own = of_answer s (answer_status b.asked b.answer.bytes (record { status = s; text = reply.text; kept = kept }) b.answer.answer) in
+      let asked = with_workers call.searching b.asked in
+      let own = of_answer s (answer_status asked b.answer.bytes (record { status = s; text = reply.text; kept = kept }) b.answer.answer) in
       written_ends call s kept own (record { text = reply.text; is = b; written = whole.1 })
   | inr cut ↦
       let cut_off : IsCutOff call = record { failed = cut.1.0; reply = reply; due = inl a; front = cut.1.1 } in
@@ -96,6 +114,57 @@ tells_truth call asked reply s kept asks delivered claim = λ other asks' done.
       | inl whole ↦ whole.1
       | inr cut ↦ absurd (let wrong : status.WriteFault ≡ status.Done = sym cut.0.0 ∙ done in cc)
     ]
+
+-- ---- a reply, or none
+
+-- what the reply to this input says is true
+abbrev pub IsTrueOf : Job → Change → Reply → Type 0
+IsTrueOf job source reply = (bytes : List ℕ) × (TakesAll (limit_of job) source bytes × IsTrueReply job bytes reply.text)
+
+loses : (call : Call) (asked : Asked) (more : ℕ) → Asks call.words asked → Loses (limit_of asked.job) more call.source → LosesInput call more
+loses call asked more asks lost = record { asked = asked; asks = asks; lost = lost }
+
+without_ends : (call : Call) (asked : Asked) (s : Status) → Asks call.words asked → IsWithoutReply (limit_of asked.job) call.source s
+    → IsUntouched call.sink → Ends call s None
+without_ends call asked s asks without sink = elim without [
+  | inl fault ↦ subst (λ z. Ends call z None) (sym fault.0) ((fault.1.0, loses call asked 0 asks fault.1.1, sink), refl)
+  | inr memory ↦ elim memory.1 [
+    | inl source ↦ subst (λ z. Ends call z None) (sym memory.0) ((inl source, sink), refl)
+    | inr lost ↦ subst (λ z. Ends call z None) (sym memory.0) ((inr (loses call asked 1 asks lost), sink), refl)
+  ]
+]
+
+ends_by : (call : Call) (asked : Asked) (reply : Result Reply Status) (s : Status) (kept : Option Finding) → Asks call.words asked
+    → IfOk reply (λ r. IsReplyTo (with_workers call.searching asked) call.source r)
+    → IfErr reply (λ e. IsWithoutReply (limit_of asked.job) call.source e) → IsEnded call.sink reply s kept → Ends call s kept
+ends_by call asked (Ok r) s kept asks answer without ended =
+    answer_ends call r s kept (record { asked = asked; asks = asks; answer = answer }) ended
+ends_by call asked (Err e) s kept asks answer without ended =
+    subst (λ k. Ends call s k) (sym ended.1) (subst (λ z. Ends call z None) (sym ended.0.0) (without_ends call asked e asks without ended.0.1))
+
+tells_by : (call : Call) (asked : Asked) (reply : Result Reply Status) (s : Status) (kept : Option Finding) → Asks call.words asked
+    → IfOk reply (λ r. r.status ≡ status.Done → IsTrueOf asked.job call.source r)
+    → IfErr reply (λ e. IsWithoutReply (limit_of asked.job) call.source e) → IsEnded call.sink reply s kept → TellsOnlyTruth call s
+tells_by call asked (Ok r) s kept asks claim without ended = tells_truth call asked r s kept asks ended claim
+tells_by call asked (Err e) s kept asks claim without ended = λ other asks' done. elim without [
+  | inl fault ↦ absurd (let wrong : status.ReadFault ≡ status.Done = sym fault.0 ∙ sym ended.0.0 ∙ done in cc)
+  | inr memory ↦ absurd (let wrong : status.OutOfMemory ≡ status.Done = sym memory.0 ∙ sym ended.0.0 ∙ done in cc)
+]
+
+-- of what was asked for, with as many workers as search
+pub reply_ends : (call : Call) (asked done : Asked) (reply : Result Reply Status) (s : Status) (kept : Option Finding) → Asks call.words asked
+    → done ≡ with_workers call.searching asked → IfOk reply (λ r. IsReplyTo done call.source r)
+    → IfErr reply (λ e. IsWithoutReply (limit_of done.job) call.source e) → IsEnded call.sink reply s kept → Ends call s kept
+reply_ends call asked done reply s kept asks same answer without ended =
+    ends_by call asked reply s kept asks (subst (λ (x : Asked). IfOk reply (λ r. IsReplyTo x call.source r)) same answer)
+    (subst (λ (x : Asked). IfErr reply (λ e. IsWithoutReply (limit_of x.job) call.source e)) same without) ended
+
+pub reply_tells_truth : (call : Call) (asked done : Asked) (reply : Result Reply Status) (s : Status) (kept : Option Finding) → Asks call.words asked
+    → done ≡ with_workers call.searching asked → IfOk reply (λ r. r.status ≡ status.Done → IsTrueOf done.job call.source r)
+    → IfErr reply (λ e. IsWithoutReply (limit_of done.job) call.source e) → IsEnded call.sink reply s kept → TellsOnlyTruth call s
+reply_tells_truth call asked done reply s kept asks same claim without ended =
+    tells_by call asked reply s kept asks (subst (λ (x : Asked). IfOk reply (λ r. r.status ≡ status.Done → IsTrueOf x.job call.source r)) same claim)
+    (subst (λ (x : Asked). IfErr reply (λ e. IsWithoutReply (limit_of x.job) call.source e)) same without) ended
 
 -- ---- one outcome
 
@@ -126,24 +195,27 @@ came_once None bytes source got left came = elim came [ inl all ↦ all.1 | inr 
 
 -- the answer to the bytes that came, by the bytes that are told
 front_answered : (call : Call) (asked : Asked) (bytes : List ℕ) (reply : Reply) → Asks call.words asked → call.source.before ≡ Some bytes
-    → IsAnswered call reply → Answers asked (front (limit_of asked.job) bytes) reply
+    → IsAnswered call reply → Answers (with_workers call.searching asked) (front (limit_of asked.job) bytes) reply
 front_answered call asked bytes reply asks left a =
     let same : a.asked ≡ asked = asked_once call.words a.asked asked a.asks asks in
-    let answer : IsReplyTo asked call.source reply = subst (λ (x : Asked). IsReplyTo x call.source reply) same a.answer in
+    let done = with_workers call.searching asked in
+    let answer : IsReplyTo done call.source reply = subst (λ (x : Asked). IsReplyTo (with_workers call.searching x) call.source reply) same a.answer in
     let came = came_once (limit_of asked.job) bytes call.source answer.bytes left answer.came in
-    subst (λ bs. Answers asked bs reply) came answer.answer
+    subst (λ bs. Answers done bs reply) came answer.answer
 
--- the words and the bytes of the input decide the reply of every job but `decide`
+-- the words and the bytes of the input decide the reply of every job that leaves no choice
 pub outcome_once : (input : List ℕ) (a b : Call) (asked : Asked) (r r' : Reply)
     → a.words ≡ b.words → a.source.before ≡ Some input → b.source.before ≡ Some input
-    → Asks a.words asked → (asked.job ≡ Decide → ⊥) → IsDue a r → IsDue b r' → r ≡ r'
-outcome_once input a b asked r r' words left left' asks other one two =
+    → Asks a.words asked → leaves_no_choice asked.job ≡ true → IsDue a r → IsDue b r' → r ≡ r'
+outcome_once input a b asked r r' words left left' asks fixed one two =
+    let other = not_decide asked.job fixed in
     let asks' : Asks b.words asked = subst (λ ws. Asks ws asked) words asks in
     elim one [
       | inl x ↦ elim two [
         | inl y ↦
-            let first = front_answered a asked input r asks left x in
-            answers_once asked (front (limit_of asked.job) input) r r' other first (front_answered b asked input r' asks' left' y)
+            let bytes = front (limit_of asked.job) input in
+            let first = by_so_many a.searching asked bytes r other (front_answered a asked input r asks left x) in
+            answers_once asked bytes r r' fixed first (by_so_many b.searching asked bytes r' other (front_answered b asked input r' asks' left' y))
         | inr y ↦ absurd (never_both b.words asked asks' y.refused)
       ]
       | inr x ↦ absurd (never_both a.words asked asks x.refused)
@@ -174,14 +246,15 @@ whole_by (Some limit) asked bytes reply one =
 abbrev pub HasAnswer : Asked → List ℕ → Status → Option Finding → Type 0
 HasAnswer asked bytes s kept = (text : List ℕ) × Answers asked (part_for asked.job bytes) (record { status = s; text = text; kept = kept })
 
-writes_answer : (call : Call) (asked : Asked) (bytes : List ℕ) (s : Status) (kept : Option Finding) → Asks call.words asked → call.source.before ≡ Some bytes
-    → Writes (IsAnswered call) call s kept → HasAnswer asked bytes s kept
+writes_answer : (call : Call) (asked : Asked) (bytes : List ℕ) (s : Status) (kept : Option Finding) → Asks call.words asked
+    → call.source.before ≡ Some bytes → Writes (IsAnswered call) call s kept → HasAnswer (with_workers call.searching asked) bytes s kept
 writes_answer call asked bytes s kept asks left e =
     let reply : Reply = record { status = s; text = e.text; kept = kept } in
-    (e.text, whole_by (limit_of asked.job) asked bytes reply (front_answered call asked bytes reply asks left e.is))
+    (e.text, whole_by (limit_of asked.job) (with_workers call.searching asked) bytes reply (front_answered call asked bytes reply asks left e.is))
 
 pub ends_with_answer : (call : Call) (asked : Asked) (bytes : List ℕ) (s : Status) (kept : Option Finding) → Ends call s kept → Asks call.words asked
-    → call.source.before ≡ Some bytes → (Failed call.source → ⊥) → (Failed call.sink → ⊥) → HasAnswer asked bytes s kept ⊎ (s ≡ status.OutOfMemory)
+    → call.source.before ≡ Some bytes → (Failed call.source → ⊥) → (Failed call.sink → ⊥)
+    → HasAnswer (with_workers call.searching asked) bytes s kept ⊎ (s ≡ status.OutOfMemory)
 ends_with_answer call asked bytes status.Done kept e asks left calm quiet = inl (writes_answer call asked bytes status.Done kept asks left e)
 ends_with_answer call asked bytes status.Unknown kept e asks left calm quiet = inl (writes_answer call asked bytes status.Unknown kept asks left e)
 ends_with_answer call asked bytes status.Rejected kept e asks left calm quiet = inl (writes_answer call asked bytes status.Rejected kept asks left e)

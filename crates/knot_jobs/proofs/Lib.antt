@@ -3,6 +3,10 @@ mod KnotReads
 mod WorkedWords
 mod WorkedAnswers
 mod Listed
+mod InOrder
+mod FeetListed
+mod Compared
+mod EquallyMany
 mod Along
 mod Grids
 mod AskedOnce

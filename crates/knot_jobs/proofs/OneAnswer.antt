@@ -1,5 +1,5 @@
--- An input of a job other than `decide` has one answer.
-use Rattle.std.proofs.Common.{◌≡◌, ◌∷◌, ℕ, List, [], Bool, Option, Some, None, Result, Ok, Err, IsOk, true, false, codes, arith, refl, sym, ap, ap₂, ◌∙◌, inl, inr, ◌⊎◌, length}
+-- An input of a job that leaves no choice has one answer.
+use Rattle.std.proofs.Common.{◌≡◌, ◌∷◌, ℕ, List, [], Bool, Option, Some, None, Result, Ok, Err, IsOk, true, false, codes, arith, refl, sym, subst, ap, ap₂, ◌∙◌, inl, inr, ◌⊎◌, length}
 use Rattle.std.proofs.lemmas.Bool.{cases_lt}
 use Rattle.arrayvec.specs.ArrayVec.{ArrayVec}
 use Rattle.grid_core.specs.Diagram.{Diagram, IsGrid}
@@ -16,8 +16,16 @@ use Rattle.verdict_core.specs.Names.{NamedQuandle}
 use Rattle.knot_text.specs.Printed.{grid_text}
 use Rattle.verdict_core.specs.Diagrams.{grid_of}
 use Rattle.knot_text.specs.Shapes.{problem_in, check_in, replay_in, colour_in, close_in, lone_diagram_in}
+use Rattle.knot_text.specs.Pairs.{pair_in}
+use Rattle.knot_text.specs.BraidChecks.{braidcheck_in}
+use Rattle.knot_text.specs.Weights.{weight_in}
 use Rattle.knot_text.specs.FirstBadLine.{FailsFirst}
-use Rattle.knot_text.proofs.ShapesFail.{problem_fails, check_fails, replay_fails, colour_fails, close_fails, lone_diagram_fails}
+use Rattle.knot_text.proofs.ShapesFail.{problem_fails, check_fails, replay_fails, colour_fails, close_fails, lone_diagram_fails, pair_fails}
+use Rattle.knot_text.proofs.BraidChecksFail.{braidcheck_fails}
+use Rattle.braid_moves.specs.declared.ruling.BraidRuling.{BraidRuling}
+use Rattle.braid_moves.specs.declared.ruling.BraidRuling.TheVariants as braids
+use Rattle.braid_moves.specs.Ruling.{ruling}
+use Rattle.knot_text.proofs.WeightsFail.{weight_fails}
 use Rattle.cert_check.specs.declared.ruling.Ruling.{Ruling}
 use Rattle.cert_check.specs.declared.ruling.Ruling.TheVariants.{Accepted, Rejected}
 use Rattle.cert_check.proofs.Rulings.{ruled_once, some_ruling}
@@ -25,19 +33,23 @@ use Rattle.knot_jobs.specs.declared.reply.Reply.{Reply}
 use Rattle.knot_jobs.specs.declared.status.Status.{Status}
 use Rattle.knot_jobs.specs.declared.status.Status.TheVariants as status
 use Rattle.knot_jobs.specs.declared.words.Job.{Job}
-use Rattle.knot_jobs.specs.declared.words.Job.TheVariants.{Decide, Check, Replay, Colour, Close, Code, Sample}
+use Rattle.knot_jobs.specs.declared.words.Job.TheVariants.{Decide, Check, Replay, Colour, Close, Code, Braid, Linking, Braidcheck, Weights, Simplify, Sample}
 use Rattle.knot_jobs.specs.declared.words.Asked.{Asked}
 use Rattle.knot_jobs.specs.Status.{IsOfDefinedAnswer, IsOfAnswer}
 use Rattle.knot_jobs.specs.Lines.{ruling_line, step_tokens, malformed_line, limit_line}
 use Rattle.knot_jobs.specs.Reply.{without_search, done, rejected, too_long, AnswersRead}
-use Rattle.knot_jobs.specs.Jobs.Decide.{verdict_status}
+use Rattle.knot_jobs.specs.Jobs.Decide.{verdict_status, with_workers}
 use Rattle.knot_jobs.specs.Jobs.Check.{ruling_status, AnswersCheck}
 use Rattle.knot_jobs.specs.Jobs.Replay.{coloured_text, Replays, ReplaysColoured, Stops, AnswersMoves}
 use Rattle.knot_jobs.specs.Jobs.Colour.{colour_text}
 use Rattle.knot_jobs.specs.Jobs.Close.{close_text}
 use Rattle.knot_jobs.specs.Jobs.Code.{code_text}
+use Rattle.knot_jobs.specs.Jobs.Braid.{word_text}
+use Rattle.knot_jobs.specs.Jobs.Linking.{linking_text}
+use Rattle.knot_jobs.specs.Jobs.Braidcheck.{ruled_reply}
+use Rattle.knot_jobs.specs.Jobs.Weights.{weights_text}
 use Rattle.walk_samples.specs.Text.{sample_text}
-use Rattle.knot_jobs.specs.Answer.{limit_of, IsOver, IsWithin, task_of, IsInShape, Answers}
+use Rattle.knot_jobs.specs.Answer.{limit_of, IsOver, IsWithin, task_of, leaves_no_choice, IsInShape, Answers}
 use Rattle.knot_jobs.proofs.Along.{carries_once, carried_along, joins_along}
 use Rattle.knot_jobs.proofs.Grids.{check_grids, replay_grid}
 
@@ -49,6 +61,11 @@ status_of r = r.status
 ruling_defined : (ruling : Ruling) → IsOfDefinedAnswer (ruling_status ruling)
 ruling_defined Accepted = inl refl
 ruling_defined (Rejected cause) = inr (inr refl)
+
+ruled_defined : (ruled : BraidRuling) → IsOfDefinedAnswer (ruled_reply ruled).status
+ruled_defined braids.Accepted = inl refl
+ruled_defined (braids.Step place fault) = inr (inr refl)
+ruled_defined braids.OtherEnd = inr (inr refl)
 
 verdict_defined : (v : Verdict) → IsOfDefinedAnswer (verdict_status v)
 verdict_defined (Equal moves) = inl refl
@@ -72,6 +89,11 @@ replies_defined Replay asked i r a = moves_defined (grid_of i.diagram) i.moves i
 replies_defined Colour asked i r a = inl (ap status_of a)
 replies_defined Close asked i r a = inl (ap status_of a)
 replies_defined Code asked i r a = inl (ap status_of a)
+replies_defined Braid asked i r a = inl (ap status_of a)
+replies_defined Linking asked i r a = inl (ap status_of a)
+replies_defined Braidcheck asked i r a = rw (ap status_of a) (ruled_defined (ruling i.first i.second i.steps))
+replies_defined Weights asked i r a = inl (ap status_of a)
+replies_defined Simplify asked i r a = inl (ap status_of a.is)
 replies_defined Sample asked i r a = inl (ap status_of a)
 
 read_status : {A : Type 0} (answers : A → Reply → Type 0) (read : Result A TextFault) (r : Reply)
@@ -139,14 +161,19 @@ moves_once d moves (Some (q, colours)) r r' one two = elim one [
   ]
 ]
 
-replies_once : (job : Job) (asked : Asked) → (job ≡ Decide → ⊥) → (i : (task_of job asked).Input) (r r' : Reply)
+replies_once : (job : Job) (asked : Asked) → leaves_no_choice job ≡ true → (i : (task_of job asked).Input) (r r' : Reply)
     → (task_of job asked).Replies i r → (task_of job asked).Replies i r' → r ≡ r'
-replies_once Decide asked other i r r' one two = absurd (other refl)
+replies_once Decide asked other i r r' one two = absurd (let wrong : false ≡ true = other in cc)
 replies_once Check asked other i r r' one two = check_once i r r' one two
 replies_once Replay asked other i r r' one two = moves_once (grid_of i.diagram) i.moves i.colours r r' one two
 replies_once Colour asked other i r r' one two = one ∙ sym two
 replies_once Close asked other i r r' one two = one ∙ sym two
 replies_once Code asked other i r r' one two = one ∙ sym two
+replies_once Braid asked other i r r' one two = one ∙ sym two
+replies_once Linking asked other i r r' one two = one ∙ sym two
+replies_once Braidcheck asked other i r r' one two = one ∙ sym two
+replies_once Weights asked other i r r' one two = one ∙ sym two
+replies_once Simplify asked other i r r' one two = absurd (let wrong : false ≡ true = other in cc)
 replies_once Sample asked other i r r' one two = one ∙ sym two
 
 read_once : {A : Type 0} (answers : A → Reply → Type 0) (read : Result A TextFault) (r r' : Reply)
@@ -165,7 +192,7 @@ over_or_within : (limit : Option ℕ) (bytes : List ℕ) → IsOver limit bytes 
 over_or_within (Some limit) bytes = cases_lt limit (length bytes)
 over_or_within None bytes = inr tt
 
-pub answers_once : (asked : Asked) (bytes : List ℕ) (r r' : Reply) → (asked.job ≡ Decide → ⊥) → Answers asked bytes r → Answers asked bytes r' → r ≡ r'
+pub answers_once : (asked : Asked) (bytes : List ℕ) (r r' : Reply) → leaves_no_choice asked.job ≡ true → Answers asked bytes r → Answers asked bytes r' → r ≡ r'
 answers_once asked bytes r r' other one two = elim one [
   | inl a ↦ elim two [ inl b ↦ a.1 ∙ sym b.1 | inr b ↦ absurd (not_over (limit_of asked.job) bytes a.0 b.0) ]
   | inr a ↦ elim two [
@@ -174,6 +201,34 @@ answers_once asked bytes r r' other one two = elim one [
         let task = task_of asked.job asked in
         read_once task.Replies (task.read bytes) r r' (λ i. replies_once asked.job asked other i r r') a.1 b.1
   ]
+]
+
+-- such a job is not `decide`
+pub not_decide : (job : Job) → leaves_no_choice job ≡ true → job ≡ Decide → ⊥
+not_decide job fixed is = let wrong : false ≡ true = subst (λ (j : Job). leaves_no_choice j ≡ true) is fixed in cc
+
+-- and how many workers search makes nothing else of it
+read_by_so_many : (job : Job) (searching : ℕ → ℕ) (asked : Asked) (bytes : List ℕ) (r : Reply) → (job ≡ Decide → ⊥)
+    → AnswersRead (task_of job (with_workers searching asked)).Replies ((task_of job (with_workers searching asked)).read bytes) r
+    → AnswersRead (task_of job asked).Replies ((task_of job asked).read bytes) r
+read_by_so_many Decide searching asked bytes r other a = absurd (other refl)
+read_by_so_many Check searching asked bytes r other a = a
+read_by_so_many Replay searching asked bytes r other a = a
+read_by_so_many Colour searching asked bytes r other a = a
+read_by_so_many Close searching asked bytes r other a = a
+read_by_so_many Code searching asked bytes r other a = a
+read_by_so_many Braid searching asked bytes r other a = a
+read_by_so_many Linking searching asked bytes r other a = a
+read_by_so_many Braidcheck searching asked bytes r other a = a
+read_by_so_many Weights searching asked bytes r other a = a
+read_by_so_many Simplify searching asked bytes r other a = a
+read_by_so_many Sample searching asked bytes r other a = a
+
+pub by_so_many : (searching : ℕ → ℕ) (asked : Asked) (bytes : List ℕ) (r : Reply) → (asked.job ≡ Decide → ⊥)
+    → Answers (with_workers searching asked) bytes r → Answers asked bytes r
+by_so_many searching asked bytes r other a = elim a [
+  | inl long ↦ inl long
+  | inr text ↦ inr (text.0, read_by_so_many asked.job searching asked bytes r other text.1)
 ]
 
 -- ---- and there is one, behind which is no search
@@ -185,6 +240,11 @@ some_check : (i : ProblemText × Verdict) → IsGrid (grid_of i.0.first) → Som
 some_check i grid =
     let r = some_ruling (grid_of i.0.first) (grid_of i.0.second) i.1 grid in
     (without_search (ruling_status r.0) (ruling_line r.0), (refl, record { ruling = r.0; rules = r.1; is = refl }))
+
+some_ruled : (ruled : BraidRuling) → SomeReply (λ reply. reply ≡ ruled_reply ruled)
+some_ruled braids.Accepted = (ruled_reply braids.Accepted, (refl, refl))
+some_ruled (braids.Step place fault) = (ruled_reply (braids.Step place fault), (refl, refl))
+some_ruled braids.OtherEnd = (ruled_reply braids.OtherEnd, (refl, refl))
 
 some_moves : (d : Diagram) (moves : List Move) (colours : Option (NamedQuandle × ArrayVec ℕ)) → IsGrid d → SomeReply (AnswersMoves d moves colours)
 some_moves d moves None grid = elim (joins_or_stops moves d grid) [
@@ -206,14 +266,19 @@ some_moves d moves (Some (q, colours)) grid = by (is_colouring q.table d colours
           (rejected (step_tokens stop.0 stop.1.0), (refl, inr (record { colouring = some; answer = first })))
     ]
 
-some_reply : (job : Job) (asked : Asked) → (job ≡ Decide → ⊥) → (bytes : List ℕ) (i : (task_of job asked).Input) → (task_of job asked).read bytes ≡ Ok i
+some_reply : (job : Job) (asked : Asked) → leaves_no_choice job ≡ true → (bytes : List ℕ) (i : (task_of job asked).Input) → (task_of job asked).read bytes ≡ Ok i
     → SomeReply ((task_of job asked).Replies i)
-some_reply Decide asked other bytes i is = absurd (other refl)
+some_reply Decide asked other bytes i is = absurd (let wrong : false ≡ true = other in cc)
 some_reply Check asked other bytes i is = some_check i (check_grids bytes i.0 i.1 is).0
 some_reply Replay asked other bytes i is = some_moves (grid_of i.diagram) i.moves i.colours (replay_grid bytes i is)
 some_reply Colour asked other bytes i is = (done (colour_text (grid_of i.diagram) i.quandles), (refl, refl))
 some_reply Close asked other bytes i is = (done (close_text i.braid i.quandles), (refl, refl))
 some_reply Code asked other bytes i is = (done (code_text (grid_of i)), (refl, refl))
+some_reply Braid asked other bytes i is = (done (word_text (grid_of i.diagram) i.quandles), (refl, refl))
+some_reply Linking asked other bytes i is = (done (linking_text (grid_of i.0) (grid_of i.1)), (refl, refl))
+some_reply Braidcheck asked other bytes i is = some_ruled (ruling i.first i.second i.steps)
+some_reply Weights asked other bytes i is = (done (weights_text i.cocycle (grid_of i.first) (grid_of i.second)), (refl, refl))
+some_reply Simplify asked other bytes i is = absurd (let wrong : false ≡ true = other in cc)
 some_reply Sample asked other bytes i is = (done (sample_text i), (refl, refl))
 
 -- a reader answers no want of memory in its definition
@@ -230,6 +295,11 @@ never_memory Replay asked bytes is = first_fails replay_in replay_fails (text_of
 never_memory Colour asked bytes is = first_fails colour_in colour_fails (text_of bytes) is
 never_memory Close asked bytes is = first_fails close_in close_fails (text_of bytes) is
 never_memory Code asked bytes is = first_fails lone_diagram_in lone_diagram_fails (text_of bytes) is
+never_memory Braid asked bytes is = first_fails colour_in colour_fails (text_of bytes) is
+never_memory Linking asked bytes is = first_fails pair_in pair_fails (text_of bytes) is
+never_memory Braidcheck asked bytes is = first_fails braidcheck_in braidcheck_fails (text_of bytes) is
+never_memory Weights asked bytes is = first_fails weight_in weight_fails (text_of bytes) is
+never_memory Simplify asked bytes is = first_fails lone_diagram_in lone_diagram_fails (text_of bytes) is
 never_memory Sample asked bytes is = let wrong = is in cc
 
 some_read : {A : Type 0} (answers : A → Reply → Type 0) (read : Result A TextFault) → (read ≡ Err bad.OutOfMemory → ⊥)
@@ -239,7 +309,7 @@ some_read answers (Err (bad.Malformed n)) never each = (without_search status.Ma
 some_read answers (Err (bad.Limit n)) never each = (without_search status.Limit (limit_line n), (refl, refl))
 some_read answers (Err bad.OutOfMemory) never each = absurd (never refl)
 
-pub some_answer : (asked : Asked) (bytes : List ℕ) → (asked.job ≡ Decide → ⊥) → SomeReply (Answers asked bytes)
+pub some_answer : (asked : Asked) (bytes : List ℕ) → leaves_no_choice asked.job ≡ true → SomeReply (Answers asked bytes)
 some_answer asked bytes other = elim (over_or_within (limit_of asked.job) bytes) [
   | inl over ↦ (too_long, (refl, inl (over, refl)))
   | inr within ↦

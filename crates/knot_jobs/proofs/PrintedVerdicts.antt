@@ -19,10 +19,13 @@ use Rattle.verdict_core.specs.declared.verdict.Verdict.{Verdict}
 use Rattle.verdict_core.specs.declared.verdict.Verdict.TheVariants.{Equal, Different, UnknownBudget, UnknownExhausted}
 use Rattle.knot_text.specs.Printed.{HasMoveText, HaveText, HasListText, HasQuandleText, HasVerdictText}
 use Rattle.grid_moves.proofs.Within.{within_joins}
+use Rattle.grid_core.specs.declared.grid.TheConstants.{MAX_SIZE}
+use Rattle.search_book.specs.declared.problem.TheConstants.{MAX_BUDGET}
 use Rattle.search_book.specs.declared.problem.Problem.{Problem}
 use Rattle.search_book.specs.Sound.{IsProblem}
 use Rattle.pair_verdict.specs.Separates.{separates, IsDifferentBy}
 use Rattle.search_pool.specs.declared.finding.Finding.{Finding}
+use Rattle.pair_verdict.specs.Searched.{searched}
 use Rattle.pair_verdict.specs.Decided.{Decides, IsTrueWithin}
 use Rattle.pair_verdict.proofs.FirstFound.{find_passes, holds_by}
 use Rattle.verdict_core.specs.Evidence.{Holds, TellsApart}
@@ -119,25 +122,25 @@ found P p [] r all is = absurd (let wrong : ◌≡◌ {A = Option NamedQuandle} 
 found P p (q ∷ qs) r all is = found_by P p q r qs (p q) is all.0 (found P p qs r all.1)
 
 -- of a search
-searched_text : (p : Problem) (v : Verdict) → IsProblem p → IsTrueWithin p v → IsShort v → HasVerdictText (size p.first) (size p.second) v
-searched_text p (Equal moves) problem is short = moves_text moves p.first p.second (within_joins p.cap moves p.first p.second is) short
-searched_text p (Different listed one two) problem is short = absurd is
-searched_text p (UnknownBudget budget) problem is short = let same = is.0 in let most = problem.most in omega (arith, same, most)
-searched_text p (UnknownExhausted cap k) problem is short =
+searched_text : (p : Problem) (v : Verdict) → p.cap ≤ MAX_SIZE → p.budget ≤ MAX_BUDGET → IsTrueWithin p v → IsShort v → HasVerdictText (size p.first) (size p.second) v
+searched_text p (Equal moves) small most is short = moves_text moves p.first p.second (within_joins p.cap moves p.first p.second is) short
+searched_text p (Different listed one two) small most is short = absurd is
+searched_text p (UnknownBudget budget) small most is short = let same = is.0 in omega (arith, same, most)
+searched_text p (UnknownExhausted cap k) small most is short =
     let same = is.0 in
     let few = is.1.0 in
-    let most = problem.most in
-    let small = problem.cap in
     (omega (arith, same, small), omega (arith, few, most))
 
 -- of a decision
-pub decided_text : FewColourings → (p : Problem) (qs : List NamedQuandle) (v : Verdict) (kept : Option Finding) → IsGrid p.first → IsGrid p.second
-    → AllByRecursion HasQuandleText qs → Decides p qs v kept → IsShort v → HasVerdictText (size p.first) (size p.second) v
-decided_text few p qs v kept first second named decides short = elim decides [
+pub decided_text : FewColourings → (p : Problem) (qs : List NamedQuandle) (workers : ℕ) (v : Verdict) (kept : Option Finding) → IsGrid p.first → IsGrid p.second
+    → AllByRecursion HasQuandleText qs → Decides p qs workers v kept → IsShort v → HasVerdictText (size p.first) (size p.second) v
+decided_text few p qs workers v kept first second named decides short = elim decides [
   | inl told ↦
       different_text few p.first p.second told.quandle v first second (found HasQuandleText (separated p) qs told.quandle named told.first_that_does)
       (find_passes (separated p) qs told.quandle told.first_that_does) told.lists
-  | inr searched ↦ searched_text p v (subst IsProblem searched.found.problem searched.found.sound.problem) searched.true_within short
+  | inr was ↦
+      let problem : IsProblem (searched p was.one was.two) = subst IsProblem was.found.problem was.found.sound.problem in
+      searched_text p v problem.cap problem.most was.true_within short
 ]
   where
     separated : Problem → NamedQuandle → Bool

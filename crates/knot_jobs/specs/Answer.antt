@@ -1,16 +1,21 @@
 -- What is due to an input: how many bytes it may have, how each job reads it, and the replies to what was read.
-use Rattle.std.specs.Prelude.{◌≡◌, ◌<◌, ◌≤◌, ◌⊎◌, if◌then◌else◌, ℕ, List, [], Option, Some, None, Bool, is_some, length, Result, Ok, IsOk}
+use Rattle.std.specs.Prelude.{◌≡◌, ◌<◌, ◌≤◌, ◌⊎◌, if◌then◌else◌, ℕ, List, [], Option, Some, None, Bool, true, false, is_some, length, Result, Ok, IsOk}
 use Rattle.verdict_core.specs.declared.diagrams.Diagram.{Diagram}
 use Rattle.knot_text.specs.declared.fault.TextFault.{TextFault}
 use Rattle.verdict_core.specs.declared.problem.ProblemText.{ProblemText}
 use Rattle.knot_text.specs.declared.shapes.ReplayText.{ReplayText}
 use Rattle.knot_text.specs.declared.shapes.ColourText.{ColourText}
 use Rattle.knot_text.specs.declared.shapes.CloseText.{CloseText}
+use Rattle.knot_text.specs.declared.braid_checks.BraidCheckText.{BraidCheckText}
+use Rattle.knot_text.specs.declared.weights.WeightText.{WeightText}
 use Rattle.verdict_core.specs.declared.verdict.Verdict.{Verdict}
 use Rattle.knot_text.specs.Shapes.{problem_of, check_of, replay_of, colour_of, close_of, lone_diagram_of}
+use Rattle.knot_text.specs.Pairs.{pair_of}
+use Rattle.knot_text.specs.BraidChecks.{braidcheck_of}
+use Rattle.knot_text.specs.Weights.{weight_of}
 use Rattle.knot_jobs.specs.declared.reply.Reply.{Reply}
 use Rattle.knot_jobs.specs.declared.words.Job.{Job}
-use Rattle.knot_jobs.specs.declared.words.Job.TheVariants.{Decide, Check, Replay, Colour, Close, Code, Sample}
+use Rattle.knot_jobs.specs.declared.words.Job.TheVariants.{Decide, Check, Replay, Colour, Close, Code, Braid, Linking, Braidcheck, Weights, Simplify, Sample}
 use Rattle.knot_jobs.specs.declared.words.Asked.{Asked}
 use Rattle.knot_jobs.specs.Reply.{too_long, AnswersRead}
 use Rattle.knot_jobs.specs.Jobs.Decide.{AnswersDecide}
@@ -19,6 +24,11 @@ use Rattle.knot_jobs.specs.Jobs.Replay.{AnswersReplay}
 use Rattle.knot_jobs.specs.Jobs.Colour.{AnswersColour}
 use Rattle.knot_jobs.specs.Jobs.Close.{AnswersClose}
 use Rattle.knot_jobs.specs.Jobs.Code.{AnswersCode}
+use Rattle.knot_jobs.specs.Jobs.Braid.{AnswersBraid}
+use Rattle.knot_jobs.specs.Jobs.Linking.{AnswersLinking}
+use Rattle.knot_jobs.specs.Jobs.Braidcheck.{AnswersBraidcheck}
+use Rattle.knot_jobs.specs.Jobs.Weights.{AnswersWeights}
+use Rattle.knot_jobs.specs.Jobs.Simplify.{AnswersSimplify}
 use Rattle.knot_jobs.specs.Jobs.Sample.{AnswersSample}
 
 -- ---- the bytes of an input
@@ -62,7 +72,19 @@ task_of Replay asked = record { Input = ReplayText; read = replay_of; Replies = 
 task_of Colour asked = record { Input = ColourText; read = colour_of; Replies = AnswersColour }
 task_of Close asked = record { Input = CloseText; read = close_of; Replies = AnswersClose }
 task_of Code asked = record { Input = Diagram; read = lone_diagram_of; Replies = AnswersCode }
+task_of Braid asked = record { Input = ColourText; read = colour_of; Replies = AnswersBraid }
+task_of Linking asked = record { Input = Diagram × Diagram; read = pair_of; Replies = AnswersLinking }
+task_of Braidcheck asked = record { Input = BraidCheckText; read = braidcheck_of; Replies = AnswersBraidcheck }
+task_of Weights asked = record { Input = WeightText; read = weight_of; Replies = AnswersWeights }
+task_of Simplify asked = record { Input = Diagram; read = lone_diagram_of; Replies = AnswersSimplify asked.budget }
 task_of Sample asked = record { Input = ℕ; read = λ bytes. Ok asked.seed; Replies = AnswersSample }
+
+-- the job leaves no choice of what to reply: the verdict of `decide` may rest on one search or another, and `simplify` may go by one list
+-- of moves or another
+abbrev pub leaves_no_choice : Job → Bool
+leaves_no_choice Decide = false
+leaves_no_choice Simplify = false
+leaves_no_choice job = true
 
 -- the bytes are a text of the job's shape: no line of it is bad; of `sample`, which reads none, any bytes
 abbrev pub IsInShape : Asked → List ℕ → Type 0

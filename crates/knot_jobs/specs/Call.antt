@@ -1,4 +1,5 @@
--- A call of the program, as it is seen from outside: its words, and what its source and its sink had before and have after it.
+-- A call of the program, as it is seen from outside: its words, how many workers search where the words ask for so many, and what
+-- its source and its sink had before and have after it.
 use Rattle.std.specs.Prelude.{◌≡◌, ◌≤◌, ◌+◌, ◌⊎◌, ℕ, List, [], Option, Some, None, length}
 use Rattle.std.specs.Io.KnownBytes.{Keeps, Consumes, IsAtEnd}
 use Rattle.knot_ports.specs.Faults.{Rose}
@@ -18,11 +19,12 @@ change_of bytes_of faults_of before after =
 
 pub record Call : Type 0 where
   pub words : List (List ℕ)
+  pub searching : ℕ → ℕ
   pub source : Change
   pub sink : Change
 
-abbrev pub call_of : List (List ℕ) → Change → Change → Call
-call_of words source sink = record { words = words; source = source; sink = sink }
+abbrev pub call_of : List (List ℕ) → (ℕ → ℕ) → Change → Change → Call
+call_of words searching source sink = record { words = words; searching = searching; source = source; sink = sink }
 
 -- no byte came or went, and no fault was counted
 pub record IsUntouched (port : Change) : Type 0 where

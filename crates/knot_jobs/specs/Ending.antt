@@ -9,6 +9,7 @@ use Rattle.knot_jobs.specs.declared.status.Status.{Status}
 use Rattle.knot_jobs.specs.declared.status.Status.TheVariants as status
 use Rattle.knot_jobs.specs.Words.{Asks, AsksNothing}
 use Rattle.knot_jobs.specs.Reply.{without_search}
+use Rattle.knot_jobs.specs.Jobs.Decide.{with_workers}
 use Rattle.knot_jobs.specs.Answer.{limit_of, Answers}
 use Rattle.knot_jobs.specs.Call.{Call, Change, IsUntouched, Failed, Comes, Loses}
 
@@ -23,11 +24,11 @@ pub record IsReplyTo (asked : Asked) (source : Change) (reply : Reply) : Type 0 
   pub came : Comes (limit_of asked.job) source bytes
   pub answer : Answers asked bytes reply
 
--- the words ask for a job, and this is its answer
+-- the words ask for a job, and this is its answer, with as many workers as search in this call
 pub record IsAnswered (call : Call) (reply : Reply) : Type 0 where
   pub asked : Asked
   pub asks : Asks call.words asked
-  pub answer : IsReplyTo asked call.source reply
+  pub answer : IsReplyTo (with_workers call.searching asked) call.source reply
 
 -- the words ask for nothing, and the source was not called
 pub record IsMisused (call : Call) (reply : Reply) : Type 0 where

@@ -5,4 +5,9 @@ pub mod Replay
 pub mod Colour
 pub mod Close
 pub mod Code
+pub mod Braid
+pub mod Linking
+pub mod Braidcheck
+pub mod Weights
+pub mod Simplify
 pub mod Sample

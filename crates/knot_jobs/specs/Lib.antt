@@ -2,6 +2,8 @@ pub mod Words
 pub mod Matched
 pub mod Status
 pub mod Lines
+pub mod Comparison
+pub mod EquallyMany
 pub mod Reply
 pub mod Jobs
 pub mod Answer

@@ -2,20 +2,29 @@
 use Rattle.std.specs.Prelude.{◌≡◌, if◌then◌else◌, ℕ, List, ◌++◌, Ok, codes}
 use Rattle.std.specs.Io.KnownBytes.{Appends}
 use Rattle.text_lines.specs.Lines.{are_whole_lines}
+use Rattle.grid_moves.specs.Joining.{Equivalent}
+use Rattle.verdict_core.specs.declared.diagrams.Diagram.{Diagram}
 use Rattle.verdict_core.specs.declared.problem.ProblemText.{ProblemText}
 use Rattle.verdict_core.specs.declared.verdict.Verdict.{Verdict}
 use Rattle.knot_text.specs.Printed.{verdict_text}
 use Rattle.verdict_core.specs.Diagrams.{grid_of}
 use Rattle.knot_text.specs.Shapes.{problem_of, check_of}
+use Rattle.knot_text.specs.Pairs.{pair_of}
+use Rattle.knot_text.specs.declared.braid_checks.BraidCheckText.{BraidCheckText}
+use Rattle.knot_text.specs.BraidChecks.{braidcheck_of}
+use Rattle.knot_text.specs.declared.weights.WeightText.{WeightText}
+use Rattle.knot_text.specs.Weights.{weight_of}
 use Rattle.cert_check.specs.declared.ruling.Ruling.TheVariants.{Accepted}
 use Rattle.verdict_core.specs.Evidence.{Claims, Holds, HasEvidence}
 use Rattle.knot_jobs.specs.declared.words.Asked.{Asked}
 use Rattle.knot_jobs.specs.declared.words.Job.{Job}
-use Rattle.knot_jobs.specs.declared.words.Job.TheVariants.{Decide, Check}
+use Rattle.knot_jobs.specs.declared.words.Job.TheVariants.{Decide, Check, Linking, Braidcheck, Weights}
 use Rattle.knot_jobs.specs.declared.status.Status.{Status}
 use Rattle.knot_jobs.specs.declared.status.Status.TheVariants as status
 use Rattle.knot_jobs.specs.Words.{Asks}
 use Rattle.knot_jobs.specs.Lines.{ruling_line}
+use Rattle.knot_jobs.specs.Comparison.{EndsDifferent}
+use Rattle.knot_jobs.specs.EquallyMany.{HaveEquallyMany}
 use Rattle.knot_jobs.specs.Reply.{done, AnswersRead}
 use Rattle.knot_jobs.specs.Jobs.Check.{AnswersCheck}
 use Rattle.knot_jobs.specs.Answer.{limit_of, IsWithin}
@@ -58,12 +67,40 @@ pub record IsDecision (bytes text : List ℕ) : Type 0 where
   pub is_true : IsTrueVerdict problem verdict
   pub accepted : IsAcceptedBehind bytes text
 
+-- ---- two diagrams that were compared
+
+-- the bytes are two diagrams, and where the text says that their linking numbers differ, no list of moves joins them
+pub record IsTrueLinking (bytes text : List ℕ) : Type 0 where
+  pub first : Diagram
+  pub second : Diagram
+  pub read : pair_of bytes ≡ Ok (first, second)
+  pub apart : EndsDifferent text → Equivalent (grid_of first) (grid_of second) → ⊥
+
+-- the bytes are two diagrams, a quandle and a cocycle of it, and where the text says that the weights of their colourings differ,
+-- no list of moves joins the diagrams
+pub record IsTrueWeighing (bytes text : List ℕ) : Type 0 where
+  pub input : WeightText
+  pub read : weight_of bytes ≡ Ok input
+  pub apart : EndsDifferent text → Equivalent (grid_of input.first) (grid_of input.second) → ⊥
+
+-- ---- two braids between which steps were accepted
+
+-- the bytes are two braids and steps between them, and no quandle tells the braids apart by how many fixed points and colourings it has
+pub record IsBraidCertificate (bytes : List ℕ) : Type 0 where
+  pub input : BraidCheckText
+  pub read : braidcheck_of bytes ≡ Ok input
+  pub alike : HaveEquallyMany input.first input.second
+
 -- ---- a call
 
--- what a job's text with Done says of its input is true, for `decide`, which writes a verdict, and `check`, which accepts one
+-- what a job's text with Done says of its input is true, for `decide`, which writes a verdict, `check`, which accepts one,
+-- `linking` and `weights`, which compare two diagrams, and `braidcheck`, which accepts steps between two braids
 pub record IsTrueReply (job : Job) (bytes text : List ℕ) : Type 0 where
   pub decided : job ≡ Decide → IsDecision bytes text
   pub accepted : job ≡ Check → IsCertificate bytes
+  pub linked : job ≡ Linking → IsTrueLinking bytes text
+  pub weighed : job ≡ Weights → IsTrueWeighing bytes text
+  pub stepped : job ≡ Braidcheck → IsBraidCertificate bytes
 
 -- where a call ended with Done, its text was written, and what it says of the whole input is true
 abbrev pub TellsOnlyTruth : Call → Status → Type 0

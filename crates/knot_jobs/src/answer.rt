@@ -4,11 +4,17 @@ ghost use Rattle.knot_jobs.specs.Words.{IsWithinBounds};
 ghost use Rattle.knot_jobs.specs.Answer.{limit_of, AnswersText};
 ghost use Rattle.knot_jobs.specs.Truth.{IsTrueReply};
 
-use crate::jobs::{check, close, code, colour, decide, replay, sample};
+use crate::jobs::{
+    braid, braidcheck, check, close, code, colour, decide, linking, replay, sample, simplify,
+    weights,
+};
 use crate::reply::Reply;
 use crate::status::Status;
 use crate::words::{Asked, Job};
+use search_pool::Gate;
 use std::alloc::{AllocError, Global};
+use std::sync::Wait;
+use std::thread::Threads;
 
 impl Job {
     /// The most bytes that an input of the job may have; `sample` has no input.
@@ -24,19 +30,43 @@ impl Job {
     }
 }
 
-/// The answer of the job that is asked for to the bytes of an input that is not too long.
-pub(crate) fn answer(alloc: Global, asked: &Asked, bytes: &[u8]) -> Result<Reply, AllocError>
+/// The answer of the job that is asked for to the bytes of an input that is not too long. The gate is for `decide`.
+pub(crate) fn answer<R: Threads + Wait + Sync, G: Gate + Sync>(
+    rt: &R,
+    alloc: Global,
+    asked: &Asked,
+    bytes: &[u8],
+    gate: &G,
+) -> Result<Reply, AllocError>
     requires bounds { IsWithinBounds asked.now }
     ensures answer { IfOk result (λ reply. AnswersText asked.now bytes.now reply) }
     ensures claim { IfOk result (λ reply. reply.status ≡ Status.Done → IsTrueReply asked.now.job bytes.now reply.text) }
 {
     match asked.job {
-        Job::Decide => decide::answer(alloc, asked, bytes),
+        Job::Decide => decide::answer(rt, alloc, asked, bytes, gate),
+        _ => answer_alone(alloc, asked, bytes),
+    }
+}
+
+/// The answer of the job that is asked for, of `decide` with one worker, to the bytes of an input that is not too long.
+pub(crate) fn answer_alone(alloc: Global, asked: &Asked, bytes: &[u8]) -> Result<Reply, AllocError>
+    requires bounds { IsWithinBounds asked.now }
+    requires one { asked.now.job ≡ Job.Decide → asked.now.workers ≡ 1 }
+    ensures answer { IfOk result (λ reply. AnswersText asked.now bytes.now reply) }
+    ensures claim { IfOk result (λ reply. reply.status ≡ Status.Done → IsTrueReply asked.now.job bytes.now reply.text) }
+{
+    match asked.job {
+        Job::Decide => decide::answer_alone(alloc, asked, bytes),
         Job::Check => check::answer(alloc, bytes),
         Job::Replay => replay::answer(alloc, bytes),
         Job::Colour => colour::answer(alloc, bytes),
         Job::Close => close::answer(alloc, bytes),
         Job::Code => code::answer(alloc, bytes),
+        Job::Braid => braid::answer(alloc, bytes),
+        Job::Linking => linking::answer(alloc, bytes),
+        Job::Braidcheck => braidcheck::answer(alloc, bytes),
+        Job::Weights => weights::answer(alloc, bytes),
+        Job::Simplify => simplify::answer(alloc, asked, bytes),
         Job::Sample => sample::answer(alloc, asked.seed),
     }
 }

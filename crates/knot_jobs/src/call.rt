@@ -1,102 +1,215 @@
 //! The top call: words, read, length, text, job, write.
-ghost use Rattle.std.specs.Prelude.{◌≡◌, ◌≤◌, ◌⊎◌, ℕ, List, Option, None, Ok, IfOk, IfErr, IsErrOf};
-ghost use Rattle.knot_jobs.specs.Words.{texts_of, IsWithinBounds};
-ghost use Rattle.knot_jobs.specs.Answer.{limit_of};
-ghost use Rattle.knot_jobs.specs.Call.{call_of, change_of, IsUntouched, Failed, TakesAll, Loses};
+ghost use Rattle.std.specs.Prelude.{◌≡◌, ◌≤◌, ◌⊎◌, ℕ, List, Option, None, Ok, IfOk, IfErr, IsErrOf, IfSome, IfNone};
+ghost use Rattle.knot_jobs.specs.Words.{texts_of, Asks, AsksNothing, IsWithinBounds};
+ghost use Rattle.knot_jobs.specs.Answer.{limit_of, IsOver, IsWithin};
+ghost use Rattle.knot_jobs.specs.Jobs.Decide.{as_many_as_asked, only_one, with_workers};
+ghost use Rattle.knot_jobs.specs.Call.{call_of, change_of, IsUntouched, TakesAll, TakesTooMuch, Loses};
 ghost use Rattle.knot_jobs.specs.Ending.{Ends, IsReplyTo};
 ghost use Rattle.knot_jobs.specs.Truth.{TellsOnlyTruth, IsTrueReply};
-ghost use Rattle.knot_jobs.specs.Delivered.{IsWritten, IsDelivered};
+ghost use Rattle.knot_jobs.specs.Delivered.{IsRefused, IsWithoutReply, IsWritten, IsDelivered, IsEnded};
 
-use crate::answer::answer;
+use crate::answer::{answer, answer_alone};
 use crate::reply::Reply;
 use crate::status::Status;
-use crate::words::{Asked, WordsFault, read_words};
+use crate::words::{Asked, Job, WordsFault, read_words};
 use knot_ports::{ReadEnd, Sink, Source, give_all, read_all};
-use search_pool::Finding;
+use search_pool::{Finding, Gate};
 use std::alloc::{AllocError, Global};
+use std::sync::Wait;
+use std::thread::Threads;
 
 /// What is written where the words ask for nothing.
 const USAGE: &[u8] = b"usage: knot JOB [--workers W] [--budget B] [--spare S] [--seed N]\n";
 
 /// Does what the words ask for: reads the whole input from the source, answers it, and writes the answer to the sink.
 ///
-/// The words are the program's name, which isn't looked at, a job (`decide`, `check`, `replay`, `colour`, `close`, `code` or
-/// `sample`) and options; other words end in `Usage`, and the source is not called, as it is not for `sample`. An input of more
-/// bytes than the job's limit (33,554,432 for `check`, else 1,048,576) ends in `Limit`, one with a bad line in `Malformed` or
-/// `Limit` by its first bad line, and every other in the job's answer: `Done`, `Unknown` where `decide` finds no evidence, or
+/// The words are the program's name, which isn't looked at, a job (`decide`, `check`, `replay`, `colour`, `close`, `code`,
+/// `braid`, `linking`, `braidcheck`, `weights`, `simplify` or `sample`) and options; other words end in `Usage`, and the source
+/// is not called, as it is not for `sample`. An input of more bytes than the job's limit (33,554,432 for `check`, else 1,048,576)
+/// ends in `Limit`, one with a bad line in `Malformed` or `Limit` by its first bad line, and every other in the job's answer: `Done`, `Unknown` where `decide` finds no evidence, or
 /// `Rejected`. The whole answer is made before the first write, so `ReadFault` and `OutOfMemory` write nothing; `WriteFault`
 /// has written a front of what was due. Faults come only where the source's or sink's own count of faults rose. Where `decide`
-/// or `check` ends with `Done`, what the verdict says is true.
+/// or `check` ends with `Done`, what the verdict says is true; where `linking` or `weights` writes `different`, no list of moves joins the two;
+/// and where `braidcheck` ends with `Done`, no quandle tells the closures of the two braids apart by how many colourings they have.
 ///
-/// Where `decide` searched, and its answer was written, the search is left in `kept`; else `kept` is None.
-pub fn run<S: Source, K: Sink>(
+/// Where `decide` searched, and its answer was written, the search is left in `kept`; else `kept` is None. It searches with as
+/// many workers as the words ask for, which pass the gate between a claim and its settlement; where they ask for one, it
+/// searches in the calling thread and passes no gate. All this holds however the workers interleave, where the call returns:
+/// workers may wait for each other.
+pub fn run<R: Threads + Wait + Sync, S: Source, K: Sink, G: Gate + Sync>(
+    rt: &R,
+    alloc: Global,
+    words: &[String],
+    source: &mut S,
+    sink: &mut K,
+    gate: &G,
+    kept: &mut Option<Finding>,
+) -> Status
+    ensures ends { Ends (call_of (texts_of words.now) as_many_as_asked
+        (change_of S.left S.faults source.old source.new)
+        (change_of K.held K.faults sink.old sink.new)) result kept.new }
+    ensures truth { TellsOnlyTruth (call_of (texts_of words.now) as_many_as_asked
+        (change_of S.left S.faults source.old source.new)
+        (change_of K.held K.faults sink.old sink.new)) result }
+    ensures reads { S.faults source.old ≤ S.faults source.new }
+    ensures writes { K.faults sink.old ≤ K.faults sink.new }
+{
+    let asked = match begin(alloc, words, kept) {
+        Ok(asked) => asked,
+        Err(fault) => return refuse(sink, fault),
+    };
+    let reply = answer_source(rt, alloc, &asked, source, gate);
+    end(sink, reply, kept)
+}
+
+/// What `run` does where the words ask for one worker, however many they ask for. It takes no runtime, waits for nobody, and
+/// returns.
+pub fn run_alone<S: Source, K: Sink>(
     alloc: Global,
     words: &[String],
     source: &mut S,
     sink: &mut K,
     kept: &mut Option<Finding>,
 ) -> Status
-    ensures ends { Ends (call_of (texts_of words.now)
+    ensures ends { Ends (call_of (texts_of words.now) only_one
         (change_of S.left S.faults source.old source.new)
         (change_of K.held K.faults sink.old sink.new)) result kept.new }
-    ensures truth { TellsOnlyTruth (call_of (texts_of words.now)
+    ensures truth { TellsOnlyTruth (call_of (texts_of words.now) only_one
         (change_of S.left S.faults source.old source.new)
         (change_of K.held K.faults sink.old sink.new)) result }
     ensures reads { S.faults source.old ≤ S.faults source.new }
     ensures writes { K.faults sink.old ≤ K.faults sink.new }
 {
-    *kept = None;
-    let asked = match read_words(alloc, words) {
-        Ok(asked) => asked,
-        Err(WordsFault::Usage) => return write_text(sink, USAGE, Status::Usage),
-        Err(WordsFault::OutOfMemory) => return Status::OutOfMemory,
+    let asked = match begin(alloc, words, kept) {
+        Ok(asked) => by_one_worker(asked),
+        Err(fault) => return refuse(sink, fault),
     };
-    match answer_source(alloc, &asked, source) {
-        Ok(reply) => deliver(sink, reply, kept),
-        Err(NoReply::ReadFault) => Status::ReadFault,
-        Err(NoReply::OutOfMemory) => Status::OutOfMemory,
+    let reply = answer_source_alone(alloc, &asked, source);
+    end(sink, reply, kept)
+}
+
+/// Lets an earlier search go, and reads the words.
+fn begin(alloc: Global, words: &[String], kept: &mut Option<Finding>) -> Result<Asked, WordsFault>
+    ensures asked { IfOk result (λ asked. Asks (texts_of words.now) asked) }
+    ensures bounds { IfOk result IsWithinBounds }
+    ensures usage { IsErrOf result WordsFault.Usage → AsksNothing (texts_of words.now) }
+    ensures none { kept.new ≡ None }
+{
+    *kept = None;
+    read_words(alloc, words)
+}
+
+/// Writes the usage line where the words ask for nothing: the status of the call.
+fn refuse<K: Sink>(sink: &mut K, fault: WordsFault) -> Status
+    ensures refused { IsRefused fault (change_of K.held K.faults sink.old sink.new) result }
+    ensures count { K.faults sink.old ≤ K.faults sink.new }
+{
+    match fault {
+        WordsFault::Usage => write_text(sink, USAGE, Status::Usage),
+        WordsFault::OutOfMemory => Status::OutOfMemory,
     }
 }
 
-/// Why there is no reply to write.
-#[derive(Clone, Copy, Debug, PartialEq, Eq)]
-enum NoReply {
-    ReadFault,
-    OutOfMemory,
+/// What is asked for, by one worker.
+fn by_one_worker(asked: Asked) -> Asked
+    requires bounds { IsWithinBounds asked }
+    ensures asked { result ≡ with_workers only_one asked }
+    ensures bounds { IsWithinBounds result }
+    ensures one { result.workers ≡ 1 }
+{
+    Asked {
+        workers: 1,
+        ..asked
+    }
 }
 
-/// The answer of the job that is asked for to all that the source gives. Where the job has no input, the source is not called.
-fn answer_source<S: Source>(alloc: Global, asked: &Asked, source: &mut S) -> Result<Reply, NoReply>
+/// The answer of the job that is asked for to all that the source gives; the error is the status of a call that writes nothing.
+fn answer_source<R: Threads + Wait + Sync, S: Source, G: Gate + Sync>(
+    rt: &R,
+    alloc: Global,
+    asked: &Asked,
+    source: &mut S,
+    gate: &G,
+) -> Result<Reply, Status>
     requires bounds { IsWithinBounds asked.now }
     ensures answer { IfOk result (λ reply. IsReplyTo asked.now (change_of S.left S.faults source.old source.new) reply) }
     ensures claim { IfOk result (λ reply. reply.status ≡ Status.Done
         → (bytes : List ℕ) × (TakesAll (limit_of asked.now.job) (change_of S.left S.faults source.old source.new) bytes
         × IsTrueReply asked.now.job bytes reply.text)) }
-    ensures lost { IfErr result (λ e. IsUntouched (change_of S.left S.faults source.old source.new)
-        ⊎ Loses (limit_of asked.now.job) 1 (change_of S.left S.faults source.old source.new)) }
-    ensures lost_by_fault { IsErrOf result NoReply.ReadFault → Loses (limit_of asked.now.job) 0 (change_of S.left S.faults source.old source.new) }
-    ensures fault { IsErrOf result NoReply.ReadFault → Failed (change_of S.left S.faults source.old source.new) }
+    ensures without { IfErr result (λ s. IsWithoutReply (limit_of asked.now.job) (change_of S.left S.faults source.old source.new) s) }
     ensures count { S.faults source.old ≤ S.faults source.new }
 {
-    let Some(limit) = asked.job.limit() else {
-        return or_no_memory(answer(alloc, asked, &[]));
+    let Some(bytes) = read_input(alloc, asked.job, source)? else {
+        return or_no_memory(Reply::too_long(alloc));
+    };
+    or_no_memory(answer(rt, alloc, asked, bytes.as_slice(), gate))
+}
+
+/// The answer of the job that is asked for, of `decide` with one worker, to all that the source gives; the error is the status
+/// of a call that writes nothing.
+fn answer_source_alone<S: Source>(
+    alloc: Global,
+    asked: &Asked,
+    source: &mut S,
+) -> Result<Reply, Status>
+    requires bounds { IsWithinBounds asked.now }
+    requires one { asked.now.workers ≡ 1 }
+    ensures answer { IfOk result (λ reply. IsReplyTo asked.now (change_of S.left S.faults source.old source.new) reply) }
+    ensures claim { IfOk result (λ reply. reply.status ≡ Status.Done
+        → (bytes : List ℕ) × (TakesAll (limit_of asked.now.job) (change_of S.left S.faults source.old source.new) bytes
+        × IsTrueReply asked.now.job bytes reply.text)) }
+    ensures without { IfErr result (λ s. IsWithoutReply (limit_of asked.now.job) (change_of S.left S.faults source.old source.new) s) }
+    ensures count { S.faults source.old ≤ S.faults source.new }
+{
+    let Some(bytes) = read_input(alloc, asked.job, source)? else {
+        return or_no_memory(Reply::too_long(alloc));
+    };
+    or_no_memory(answer_alone(alloc, asked, bytes.as_slice()))
+}
+
+/// The bytes that the source gives for a job; None where there are more than its limit. Where the job has no input there are none,
+/// and the source is not called. The error is the status of a call that can't read them.
+fn read_input<S: Source>(alloc: Global, job: Job, source: &mut S) -> Result<Option<Vec<u8>>, Status>
+    ensures whole { IfOk result (λ input. IfSome input (λ bytes. TakesAll (limit_of job) (change_of S.left S.faults source.old source.new) bytes.items)) }
+    ensures within { IfOk result (λ input. IfSome input (λ bytes. IsWithin (limit_of job) bytes.items)) }
+    ensures too_long { IfOk result (λ input. IfNone input ((bytes : List ℕ)
+        × (TakesTooMuch (limit_of job) (change_of S.left S.faults source.old source.new) bytes × IsOver (limit_of job) bytes))) }
+    ensures few { IfOk result (λ input. IsUntouched (change_of S.left S.faults source.old source.new)
+        ⊎ Loses (limit_of job) 1 (change_of S.left S.faults source.old source.new)) }
+    ensures without { IfErr result (λ s. IsWithoutReply (limit_of job) (change_of S.left S.faults source.old source.new) s) }
+    ensures count { S.faults source.old ≤ S.faults source.new }
+{
+    let Some(limit) = job.limit() else {
+        return Ok(Some(Vec::new(alloc)));
     };
     match read_all(alloc, source, limit) {
-        Ok(bytes) => or_no_memory(answer(alloc, asked, bytes.as_slice())),
-        Err(ReadEnd::TooLong) => or_no_memory(Reply::too_long(alloc)),
-        Err(ReadEnd::Fault) => Err(NoReply::ReadFault),
-        Err(ReadEnd::OutOfMemory) => Err(NoReply::OutOfMemory),
+        Ok(bytes) => Ok(Some(bytes)),
+        Err(ReadEnd::TooLong) => Ok(None),
+        Err(ReadEnd::Fault) => Err(Status::ReadFault),
+        Err(ReadEnd::OutOfMemory) => Err(Status::OutOfMemory),
     }
 }
 
-/// A reply that was made, or want of memory.
-fn or_no_memory(reply: Result<Reply, AllocError>) -> Result<Reply, NoReply>
+/// A reply that was made, or the status where memory was wanting.
+fn or_no_memory(reply: Result<Reply, AllocError>) -> Result<Reply, Status>
     ensures ok { IfOk result (λ made. reply ≡ Ok made) }
-    ensures err { IfErr result (λ e. e ≡ NoReply.OutOfMemory) }
+    ensures err { IfErr result (λ s. s ≡ Status.OutOfMemory) }
 {
     match reply {
         Ok(reply) => Ok(reply),
-        Err(_) => Err(NoReply::OutOfMemory),
+        Err(_) => Err(Status::OutOfMemory),
+    }
+}
+
+/// Writes the reply, if there is one: the status of the call.
+fn end<K: Sink>(sink: &mut K, reply: Result<Reply, Status>, kept: &mut Option<Finding>) -> Status
+    requires none { kept.old ≡ None }
+    ensures ended { IsEnded (change_of K.held K.faults sink.old sink.new) reply result kept.new }
+    ensures count { K.faults sink.old ≤ K.faults sink.new }
+{
+    match reply {
+        Ok(reply) => deliver(sink, reply, kept),
+        Err(status) => status,
     }
 }
 

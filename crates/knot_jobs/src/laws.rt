@@ -1,11 +1,14 @@
 //! Laws of words, answers and endings, over the definitions alone.
-ghost use Rattle.std.specs.Prelude.{◌≡◌, ◌⊎◌, ℕ, List, Option, Some, None};
+ghost use Rattle.std.specs.Prelude.{◌≡◌, ◌⊎◌, ℕ, List, Option, Some, None, true};
 ghost use Rattle.clap.specs.Walk.{Text};
 ghost use Rattle.std.specs.List.{AllByRecursion};
 ghost use Rattle.grid_core.specs.Diagram.{Diagram, IsGrid, size};
 ghost use Rattle.grid_moves.specs.Joining.{Joins};
 ghost use Rattle.quandle_core.specs.Quandle.{Table, IsQuandle};
 ghost use Rattle.colour_rows.specs.Colouring.{IsColouring};
+ghost use Rattle.braid_core.specs.Braid.{Word, IsBraid};
+ghost use Rattle.braid_moves.specs.declared.ruling.BraidRuling.TheVariants.{Accepted};
+ghost use Rattle.braid_moves.specs.Ruling.{ruling};
 ghost use Rattle.verdict_core.specs.declared.verdict.Verdict.{Verdict};
 ghost use Rattle.verdict_core.specs.Names.{NamedQuandle};
 ghost use Rattle.knot_text.specs.Printed.{HasQuandleText, HasVerdictText};
@@ -14,15 +17,17 @@ ghost use Rattle.search_pool.specs.declared.finding.Finding.{Finding};
 ghost use Rattle.pair_verdict.specs.Decided.{Decides};
 ghost use Rattle.knot_jobs.specs.Words.{Asks, AsksNothing};
 ghost use Rattle.knot_jobs.specs.Status.{IsOfDefinedAnswer, IsOfAnswer};
-ghost use Rattle.knot_jobs.specs.Answer.{limit_of, part_for, IsWithin, IsInShape, Answers};
+ghost use Rattle.knot_jobs.specs.Answer.{limit_of, part_for, leaves_no_choice, IsWithin, IsInShape, Answers};
 ghost use Rattle.knot_jobs.specs.Call.{Call, Failed};
 ghost use Rattle.knot_jobs.specs.Ending.{IsDue, Ends};
-ghost use Rattle.knot_jobs.specs.Jobs.Decide.{IsShort};
+ghost use Rattle.knot_jobs.specs.Jobs.Decide.{IsShort, with_workers};
 ghost use Rattle.knot_jobs.specs.Jobs.Replay.{Carries};
+ghost use Rattle.knot_jobs.specs.EquallyMany.{HaveEquallyMany};
 
 use crate::reply::Reply;
 use crate::status::Status;
-use crate::words::{Asked, Job};
+use crate::words::Asked;
+use braid_moves::BraidMove;
 use colour_list::laws::no_more_colourings_than_choices;
 use grid_moves::Move;
 
@@ -32,12 +37,12 @@ pub fn words_ask_for_one_thing()
     ensures never_both { (words : List Text) (a : Asked) → Asks words a → AsksNothing words → ⊥ }
 {}
 
-/// A job other than `decide` has one answer to each input: there is one, which keeps no search, and no other. `decide` may
-/// have several.
+/// A job that leaves no choice, which is every one but `decide` and `simplify`, has one answer to each input: there is one, which keeps
+/// no search, and no other. `decide` and `simplify` may have several.
 pub fn an_input_has_one_answer()
-    ensures some { (asked : Asked) (bytes : List ℕ) → (asked.job ≡ Job.Decide → ⊥)
+    ensures some { (asked : Asked) (bytes : List ℕ) → leaves_no_choice asked.job ≡ true
         → (reply : Reply) × ((reply.kept ≡ None) × Answers asked bytes reply) }
-    ensures one { (asked : Asked) (bytes : List ℕ) (reply other : Reply) → (asked.job ≡ Job.Decide → ⊥)
+    ensures one { (asked : Asked) (bytes : List ℕ) (reply other : Reply) → leaves_no_choice asked.job ≡ true
         → Answers asked bytes reply
         → Answers asked bytes other
         → reply ≡ other }
@@ -48,15 +53,15 @@ pub fn an_answer_has_its_own_status()
     ensures { (asked : Asked) (bytes : List ℕ) (reply : Reply) → Answers asked bytes reply → IsOfAnswer reply.status }
 {}
 
-/// Where the source tells its bytes, the words and these bytes decide the reply of a call of a job other than `decide`, but for
-/// a counted fault and want of memory.
+/// Where the source tells its bytes, the words and these bytes decide the reply of a call of a job other than `decide` and `simplify`,
+/// but for a counted fault and want of memory, however many workers search in it.
 pub fn the_words_and_the_input_decide()
     ensures { (input : List ℕ) (call again : Call) (asked : Asked) (reply other : Reply)
         → call.words ≡ again.words
         → call.source.before ≡ Some input
         → again.source.before ≡ Some input
         → Asks call.words asked
-        → (asked.job ≡ Job.Decide → ⊥)
+        → leaves_no_choice asked.job ≡ true
         → IsDue call reply
         → IsDue again other
         → reply ≡ other }
@@ -70,7 +75,7 @@ pub fn a_call_without_faults_ends_with_what_is_due()
         → call.source.before ≡ Some bytes
         → (Failed call.source → ⊥)
         → (Failed call.sink → ⊥)
-        → ((text : List ℕ) × Answers asked (part_for asked.job bytes) (record { status = s; text = text; kept = kept }))
+        → ((text : List ℕ) × Answers (with_workers call.searching asked) (part_for asked.job bytes) (record { status = s; text = text; kept = kept }))
         ⊎ (s ≡ Status.OutOfMemory) }
     ensures usage { (call : Call) (s : Status) (kept : Option Finding) → Ends call s kept
         → AsksNothing call.words
@@ -95,14 +100,20 @@ pub fn a_replay_carries_a_colouring_to_a_colouring()
         → IsColouring t e last }
 {}
 
+/// Where steps from one braid to another are accepted, the actions of both braids have equally many fixed points for every
+/// quandle, and their closures equally many colourings.
+pub fn accepted_braids_have_equally_many_colourings()
+    ensures { (v w : Word) → IsBraid v → IsBraid w → (steps : List BraidMove) → ruling v w steps ≡ Accepted → HaveEquallyMany v w }
+{}
+
 /// A decision has a text behind its two diagrams, where the listed quandles have texts, and its moves, if any, are not too many
 /// for one: so what is printed is read back.
 pub fn a_decision_has_a_text()
-    ensures { (p : Problem) (quandles : List NamedQuandle) (v : Verdict) (kept : Option Finding)
+    ensures { (p : Problem) (quandles : List NamedQuandle) (workers : ℕ) (v : Verdict) (kept : Option Finding)
         → IsGrid p.first
         → IsGrid p.second
         → AllByRecursion HasQuandleText quandles
-        → Decides p quandles v kept
+        → Decides p quandles workers v kept
         → IsShort v
         → HasVerdictText (size p.first) (size p.second) v }
 {

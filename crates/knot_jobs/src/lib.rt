@@ -4,6 +4,7 @@
 
 mod answer;
 mod call;
+mod comparison;
 mod jobs;
 pub mod laws;
 mod lines;
@@ -13,7 +14,7 @@ mod status;
 mod tests;
 mod words;
 
-pub use call::run;
+pub use call::{run, run_alone};
 pub use status::Status;
 pub use walk_samples::sample_walk;
 pub use words::{Asked, Job, WordsFault, read_words};

@@ -25,7 +25,7 @@ fn push_fault(out: &mut Vec<u8>, fault: MoveFault) -> Result<(), AllocError>
 }
 
 /// Appends words, of which the last ends with a space, and a number.
-fn push_spaced(out: &mut Vec<u8>, words: &[u8], number: u64) -> Result<(), AllocError>
+pub(crate) fn push_spaced(out: &mut Vec<u8>, words: &[u8], number: u64) -> Result<(), AllocError>
     ensures { OnOk result (out.new.items ≡ out.old.items ++ (words.now ++ decimal number)) }
 {
     out.extend_from_slice(words)?;

@@ -1,9 +1,15 @@
 //! Whole calls over sources and sinks in memory, and command lines that are taken or not.
 mod calls;
 mod decisions;
+mod hostile;
+mod links;
+mod many;
+mod simplified;
+mod steps;
+mod weights;
 mod words;
 
-use crate::call::run;
+use crate::call::run_alone;
 use crate::status::Status;
 use knot_ports::{MemSink, MemSource};
 use std::alloc::{AllocError, Global};
@@ -38,7 +44,7 @@ fn run_line(
     let writing = Vec::from_slice(alloc, outside.writing)?;
     let mut source = MemSource::new(Vec::from_slice(alloc, input)?, 4, reading);
     let mut sink = MemSink::new(alloc, 3, outside.room, writing)?;
-    let status = run(alloc, words.as_slice(), &mut source, &mut sink, &mut None);
+    let status = run_alone(alloc, words.as_slice(), &mut source, &mut sink, &mut None);
     let written = Vec::from_slice(alloc, sink.bytes())?;
     Ok((status, written))
 }

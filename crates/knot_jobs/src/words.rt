@@ -28,6 +28,16 @@ pub enum Job {
     Close,
     /// Writes the crossing code of a diagram.
     Code,
+    /// Writes a braid word of a diagram, and lists the fixed points of the word's action.
+    Braid,
+    /// Compares the linking numbers of two diagrams.
+    Linking,
+    /// Rules on steps that are to lead from one braid to another.
+    Braidcheck,
+    /// Compares the weights of the colourings of two diagrams by a cocycle.
+    Weights,
+    /// Simplifies a diagram by moves that never make it larger.
+    Simplify,
     /// Makes a list of moves from a seed, has it checked, and counts colourings at both ends. It reads nothing.
     Sample,
 }
@@ -36,9 +46,9 @@ pub enum Job {
 #[derive(Clone, Copy, Debug, PartialEq, Eq)]
 pub struct Asked {
     pub job: Job,
-    /// A number from 1 to 64. It is taken and checked; one searcher works, whatever it is.
+    /// How many workers search, 1 to 64.
     pub workers: u32,
-    /// How many diagrams the search may admit, 2 to 500,000.
+    /// How many diagrams the search may admit, and how many members a listing of `simplify` may have, 2 to 500,000.
     pub budget: u32,
     /// How much the search may grow beyond the larger diagram, 0 to 4.
     pub spare: u8,
@@ -177,6 +187,11 @@ fn job_named(word: &str) -> Option<Job>
         "colour" => Some(Job::Colour),
         "close" => Some(Job::Close),
         "code" => Some(Job::Code),
+        "braid" => Some(Job::Braid),
+        "linking" => Some(Job::Linking),
+        "braidcheck" => Some(Job::Braidcheck),
+        "weights" => Some(Job::Weights),
+        "simplify" => Some(Job::Simplify),
         "sample" => Some(Job::Sample),
         _ => None,
     }

@@ -19,6 +19,18 @@ use Rattle.knot_jobs.specs.declared.status.Status.TheVariants as status
 abbrev pub cap_of : Diagram → Diagram → ℕ → ℕ
 cap_of d e spare = min MAX_SIZE (max (size d) (size e) + spare)
 
+-- of the workers that are asked for, all search
+abbrev pub as_many_as_asked : ℕ → ℕ
+as_many_as_asked workers = workers
+
+-- one searches, however many are asked for
+abbrev pub only_one : ℕ → ℕ
+only_one workers = 1
+
+-- what is asked for, with the number of workers that search where so many are asked for
+abbrev pub with_workers : (ℕ → ℕ) → Asked → Asked
+with_workers searching asked = record asked { workers = searching asked.workers }
+
 -- what is searched where no quandle tells the diagrams apart
 abbrev pub problem_for : Asked → Diagram → Diagram → Problem
 problem_for asked d e = record { first = d; second = e; cap = cap_of d e asked.spare; budget = asked.budget }
@@ -36,9 +48,9 @@ IsShort (Different listed one two) = Unit {0}
 IsShort (UnknownBudget budget) = Unit {0}
 IsShort (UnknownExhausted cap admitted) = Unit {0}
 
--- the verdict on the diagrams, with the search behind it
+-- the verdict on the diagrams, with the search of so many workers behind it
 pub record AnswersDecide (asked : Asked) (input : ProblemText) (reply : Reply) : Type 0 where
   pub verdict : Verdict
-  pub decides : Decides (problem_for asked (grid_of input.first) (grid_of input.second)) input.quandles verdict reply.kept
+  pub decides : Decides (problem_for asked (grid_of input.first) (grid_of input.second)) input.quandles asked.workers verdict reply.kept
   pub status_is : reply.status ≡ verdict_status verdict
   pub text_is : reply.text ≡ verdict_text verdict

@@ -76,7 +76,7 @@ fn push_colourings(
 }
 
 /// Appends how many colourings there are, and a line of colours for each.
-fn push_listing(out: &mut Vec<u8>, colourings: &[Colouring]) -> Result<(), AllocError>
+pub(crate) fn push_listing(out: &mut Vec<u8>, colourings: &[Colouring]) -> Result<(), AllocError>
     ensures { OnOk result (out.new.items ≡ out.old.items ++ lines_text (listing_lines (lists_of colourings.now))) }
 {
     push_list(out, colourings)

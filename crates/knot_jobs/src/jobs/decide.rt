@@ -1,5 +1,8 @@
 //! The job `decide`: the verdict on two diagrams.
 ghost use Rattle.std.specs.Prelude.{◌≡◌, ℕ, List, Ok, IfOk};
+ghost use Rattle.verdict_core.specs.Diagrams.{grid_of};
+ghost use Rattle.verdict_core.specs.Evidence.{Claims, Holds, HasEvidence};
+ghost use Rattle.pair_verdict.specs.Decided.{Decides};
 ghost use Rattle.knot_text.specs.Shapes.{problem_of};
 ghost use Rattle.knot_jobs.specs.Words.{IsWithinBounds};
 ghost use Rattle.knot_jobs.specs.Reply.{AnswersRead};
@@ -10,34 +13,73 @@ use crate::laws::a_decision_has_a_text;
 use crate::reply::Reply;
 use crate::status::Status;
 use crate::words::Asked;
-use grid_core::{Grid, Items, MAX_SIZE};
+use grid_core::{Items, MAX_SIZE};
 use knot_text::{ProblemText, Verdict, print_verdict, read_problem};
-use pair_verdict::decide;
+use memory_core::OutOfMemory;
+use pair_verdict::{Decision, decide, decide_alone};
 use search_book::Problem;
+use search_pool::Gate;
 use std::alloc::{AllocError, Global};
+use std::sync::Wait;
+use std::thread::Threads;
 
-/// The answer to the bytes of a problem.
-pub(crate) fn answer(alloc: Global, asked: &Asked, bytes: &[u8]) -> Result<Reply, AllocError>
+/// The answer to the bytes of a problem, by as many workers as are asked for.
+pub(crate) fn answer<R: Threads + Wait + Sync, G: Gate + Sync>(
+    rt: &R,
+    alloc: Global,
+    asked: &Asked,
+    bytes: &[u8],
+    gate: &G,
+) -> Result<Reply, AllocError>
     requires bounds { IsWithinBounds asked.now }
     ensures answer { IfOk result (λ reply. AnswersRead (AnswersDecide asked.now) (problem_of bytes.now) reply) }
     ensures claim { IfOk result (λ reply. reply.status ≡ Status.Done → IsDecision bytes.now reply.text) }
 {
     match read_problem(alloc, bytes) {
-        Ok(problem) => answer_problem(alloc, asked, &problem),
+        Ok(input) => {
+            let problem = problem_for(asked, &input);
+            let quandles = input.quandles.as_slice();
+            let decision = decide(rt, alloc, problem, quandles, asked.workers, gate);
+            answer_decision(alloc, asked, &input, decision)
+        }
         Err(fault) => Reply::to_fault(alloc, fault),
     }
 }
 
-/// The answer to a problem, from whatever bytes it was read.
-fn answer_problem(alloc: Global, asked: &Asked, input: &ProblemText) -> Result<Reply, AllocError>
+/// The answer to the bytes of a problem, by the one worker that is asked for.
+pub(crate) fn answer_alone(alloc: Global, asked: &Asked, bytes: &[u8]) -> Result<Reply, AllocError>
     requires bounds { IsWithinBounds asked.now }
+    requires one { asked.now.workers ≡ 1 }
+    ensures answer { IfOk result (λ reply. AnswersRead (AnswersDecide asked.now) (problem_of bytes.now) reply) }
+    ensures claim { IfOk result (λ reply. reply.status ≡ Status.Done → IsDecision bytes.now reply.text) }
+{
+    match read_problem(alloc, bytes) {
+        Ok(input) => {
+            let problem = problem_for(asked, &input);
+            let decision = decide_alone(alloc, problem, input.quandles.as_slice());
+            answer_decision(alloc, asked, &input, decision)
+        }
+        Err(fault) => Reply::to_fault(alloc, fault),
+    }
+}
+
+/// The answer to a problem with the decision on it, from whatever bytes the problem was read.
+fn answer_decision(
+    alloc: Global,
+    asked: &Asked,
+    input: &ProblemText,
+    decision: Result<Decision, OutOfMemory>,
+) -> Result<Reply, AllocError>
+    requires decides { IfOk decision (λ d. Decides (problem_for asked.now (grid_of input.now.first) (grid_of input.now.second))
+        input.now.quandles asked.now.workers d.verdict d.kept) }
+    requires claims { IfOk decision (λ d. Claims (grid_of input.now.first) (grid_of input.now.second) d.verdict) }
+    requires holds { IfOk decision (λ d. HasEvidence d.verdict → Holds (grid_of input.now.first) (grid_of input.now.second) d.verdict) }
     ensures answer { IfOk result (λ reply. AnswersDecide asked.now input.now reply) }
     ensures claim { (bytes : List ℕ) → problem_of bytes ≡ Ok input.now
         → IfOk result (λ reply. reply.status ≡ Status.Done → IsDecision bytes reply.text) }
 {
     a_decision_has_a_text();
-    let problem = problem_for(asked, input.first.grid(), input.second.grid());
-    let Ok(decision) = decide(alloc, problem, input.quandles.as_slice()) else {
+    let Ok(decision) = decision else {
         return Err(AllocError);
     };
     let Ok(text) = print_verdict(alloc, &decision.verdict) else {
@@ -51,10 +93,12 @@ fn answer_problem(alloc: Global, asked: &Asked, input: &ProblemText) -> Result<R
 }
 
 /// What is searched where no quandle tells the grids apart.
-fn problem_for(asked: &Asked, first: Grid, second: Grid) -> Problem
+fn problem_for(asked: &Asked, input: &ProblemText) -> Problem
     requires bounds { IsWithinBounds asked.now }
-    ensures { result ≡ problem_for asked.now first second }
+    ensures { result ≡ problem_for asked.now (grid_of input.now.first) (grid_of input.now.second) }
 {
+    let first = input.first.grid();
+    let second = input.second.grid();
     let larger = first.size().max(second.size());
     Problem {
         cap: (larger + asked.spare).min(MAX_SIZE as u8),

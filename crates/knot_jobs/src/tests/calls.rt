@@ -1,6 +1,6 @@
 //! Whole calls: worked examples, faults at each call of the source and the sink, and inputs of the greatest length.
 use super::{Outside, run_line, words_of};
-use crate::call::run;
+use crate::call::run_alone;
 use crate::status::Status;
 use knot_ports::{QuietSink, QuietSource};
 use std::alloc::{AllocError, Global};
@@ -8,10 +8,10 @@ use std::process::Abort;
 use std::test::Fail;
 
 /// A call, and what is expected of it: a command line, an input, the status and the written text.
-type Row = (&'static str, &'static [u8], Status, &'static [u8]);
+pub(super) type Row = (&'static str, &'static [u8], Status, &'static [u8]);
 
 /// Nothing fails, and there is room for all.
-const CALM: Outside = Outside {
+pub(super) const CALM: Outside = Outside {
     reading: &[],
     writing: &[],
     room: 1000,
@@ -21,7 +21,7 @@ const CALM: Outside = Outside {
 const SHIFTED: &[u8] = b"x 0 1\no 1 0\nx 1 0\no 0 1\nequal 1\nshift rows 1\n";
 
 /// Whether a call has what is expected of it.
-fn compare(rt: &impl Abort, alloc: Global, row: &Row) -> Result<(), Fail> {
+pub(super) fn compare(rt: &impl Abort, alloc: Global, row: &Row) -> Result<(), Fail> {
     let (line, input, status, text) = *row;
     let (ended, written) = run_line(alloc, line, input, &CALM)?;
     assert_eq!(rt; ended, status, "{line}");
@@ -310,7 +310,7 @@ fn padded(alloc: Global, head: &[u8], size: usize) -> Result<Vec<u8>, AllocError
 fn status_at(alloc: Global, line: &str, head: &[u8], size: usize) -> Result<Status, Fail> {
     let words = words_of(alloc, line)?;
     let mut source = QuietSource::new(padded(alloc, head, size)?);
-    Ok(run(
+    Ok(run_alone(
         alloc,
         words.as_slice(),
         &mut source,
@@ -324,7 +324,7 @@ fn status_at(alloc: Global, line: &str, head: &[u8], size: usize) -> Result<Stat
 fn inputs_are_read_up_to_the_limit(rt: HostRuntime) -> Result<(), Fail> {
     let unknots: &[u8] = b"x 0 1\no 1 0\nx 0 1\no 1 0\nequal 0\n";
     let pair: &[u8] = b"x 0 1\no 1 0\nx 0 1\no 1 0\n";
-    let rows: [(&str, &[u8], usize, Status); 10] = [
+    let rows: [(&str, &[u8], usize, Status); 18] = [
         ("knot decide", pair, 1_048_576, Status::Done),
         ("knot decide", pair, 1_048_577, Status::Limit),
         ("knot check", unknots, 33_554_432, Status::Done),
@@ -345,6 +345,14 @@ fn inputs_are_read_up_to_the_limit(rt: HostRuntime) -> Result<(), Fail> {
         ("knot colour", b"x 0 1\no 1 0\n", 1_048_577, Status::Limit),
         ("knot close", b"braid 1\n", 1_048_576, Status::Done),
         ("knot close", b"braid 1\n", 1_048_577, Status::Limit),
+        ("knot code", b"braid 1\n", 1_048_576, Status::Done),
+        ("knot code", b"braid 1\n", 1_048_577, Status::Limit),
+        ("knot braid", b"braid 1\n", 1_048_576, Status::Done),
+        ("knot braid", b"braid 1\n", 1_048_577, Status::Limit),
+        ("knot linking", pair, 1_048_576, Status::Done),
+        ("knot linking", pair, 1_048_577, Status::Limit),
+        ("knot simplify", b"x 0 1\no 1 0\n", 1_048_576, Status::Done),
+        ("knot simplify", b"x 0 1\no 1 0\n", 1_048_577, Status::Limit),
     ];
     for (line, head, size, status) in rows {
         let ended = status_at(rt.alloc(), line, head, size)?;

@@ -4,14 +4,16 @@ use crate::call::run;
 use crate::status::Status;
 use knot_ports::{MemSink, MemSource, QuietSink, QuietSource};
 use search_book::End;
-use search_pool::Finding;
+use search_pool::{Finding, OpenGate};
 use std::alloc::Global;
+use std::sync::Wait;
 use std::test::Fail;
+use std::thread::Threads;
 
 /// The right trefoil and its reverse, and the left trefoil and the right one.
 const REVERSED: &[u8] = b"x 4 3 2 1 0\no 2 1 0 4 3\nx 4 3 2 1 0\no 1 0 4 3 2\n";
 
-const TREFOILS: &[u8] = b"x 0 1 2 3 4\no 2 3 4 0 1\nx 4 3 2 1 0\no 2 1 0 4 3\n";
+pub(crate) const TREFOILS: &[u8] = b"x 0 1 2 3 4\no 2 3 4 0 1\nx 4 3 2 1 0\no 2 1 0 4 3\n";
 
 /// What a call ended with: its status, what it wrote, and the search that it kept.
 #[derive(Drop)]
@@ -22,12 +24,25 @@ struct Ended {
 }
 
 /// A call on an input.
-fn call(alloc: Global, line: &str, input: &[u8]) -> Result<Ended, Fail> {
+fn call<R: Threads + Wait + Sync>(
+    rt: &R,
+    alloc: Global,
+    line: &str,
+    input: &[u8],
+) -> Result<Ended, Fail> {
     let words = words_of(alloc, line)?;
     let mut source = MemSource::new(Vec::from_slice(alloc, input)?, 4096, Vec::new(alloc));
     let mut sink = MemSink::new(alloc, 4096, 65_536, Vec::new(alloc))?;
     let mut kept = None;
-    let status = run(alloc, words.as_slice(), &mut source, &mut sink, &mut kept);
+    let status = run(
+        rt,
+        alloc,
+        words.as_slice(),
+        &mut source,
+        &mut sink,
+        &OpenGate,
+        &mut kept,
+    );
     let text = Vec::from_slice(alloc, sink.bytes())?;
     Ok(Ended { status, text, kept })
 }
@@ -104,7 +119,7 @@ fn pairs_have_their_verdicts(rt: HostRuntime) -> Result<(), Fail> {
         ),
     ];
     for (line, input, status, text) in rows {
-        let ended = call(rt.alloc(), line, input)?;
+        let ended = call(&rt, rt.alloc(), line, input)?;
         assert_eq!(rt; ended.status, status, "{line}");
         assert_eq!(rt; ended.text.as_slice(), text, "{line}");
     }
@@ -112,8 +127,13 @@ fn pairs_have_their_verdicts(rt: HostRuntime) -> Result<(), Fail> {
 }
 
 /// The search that a call kept.
-fn search_of(alloc: Global, line: &str, input: &[u8]) -> Result<Finding, Fail> {
-    let Ended { kept, .. } = call(alloc, line, input)?;
+fn search_of<R: Threads + Wait + Sync>(
+    rt: &R,
+    alloc: Global,
+    line: &str,
+    input: &[u8],
+) -> Result<Finding, Fail> {
+    let Ended { kept, .. } = call(rt, alloc, line, input)?;
     match kept {
         Some(finding) => Ok(finding),
         None => Err(Fail::from("no search")),
@@ -122,13 +142,19 @@ fn search_of(alloc: Global, line: &str, input: &[u8]) -> Result<Finding, Fail> {
 
 #[test]
 fn a_search_is_kept_where_there_was_one(rt: HostRuntime) -> Result<(), Fail> {
-    let spent = search_of(rt.alloc(), "knot decide --spare 1 --budget 2", TREFOILS)?;
+    let spent = search_of(
+        &rt,
+        rt.alloc(),
+        "knot decide --spare 1 --budget 2",
+        TREFOILS,
+    )?;
     assert_eq!(rt; spent.book.len(), 2);
     assert!(rt; matches!(spent.book.end(), Some(End::Spent { .. })));
-    let exhausted = search_of(rt.alloc(), "knot decide --spare 0", TREFOILS)?;
+    let exhausted = search_of(&rt, rt.alloc(), "knot decide --spare 0", TREFOILS)?;
     assert!(rt; matches!(exhausted.book.end(), Some(End::Exhausted)));
     assert_eq!(rt; exhausted.settled, 2);
     let told_apart = call(
+        &rt,
         rt.alloc(),
         "knot decide",
         b"x 4 3 2 1 0\no 2 1 0 4 3\nx 0 1\no 1 0\n",
@@ -139,13 +165,15 @@ fn a_search_is_kept_where_there_was_one(rt: HostRuntime) -> Result<(), Fail> {
 
 #[test]
 fn an_earlier_search_is_let_go(rt: HostRuntime) -> Result<(), Fail> {
-    let mut kept = Some(search_of(rt.alloc(), "knot decide --spare 0", TREFOILS)?);
+    let mut kept = Some(search_of(&rt, rt.alloc(), "knot decide --spare 0", TREFOILS)?);
     let words = words_of(rt.alloc(), "knot decode")?;
     let status = run(
+        &rt,
         rt.alloc(),
         words.as_slice(),
         &mut QuietSource::new(Vec::new(rt.alloc())),
         &mut QuietSink::new(),
+        &OpenGate,
         &mut kept,
     );
     assert_eq!(rt; status, Status::Usage);
@@ -171,11 +199,16 @@ fn a_sample_reads_nothing(rt: HostRuntime) -> Result<(), Fail> {
 }
 
 /// Whether `check` accepts what a call of `decide` wrote, behind its input.
-fn is_accepted(alloc: Global, line: &str, input: &[u8]) -> Result<bool, Fail> {
-    let ended = call(alloc, line, input)?;
+fn is_accepted<R: Threads + Wait + Sync>(
+    rt: &R,
+    alloc: Global,
+    line: &str,
+    input: &[u8],
+) -> Result<bool, Fail> {
+    let ended = call(rt, alloc, line, input)?;
     let mut both = Vec::from_slice(alloc, input)?;
     both.extend_from_slice(ended.text.as_slice())?;
-    let ruled = call(alloc, "knot check", both.as_slice())?;
+    let ruled = call(rt, alloc, "knot check", both.as_slice())?;
     Ok(ended.status == Status::Done && ruled.status == Status::Done)
 }
 
@@ -192,7 +225,7 @@ fn what_is_decided_is_accepted_behind_its_problem(rt: HostRuntime) -> Result<(),
         ("knot decide", b"x 0 1 2 3 4\no 2 4 3 1 0\nx 0 1\no 1 0\n"),
     ];
     for (line, input) in rows {
-        let accepted = is_accepted(rt.alloc(), line, input)?;
+        let accepted = is_accepted(&rt, rt.alloc(), line, input)?;
         assert!(rt; accepted, "{line}");
     }
     Ok(())

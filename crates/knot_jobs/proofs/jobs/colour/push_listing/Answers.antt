@@ -7,4 +7,4 @@ use Rattle.knot_jobs.proofs.jobs.colour.push_listing.Goals as goal
 pub returns : goal.returns
 returns c =
     let more : List (List (List ℕ)) → List ℕ = λ lines. c.args.out.now.items ++ lines_text lines in
-    on_ok_weaker c.push_list.result (λ done. done ∙ ap more (list_is_listing c.args.colourings.now)) c.push_list.ensures
+    on_ok_weaker c.push_list.result (λ done. done ∙ ap more (list_is_listing c.args.colourings.now)) c.push_list.ensures.text

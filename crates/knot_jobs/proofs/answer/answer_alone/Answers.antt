@@ -2,7 +2,7 @@ use Rattle.std.proofs.Common.{IfOk, subst, sym}
 use Rattle.knot_jobs.specs.declared.words.Job.{Job}
 use Rattle.knot_jobs.specs.Reply.{AnswersRead}
 use Rattle.knot_jobs.specs.Answer.{task_of}
-use Rattle.knot_jobs.proofs.answer.answer.Goals as goal
+use Rattle.knot_jobs.proofs.answer.answer_alone.Goals as goal
 
 -- the task of `sample` rests on what is asked, and so the search does not find it
 pub returns-in-Sample-clause-answer : goal.returns-in-Sample-clause-answer

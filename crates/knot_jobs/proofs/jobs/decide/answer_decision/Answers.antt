@@ -1,0 +1,37 @@
+use Rattle.std.proofs.Common.{sym, ◌∙◌, subst}
+use Rattle.std.proofs.lemmas.Result.{IfOk-at_ok}
+use Rattle.verdict_core.specs.Diagrams.{grid_of}
+use Rattle.verdict_core.specs.Evidence.{Claims, Holds, HasEvidence}
+use Rattle.pair_verdict.specs.declared.decision.Decision.{Decision}
+use Rattle.pair_verdict.specs.Decided.{Decides}
+use Rattle.knot_jobs.specs.Jobs.Decide.{problem_for}
+use Rattle.knot_jobs.specs.Truth.{IsAcceptedBehind}
+use Rattle.knot_jobs.proofs.Decisions.{has_evidence}
+use Rattle.knot_jobs.proofs.AcceptedBehind.{has_text, accepted_behind}
+use Rattle.knot_jobs.proofs.jobs.decide.answer_decision.Goals as goal
+
+pub returns-clause-claim : goal.returns-clause-claim
+returns-clause-claim c = λ bytes read done.
+    let input = c.args.input.now in
+    let asked = c.args.asked.now in
+    let v = c.in-Ok.decision.verdict in
+    let kept = c.in-Ok.decision.kept in
+    let evidence = has_evidence v (sym c.verdict_status.ensures ∙ done) in
+    let first = grid_of input.first in
+    let second = grid_of input.second in
+    let holds = IfOk-at_ok (λ (d : Decision). HasEvidence d.verdict → Holds first second d.verdict) c.in-Ok.is c.requires.holds evidence in
+    let p = problem_for asked first second in
+    let decides = IfOk-at_ok (λ (d : Decision). Decides p input.quandles asked.workers d.verdict d.kept) c.in-Ok.is c.requires.decides in
+    let claims = IfOk-at_ok (λ (d : Decision). Claims first second d.verdict) c.in-Ok.is c.requires.claims in
+    let text = has_text c.a_decision_has_a_text.ensures bytes asked input asked.workers v kept read decides in
+    let printed = c.from_vec.ensures ∙ c.in-Ok-print_verdict.ensures in
+    record {
+      problem = input;
+      read = read;
+      verdict = v;
+      is = printed;
+      evidence = evidence;
+      holds = holds;
+      is_true = claims;
+      accepted = subst (IsAcceptedBehind bytes) (sym printed) (accepted_behind bytes input v read text holds);
+    }
