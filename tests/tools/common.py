@@ -1,0 +1,31 @@
+"""Where things are, for the tests of the scripts."""
+import os
+import subprocess
+import sys
+
+ROOT = os.path.dirname(os.path.dirname(os.path.dirname(os.path.abspath(__file__))))
+TOOLS = os.path.join(ROOT, "tools")
+LISTS = os.path.join(ROOT, "quandles")
+KNOTS = os.path.join(LISTS, "knots-to-8.csv")
+
+sys.path.insert(0, TOOLS)
+
+
+def run(script, *words, text=""):
+    """Runs a script of tools/ and answers its status, standard output and standard error."""
+    done = subprocess.run([sys.executable, os.path.join(TOOLS, script), *words], input=text, capture_output=True, text=True, check=False)
+    return done.returncode, done.stdout, done.stderr
+
+
+def read(*parts):
+    with open(os.path.join(ROOT, *parts), encoding="utf-8") as source:
+        return source.read()
+
+
+def built_program():
+    """The program, where the variable KNOT names it or it was built in this tree, or None."""
+    given = os.environ.get("KNOT")
+    if given:
+        return given
+    beside = os.path.join(ROOT, "crates", "knot", "out", "knot")
+    return beside if os.access(beside, os.X_OK) else None

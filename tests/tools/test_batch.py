@@ -1,0 +1,429 @@
+"""Tests of tools/batch.py, with a stand-in for knot, and with knot itself where it is built."""
+import csv
+import os
+import re
+import shutil
+import signal
+import subprocess
+import sys
+import tempfile
+import time
+import unittest
+
+TREE = os.path.dirname(os.path.dirname(os.path.dirname(os.path.abspath(__file__))))
+SCRIPT = os.path.join(TREE, "tools", "batch.py")
+STAND_IN = os.path.join(TREE, "tests", "tools", "stand_in.py")
+BUILT = os.environ.get("KNOT") or os.path.join(TREE, "crates", "knot", "out", "knot")
+HAS_PARALLEL = shutil.which("parallel") is not None
+
+STAGES = "# two stages\nfirst --spare 1 --budget 100\nsecond --spare 1 --budget 200\n"
+
+
+class BatchTest(unittest.TestCase):
+    def setUp(self):
+        kept = tempfile.TemporaryDirectory()
+        self.addCleanup(kept.cleanup)
+        self.folder = kept.name
+        self.problems = os.path.join(self.folder, "problems")
+        self.answers = os.path.join(self.folder, "answers")
+        self.calls = os.path.join(self.folder, "calls")
+        self.stages = self.put("stages.txt", STAGES)
+        os.mkdir(self.problems)
+
+    def put(self, name, text):
+        path = os.path.join(self.folder, name)
+        with open(path, "w", encoding="utf-8") as file:
+            file.write(text)
+        return path
+
+    def problem(self, name, text):
+        self.put(os.path.join("problems", name + ".txt"), f"# calls: {self.calls}\n{text}")
+
+    def words(self, *words):
+        return [sys.executable, "-B", SCRIPT, "--with", "python", "--processes", "2", "--stages", self.stages, *words]
+
+    def environment(self, program=STAND_IN):
+        return {**os.environ, "KNOT": program}
+
+    def run_it(self, *words):
+        words = words or (self.problems, self.answers)
+        done = subprocess.run(self.words(*words), env=self.environment(), capture_output=True, text=True, check=False)
+        return done.returncode, done.stdout, done.stderr
+
+    def batch(self, *words):
+        return self.run_it(*words, self.problems, self.answers)
+
+    def read(self, *names):
+        with open(os.path.join(self.answers, *names), encoding="utf-8") as file:
+            return file.read()
+
+    def rows(self):
+        with open(os.path.join(self.answers, "summary.csv"), encoding="utf-8", newline="") as file:
+            return {row["name"]: row for row in csv.DictReader(file)}
+
+    def calls_made(self):
+        if not os.path.exists(self.calls):
+            return []
+        with open(self.calls, encoding="utf-8") as file:
+            made = sorted(file.read().splitlines())
+        os.unlink(self.calls)
+        return made
+
+    def kept_files(self):
+        return sorted(os.path.relpath(os.path.join(folder, name), self.answers) for folder, _, names in os.walk(self.answers) for name in names)
+
+
+class StagesTest(BatchTest):
+    def test_what_is_unknown_goes_on_to_the_next_stage(self):
+        self.problem("a", "# at 100: 0 equal 2 / shift rows 1 / shift rows 1\n")
+        self.problem("b", "# at 200: 0 different dihedral 3 / list 0 / list 1\n")
+        self.problem("c", "")
+        status, out, _ = self.batch()
+        self.assertEqual((status, out), (1, "3 problems: 1 different, 1 equal, 1 unknown; 2 of 2 certificates accepted\n"))
+        rows = self.rows()
+        found = [(rows[name]["verdict"], rows[name]["evidence"], rows[name]["stage"], rows[name]["check"]) for name in "abc"]
+        self.assertEqual(found, [("equal", "2", "first", "accepted"), ("different", "dihedral 3", "second", "accepted"),
+                                 ("unknown", "budget 200", "second", "")])
+        self.assertEqual(list(rows["a"]), ["name", "verdict", "evidence", "stage", "seconds", "check"])
+        self.assertRegex(rows["a"]["seconds"], r"^[0-9]+\.[0-9]{3}$")
+        self.assertEqual(self.calls_made(), ["check", "check"] + ["decide --spare 1 --budget 100"] * 3 + ["decide --spare 1 --budget 200"] * 2)
+
+    def test_a_certificate_is_the_problem_with_its_verdict(self):
+        self.problem("a", "# at 100: 0 equal 0")
+        self.assertEqual(self.batch()[0], 0)
+        self.assertEqual(self.read("certificates", "a.txt"), f"# calls: {self.calls}\n# at 100: 0 equal 0\nequal 0\n")
+        # The answer with its comments behind the problem does as well.
+        self.assertEqual([line for line in self.read("answers", "a.txt").splitlines() if not line.startswith("#")], ["equal 0"])
+
+    def test_another_call_does_nothing_again(self):
+        self.problem("a", "# at 100: 0 equal 0\n")
+        self.problem("b", "")
+        self.assertEqual(self.batch()[0], 1)
+        before = {name: self.read(name) for name in self.kept_files()}
+        self.calls_made()
+        self.assertEqual(self.batch()[0], 1)
+        self.assertEqual(self.calls_made(), [])
+        self.assertEqual({name: self.read(name) for name in self.kept_files()}, before)
+
+    def test_a_stage_put_in_later_is_run_for_what_is_unknown(self):
+        self.problem("a", "# at 100: 0 equal 0\n")
+        self.problem("b", "# at 300: 0 equal 1 / shift rows 1\n")
+        self.assertEqual(self.batch()[0], 1)
+        self.calls_made()
+        self.put("stages.txt", STAGES + "third --spare 1 --budget 300\n")
+        self.assertEqual(self.batch()[0], 0)
+        self.assertEqual(self.calls_made(), ["check", "decide --spare 1 --budget 300"])
+        self.assertEqual(self.rows()["b"]["stage"], "third")
+
+    def test_where_all_is_seen_more_budget_is_passed_over(self):
+        self.put("stages.txt", STAGES + "wide --spare 2 --budget 300\n")
+        self.problem("a", "# at 100: 1 unknown exhausted 5 2\n# at 300: 1 unknown exhausted 6 9\n")
+        self.assertEqual(self.batch()[0], 1)
+        self.assertEqual(self.calls_made(), ["decide --spare 1 --budget 100", "decide --spare 2 --budget 300"])
+        self.assertEqual(self.rows()["a"]["evidence"], "exhausted 6 9")
+
+    def test_a_stage_with_more_quandles(self):
+        self.put("more.txt", "quandle dihedral 11\n")
+        self.put("stages.txt", "first --budget 100\nmore --budget 100 +more.txt\n")
+        self.problem("a", "# at 100: 1 unknown exhausted 5 2\n# at +100: 0 different dihedral 11 / list 0 / list 1")
+        self.assertEqual(self.batch()[0], 0)
+        self.assertEqual((self.rows()["a"]["stage"], self.rows()["a"]["evidence"]), ("more", "dihedral 11"))
+        self.assertNotIn("quandle", self.read("certificates", "a.txt"))
+        # Another content of the file is another stage.
+        self.put("more.txt", "quandle dihedral 13\n")
+        self.problem("b", "# at +100: 1 unknown budget 2\n")
+        self.batch()
+        self.assertEqual((self.rows()["b"]["stage"], self.rows()["b"]["evidence"]), ("first", "budget 100"))
+        self.calls_made()
+        self.put("more.txt", "quandle dihedral 13\nquandle dihedral 11\n")
+        self.batch()
+        self.assertEqual(self.calls_made(), ["decide --budget 100"])
+
+    def test_a_quandle_by_its_table_stands_in_the_summary(self):
+        self.problem("a", "# at 100: 0 different table 2 / 0 0 / 1 1 / list 0 / list 1\n")
+        self.batch()
+        self.assertEqual(self.rows()["a"]["evidence"], "table 2: 0 0 / 1 1")
+
+    def test_names_are_in_the_order_of_their_numbers(self):
+        for name in ("10_1", "9_2", "3_1"):
+            self.problem(name, "# at 100: 0 equal 0\n")
+        self.batch()
+        self.assertEqual(list(self.rows()), ["3_1", "9_2", "10_1"])
+
+
+class FaultsTest(BatchTest):
+    def test_folders_and_programs_that_are_not_there(self):
+        nowhere = os.path.join(self.folder, "nowhere")
+        status, out, errors = self.run_it(nowhere, self.answers)
+        self.assertEqual((status, out), (2, ""))
+        self.assertIn(f"{nowhere}: No such file or directory", errors)
+        status, _, errors = self.batch()
+        self.assertEqual(status, 2)
+        self.assertIn("no file NAME.txt is there", errors)
+        self.problem("a", "")
+        self.assertIn("no program of this name", self.batch("--program", nowhere)[2])
+        status, _, errors = self.batch("--program", "false")
+        self.assertEqual(status, 2)
+        self.assertRegex(errors, "false does not run here: on no input it ends with status 1, and not with 3")
+        self.assertFalse(os.path.exists(self.answers))
+        os.mkdir(os.path.join(self.problems, "folder.txt"))
+        status, _, errors = self.batch()
+        self.assertEqual(status, 2)
+        self.assertIn("folder.txt: this is no file that can be read", errors)
+
+    def test_answers_that_cannot_be_written(self):
+        self.problem("a", "# at 100: 0 equal 0\n")
+        status, _, errors = self.run_it(self.problems, os.path.join(self.stages, "answers"))
+        self.assertEqual(status, 2)
+        self.assertIn("Not a directory", errors)
+
+    def test_bad_stages(self):
+        self.problem("a", "")
+        for text, why in (("", "no stage"), ("first\nfirst\n", ":2: a stage before has the name 'first'"),
+                          ("--budget 5\n", ":1: the name of the stage is due before '--budget'"),
+                          ("a +none.txt\n", "none.txt: No such file or directory"),
+                          ("a --bad 5\n", "stage a: the program refuses the words 'decide --bad 5'")):
+            with self.subTest(text):
+                self.put("stages.txt", text)
+                status, _, errors = self.batch()
+                self.assertEqual(status, 2)
+                self.assertIn(why, errors)
+
+    def test_what_has_no_answer_is_named_and_tried_again(self):
+        self.problem("a", "# at 100: 7\n")
+        self.problem("b", "# at 100: 99\n")
+        self.problem("c", "# at 200: 6 front of an answ\n")
+        self.problem("d", "# at 100: 0 equal 0\n")
+        status, out, errors = self.batch()
+        self.assertEqual((status, out), (3, "4 problems: 1 equal, 1 unknown, 2 without an answer; 1 of 1 certificates accepted\n"))
+        for text in ("a.txt: stage first: no answer, status 7, there was no memory", "b.txt: stage first: no answer, ended by signal 9",
+                     "c.txt: stage second: no answer, status 6, writing failed", "a.txt: no answer\n", "b.txt: no answer\n",
+                     "c.txt: no answer at stage second\n"):
+            self.assertIn(text, errors)
+        self.assertEqual(self.rows()["a"]["verdict"], "none")
+        self.assertEqual(self.rows()["c"]["evidence"], "budget 100")
+        self.assertNotIn("front", self.read("answers", "c.txt"))
+        self.problem("a", "# at 100: 0 equal 0\n")
+        self.calls_made()
+        self.batch()
+        self.assertEqual(self.calls_made(), ["check", "decide --spare 1 --budget 100", "decide --spare 1 --budget 100", "decide --spare 1 --budget 200"])
+
+    def test_what_is_refused_is_named(self):
+        self.problem("a", "# at 100: 3 malformed line 4\n")
+        self.problem("b", "# at 100: 4 limit line 5\n")
+        status, _, errors = self.batch()
+        self.assertEqual(status, 3)
+        self.assertIn("a.txt: refused at stage first: malformed line 4", errors)
+        self.assertIn("b.txt: refused at stage first: limit line 5", errors)
+        self.assertEqual((self.rows()["b"]["verdict"], self.rows()["b"]["evidence"]), ("refused", "limit line 5"))
+
+    def test_a_certificate_that_is_not_accepted_is_named(self):
+        self.problem("a", "# at 100: 0 equal 1 / shift rows 1\n# check: 8 rejected otherend\n")
+        self.problem("b", "# at 100: 0 equal 0\n# check: 7\n")
+        status, out, errors = self.batch()
+        self.assertEqual((status, out), (3, "2 problems: 2 equal; 0 of 2 certificates accepted\n"))
+        self.assertIn("a.txt: the certificate is not accepted: rejected otherend", errors)
+        self.assertIn("the checker gave no ruling, status 7, there was no memory", errors)
+        self.assertEqual(self.rows()["b"]["check"], "none")
+
+    def test_a_problem_that_changed_is_run_anew(self):
+        self.problem("a", "# at 100: 0 equal 0\n")
+        self.assertEqual(self.batch()[0], 0)
+        self.problem("a", "# at 100: 0 equal 1 / shift rows 1\n# check: 8 rejected step 0 range\n")
+        self.assertEqual(self.batch()[0], 3)
+        self.assertEqual(self.rows()["a"]["check"], "rejected step 0 range")
+        self.problem("a", "")
+        self.assertEqual(self.batch()[0], 1)
+        self.assertEqual(self.kept_files(), ["answers/a.txt", "summary.csv"])
+
+    def test_a_certificate_that_somebody_changed_is_written_anew(self):
+        self.problem("a", "# at 100: 0 equal 0\n")
+        self.batch()
+        good = self.read("certificates", "a.txt")
+        self.put("answers/certificates/a.txt", good + "equal 1\n")
+        self.assertEqual(self.batch()[0], 0)
+        self.assertEqual(self.read("certificates", "a.txt"), good)
+
+    def test_an_answer_that_was_cut_is_no_answer(self):
+        self.problem("a", "# at 100: 0 equal 2 / shift rows 1 / shift rows 1\n")
+        self.batch()
+        whole = self.read("answers", "a.txt")
+        for end in (0, 10, len(whole) - 20, len(whole) - 1):
+            self.put("answers/answers/a.txt", whole[:end])
+            self.calls_made()
+            self.assertEqual(self.batch()[0], 0)
+            self.assertEqual(self.calls_made(), ["decide --spare 1 --budget 100"])
+
+    def test_answers_of_another_folder_are_not_counted(self):
+        self.problem("a", "# at 100: 0 equal 0\n")
+        self.problem("b", "# at 100: 0 equal 0\n")
+        self.batch()
+        os.unlink(os.path.join(self.problems, "b.txt"))
+        status, out, errors = self.batch()
+        self.assertEqual((status, out), (0, "1 problems: 1 equal; 1 of 1 certificates accepted\n"))
+        self.assertIn("answers/b.txt: no problem of this name; not counted", errors)
+        self.assertEqual(list(self.rows()), ["a"])
+
+    def test_help_and_bad_words(self):
+        status, out, _ = self.run_it("--help")
+        self.assertEqual(status, 0)
+        self.assertIn("examples:\n  tools/batch.py problems answers", out)
+        self.assertEqual(self.run_it("a")[0], 2)
+        self.problem("a", "")
+        self.assertEqual(self.batch("--processes", "0")[0], 2)
+        for part in ("0/3", "4/3", "3", "a/b"):
+            self.assertIn("--part takes K/N", self.batch("--part", part)[2])
+
+
+class OtherJobsTest(BatchTest):
+    def test_check(self):
+        self.problem("a", "")
+        self.problem("b", "# check: 8 rejected otherend\n")
+        self.problem("c", "# check: 3 malformed line 7\n")
+        self.put("stages.txt", "only\n")
+        status, out, errors = self.batch("--job", "check")
+        self.assertEqual((status, out), (3, "3 problems: 1 accepted, 1 refused, 1 rejected\n"))
+        self.assertIn("b.txt: rejected: otherend", errors)
+        self.assertIn("c.txt: refused at stage only: malformed line 7", errors)
+        self.assertEqual(self.calls_made(), ["check"] * 3)
+        self.assertEqual([name for name in self.kept_files() if name.startswith(("cert", "rul"))], [])
+
+    def test_a_program_that_takes_no_job(self):
+        self.problem("a", "# at 100: 0 equal 0\n")
+        self.assertEqual(self.batch("--job", "", "--program", STAND_IN)[0], 0)
+        self.assertEqual(self.calls_made(), ["--spare 1 --budget 100", "check"])
+
+    def test_answers_of_another_job_are_not_taken(self):
+        self.problem("a", "# at 100: 0 equal 0\n# at none: 0 quandle dihedral 3 / list 9\n")
+        self.batch()
+        self.put("stages.txt", "only\n")
+        status, out, _ = self.batch("--job", "colour")
+        self.assertEqual((status, out), (0, "1 problems: 1 answered\n"))
+
+
+class PartsTest(BatchTest):
+    def test_parts_together_are_the_whole(self):
+        for name in "abcde":
+            self.problem(name, "# at 100: 0 equal 0\n")
+        status, out, errors = self.batch("--part", "1/2")
+        self.assertEqual((status, out), (0, "3 problems: 3 equal\n"), errors)
+        self.assertEqual(self.kept_files(), ["answers/a.txt", "answers/c.txt", "answers/e.txt"])
+        self.assertEqual(self.batch("--part", "2/2")[1], "2 problems: 2 equal\n")
+        self.calls_made()
+        self.assertEqual(self.batch()[0], 0)
+        self.assertEqual(self.calls_made(), ["check"] * 5)
+
+    def test_again_forgets(self):
+        self.problem("a", "# at 100: 0 equal 0\n")
+        self.batch()
+        self.calls_made()
+        self.assertEqual(self.batch("--again")[0], 0)
+        self.assertEqual(self.calls_made(), ["check", "decide --spare 1 --budget 100"])
+
+
+class SignalsTest(BatchTest):
+    def stop_with(self, number, *words):
+        for name in "abcd":
+            self.problem(name, "# sleep 60\n")
+        process = subprocess.Popen(self.words(*words, self.problems, self.answers), env=self.environment(), stdout=subprocess.PIPE,
+                                   stderr=subprocess.PIPE, text=True)
+        limit = time.monotonic() + 60
+        while not os.path.exists(self.calls) and time.monotonic() < limit:
+            time.sleep(0.05)
+        process.send_signal(number)
+        began = time.monotonic()
+        _, errors = process.communicate(timeout=50)
+        self.assertLess(time.monotonic() - began, 40)
+        self.assertEqual(process.returncode, 128 + number)
+        self.assertIn(f"stopped by signal {number:d}; called again, it goes on", errors)
+        left = [name for name in self.kept_files() if name != "jobs.log"]
+        self.assertEqual(left, [])
+        for name in "abcd":
+            self.problem(name, "# at 100: 0 equal 0\n")
+        self.assertEqual(self.batch()[0], 0)
+
+    def test_a_signal_leaves_no_part_of_a_file(self):
+        for number in (signal.SIGINT, signal.SIGTERM, signal.SIGHUP):
+            with self.subTest(number):
+                self.stop_with(number)
+                shutil.rmtree(self.answers)
+                os.unlink(self.calls)
+
+    @unittest.skipUnless(HAS_PARALLEL, "GNU parallel is not installed")
+    def test_a_signal_under_parallel(self):
+        self.stop_with(signal.SIGTERM, "--with", "parallel")
+
+    def test_parts_that_a_kill_left_are_swept(self):
+        self.problem("a", "# at 100: 0 equal 0\n")
+        self.batch()
+        sys.path.insert(0, os.path.join(TREE, "tools"))
+        from whole_files import host_name
+        sys.path.pop(0)
+        gone = subprocess.run([sys.executable, "-c", "import os; print(os.getpid())"], capture_output=True, text=True, check=True).stdout.strip()
+        old = self.put(f"answers/answers/.a.txt.{host_name()}.{gone}.0.part", "half")
+        new = self.put(f"answers/answers/.b.txt.{host_name()}.{os.getpid()}.0.part", "half")
+        other = self.put("answers/answers/.c.txt.elsewhere.1.0.part", "half")
+        self.batch()
+        self.assertEqual([os.path.exists(path) for path in (old, new, other)], [False, True, True])
+
+
+@unittest.skipUnless(HAS_PARALLEL, "GNU parallel is not installed")
+class ParallelTest(BatchTest):
+    def test_the_same_under_parallel(self):
+        self.problem("a b'c", "# at 100: 0 equal 0\n")
+        self.problem("b", "# at 200: 0 equal 0\n")
+        self.problem("c", "# at 100: 7\n")
+        status, out, errors = self.batch("--with", "parallel")
+        self.assertEqual((status, out), (3, "3 problems: 2 equal, 1 without an answer; 2 of 2 certificates accepted\n"), errors)
+        self.assertIn("c.txt: stage first: no answer, status 7, there was no memory", errors)
+        log = [line.split("\t") for line in self.read("jobs.log").splitlines()]
+        self.assertEqual({len(line) for line in log}, {9})
+        self.assertEqual(sorted(line[6] for line in log), ["0", "0", "0", "3"])
+
+    def test_hosts_by_logins(self):
+        # A stand-in for ssh, which runs the command here: like ssh it takes the host and puts the other words together.
+        ssh = self.put("ssh", '#!/bin/sh\nshift\n[ "$1" = -- ] && shift\nexec sh -c "$*"\n')
+        os.chmod(ssh, 0o755)
+        hosts = self.put("hosts", f"1/{ssh} one\n1/{ssh} two\n")
+        for name in ("a b'c", "b", "c"):
+            self.problem(name, "# at 200: 0 equal 0\n")
+        status, out, errors = self.batch("--with", "auto", "--hosts", hosts)
+        self.assertEqual((status, out), (0, "3 problems: 3 equal; 3 of 3 certificates accepted\n"), errors)
+
+
+@unittest.skipUnless(os.access(BUILT, os.X_OK), "knot is not built here; KNOT may name a built one")
+class BuiltTest(BatchTest):
+    """With knot itself: the example's table, from braids and arcs to certificates."""
+
+    def environment(self, program=BUILT):
+        return super().environment(program)
+
+    def from_table(self, *words):
+        script = os.path.join(TREE, "tools", "from_table.py")
+        table = os.path.join(TREE, "examples", "table", "knots.csv")
+        return subprocess.run([sys.executable, "-B", script, table, self.problems, *words], capture_output=True, text=True, check=False)
+
+    def test_braids_against_arcs(self):
+        self.from_table("--diagram", "braid_notation", "--second", "arc_notation")
+        stages = os.path.join(TREE, "examples", "table", "stages.txt")
+        done = subprocess.run([sys.executable, "-B", SCRIPT, "--with", "python", "--stages", stages, self.problems, self.answers],
+                              env=self.environment(), capture_output=True, text=True, check=False)
+        rows = self.rows()
+        self.assertEqual(rows["3_1_mirrored"]["verdict"], "unknown")
+        self.assertEqual((rows["3_1"]["verdict"], rows["3_1"]["check"]), ("equal", "accepted"))
+        self.assertEqual({row["verdict"] for row in rows.values()} - {"equal", "unknown"}, set())
+        self.assertEqual(done.returncode, 1, done.stderr)
+        again = subprocess.run([sys.executable, "-B", SCRIPT, "--job", "check", os.path.join(self.answers, "certificates"),
+                                os.path.join(self.folder, "again")], env=self.environment(), capture_output=True, text=True, check=False)
+        self.assertEqual(again.returncode, 0, again.stderr)
+
+    def test_signs_of_the_trefoils_by_code(self):
+        for words, sign in (((), "+"), (("--mirror",), "-"), (("--arcs", "rows"), "+")):
+            self.from_table("--diagram", "arc_notation", "--only", "3_1", "--replace", *words)
+            with open(os.path.join(self.problems, "3_1.txt"), "rb") as file:
+                code = subprocess.run([BUILT, "code"], stdin=file, capture_output=True, text=True, check=True).stdout
+            self.assertEqual(set(re.findall("[OU][0-9]+([+-])", code)), {sign})
+
+
+if __name__ == "__main__":
+    unittest.main()

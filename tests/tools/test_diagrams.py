@@ -1,0 +1,73 @@
+"""The moves, closures and carried colours of tools/diagrams.py against the stored examples of the program."""
+import glob
+import os
+import unittest
+
+import common
+import diagrams
+from moves import Illegal, carried, made
+
+
+def replayed(text):
+    """What `./knot replay` writes, by the Python."""
+    lines = diagrams.Lines(text)
+    grid = diagrams.grid_of(diagrams.read_diagram(lines))
+    moves = diagrams.read_moves(lines)
+    quandle = colours = None
+    if lines.peek():
+        quandle = diagrams.read_quandle(lines)
+        colours = [int(token) for token in lines.take("colours")[1][1:]]
+        if not diagrams.is_colouring(grid, quandle, colours):
+            return "rejected colours\n"
+    for place, move in enumerate(moves):
+        try:
+            after = made(grid, move)
+        except Illegal as fault:
+            return f"rejected step {place} {fault}\n"
+        if quandle:
+            colours = carried(grid, quandle, colours, move)
+        grid = after
+    return diagrams.grid_text(grid) + (f"colours {' '.join(map(str, colours))}\n" if quandle else "")
+
+
+class Diagrams(unittest.TestCase):
+    def examples(self, job):
+        found = sorted(glob.glob(os.path.join(common.ROOT, "examples", job, "*.txt")))
+        self.assertTrue(found)
+        return [(common.read(path), common.read(path[:-4] + ".out")) for path in found]
+
+    def test_replays_are_those_of_the_program(self):
+        for text, wanted in self.examples("replay"):
+            self.assertEqual(replayed(text), wanted, text)
+
+    def test_closures_are_those_of_the_program(self):
+        for text, wanted in self.examples("close"):
+            grid, feet = diagrams.closure(diagrams.read_diagram(diagrams.Lines(text)))
+            self.assertTrue(wanted.startswith(diagrams.grid_text(grid) + f"feet {' '.join(map(str, feet))}\n"), text)
+
+    def test_fixed_points_of_the_trefoil_are_those_of_the_program(self):
+        text = common.read("examples", "close", "trefoil.txt")
+        lines = diagrams.Lines(text)
+        braid = diagrams.read_diagram(lines)
+        quandle = diagrams.read_quandle(lines)
+        listed = [" ".join(map(str, feet)) for feet in diagrams.fixed_points(braid, quandle)]
+        self.assertIn(f"list {len(listed)}\n" + "\n".join(listed) + "\n", common.read("examples", "close", "trefoil.out"))
+
+    def test_a_closure_has_as_many_bottoms_as_strands(self):
+        for letters in ((1, -2, 1, -2), (1, 2, 2, -1, -2, 1)):
+            self.assertEqual(diagrams.bottoms(diagrams.closure(diagrams.Braid(3, letters))[0]), 3)
+
+    def test_faults_name_their_line(self):
+        for text, line in (("x 0 1\no 0 1\n", 2), ("x 0 1 1\no 1 0 2\n", 1), ("braid 2 2\n", 1), ("braid 9 1\n", 1), ("y 0 1\n", 1), ("", 2)):
+            with self.assertRaises(diagrams.BadText) as caught:
+                diagrams.read_diagram(diagrams.Lines(text))
+            self.assertEqual(caught.exception.line, line, text)
+
+    def test_a_table_that_fails_the_third_law_is_refused_at_its_last_line(self):
+        with self.assertRaises(diagrams.BadText) as caught:
+            diagrams.read_quandle(diagrams.Lines("quandle table 3\n0 2 0\n2 1 1\n1 0 2\n"))
+        self.assertEqual(caught.exception.line, 4)
+
+
+if __name__ == "__main__":
+    unittest.main()

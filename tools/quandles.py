@@ -1,0 +1,198 @@
+#!/usr/bin/env python3
+"""Makes the tables of connected quandles in quandles/, and ready lists of them for `decide`.
+
+    tools/quandles.py tables [FOLDER]         writes the tables, a file for each order
+    tools/quandles.py lists [FOLDER]          writes the ready lists, put in order by the table of knots in the folder
+    tools/quandles.py count                   how many were found of each order, and how many there are
+    tools/quandles.py pairs KNOTS LIST ...    how many pairs of a table of knots the built-in list and each list tell apart
+
+FOLDER is quandles/ beside this folder where none is given. KNOTS is a CSV file with columns `name` and `braid`.
+A quandle is connected where its translations lead from each colour to each other one.
+"""
+import argparse
+import csv
+import itertools
+import os
+import re
+import sys
+
+from connected import Collection, KNOWN, is_connected
+from diagrams import (BadText, Braid, Lines, MAX_COLOURINGS, MAX_QUANDLES, braid_fault, built_in_list, fixed_points, quandle_of, quandle_text,
+                      read_quandles)
+
+
+def say_count(collection):
+    print("order  found  there are")
+    for order, found in collection.found.items():
+        print(f"{order:5}  {len(found):5}  {KNOWN[order]:9}")
+
+
+# Files
+
+def dual_comment(place, other):
+    return "its own dual" if other == place else f"dual of number {other + 1}"
+
+
+def table_item(found):
+    return quandle_text(quandle_of(f"table {len(found.table)}", found.table))
+
+
+def tables_text(collection, order):
+    found = collection.found[order]
+    lines = [f"# Connected quandles of order {order}: {len(found)}, and there are {KNOWN[order]} up to isomorphism.",
+             "# Made by tools/quandles.py tables; README.md tells the constructions and how to use them."]
+    text = "\n".join(lines) + "\n"
+    for place, one in enumerate(found):
+        text += f"\n# {order}, number {place + 1}: {one.comment}; {dual_comment(place, collection.dual_of(order, place))}\n"
+        text += table_item(one)
+    return text
+
+
+def short_item(found):
+    return f"quandle {found.short}\n" if found.short else table_item(found)
+
+
+def list_text(head, entries):
+    """Entries are (order, place, found)."""
+    text = "".join(f"# {line}\n" for line in head) + "\nquandle trivial 2\n"
+    for order, place, found in entries:
+        text += f"# {order}, number {place + 1}: {found.comment}\n{short_item(found)}"
+    return text
+
+
+def write(path, text):
+    with open(path, "w", encoding="utf-8") as out:
+        out.write(text)
+
+
+def write_tables(collection, folder):
+    for order, found in collection.found.items():
+        if found and order > 1:
+            write(os.path.join(folder, f"connected-{order:02}.txt"), tables_text(collection, order))
+
+
+def write_lists(collection, folder):
+    knots = read_knots(os.path.join(folder, "knots-to-8.csv"))
+    entries, duals = [], []
+    for order, found in collection.found.items():
+        if order < 3:
+            continue
+        ranked = []
+        for place, one in enumerate(found):
+            quandle = quandle_of("", one.table)
+            counts = [count_of(quandle, braid) for _, braid in knots]
+            split = sum(a != b for a, b in itertools.combinations(counts, 2) if None not in (a, b))
+            ranked.append((-split, place, one, collection.dual_of(order, place) < place))
+        for _, place, one, is_later in sorted(ranked, key=lambda rank: rank[:2]):
+            (duals if is_later else entries).append((order, place, one))
+    made = "Made by tools/quandles.py lists. Append it to a problem: cat problem.txt quandles/{}"
+    common = "Each pair of duals is here once: they count alike on a knot that is the same as itself run through backwards."
+    short = [entry for entry in entries if entry[0] <= 9]
+    write(os.path.join(folder, "list-short.txt"),
+          list_text([f"trivial 2 and {len(short)} connected quandles up to order 9, the small ones first.", common,
+                     made.format("list-short.txt")], short))
+    write(os.path.join(folder, "list-one-of-each-pair.txt"),
+          list_text([f"trivial 2 and {len(entries)} connected quandles up to order 16, the small ones first.", common,
+                     made.format("list-one-of-each-pair.txt")], entries))
+    full = sorted(entries + duals[:MAX_QUANDLES - 1 - len(entries)], key=lambda entry: entry[0])
+    left_out = [f"{order} number {place + 1}" for order, place in sorted(entry[:2] for entry in entries + duals if entry not in full)]
+    write(os.path.join(folder, "list-64.txt"),
+          list_text([f"trivial 2 and {len(full)} connected quandles up to order 16, duals too, the small ones first: the {MAX_QUANDLES} that a problem takes.",
+                     f"Left out: {', '.join(left_out) or 'none'}.", made.format("list-64.txt")], full))
+
+
+# Knots
+
+def read_knots(path):
+    """Names and braids of a CSV file with the columns `name` and `braid`."""
+    knots = []
+    with open(path, newline="", encoding="utf-8") as lines:
+        reader = csv.DictReader(lines)
+        if not {"name", "braid"} <= set(reader.fieldnames or []):
+            raise BadText(f"{path} has no columns 'name' and 'braid'", 1)
+        for row in reader:
+            word = row["braid"] or ""
+            if not re.fullmatch(r"\s*[{\[]\s*-?\d+(\s*,\s*-?\d+)*\s*[}\]]\s*", word):
+                raise BadText(f"'{word}' is no braid word as {{1,-2,1}}", reader.line_num)
+            letters = tuple(int(letter) for letter in re.findall(r"-?\d+", word))
+            braid = Braid(max(map(abs, letters)) + 1, letters)
+            if braid_fault(braid):
+                raise BadText(f"{row['name']}: {braid_fault(braid)}", reader.line_num)
+            knots.append((row["name"], braid))
+    return knots
+
+
+def read_list(path):
+    """The quandles of a file, which has nothing else."""
+    with open(path, encoding="utf-8") as text:
+        lines = Lines(text.read())
+    try:
+        quandles = read_quandles(lines)
+        lines.done()
+    except BadText as fault:
+        raise BadText(f"{path}, {fault}") from None
+    return quandles
+
+
+def count_of(quandle, braid):
+    """The number of colourings, or None where the quandle doesn't fit."""
+    order = len(quandle.over)
+    if order ** braid.strands > MAX_COLOURINGS:
+        return None
+    if is_connected(quandle.over):
+        return order * len(fixed_points(braid, quandle, first=0))
+    return len(fixed_points(braid, quandle))
+
+
+def told_apart(counts, pairs):
+    """The pairs of places by which some row of counts has two different numbers, none of them None."""
+    return [(a, b) for a, b in pairs if any(None not in (row[a], row[b]) and row[a] != row[b] for row in counts)]
+
+
+def say_pairs(path, list_paths):
+    knots = read_knots(path)
+    lists = [("built-in list", built_in_list())]
+    lists += [(list_path, read_list(list_path)) for list_path in list_paths]
+    neighbours = [(place, place + 1) for place in range(len(knots) - 1)]
+    every = list(itertools.combinations(range(len(knots)), 2))
+    known = {}
+    for name, quandles in lists:
+        rows = []
+        for quandle in quandles:
+            if quandle.over not in known:
+                known[quandle.over] = [count_of(quandle, braid) for _, braid in knots]
+            rows.append(known[quandle.over])
+        near, all_told = told_apart(rows, neighbours), told_apart(rows, every)
+        print(f"{name}: {len(quandles)} quandles, {len(near)} of {len(neighbours)} neighbours and {len(all_told)} of {len(every)} pairs told apart")
+        for what, pairs, told in (("neighbours", neighbours, near), ("pairs", every, all_told)):
+            left = [f"{knots[a][0]} and {knots[b][0]}" for a, b in pairs if (a, b) not in told]
+            if len(left) <= 20:
+                print(f"  {what} left: {', '.join(left) or 'none'}")
+
+
+def main():
+    parser = argparse.ArgumentParser(description=__doc__, formatter_class=argparse.RawDescriptionHelpFormatter)
+    jobs = parser.add_subparsers(dest="job", required=True, metavar="JOB")
+    beside = os.path.join(os.path.dirname(os.path.dirname(os.path.abspath(__file__))), "quandles")
+    for name, said in (("tables", "write the tables"), ("lists", "write the ready lists")):
+        jobs.add_parser(name, help=said).add_argument("folder", nargs="?", default=beside)
+    jobs.add_parser("count", help="how many were found")
+    pairs = jobs.add_parser("pairs", help="how many pairs each list tells apart")
+    pairs.add_argument("knots")
+    pairs.add_argument("lists", nargs="*")
+    words = parser.parse_args()
+    try:
+        if words.job == "pairs":
+            say_pairs(words.knots, words.lists)
+        elif words.job == "count":
+            say_count(Collection())
+        elif not os.path.isdir(words.folder):
+            parser.error(f"there is no folder {words.folder}")
+        else:
+            (write_tables if words.job == "tables" else write_lists)(Collection(), words.folder)
+    except (OSError, BadText) as fault:
+        sys.exit(f"quandles.py: {fault}")
+
+
+if __name__ == "__main__":
+    main()

@@ -1,0 +1,30 @@
+#!/usr/bin/env python3
+"""Takes what `./knot code` prints into SnapPy.
+
+    ./knot code < diagram.txt | tools/to_snappy.py [--kinks]
+    ./knot code < diagram.txt | tools/to_snappy.py --print      the call alone, for SnapPy's prompt
+
+By its documentation SnapPy takes the rows as they stand. This was not run with SnapPy, which wasn't to be had.
+"""
+import crossing_codes
+
+
+def expression(code):
+    return f"Link({[tuple(row) for row in code.rows]})"
+
+
+def built(code):
+    import snappy
+
+    if not code.rows:
+        print(f"nothing to build: {code.loops} components without a crossing (--kinks gives each one)")
+        return
+    link = snappy.Link([tuple(row) for row in code.rows])
+    print(link)
+    print(f"components {len(link.link_components)}")
+    print(f"writhe {link.writhe()}")
+    print(f"volume {link.exterior().volume()}")
+
+
+if __name__ == "__main__":
+    crossing_codes.main("to_snappy.py", __doc__, expression, built)
