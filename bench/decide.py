@@ -1,7 +1,7 @@
 #!/usr/bin/env python3
-"""Times the search of `knot decide`, and counts instructions an entry and memory.
+"""Times the search of `knot decide`, by one worker and by more, and counts instructions an entry and memory.
 
-    python3 bench/decide.py                  seconds, and entries a second
+    python3 bench/decide.py                  seconds, and entries a second; and how many times as fast 2, 3 and 4 workers are as one
     python3 bench/decide.py --instructions   also instructions an entry, counted by callgrind (of runs of up to half a second,
                                              since it takes some fifty times as long), and the bytes taken, by massif
 """
@@ -13,6 +13,7 @@ from measure import PROGRAM, best, built, instructions, taken, wants_instruction
 TREFOILS = "x 0 1 2 3 4\no 2 3 4 0 1\nx 4 3 2 1 0\no 2 1 0 4 3\n"
 REVERSED = "x 4 3 2 1 0\no 2 1 0 4 3\nx 4 3 2 1 0\no 1 0 4 3 2\n"
 SIX_CROSSINGS = "braid 3 -1 -1 -1 2 -1 2\nx 0 1\no 1 0\n"
+FIGURE_EIGHT_AND_MIRROR = "braid 3 1 -2 1 -2\nbraid 3 -1 2 -1 2\n"
 SHIFTED = "x 0 1\no 1 0\nx 1 0\no 0 1\n"
 
 # A quandle that tells nothing apart: what is measured is the search.
@@ -61,6 +62,19 @@ def time_all(path, with_instructions):
         print(f"{line}  {written.splitlines()[0]}", flush=True)
 
 
+def workers_all(path):
+    """The seconds of more workers as ratios to those of one, in turn in one run, since other work on the machine slows all."""
+    print(f"\n{'diagrams':30} {'spare':>5} {'budget':>7} {'workers':>7} {'seconds':>8} {'times one':>9}  verdict")
+    for name, diagrams, spare in (("two trefoils", TREFOILS, 3), ("figure eight and its mirror", FIGURE_EIGHT_AND_MIRROR, 1)):
+        put(path, diagrams + NO_QUANDLE)
+        one = None
+        for workers in (1, 2, 3, 4):
+            words = words_of(spare, 500_000) + ["--workers", str(workers)]
+            seconds, _, written = best([PROGRAM, "decide", *words], path, 3)
+            one = one or seconds
+            print(f"{name:30} {spare:5} {500_000:7} {workers:7} {seconds:8.4f} {one / seconds:9.2f}  {written.splitlines()[0]}", flush=True)
+
+
 def memory_all(path):
     """All memory of a search is taken for the whole budget when it begins, so one that ends at once takes as much as any."""
     put(path, SHIFTED + NO_QUANDLE)
@@ -77,6 +91,7 @@ def main():
     with tempfile.TemporaryDirectory() as folder:
         path = os.path.join(folder, "input")
         time_all(path, with_instructions)
+        workers_all(path)
         if with_instructions:
             memory_all(path)
 

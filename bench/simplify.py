@@ -1,0 +1,106 @@
+#!/usr/bin/env python3
+"""Times `knot simplify` on diagrams at the ends of random walks, and counts how many disguised unknots `knot decide` joins to the
+smallest one.
+
+    python3 bench/simplify.py                    a minute or two
+    python3 bench/simplify.py --program FILE     another build of knot, which need not have the job `simplify`
+    python3 bench/simplify.py --print 18 3       the input alone: the right trefoil's walk to 18 columns by the seed 3
+
+A walk makes 3,000 legal moves of all kinds but slides, never more columns than it is to end with, and goes on until it has these."""
+import argparse
+import os
+import random
+import subprocess
+import sys
+import tempfile
+
+from measure import PROGRAM, best, built
+
+sys.path.insert(0, os.path.join(os.path.dirname(os.path.abspath(__file__)), "..", "tools"))
+from diagrams import CORNERS, Grid
+from moves import Illegal, made
+
+TURNS = 3_000
+UNKNOT = Grid((0, 1), (1, 0))
+TREFOIL = Grid((4, 3, 2, 1, 0), (2, 1, 0, 4, 3))
+
+
+def picked(dice, size, most):
+    """A move that is picked at random; it may not be legal."""
+    kind = dice.random()
+    if kind < 0.3:
+        return ("shift", dice.choice(("columns", "rows")), dice.randrange(1, size))
+    if kind < 0.7:
+        return ("exchange", dice.choice(("columns", "rows")), dice.randrange(max(1, size - 1)))
+    if kind < 0.85 and size < most:
+        return ("stabilise", dice.randrange(size), dice.choice("xo"), dice.choice(CORNERS))
+    return ("destabilise", dice.randrange(size - 1), dice.randrange(size - 1))
+
+
+def walked(grid, size, seed):
+    dice, made_moves = random.Random(seed), 0
+    while made_moves < TURNS or len(grid.xs) < size:
+        move = picked(dice, len(grid.xs), size)
+        if made_moves >= TURNS and move[0] == "destabilise":
+            continue
+        try:
+            grid = made(grid, move)
+        except Illegal:
+            continue
+        made_moves += 1
+    return grid
+
+
+def text_of(grid):
+    return f"x {' '.join(map(str, grid.xs))}\no {' '.join(map(str, grid.os))}\n"
+
+
+def put(path, text):
+    with open(path, "w", encoding="utf-8") as out:
+        out.write(text)
+
+
+def time_simplify(program, path):
+    print(f"{'from':14} {'columns':>7} {'seed':>4} {'to':>3} {'moves':>6} {'end':>12} {'seconds':>8} {'MB':>6}")
+    for name, start in (("unknot", UNKNOT), ("right trefoil", TREFOIL)):
+        for size in (10, 14, 18, 22):
+            for seed in (1, 2, 3):
+                put(path, text_of(walked(start, size, seed)))
+                seconds, memory, text = best([program, "simplify"], path, 3)
+                lines = text.splitlines()
+                print(f"{name:14} {size:7} {seed:4} {len(lines[0].split()) - 1:3} {lines[2].split()[1]:>6} {lines[-1]:>12} {seconds:8.4f} {memory / 1e6:6.1f}", flush=True)
+
+
+def count_joined(program, path):
+    """Sixty disguised unknots, fifteen for each number of columns, and how many of them are joined to the smallest diagram."""
+    print(f"{'columns':>7} {'joined':>6} {'of':>3} {'seconds each':>12}")
+    for size in (6, 8, 10, 12):
+        joined = spent = 0
+        for seed in range(15):
+            put(path, text_of(UNKNOT) + text_of(walked(UNKNOT, size, seed)) + "quandle trivial 1\n")
+            seconds, _, text = best([program, "decide"], path, 1)
+            joined += text.startswith("equal")
+            spent += seconds
+        print(f"{size:7} {joined:6} {15:3} {spent / 15:12.4f}", flush=True)
+
+
+def main():
+    parser = argparse.ArgumentParser(description=__doc__, formatter_class=argparse.RawDescriptionHelpFormatter)
+    parser.add_argument("--program", default=PROGRAM)
+    parser.add_argument("--print", nargs=2, type=int, metavar=("COLUMNS", "SEED"))
+    words = parser.parse_args()
+    if words.print:
+        print(text_of(walked(TREFOIL, *words.print)), end="")
+        return
+    built(words.program)
+    with tempfile.TemporaryDirectory() as folder:
+        path = os.path.join(folder, "input")
+        with open(path, "w", encoding="utf-8") as out:
+            out.write(text_of(UNKNOT))
+        if subprocess.run([words.program, "simplify"], stdin=open(path, "rb"), stdout=subprocess.DEVNULL).returncode == 0:
+            time_simplify(words.program, path)
+        count_joined(words.program, path)
+
+
+if __name__ == "__main__":
+    main()

@@ -1,0 +1,101 @@
+#!/usr/bin/env python3
+"""Soaks `knot decide` with 2 to 8 workers: some thousand searches, each answer held against the table of answers.
+
+    python3 bench/soak.py                             3,000 searches
+    python3 bench/soak.py --searches 20000 --seed 7   so many, of other pairs
+
+Pairs of grids of two to five columns, the second a random one or the first after random shifts, within a cap of at most six
+columns. All diagrams of so few columns fit the default budget, so a search of one worker tells for each pair whether moves
+join it within the cap, and if not, how many diagrams they reach. Then with any number of workers:
+
+    joined                                    equal; where they may reach more than the budget, or unknown budget
+    not joined, at most as many as the budget unknown exhausted, with the cap and their number
+    not joined, more                          unknown budget
+
+Each list of moves must be accepted by `check`. It ends with status 1 at the first answer that is not lawful.
+"""
+import argparse
+import random
+import subprocess
+import sys
+
+from measure import PROGRAM, built
+
+# All diagrams of two to six columns, one for each class of translates.
+ALL = 5_616
+# The default budget, which is never spent within six columns.
+AMPLE = 20_000
+# A quandle that tells nothing apart: what is soaked is the search.
+NO_QUANDLE = "quandle trivial 1\n"
+
+
+def grid(luck, size):
+    """The rows of the Xs and of the Os of a random grid."""
+    rows = list(range(size))
+    while True:
+        x, o = luck.sample(rows, size), luck.sample(rows, size)
+        if all(a != b for a, b in zip(x, o)):
+            return x, o
+
+
+def shifted(luck, x, o):
+    """A random translate."""
+    size = len(x)
+    columns, rows = luck.randrange(size), luck.randrange(size)
+    return tuple([(row - rows) % size for row in marks[columns:] + marks[:columns]] for marks in (x, o))
+
+
+def text(x, o):
+    return f"x {' '.join(map(str, x))}\no {' '.join(map(str, o))}\n"
+
+
+def pair(luck):
+    """Two diagrams, and the spare that keeps their cap within six columns."""
+    first = grid(luck, luck.randint(2, 5))
+    second = shifted(luck, *first) if luck.random() < 0.2 else grid(luck, luck.randint(2, 5))
+    return text(*first) + text(*second) + NO_QUANDLE, luck.randint(0, 1), max(len(first[0]), len(second[0]))
+
+
+def answer(job, words, given):
+    """What a job writes, and its status; a run that does not end within a minute counts as an answer that is not lawful."""
+    done = subprocess.run([PROGRAM, job, *words], input=given, capture_output=True, text=True, timeout=60)
+    return done.stdout, done.returncode
+
+
+def decide(given, spare, budget, workers):
+    return answer("decide", ["--spare", str(spare), "--budget", str(budget), "--workers", str(workers)], given)
+
+
+def is_lawful(whole, cap, budget, written, status, given):
+    """Whether an answer is lawful, by that of one worker with an ample budget."""
+    if written.startswith("equal "):
+        return whole.startswith("equal ") and status == 0 and answer("check", [], given + written) == ("accepted\n", 0)
+    if whole.startswith("equal "):
+        return budget < ALL and (written, status) == (f"unknown budget {budget}\n", 1)
+    reached = int(whole.split()[-1])
+    wanted = f"unknown exhausted {cap} {reached}\n" if reached <= budget else f"unknown budget {budget}\n"
+    return (written, status) == (wanted, 1)
+
+
+def main():
+    parser = argparse.ArgumentParser(description=__doc__, formatter_class=argparse.RawDescriptionHelpFormatter)
+    parser.add_argument("--searches", type=int, default=3_000)
+    parser.add_argument("--seed", type=int, default=1)
+    wanted = parser.parse_args()
+    built()
+    luck = random.Random(wanted.seed)
+    kinds = {"equal": 0, "unknown budget": 0, "unknown exhausted": 0}
+    while sum(kinds.values()) < wanted.searches:
+        given, spare, larger = pair(luck)
+        whole, _ = decide(given, spare, AMPLE, 1)
+        for workers in range(2, 9):
+            budget = luck.choice([2, 3, 10, 30, 100, 300, 1_000, AMPLE])
+            written, status = decide(given, spare, budget, workers)
+            if not is_lawful(whole, larger + spare, budget, written, status, given):
+                sys.exit(f"not lawful: --spare {spare} --budget {budget} --workers {workers}, status {status}\n{given}{written}one worker: {whole}")
+            kinds[next(kind for kind in kinds if written.startswith(kind))] += 1
+    print(f"{sum(kinds.values())} searches, each answer lawful: " + ", ".join(f"{count} {kind}" for kind, count in kinds.items()))
+
+
+if __name__ == "__main__":
+    main()
