@@ -6,33 +6,15 @@
 Inputs are grids in which the Os lie a fixed number of rows below the Xs, round the circle: of each size the grid with the longest
 word, with a quandle of order 1 and with the tetrahedral one. Instructions are those above a run on the unknot with the same quandle."""
 import os
-import subprocess
 import tempfile
 
-from measure import PROGRAM, built, instructions, wants_no_words
-from moves import Grid
-
-UNKNOT = "x 0 1\no 1 0\n"
-
-
-def below(size, rows):
-    """The grid whose Xs fall by one row a column, and whose Os lie so many rows below them, round the circle."""
-    return Grid([size - 1 - c for c in range(size)], [(size - 1 - c - rows) % size for c in range(size)])
-
-
-def written(path):
-    with open(path, "rb") as source:
-        return subprocess.run([PROGRAM, "braid"], stdin=source, stdout=subprocess.PIPE, check=True).stdout.decode().splitlines()
-
-
-def put(path, text):
-    with open(path, "w", encoding="utf-8") as out:
-        out.write(text)
+from grids import UNKNOT, below, grid_text
+from measure import built, instructions, lines_of, put, wants_no_words
 
 
 def letters(path, grid):
-    put(path, grid.text() + "quandle trivial 1\n")
-    return len(written(path)[0].split()) - 2
+    put(path, grid_text(grid) + "quandle trivial 1\n")
+    return len(lines_of("braid", path)[0].split()) - 2
 
 
 def main():
@@ -45,10 +27,10 @@ def main():
             grid = max((below(size, rows) for rows in range(1, size)), key=lambda g: letters(path, g))
             count = letters(path, grid)
             for quandle in ("trivial 1", "tetrahedral"):
-                put(path, UNKNOT + f"quandle {quandle}\n")
+                put(path, grid_text(UNKNOT) + f"quandle {quandle}\n")
                 start = instructions("braid", path)
-                put(path, grid.text() + f"quandle {quandle}\n")
-                lines = written(path)
+                put(path, grid_text(grid) + f"quandle {quandle}\n")
+                lines = lines_of("braid", path)
                 took = instructions("braid", path) - start
                 strands, found = int(lines[0].split()[1]), lines[2]
                 print(f"{size:7} {strands:7} {count:7} {quandle:12} {found.split()[1]:>5} {took:12,} {took / count:8,.0f}")

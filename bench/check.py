@@ -8,8 +8,8 @@ import os
 import sys
 import tempfile
 
+from grids import grid_text, loop_of, resizing, torus, trades
 from measure import PROGRAM, best, built, instructions, wants_instructions
-from moves import loop_of, resizing, torus, walk
 
 LIMIT = 33_554_432
 
@@ -18,18 +18,17 @@ def cycles(size):
     """Named lists of moves that lead from a grid of this size (or one less, to have room) back to itself."""
     grid = torus(size)
     room = torus(size - 1)
-    steps, _ = walk(grid, 200, size)
     yield "shifts of rows", grid, ["shift rows 1", f"shift rows {size - 1}"]
     yield "shifts of columns", grid, ["shift columns 1", f"shift columns {size - 1}"]
-    yield "shifts and exchanges", grid, loop_of(steps)
+    yield "shifts and exchanges", grid, loop_of(trades(grid, 200, size))
     yield "stabilised and back", room, resizing(room)
-    mixed = loop_of(walk(room, 100, size)[0]) + resizing(room)
+    mixed = loop_of(trades(room, 100, size)) + resizing(room)
     yield "all kinds but slides", room, mixed
 
 
 def text(grid, lines, count):
     """The input with about so many moves, whole rounds of the list, and at most the limit's bytes."""
-    head = grid.text() * 2
+    head = grid_text(grid) * 2
     round_bytes = sum(len(line) + 1 for line in lines)
     rounds = max(1, min(count // len(lines), (LIMIT - len(head) - 20) // round_bytes))
     body = "".join(line + "\n" for line in lines) * rounds

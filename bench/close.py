@@ -8,7 +8,7 @@ import os
 import tempfile
 
 from colour import listed
-from measure import PROGRAM, best, built, instructions, wants_instructions
+from measure import PROGRAM, best, built, instructions, put, wants_instructions
 
 # Eight letters on four strands, and the same undone from the last to the first.
 LETTERS = [1, 2, 3, 1, 2, 3, 1, 2, -2, -1, -3, -2, -1, -3, -2, -1]
@@ -35,11 +35,9 @@ def main():
         for name, letters, tuples, text in rows():
             start = None
             if with_instructions:
-                with open(path, "w") as out:
-                    out.write(word(letters) + "quandle trivial 1\n")
+                put(path, word(letters) + "quandle trivial 1\n")
                 start = instructions("close", path)
-            with open(path, "w") as out:
-                out.write(text)
+            put(path, text)
             seconds, memory, written = best([PROGRAM, "close"], path)
             size, count = len(written), listed(written)
             line = f"{name:38} {tuples:7} {count:7} {size:9} {seconds:8.4f} {size / 1e6 / seconds:6.0f} {memory / 1e6:6.1f}"

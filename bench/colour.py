@@ -7,36 +7,30 @@
 import os
 import tempfile
 
-from measure import PROGRAM, best, built, instructions, wants_instructions
-from moves import torus
+from grids import Grid, grid_text, torus
+from measure import PROGRAM, best, built, instructions, put, wants_instructions
 
 
 def pairs(size):
     """Unlinked unknots side by side: one bottom for each pair of columns, and no row passes under a column."""
-    return [c for c in range(size)], [c + 1 if c % 2 == 0 else c - 1 for c in range(size)]
+    return Grid(tuple(range(size)), tuple(c + 1 if c % 2 == 0 else c - 1 for c in range(size)))
 
 
-def turned(x, o):
+def turned(grid):
     """The same with the lowest pair of rows on the right: the list's order is not that in which colours are found."""
-    return x[::-1], o[::-1]
-
-
-def grid_text(x, o):
-    return f"x {' '.join(map(str, x))}\no {' '.join(map(str, o))}\n"
+    return Grid(grid.xs[::-1], grid.os[::-1])
 
 
 def rows():
     """A name, the columns, and the input."""
     for size, order in ((2, 16), (4, 16), (6, 16), (8, 16), (8, 8), (8, 4), (16, 4), (24, 2)):
-        yield f"{size // 2} unknots, trivial {order}", size, grid_text(*pairs(size)) + f"quandle trivial {order}\n"
+        yield f"{size // 2} unknots, trivial {order}", size, grid_text(pairs(size)) + f"quandle trivial {order}\n"
     for size, order in ((8, 16), (16, 4)):
-        yield f"{size // 2} unknots turned, trivial {order}", size, grid_text(*turned(*pairs(size))) + f"quandle trivial {order}\n"
-    trefoil = torus(5)
+        yield f"{size // 2} unknots turned, trivial {order}", size, grid_text(turned(pairs(size))) + f"quandle trivial {order}\n"
     for name in ("trivial 2", "dihedral 3", "tetrahedral", "dihedral 5", "dihedral 7"):
-        yield f"trefoil, {name}", 5, trefoil.text() + f"quandle {name}\n"
-    large = torus(24)
-    yield "24 columns, dihedral 15", 24, large.text() + "quandle dihedral 15\n"
-    yield "24 columns, trivial 16", 24, large.text() + "quandle trivial 16\n"
+        yield f"trefoil, {name}", 5, grid_text(torus(5)) + f"quandle {name}\n"
+    yield "24 columns, dihedral 15", 24, grid_text(torus(24)) + "quandle dihedral 15\n"
+    yield "24 columns, trivial 16", 24, grid_text(torus(24)) + "quandle trivial 16\n"
 
 
 def listed(written):
@@ -51,14 +45,12 @@ def main():
         path = os.path.join(folder, "input")
         start = None
         if with_instructions:
-            with open(path, "w") as out:
-                out.write(grid_text(*pairs(2)) + "quandle trivial 1\n")
+            put(path, grid_text(pairs(2)) + "quandle trivial 1\n")
             start = instructions("colour", path)
         print(f"{'grid and quandle':30} {'columns':>7} {'colourings':>10} {'bytes':>9} {'seconds':>8} {'MB/s':>6} {'MB':>6}"
               + (f" {'instructions a colouring':>25}" if with_instructions else ""))
         for name, columns, text in rows():
-            with open(path, "w") as out:
-                out.write(text)
+            put(path, text)
             seconds, memory, written = best([PROGRAM, "colour"], path)
             size, count = len(written), listed(written)
             line = f"{name:30} {columns:7} {count:10} {size:9} {seconds:8.4f} {size / 1e6 / seconds:6.0f} {memory / 1e6:6.1f}"

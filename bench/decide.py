@@ -8,7 +8,7 @@
 import os
 import tempfile
 
-from measure import PROGRAM, best, built, instructions, taken, wants_instructions
+from measure import PROGRAM, best, built, instructions, put, taken, wants_instructions
 
 TREFOILS = "x 0 1 2 3 4\no 2 3 4 0 1\nx 4 3 2 1 0\no 2 1 0 4 3\n"
 REVERSED = "x 4 3 2 1 0\no 2 1 0 4 3\nx 4 3 2 1 0\no 1 0 4 3 2\n"
@@ -40,11 +40,6 @@ def admitted(verdict):
     """How many diagrams a search has admitted, by its verdict; one of `equal` doesn't tell."""
     first = verdict.splitlines()[0].split()
     return int(first[-1]) if first[0] == "unknown" else None
-
-
-def put(path, text):
-    with open(path, "w") as out:
-        out.write(text)
 
 
 def time_all(path, with_instructions):

@@ -9,15 +9,15 @@ import os
 import sys
 import tempfile
 
-from colour import grid_text, turned
+from colour import turned
+from grids import Grid, grid_text
 from measure import PROGRAM, best, built, instructions, wants_instructions
 
 
 def stairs(unknots, width):
     """Unlinked unknots side by side, each of so many columns and with one bottom; no row passes under a column."""
-    x = list(range(unknots * width))
-    o = [c + 1 if (c + 1) % width else c + 1 - width for c in x]
-    return x, o
+    columns = range(unknots * width)
+    return Grid(tuple(columns), tuple(c + 1 if (c + 1) % width else c + 1 - width for c in columns))
 
 
 def lists_of(unknots, width, order):
@@ -28,7 +28,7 @@ def lists_of(unknots, width, order):
 def certificate(first, second, order, turn=False):
     """Unknots, as (how many, columns of each), against others, with their complete lists, and how many lines these have."""
     grids = [stairs(*unknots) for unknots in (first, second)]
-    head = "".join(grid_text(*(turned(*grid) if turn else grid)) for grid in grids) + f"different trivial {order}\n"
+    head = "".join(grid_text(turned(grid) if turn else grid) for grid in grids) + f"different trivial {order}\n"
     lists = [lists_of(*unknots, order) for unknots in (first, second)]
     body = "".join(f"list {len(lines)}\n" + "".join(line + "\n" for line in lines) for lines in lists)
     return (head + body).encode(), sum(map(len, lists))

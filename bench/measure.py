@@ -28,6 +28,18 @@ def built(program=PROGRAM, build="./knot check < examples/check/unknot-shifted.t
         sys.exit(f"build the program first: {build}")
 
 
+def put(path, text):
+    """Writes the input of a run."""
+    with open(path, "w", encoding="utf-8") as out:
+        out.write(text)
+
+
+def lines_of(request, path):
+    """The lines that one run of the request on the file writes."""
+    with open(path, "rb") as source:
+        return subprocess.run([PROGRAM, request], stdin=source, stdout=subprocess.PIPE, check=True).stdout.decode().splitlines()
+
+
 def best(words, path, turns=5):
     """Of some runs on the file: the least seconds, the peak memory in bytes (some 11 MB of it may be the runner's own), and what the first one wrote."""
     seconds, memory, texts = zip(*(timed(words, path) for _ in range(turns)))

@@ -11,61 +11,35 @@ import argparse
 import os
 import random
 import subprocess
-import sys
 import tempfile
 
-from measure import PROGRAM, best, built
-
-sys.path.insert(0, os.path.join(os.path.dirname(os.path.abspath(__file__)), "..", "tools"))
-from diagrams import CORNERS, Grid
-from moves import Illegal, made
+from grids import RIGHT_TREFOIL, UNKNOT, after, grid_text, picked
+from measure import PROGRAM, best, built, put
 
 TURNS = 3_000
-UNKNOT = Grid((0, 1), (1, 0))
-TREFOIL = Grid((4, 3, 2, 1, 0), (2, 1, 0, 4, 3))
-
-
-def picked(dice, size, most):
-    """A move that is picked at random; it may not be legal."""
-    kind = dice.random()
-    if kind < 0.3:
-        return ("shift", dice.choice(("columns", "rows")), dice.randrange(1, size))
-    if kind < 0.7:
-        return ("exchange", dice.choice(("columns", "rows")), dice.randrange(max(1, size - 1)))
-    if kind < 0.85 and size < most:
-        return ("stabilise", dice.randrange(size), dice.choice("xo"), dice.choice(CORNERS))
-    return ("destabilise", dice.randrange(size - 1), dice.randrange(size - 1))
+# Of ten moves three are to be shifts, four exchanges, and up to one and a half stabilisations.
+SHARES = (0.3, 0.7, 0.85)
 
 
 def walked(grid, size, seed):
-    dice, made_moves = random.Random(seed), 0
-    while made_moves < TURNS or len(grid.xs) < size:
-        move = picked(dice, len(grid.xs), size)
-        if made_moves >= TURNS and move[0] == "destabilise":
+    """Where a walk of so many moves or more ends that has so many columns at its end and never more."""
+    dice, done = random.Random(seed), 0
+    while done < TURNS or len(grid.xs) < size:
+        move = picked(dice, len(grid.xs), size, SHARES)
+        if done >= TURNS and move[0] == "destabilise":
             continue
-        try:
-            grid = made(grid, move)
-        except Illegal:
-            continue
-        made_moves += 1
+        further = after(grid, move)
+        if further is not None:
+            grid, done = further, done + 1
     return grid
-
-
-def text_of(grid):
-    return f"x {' '.join(map(str, grid.xs))}\no {' '.join(map(str, grid.os))}\n"
-
-
-def put(path, text):
-    with open(path, "w", encoding="utf-8") as out:
-        out.write(text)
 
 
 def time_simplify(program, path):
     print(f"{'from':14} {'columns':>7} {'seed':>4} {'to':>3} {'moves':>6} {'end':>12} {'seconds':>8} {'MB':>6}")
-    for name, start in (("unknot", UNKNOT), ("right trefoil", TREFOIL)):
+    for name, start in (("unknot", UNKNOT), ("right trefoil", RIGHT_TREFOIL)):
         for size in (10, 14, 18, 22):
             for seed in (1, 2, 3):
-                put(path, text_of(walked(start, size, seed)))
+                put(path, grid_text(walked(start, size, seed)))
                 seconds, memory, text = best([program, "simplify"], path, 3)
                 lines = text.splitlines()
                 print(f"{name:14} {size:7} {seed:4} {len(lines[0].split()) - 1:3} {lines[2].split()[1]:>6} {lines[-1]:>12} {seconds:8.4f} {memory / 1e6:6.1f}", flush=True)
@@ -77,7 +51,7 @@ def count_joined(program, path):
     for size in (6, 8, 10, 12):
         joined = spent = 0
         for seed in range(15):
-            put(path, text_of(UNKNOT) + text_of(walked(UNKNOT, size, seed)) + "quandle trivial 1\n")
+            put(path, grid_text(UNKNOT) + grid_text(walked(UNKNOT, size, seed)) + "quandle trivial 1\n")
             seconds, _, text = best([program, "decide"], path, 1)
             joined += text.startswith("equal")
             spent += seconds
@@ -90,13 +64,12 @@ def main():
     parser.add_argument("--print", nargs=2, type=int, metavar=("COLUMNS", "SEED"))
     words = parser.parse_args()
     if words.print:
-        print(text_of(walked(TREFOIL, *words.print)), end="")
+        print(grid_text(walked(RIGHT_TREFOIL, *words.print)), end="")
         return
     built(words.program)
     with tempfile.TemporaryDirectory() as folder:
         path = os.path.join(folder, "input")
-        with open(path, "w", encoding="utf-8") as out:
-            out.write(text_of(UNKNOT))
+        put(path, grid_text(UNKNOT))
         if subprocess.run([words.program, "simplify"], stdin=open(path, "rb"), stdout=subprocess.DEVNULL).returncode == 0:
             time_simplify(words.program, path)
         count_joined(words.program, path)

@@ -19,6 +19,7 @@ import random
 import subprocess
 import sys
 
+from grids import Grid, after, grid_text
 from measure import PROGRAM, built
 
 # All diagrams of two to six columns, one for each class of translates.
@@ -30,30 +31,26 @@ NO_QUANDLE = "quandle trivial 1\n"
 
 
 def grid(luck, size):
-    """The rows of the Xs and of the Os of a random grid."""
-    rows = list(range(size))
+    """A random grid."""
+    rows = range(size)
     while True:
-        x, o = luck.sample(rows, size), luck.sample(rows, size)
-        if all(a != b for a, b in zip(x, o)):
-            return x, o
+        xs, os = luck.sample(rows, size), luck.sample(rows, size)
+        if all(x != o for x, o in zip(xs, os)):
+            return Grid(tuple(xs), tuple(os))
 
 
-def shifted(luck, x, o):
+def shifted(luck, grid):
     """A random translate."""
-    size = len(x)
-    columns, rows = luck.randrange(size), luck.randrange(size)
-    return tuple([(row - rows) % size for row in marks[columns:] + marks[:columns]] for marks in (x, o))
-
-
-def text(x, o):
-    return f"x {' '.join(map(str, x))}\no {' '.join(map(str, o))}\n"
+    for which in ("columns", "rows"):
+        grid = after(grid, ("shift", which, luck.randrange(len(grid.xs)))) or grid
+    return grid
 
 
 def pair(luck):
     """Two diagrams, and the spare that keeps their cap within six columns."""
     first = grid(luck, luck.randint(2, 5))
-    second = shifted(luck, *first) if luck.random() < 0.2 else grid(luck, luck.randint(2, 5))
-    return text(*first) + text(*second) + NO_QUANDLE, luck.randint(0, 1), max(len(first[0]), len(second[0]))
+    second = shifted(luck, first) if luck.random() < 0.2 else grid(luck, luck.randint(2, 5))
+    return grid_text(first) + grid_text(second) + NO_QUANDLE, luck.randint(0, 1), max(len(first.xs), len(second.xs))
 
 
 def answer(job, words, given):

@@ -7,39 +7,17 @@ Inputs are grids in which the Os lie a fixed number of rows below the Xs, round 
 crossings, given twice; with the tetrahedral quandle, and with trivial ones, each by a cocycle that is not 0. Instructions are those
 above a run on the unknot, given twice, with the same quandle and cocycle; reading, both lists of colourings and printing are in them."""
 import os
-import subprocess
 import tempfile
 
-from measure import PROGRAM, built, instructions, wants_no_words
-from moves import Grid
+from grids import UNKNOT, below, crossings, grid_text
+from measure import built, instructions, lines_of, put, wants_no_words
 
-UNKNOT = "x 0 1\no 1 0\n"
 TETRAHEDRAL = "quandle tetrahedral\nweight 2\n0 1 1 0\n1 0 1 0\n1 1 0 0\n0 0 0 0\n"
 
 
 def trivial(order):
     rows = "\n".join(" ".join(str(int(x != y)) for y in range(order)) for x in range(order))
     return f"quandle trivial {order}\nweight 5\n{rows}\n"
-
-
-def below(size, rows):
-    """The grid whose Xs fall by one row a column, and whose Os lie so many rows below them, round the circle."""
-    return Grid([size - 1 - c for c in range(size)], [(size - 1 - c - rows) % size for c in range(size)])
-
-
-def put(path, text):
-    with open(path, "w", encoding="utf-8") as out:
-        out.write(text)
-
-
-def written(job, path):
-    with open(path, "rb") as source:
-        return subprocess.run([PROGRAM, job], stdin=source, stdout=subprocess.PIPE, check=True).stdout.decode().splitlines()
-
-
-def crossings(path, grid):
-    put(path, grid.text())
-    return int(written("code", path)[0].split()[1])
 
 
 def main():
@@ -49,13 +27,13 @@ def main():
     with tempfile.TemporaryDirectory() as folder:
         path = os.path.join(folder, "input")
         for size in (5, 10, 24):
-            grid = max((below(size, rows) for rows in range(1, size)), key=lambda g: crossings(path, g))
-            count = crossings(path, grid)
+            grid = max((below(size, rows) for rows in range(1, size)), key=lambda grid: len(crossings(grid)))
+            count = len(crossings(grid))
             for name, cocycle in (("tetrahedral", TETRAHEDRAL), ("trivial 2", trivial(2)), ("trivial 16", trivial(16))):
-                put(path, 2 * UNKNOT + cocycle)
+                put(path, 2 * grid_text(UNKNOT) + cocycle)
                 start = instructions("weights", path)
-                put(path, 2 * grid.text() + cocycle)
-                lines = written("weights", path)
+                put(path, 2 * grid_text(grid) + cocycle)
+                lines = lines_of("weights", path)
                 if lines[0].startswith("wide"):
                     continue
                 colourings = sum(map(int, lines[0].split()[1:]))
