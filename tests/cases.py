@@ -420,10 +420,11 @@ def memory():
 
 def stack():
     for name, words_, data in wanting():
-        for size in (128, 160, 192, 256, 512, 1024, 8192):
-            yield Case("stack", f"{name}: {size} KB", words_, data, way="stack", need=size * KIBIBYTE)
-        for size in (4, 16, 64, 96):
-            yield Case("stack", f"{name}: {size} KB", words_, data, way="tiny stack", need=size * KIBIBYTE)
+        # Of the same limit a worker's thread has less for itself than the first thread.
+        enough = 256 if b"--workers=8" in words_ else 128
+        for size in (4, 16, 64, 96, 128, 160, 192, 256, 512, 1024, 8192):
+            way = "stack" if size >= enough else "tiny stack"
+            yield Case("stack", f"{name}: {size} KB", words_, data, way=way, need=size * KIBIBYTE)
 
 
 def file_size():
