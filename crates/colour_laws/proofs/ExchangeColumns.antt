@@ -87,9 +87,6 @@ alike_over p acts d r u v y rest over colour =
     ]
 
 -- tests of a number above or below a row
-test_low : (x r : ℕ) → x < r → nat_lt x r ≡ true
-test_low x r l = lt-ltb x r l
-
 test_high : (x r : ℕ) → r < x → nat_lt x r ≡ false
 test_high x r l = le-ltb x r (omega arith)
 
@@ -99,7 +96,7 @@ nested_at u v nested r = elim nested [
   | inl up ↦
       let d : rises u ≡ true = lt-ltb u.x u.o (omega (arith, up)) in
       let over : u.x < r → r < u.o → IsIdle r v ⊎ IsOver (rises u) r u = λ low high.
-      let below : nat_lt u.x r ≡ rises u = test_low u.x r low ∙ sym d in
+      let below : nat_lt u.x r ≡ rises u = lt-ltb u.x r low ∙ sym d in
       let above : nat_lt u.o r ≡ not (rises u) = test_high u.o r high ∙ ap not (sym d) in
       inr (record { cross = λ e. omega arith; ring = λ e. omega arith; below = below; above = above }) in
       elim (cases_lt r v.x) [
@@ -109,7 +106,7 @@ nested_at u v nested r = elim nested [
         ]
         | inr a ↦ elim (cases_lt v.x r) [
           | inl a' ↦ elim (cases_lt v.o r) [
-            | inl b ↦ inl (record { cross = λ e. omega arith; ring = λ e. omega arith; same = test_low v.x r a' ∙ sym (test_low v.o r b) })
+            | inl b ↦ inl (record { cross = λ e. omega arith; ring = λ e. omega arith; same = lt-ltb v.x r a' ∙ sym (lt-ltb v.o r b) })
             | inr b ↦ over (omega (arith, up)) (omega (arith, up))
           ]
           | inr a' ↦ over (omega (arith, up)) (omega (arith, up))
@@ -119,7 +116,7 @@ nested_at u v nested r = elim nested [
       let d : rises u ≡ false = le-ltb u.x u.o (omega (arith, down)) in
       let over : u.o < r → r < u.x → IsIdle r v ⊎ IsOver (rises u) r u = λ low high.
       let below : nat_lt u.x r ≡ rises u = test_high u.x r high ∙ sym d in
-      let above : nat_lt u.o r ≡ not (rises u) = test_low u.o r low ∙ ap not (sym d) in
+      let above : nat_lt u.o r ≡ not (rises u) = lt-ltb u.o r low ∙ ap not (sym d) in
       inr (record { cross = λ e. omega arith; ring = λ e. omega arith; below = below; above = above }) in
       elim (cases_lt r v.x) [
         | inl a ↦ elim (cases_lt r v.o) [
@@ -128,7 +125,7 @@ nested_at u v nested r = elim nested [
         ]
         | inr a ↦ elim (cases_lt v.x r) [
           | inl a' ↦ elim (cases_lt v.o r) [
-            | inl b ↦ inl (record { cross = λ e. omega arith; ring = λ e. omega arith; same = test_low v.x r a' ∙ sym (test_low v.o r b) })
+            | inl b ↦ inl (record { cross = λ e. omega arith; ring = λ e. omega arith; same = lt-ltb v.x r a' ∙ sym (lt-ltb v.o r b) })
             | inr b ↦ over (omega (arith, down)) (omega (arith, down))
           ]
           | inr a' ↦ over (omega (arith, down)) (omega (arith, down))
@@ -138,7 +135,7 @@ nested_at u v nested r = elim nested [
 
 -- both marks on one side of the row
 idle_low : (r : ℕ) (c : Column) → c.x < r → c.o < r → IsIdle r c
-idle_low r c a b = record { cross = λ e. omega arith; ring = λ e. omega arith; same = test_low c.x r a ∙ sym (test_low c.o r b) }
+idle_low r c a b = record { cross = λ e. omega arith; ring = λ e. omega arith; same = lt-ltb c.x r a ∙ sym (lt-ltb c.o r b) }
 
 idle_high : (r : ℕ) (c : Column) → r < c.x → r < c.o → IsIdle r c
 idle_high r c a b = record { cross = λ e. omega arith; ring = λ e. omega arith; same = test_high c.x r a ∙ sym (test_high c.o r b) }

@@ -2,7 +2,7 @@
 use Rattle.std.proofs.Common.{◌≡◌, ◌≢◌, ◌∙◌, ◌<◌, ℕ, Bool, List, length, ap, ap₂, sym, subst, arith, inl, inr, cond}
 use Rattle.std.specs.Prelude.{slice_index, nat_lt, ◌==◌, ◌⊎◌}
 use Rattle.std.proofs.lemmas.List.{get_or-map, length-map}
-use Rattle.std.proofs.lemmas.Bool.{cases_lt, or_cases, eqb-true, eq-eqb, ne_eqb, lt-ltb, le-ltb}
+use Rattle.std.proofs.lemmas.Bool.{or_cases, eqb-true, eq-eqb, ne_eqb, lt-ltb, le-ltb}
 use Rattle.grid_core.specs.declared.mark.Kind.{Kind}
 use Rattle.grid_core.specs.declared.span.Span.{Span}
 use Rattle.grid_core.specs.declared.mark.Kind.TheVariants.{Cross, Ring}
@@ -11,7 +11,7 @@ use Rattle.grid_core.specs.Span.{span, lies_within}
 use Rattle.grid_core.specs.Parts.{column_of, ends, is_up}
 use Rattle.grid_core.proofs.Marks.{column_is, column_mark, no_cell_twice, row_below}
 use Rattle.grid_moves.specs.Shift.{shifted}
-use Rattle.grid_moves.proofs.Shifted.{shifted_low, shifted_high, rows_shifted-renumbered}
+use Rattle.grid_moves.proofs.Shifted.{rows_shifted-renumbered, shifted_to_zero, shifted_above_zero}
 use Rattle.quandle_core.specs.Quandle.{Table, IsQuandle}
 use Rattle.colour_rows.specs.Walk.{passed_leftward}
 use Rattle.colour_rows.specs.Colouring.{AreColours, IsColouring}
@@ -25,21 +25,12 @@ use Rattle.colour_laws.proofs.Edited.{between_passed}
 pub after_grid : (d : Diagram) → IsGrid d → (j : ℕ) → j < size d → IsGrid (after_row_shift j d)
 after_grid d grid j lt = subst IsGrid (fallen_is d grid j (omega (arith, lt))) (fallen_grid d grid j lt)
 
-to_bottom : (n j : ℕ) → j < n → shifted n j j ≡ 0
-to_bottom n j lt = shifted_high n j j (omega arith) lt ∙ omega arith
-
-not_to_bottom : (n j s : ℕ) → j < n → s < n → s ≢ j → 0 < shifted n j s
-not_to_bottom n j s lt below apart = elim (cases_lt s j) [
-  | inl l ↦ omega (arith, shifted_low n j s l lt, lt)
-  | inr g ↦ omega (arith, shifted_high n j s g below, apart)
-]
-
 -- its ends are those of row j of the diagram before
 column_same : (d : Diagram) → IsGrid d → (j : ℕ) → j < size d → (kind : Kind) → column_of kind (after_row_shift j d) 0 ≡ column_of kind d j
 column_same d grid j lt kind =
     let mark = (rows_shifted-renumbered j d grid).marks kind (column_of kind d j) j (column_mark d grid kind j lt) in
     column_is (after_row_shift j d) (after_grid d grid j lt) kind (column_of kind d j) 0
-    (record { inside = mark.inside; row = mark.row ∙ to_bottom (size d) j lt })
+    (record { inside = mark.inside; row = mark.row ∙ shifted_to_zero (size d) j lt })
 
 pub ends_same : (d : Diagram) → IsGrid d → (j : ℕ) → j < size d → ends (after_row_shift j d) 0 ≡ ends d j
 ends_same d grid j lt = ap₂ span (column_same d grid j lt Cross) (column_same d grid j lt Ring)
@@ -48,11 +39,11 @@ ends_same d grid j lt = ap₂ span (column_same d grid j lt Cross) (column_same 
 up_by : (n j x o : ℕ) → j < n → x < n → o < n → x ≢ o → (x ≡ j) ⊎ (o ≡ j) → nat_lt (shifted n j x) (shifted n j o) ≡ (x == j)
 up_by n j x o lt lx lo apart either = elim either [
   | inl e ↦
-      lt-ltb (shifted n j x) (shifted n j o) (let low = ap (shifted n j) e ∙ to_bottom n j lt in let high =
-      not_to_bottom n j o lt lo (λ h. apart (e ∙ sym h)) in omega arith)
+      lt-ltb (shifted n j x) (shifted n j o) (let low = ap (shifted n j) e ∙ shifted_to_zero n j lt in let high =
+      shifted_above_zero n j o lt lo (λ h. apart (e ∙ sym h)) in omega arith)
       ∙ sym (eq-eqb x j e)
   | inr e ↦
-      le-ltb (shifted n j x) (shifted n j o) (let low = ap (shifted n j) e ∙ to_bottom n j lt in omega arith)
+      le-ltb (shifted n j x) (shifted n j o) (let low = ap (shifted n j) e ∙ shifted_to_zero n j lt in omega arith)
       ∙ sym (ne_eqb x j (λ h. apart (h ∙ sym e)))
 ]
 

@@ -120,7 +120,7 @@ ys_of_relabel f (c ∷ cs) = ap (λ l. c.y ∷ l) (ys_of_relabel f cs)
 pub same_columns : (g : Diagram) (cs ds : List Column) → IsMarked g cs → IsMarked g ds → ys_of cs ≡ ys_of ds → cs ≡ ds
 same_columns g cs ds a b e = sym (columns_marked g cs a) ∙ ap (columns g.x g.o) e ∙ columns_marked g ds b
 
-not_not : (b : Bool) → b ≡ not (not b)
+pub not_not : (b : Bool) → b ≡ not (not b)
 not_not true = refl
 not_not false = refl
 

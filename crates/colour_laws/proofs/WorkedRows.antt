@@ -3,13 +3,11 @@ use Rattle.std.proofs.Common.{◌≡◌, refl, [], ◌∷◌, true, List, ℕ}
 use Rattle.grid_core.specs.declared.mark.Kind.TheVariants.{Cross}
 use Rattle.grid_core.specs.declared.mark.Corner.TheVariants.{LowLeft}
 use Rattle.grid_core.specs.Diagram.{Diagram}
+use Rattle.grid_core.proofs.WorkedRows.{right_trefoil}
 use Rattle.grid_moves.specs.declared.step.Move.TheVariants.{ShiftColumns, ShiftRows, ExchangeColumns, ExchangeRows, SlideColumns, SlideRows, Stabilise, Destabilise}
 use Rattle.quandle_core.specs.Tables.{tetrahedral, dihedral}
 use Rattle.colour_rows.specs.Colouring.{is_colouring}
 use Rattle.colour_laws.specs.Carried.{carried, after_row_shift}
-
-abbrev right_trefoil : Diagram
-right_trefoil = record { x = 4 ∷ 3 ∷ 2 ∷ 1 ∷ 0 ∷ []; o = 2 ∷ 1 ∷ 0 ∷ 4 ∷ 3 ∷ [] }
 
 abbrev trefoil_colours : List ℕ
 trefoil_colours = 0 ∷ 1 ∷ 3 ∷ 0 ∷ 3 ∷ []

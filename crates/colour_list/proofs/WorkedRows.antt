@@ -2,13 +2,10 @@
 use Rattle.std.proofs.Common.{◌≡◌, refl, [], ◌∷◌, length, true, false}
 use Rattle.grid_core.specs.Diagram.{Diagram}
 use Rattle.grid_core.specs.Parts.{bottoms}
+use Rattle.grid_core.proofs.WorkedRows.{unknot, right_trefoil, left_trefoil}
 use Rattle.quandle_core.specs.Tables.{trivial, dihedral, tetrahedral}
-use Rattle.colour_rows.proofs.WorkedRows.{right_trefoil, left_trefoil}
 use Rattle.colour_list.specs.Listing.{colourings}
 use Rattle.colour_list.specs.Fits.{fits}
-
-abbrev unknot : Diagram
-unknot = record { x = 0 ∷ 1 ∷ []; o = 1 ∷ 0 ∷ [] }
 
 -- the counts of either trefoil
 right_counts : length (colourings (trivial 2) right_trefoil) ∷ length (colourings (dihedral 3) right_trefoil) ∷ length

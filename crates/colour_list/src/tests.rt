@@ -176,11 +176,14 @@ fn known_diagrams_have_their_colourings(rt: HostRuntime) -> Result<(), Fail> {
 }
 
 #[test]
-fn four_rings_fit_and_five_are_too_wide(rt: HostRuntime) -> Result<(), Fail> {
-    let wide = Quandle::trivial(16);
-    let four = Grid::new(&[0, 1, 2, 3, 4, 5, 6, 7], &[1, 0, 3, 2, 5, 4, 7, 6]);
-    assert!(rt; four.is_ok());
-    if let Ok(grid) = four {
+fn eight_rings_fit_and_nine_are_too_wide(rt: HostRuntime) -> Result<(), Fail> {
+    let wide = Quandle::trivial(4);
+    let eight = Grid::new(
+        &[0, 1, 2, 3, 4, 5, 6, 7, 8, 9, 10, 11, 12, 13, 14, 15],
+        &[1, 0, 3, 2, 5, 4, 7, 6, 9, 8, 11, 10, 13, 12, 15, 14],
+    );
+    assert!(rt; eight.is_ok());
+    if let Ok(grid) = eight {
         assert!(rt; fits(&grid, &wide));
         let found = list(rt.alloc(), &grid, &wide);
         assert!(rt; found.is_ok());
@@ -188,16 +191,16 @@ fn four_rings_fit_and_five_are_too_wide(rt: HostRuntime) -> Result<(), Fail> {
             assert_eq!(rt; found.len(), 65536);
         }
     }
-    let five = Grid::new(
-        &[0, 1, 2, 3, 4, 5, 6, 7, 8, 9],
-        &[1, 0, 3, 2, 5, 4, 7, 6, 9, 8],
+    let nine = Grid::new(
+        &[0, 1, 2, 3, 4, 5, 6, 7, 8, 9, 10, 11, 12, 13, 14, 15, 16, 17],
+        &[1, 0, 3, 2, 5, 4, 7, 6, 9, 8, 11, 10, 13, 12, 15, 14, 17, 16],
     );
-    assert!(rt; five.is_ok());
-    if let Ok(grid) = five {
+    assert!(rt; nine.is_ok());
+    if let Ok(grid) = nine {
         assert!(rt; !fits(&grid, &wide));
-        assert!(rt; fits(&grid, &Quandle::trivial(9)));
+        assert!(rt; fits(&grid, &Quandle::trivial(3)));
         let fault = list(rt.alloc(), &grid, &wide).err();
-        assert_eq!(rt; fault, Some(ListFault::TooWide { bottoms: 5 }));
+        assert_eq!(rt; fault, Some(ListFault::TooWide { bottoms: 9 }));
     }
     Ok(())
 }

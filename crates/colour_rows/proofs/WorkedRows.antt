@@ -1,15 +1,9 @@
 -- Worked examples, by computing: the two trefoils.
 use Rattle.std.proofs.Common.{◌≡◌, ◌∷◌, [], refl, true, false}
-use Rattle.grid_core.specs.Diagram.{Diagram}
+use Rattle.grid_core.proofs.WorkedRows.{right_trefoil, left_trefoil}
 use Rattle.quandle_core.specs.Tables.{dihedral, tetrahedral}
 use Rattle.colour_rows.specs.Walk.{passed, walk}
 use Rattle.colour_rows.specs.Colouring.{is_colouring}
-
-abbrev pub right_trefoil : Diagram
-right_trefoil = record { x = 4 ∷ 3 ∷ 2 ∷ 1 ∷ 0 ∷ []; o = 2 ∷ 1 ∷ 0 ∷ 4 ∷ 3 ∷ [] }
-
-abbrev pub left_trefoil : Diagram
-left_trefoil = record { x = 0 ∷ 1 ∷ 2 ∷ 3 ∷ 4 ∷ []; o = 2 ∷ 3 ∷ 4 ∷ 0 ∷ 1 ∷ [] }
 
 -- row 2 of the right trefoil runs from column 0 to column 2, under column 1, which is down: 1 ▷ 0 = 2
 under_one : passed right_trefoil 2 ≡ 1 ∷ []

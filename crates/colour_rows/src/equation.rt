@@ -5,10 +5,11 @@ ghost use Rattle.grid_core.specs.Diagram.{size};
 ghost use Rattle.colour_rows.specs.Equation.{equation, passes, walk_of, walk_back_of};
 ghost use Rattle.colour_rows.specs.Spans.{spans_of};
 
-use crate::spans::{Spans, is_set};
+use crate::spans::Spans;
 use crate::walking::{passed_leftward, passed_rightward};
 use arrayvec::ArrayVec;
 use grid_core::{Grid, MAX_SIZE};
+use lane_spans::has_bit;
 use quandle_core::Quandle;
 use std::marker::Model;
 
@@ -133,7 +134,7 @@ pub(crate) fn passed(
     let covering = spans.covering(row);
     let mut passed = ArrayVec::new();
     for column in left + 1..right {
-        if is_set(covering, column) {
+        if has_bit(covering, column) {
             passed.push(Pass {
                 column,
                 up: grid.is_up(column),

@@ -1,5 +1,5 @@
 //! The spans of a diagram's columns, packed so that one kernel tells which of them cover a row.
-ghost use Rattle.std.specs.Prelude.{◌≡◌, ◌<◌, ℕ};
+ghost use Rattle.std.specs.Prelude.{◌≡◌, ℕ};
 ghost use Rattle.lane_spans.specs.Columns.{covers, has_bit};
 ghost use Rattle.colour_rows.specs.Spans.{spans_of};
 
@@ -49,12 +49,4 @@ impl Spans {
     {
         covering_mask(self.low.as_slice(), self.high.as_slice(), row)
     }
-}
-
-/// Whether bit c of a mask is set.
-pub(crate) fn is_set(mask: u64, c: u8) -> bool
-    requires { c < 64 }
-    ensures { result ≡ has_bit mask c }
-{
-    (mask >> c) & 1 == 1
 }

@@ -12,6 +12,7 @@ use Rattle.quandle_core.specs.Quandle.{Table, IsQuandle, back}
 use Rattle.colour_rows.specs.Walk.{under, passed, passed_rightward, walk_to}
 use Rattle.colour_laws.proofs.RowEnds.{AreEnds, are_ends}
 use Rattle.colour_laws.proofs.Walks.{HasColours, colour_below}
+use Rattle.colour_laws.proofs.RowShifts.{not_not}
 use Rattle.colour_weights.specs.declared.walker.Walker.{Walker}
 use Rattle.colour_weights.specs.Cocycle.{Cochain, IsCocycle, value}
 use Rattle.colour_weights.specs.Weight.{crossing_value, positive_sum, negative_sum, difference, weight}
@@ -173,10 +174,6 @@ row_signs w cocycle d f has r known =
   where
     some : 0 < w.modulus
     some = omega (arith, cocycle.least)
-
-    not_not : (b : Bool) → b ≡ not (not b)
-    not_not true = refl
-    not_not false = refl
 
     by_way : (b : Bool)
         → Same w.modulus (cond b (walked w d f r).sum ((w.modulus - (walked w d f r).sum) % w.modulus) + sum_by (λ c. crossing_value w d f c r)

@@ -4,6 +4,7 @@ use Rattle.std.specs.Prelude.{◌==◌}
 use Rattle.std.specs.List.{list_all, flat_map, range_with_len}
 use Rattle.grid_core.specs.Diagram.{Diagram, size}
 use Rattle.grid_core.specs.Crossing.{is_positive}
+use Rattle.grid_core.proofs.WorkedRows.{right_trefoil, left_trefoil}
 use Rattle.grid_moves.specs.declared.step.Move.TheVariants.{ShiftRows, SlideColumns, SlideRows}
 use Rattle.quandle_core.specs.Tables.{dihedral, tetrahedral, trivial}
 use Rattle.colour_rows.specs.Walk.{passed}
@@ -15,12 +16,6 @@ use Rattle.colour_weights.specs.Fault.{first_fault, obeys}
 use Rattle.colour_weights.specs.Weight.{colour_beside, crossing_value, weight}
 use Rattle.colour_weights.specs.WalkSum.{weight_by_rows}
 use Rattle.colour_weights.specs.Weights.{weights}
-
-abbrev right_trefoil : Diagram
-right_trefoil = record { x = 4 ∷ 3 ∷ 2 ∷ 1 ∷ 0 ∷ []; o = 2 ∷ 1 ∷ 0 ∷ 4 ∷ 3 ∷ [] }
-
-abbrev left_trefoil : Diagram
-left_trefoil = record { x = 0 ∷ 1 ∷ 2 ∷ 3 ∷ 4 ∷ []; o = 2 ∷ 3 ∷ 4 ∷ 0 ∷ 1 ∷ [] }
 
 -- the closure of the braid of two strands without letters
 abbrev two_loops : Diagram

@@ -1,26 +1,27 @@
 -- The least translate has an X in its lower left cell.
-use Rattle.std.proofs.Common.{◌≡◌, ◌≢◌, ◌<◌, ◌≤◌, ◌+◌, ◌%◌, ◌∙◌, ◌⊎◌, ℕ, zero, suc, List, [], ◌∷◌, ◌++◌, length, get_or, map, arith, sym, refl, ap, ap₂, subst, inl, inr, zero-add}
+use Rattle.std.proofs.Common.{◌≡◌, ◌≢◌, ◌<◌, ◌≤◌, ◌+◌, ◌%◌, ◌∙◌, ◌⊎◌, ℕ, zero, suc, List, [], ◌∷◌, length, get_or, map, arith, sym, refl, ap, ap₂, subst, inl, inr, zero-add}
 use Rattle.std.specs.List.{All, Contains, range_with_len, flat_map}
 use Rattle.std.specs.declared.cmp.Ordering.{Ordering}
 use Rattle.std.specs.declared.cmp.Ordering.TheVariants.{Less, Equal, Greater}
 use Rattle.std.specs.Ordering.{nat_cmp, ordering_then}
 use Rattle.std.specs.Cmp.Lexicographic.{slice_cmp}
 use Rattle.std.proofs.lemmas.Bool.{cases_eq, cases_order}
-use Rattle.std.proofs.lemmas.List.{get_or-map, length-map, length-append, get_or_append_left, get_or-append-add}
-use Rattle.std.proofs.lemmas.List.Elements.{All-append, All-map, All-from_get_or, All-contains}
+use Rattle.std.proofs.lemmas.List.{get_or-map, length-map}
+use Rattle.std.proofs.lemmas.List.Elements.{All-append, All-map, All-from_get_or, All-contains, Contains-append_left, Contains-append_right}
 use Rattle.std.proofs.lemmas.List.FromFn.{get_or-range_with_len, length-range_with_len}
 use Rattle.grid_core.specs.declared.mark.Kind.TheVariants.{Cross}
 use Rattle.grid_core.specs.Diagram.{Diagram, IsGrid, size, row_of}
 use Rattle.grid_core.proofs.Marks.{row_below}
 use Rattle.grid_core.proofs.OneEach.{each_below}
 use Rattle.grid_moves.specs.Shift.{shifted}
+use Rattle.grid_moves.proofs.Shifted.{shifted_to_zero, shifted_above_zero}
 use Rattle.grid_canon.specs.declared.canonical_form.LeastForm.{LeastForm}
 use Rattle.grid_canon.specs.Translation.{translate, translates}
 use Rattle.grid_canon.specs.Order.{compare, IsAtMost}
 use Rattle.grid_canon.specs.CanonicalForm.{IsLeastForm}
 use Rattle.grid_canon.specs.Cornered.{cornered, IsFirstLeast}
-use Rattle.grid_canon.proofs.Translated.{shifted_cases, origin, origin_cases, size-translate, row_of-translate}
-use Rattle.grid_canon.proofs.Ordered.{nat_cmp_less, nat_cmp_greater, slice_cmp_at, at_most_from_less, at_most_self, less_then_at_most, at_most_from_not_less, less_not_back}
+use Rattle.grid_canon.proofs.Translated.{origin, origin_cases, size-translate, row_of-translate}
+use Rattle.grid_canon.proofs.Ordered.{nat_cmp_less, nat_cmp_greater, slice_cmp_at, at_most_from_less, at_most_self, less_then_at_most, at_most_from_not_less, less_not_back, then_first}
 
 -- the list of all translates
 flat_map_all : {X A : Type 0} (P : A → Type 0) (f : X → List A) (xs : List X) → All (λ x. All P (f x)) xs → All P (flat_map f xs)
@@ -38,17 +39,11 @@ translates_all P d all =
     (range_all (λ a. All P (map (λ b. translate d a b) (range_with_len 0 (size d)))) (size d) (λ a ha.
     All-map P (λ b. translate d a b) (range_with_len 0 (size d)) (range_all (λ b. P (translate d a b)) (size d) (λ b hb. all a b ha hb))))
 
-pub contains_left : {A : Type 0} (xs ys : List A) (x : A) → Contains xs x → Contains (xs ++ ys) x
-contains_left xs ys x c = (c.0, omega (arith, c.1, length-append xs ys), get_or_append_left xs ys x c.0 c.1 ∙ c.2)
-
-pub contains_right : {A : Type 0} (xs ys : List A) (x : A) → Contains ys x → Contains (xs ++ ys) x
-contains_right xs ys x c = (length xs + c.0, omega (arith, c.1, length-append xs ys), get_or-append-add xs ys c.0 x ∙ c.2)
-
 flat_map_contains_at : {X A : Type 0} (f : X → List A) (xs : List X) (x : X) (y : A) (k : ℕ) → k < length xs → get_or xs k x ≡ x → Contains (f x) y
     → Contains (flat_map f xs) y
 flat_map_contains_at f [] x y k lt is inner = absurd (omega (arith, lt))
-flat_map_contains_at f (z ∷ zs) x y zero lt is inner = contains_left (f z) (flat_map f zs) y (subst (λ w. Contains (f w) y) (sym is) inner)
-flat_map_contains_at f (z ∷ zs) x y (suc k) lt is inner = contains_right (f z) (flat_map f zs) y (flat_map_contains_at f zs x y k (omega (arith, lt)) is inner)
+flat_map_contains_at f (z ∷ zs) x y zero lt is inner = Contains-append_left (f z) (flat_map f zs) y (subst (λ w. Contains (f w) y) (sym is) inner)
+flat_map_contains_at f (z ∷ zs) x y (suc k) lt is inner = Contains-append_right (f z) (flat_map f zs) y (flat_map_contains_at f zs x y k (omega (arith, lt)) is inner)
 
 pub flat_map_contains : {X A : Type 0} (f : X → List A) (xs : List X) (x : X) (y : A) → Contains xs x → Contains (f x) y → Contains (flat_map f xs) y
 flat_map_contains f xs x y c inner = flat_map_contains_at f xs x y c.0 c.1 c.2 inner
@@ -72,19 +67,12 @@ shifts_of d e c =
     (translates_all (λ t. (a : ℕ) × (b : ℕ) × (a < size d) × (b < size d) × (translate d a b ≡ t)) d (λ a b ha hb. (a, b, ha, hb, refl))) c
 
 -- the lower left cell
-origin_zero : (n a : ℕ) → a < n → origin n a 0 ≡ a
+pub origin_zero : (n a : ℕ) → a < n → origin n a 0 ≡ a
 origin_zero n a lt = elim (origin_cases n a 0 lt (omega (arith, lt))) [ inl low ↦ omega (arith, low.1) | inr high ↦ absurd (omega (arith, high.0, lt)) ]
 
 pub corner_row : (d : Diagram) (a b : ℕ) → IsGrid d → a < size d → row_of Cross (translate d a b) 0 ≡ shifted (size d) b (row_of Cross d a)
 corner_row d a b grid ha =
     row_of-translate d a b grid ha Cross 0 (omega (arith, grid.least)) ∙ ap (λ (z : ℕ). shifted (size d) b (row_of Cross d z)) (origin_zero (size d) a ha)
-
-shifted_to_zero : (n k : ℕ) → k < n → shifted n k k ≡ 0
-shifted_to_zero n k lt = elim (shifted_cases n k k lt lt) [ inl low ↦ absurd (omega (arith, low.0)) | inr high ↦ omega (arith, high.1) ]
-
-shifted_above_zero : (n k c : ℕ) → k < n → c < n → k ≢ c → 0 < shifted n k c
-shifted_above_zero n k c hk hc ne = elim (shifted_cases n k c hk hc)
-    [ inl low ↦ omega (arith, low.0, low.1, hk) | inr high ↦ omega (arith, high.0, high.1, ne) ]
 
 pub cornered_row : (d : Diagram) (a : ℕ) → IsGrid d → a < size d → row_of Cross (cornered d a) 0 ≡ 0
 cornered_row d a grid ha = corner_row d a (row_of Cross d a) grid ha ∙ shifted_to_zero (size d) (row_of Cross d a) (row_below d grid Cross a ha)
@@ -96,7 +84,7 @@ cornered_less d a a' b' grid ha ha' hb' ne =
     let below = row_below d grid Cross a ha in
     let near = cornered_row d a grid ha in
     let far = corner_row d a' b' grid ha' in
-    let above = shifted_above_zero (size d) b' (row_of Cross d a') hb' (row_below d grid Cross a' ha') ne in
+    let above = shifted_above_zero (size d) b' (row_of Cross d a') hb' (row_below d grid Cross a' ha') (λ e. ne (sym e)) in
     let less : nat_cmp (row_of Cross (cornered d a) 0) (row_of Cross (translate d a' b') 0) ≡ Less =
     nat_cmp_less (row_of Cross (cornered d a) 0) (row_of Cross (translate d a' b') 0) (omega (arith, near, far, above)) in
     ap (λ o. ordering_then o (slice_cmp nat_cmp (cornered d a).o (translate d a' b').o))
@@ -114,12 +102,7 @@ second_at d a b grid ha hb o e apart =
     (λ k lt. ap (λ (z : ℕ). row_of Cross (cornered d a) z) (let is : k ≡ 0 = omega (arith, lt) in is) ∙ cornered_row d a grid ha
     ∙ sym (ap (λ (z : ℕ). row_of Cross (cornered d b) z) (let is : k ≡ 0 = omega (arith, lt) in is) ∙ cornered_row d b grid hb))
     (λ tied. apart (sym e ∙ tied)) ∙ e)
-    ∙ then_alone o (slice_cmp nat_cmp (cornered d a).o (cornered d b).o) apart
-  where
-    then_alone : (o p : Ordering) → o ≢ Equal → ordering_then o p ≡ o
-    then_alone Less p n = refl
-    then_alone Equal p n = absurd (n refl)
-    then_alone Greater p n = refl
+    ∙ then_first o (slice_cmp nat_cmp (cornered d a).o (cornered d b).o) apart
 
 pub second_less : (d : Diagram) (a b : ℕ) → IsGrid d → a < size d → b < size d → row_of Cross (cornered d a) 1 < row_of Cross (cornered d b) 1
     → compare (cornered d a) (cornered d b) ≡ Less

@@ -36,7 +36,7 @@ then_parts Less q e = absurd (let no : Less ≡ Equal = e in cc)
 then_parts Equal q e = (refl, e)
 then_parts Greater q e = absurd (let no : Greater ≡ Equal = e in cc)
 
-then_first : (p q : Ordering) → p ≢ Equal → ordering_then p q ≡ p
+pub then_first : (p q : Ordering) → p ≢ Equal → ordering_then p q ≡ p
 then_first Less q n = refl
 then_first Equal q n = absurd (n refl)
 then_first Greater q n = refl

@@ -7,6 +7,7 @@ use crate::{
 };
 use grid_core::{Corner, Grid, Kind, MAX_SIZE};
 use grid_moves::{Widening, widening_of};
+use std::alloc::Global;
 use std::cmp::Ordering;
 use std::test::Fail;
 
@@ -100,7 +101,7 @@ fn is_read_back(form: &LeastForm, key: Packed) -> bool {
 
 #[test]
 fn the_plain_search_over_all_translates_agrees(rt: HostRuntime) -> Result<(), Fail> {
-    let cases: [(&[u8], &[u8]); 11] = [
+    let cases: [(&[u8], &[u8]); 10] = [
         (&[0, 1], &[1, 0]),
         (&[1, 0, 2], &[0, 2, 1]),
         (&[4, 3, 2, 1, 0], &[2, 1, 0, 4, 3]),
@@ -120,25 +121,12 @@ fn the_plain_search_over_all_translates_agrees(rt: HostRuntime) -> Result<(), Fa
             &[0, 3, 6, 9, 12, 2, 5, 8, 11, 1, 4, 7, 10],
             &[1, 4, 7, 10, 0, 3, 6, 9, 12, 2, 5, 8, 11],
         ),
-        // twelve unlinked unknots: each translate by two columns and two rows is the same
         (
             &[
-                0, 1, 2, 3, 4, 5, 6, 7, 8, 9, 10, 11, 12, 13, 14, 15, 16, 17, 18, 19, 20, 21, 22,
-                23,
+                9, 12, 14, 16, 18, 17, 19, 7, 15, 2, 11, 1, 13, 6, 0, 5, 10, 3, 8, 4,
             ],
             &[
-                1, 0, 3, 2, 5, 4, 7, 6, 9, 8, 11, 10, 13, 12, 15, 14, 17, 16, 19, 18, 21, 20, 23,
-                22,
-            ],
-        ),
-        (
-            &[
-                5, 12, 23, 0, 17, 8, 3, 20, 11, 14, 1, 22, 9, 6, 19, 2, 15, 10, 21, 4, 13, 18, 7,
-                16,
-            ],
-            &[
-                12, 5, 0, 23, 8, 17, 20, 3, 14, 11, 22, 1, 6, 9, 2, 19, 10, 15, 4, 21, 18, 13, 16,
-                7,
+                14, 8, 5, 4, 16, 7, 11, 17, 18, 0, 12, 9, 3, 1, 6, 15, 2, 13, 19, 10,
             ],
         ),
     ];
@@ -149,6 +137,39 @@ fn the_plain_search_over_all_translates_agrees(rt: HostRuntime) -> Result<(), Fa
         assert!(rt; is_plain(&grid), "{x:?} {o:?}");
     }
     Ok(())
+}
+
+/// In as many columns as a grid may have: unlinked unknots side by side, of which each translate by two columns and two rows is the
+/// same; and behind irregular columns.
+#[test]
+fn the_plain_search_agrees_at_the_greatest_size(rt: HostRuntime) -> Result<(), Fail> {
+    assert!(rt; is_plain_at_the_greatest_size(rt.alloc(), &[], &[])?);
+    let x = [7, 2, 11, 4, 9, 0, 5, 10, 3, 8, 1, 6];
+    let o = [2, 10, 4, 6, 0, 7, 9, 1, 8, 3, 11, 5];
+    assert!(rt; is_plain_at_the_greatest_size(rt.alloc(), &x, &o)?);
+    Ok(())
+}
+
+/// Whether the plain search agrees on a diagram that has these columns in front of unlinked unknots.
+fn is_plain_at_the_greatest_size(
+    alloc: Global,
+    front_x: &[u8],
+    front_o: &[u8],
+) -> Result<bool, Fail> {
+    let mut x = Vec::new(alloc);
+    let mut o = Vec::new(alloc);
+    x.extend_from_slice(front_x)?;
+    o.extend_from_slice(front_o)?;
+    for row in 0..MAX_SIZE as u8 {
+        if front_x.len() <= usize::from(row) {
+            x.push(row)?;
+            o.push(row ^ 1)?;
+        }
+    }
+    match Grid::new(x.as_slice(), o.as_slice()) {
+        Ok(grid) => Ok(is_plain(&grid)),
+        Err(_) => Err(Fail::from("no grid")),
+    }
 }
 
 #[test]

@@ -1,7 +1,7 @@
 -- Lists without a fault are a grid, and a grid has none.
 use Rattle.std.proofs.Common.{◌≡◌, ◌≢◌, ◌<◌, ◌≤◌, ◌∙◌, ◌==◌, ◌||◌, ◌&&◌, ℕ, List, Bool, true, false, not, cond, Option, Some, None, length, get_or, take, slice_index, nat_lt, nat_le, arith, sym, refl, ap, ap₂, inl, inr, zero-add}
 use Rattle.std.specs.List.{range_with_len, position_or_len}
-use Rattle.std.proofs.lemmas.Bool.{lt-ltb, le-ltb, ltb-false, cases_order, leb-false, eqb-false, eqb-true, leb-true, ne_eqb, lt-leb, le-leb, eq-eqb}
+use Rattle.std.proofs.lemmas.Bool.{lt-ltb, le-ltb, ltb-false, cases_order, leb-false, eqb-false, eqb-true, leb-true, ne_eqb, lt-leb, le-leb, eq-eqb, or_parts, or_from, not-false, and_parts, cond-false}
 use Rattle.std.proofs.lemmas.List.{get_or-take, length-take, get_or_default}
 use Rattle.std.proofs.lemmas.List.Folds.{list_any_none, list_any_at}
 use Rattle.std.proofs.lemmas.List.FromFn.{get_or-range_with_len, length-range_with_len}
@@ -9,7 +9,6 @@ use Rattle.std.proofs.lemmas.List.Sums.{position_or_len_is, fails_before_first}
 use Rattle.grid_core.specs.declared.grid.TheConstants.{MAX_SIZE}
 use Rattle.grid_core.specs.declared.mark.Kind.{Kind}
 use Rattle.grid_core.specs.declared.mark.Kind.TheVariants.{Cross, Ring}
-use Rattle.grid_core.specs.declared.fault.GridFault.{GridFault}
 use Rattle.grid_core.specs.declared.fault.GridFault.TheVariants.{Size, Length, Range, Repeat, Same}
 use Rattle.grid_core.specs.Diagram.{Diagram, IsGrid, size, row_of}
 use Rattle.grid_core.specs.Fault.{lowest, or_next, is_outside, is_repeated, first_fault}
@@ -45,13 +44,6 @@ none_lowest test n e k lt =
     (cond_none (nat_lt (position_or_len test (range_with_len 0 n)) (length (range_with_len 0 n))) (position_or_len test (range_with_len 0 n)) e) in
     sym (ap test (get_or-range_with_len 0 n k 0 lt ∙ zero-add k)) ∙ fails_before_first test (range_with_len 0 n) k 0 (omega (arith, size, past, lt))
 
-pub either_false : (a b : Bool) → (a || b) ≡ false → (a ≡ false) × (b ≡ false)
-either_false true b e = absurd (let no : ◌≡◌ {A = Bool} true false = e in cc)
-either_false false b e = (refl, e)
-
-both_false : (a b : Bool) → a ≡ false → b ≡ false → (a || b) ≡ false
-both_false a b ea eb = ap₂ (λ s t. s || t) ea eb
-
 -- a row that is not repeated differs from those before it
 earlier : (rows : List ℕ) (b c : ℕ) → c < length rows → is_repeated rows c ≡ false → b < c → get_or rows b 0 ≢ get_or rows c 0
 earlier rows b c lt none low e =
@@ -81,8 +73,8 @@ accepted x o least most same outside repeated cell =
     (λ kind b c hb hc e. apart kind b c hb hc e (once b hb) (once c hc)) (λ c lt. eqb-false (slice_index x c) (slice_index o c) (two c lt))
   where
     below : (kind : Kind) (c : ℕ) → c < length x → is_outside x o c ≡ false → row_of kind (record { x = x; o = o }) c < length x
-    below Cross c lt e = leb-false (length x) (slice_index x c) (either_false (nat_le (length x) (slice_index x c)) (nat_le (length x) (slice_index o c)) e).0
-    below Ring c lt e = leb-false (length x) (slice_index o c) (either_false (nat_le (length x) (slice_index x c)) (nat_le (length x) (slice_index o c)) e).1
+    below Cross c lt e = leb-false (length x) (slice_index x c) (or_parts (nat_le (length x) (slice_index x c)) (nat_le (length x) (slice_index o c)) e).0
+    below Ring c lt e = leb-false (length x) (slice_index o c) (or_parts (nat_le (length x) (slice_index x c)) (nat_le (length x) (slice_index o c)) e).1
 
     apart_in : (rows : List ℕ) (b c : ℕ) → b < length rows → c < length rows → get_or rows b 0 ≡ get_or rows c 0 → is_repeated rows b ≡ false
         → is_repeated rows c ≡ false → b ≡ c
@@ -97,61 +89,52 @@ accepted x o least most same outside repeated cell =
     apart : (kind : Kind) (b c : ℕ) → b < length x → c < length x → row_of kind (record { x = x; o = o }) b ≡ row_of kind (record { x = x; o = o }) c
         → (is_repeated x b || is_repeated o b) ≡ false → (is_repeated x c || is_repeated o c) ≡ false → b ≡ c
     apart Cross b c hb hc e nb nc =
-        apart_in x b c hb hc e (either_false (is_repeated x b) (is_repeated o b) nb).0 (either_false (is_repeated x c) (is_repeated o c) nc).0
+        apart_in x b c hb hc e (or_parts (is_repeated x b) (is_repeated o b) nb).0 (or_parts (is_repeated x c) (is_repeated o c) nc).0
     apart Ring b c hb hc e nb nc =
-        apart_in o b c (omega (arith, same, hb)) (omega (arith, same, hc)) e (either_false (is_repeated x b) (is_repeated o b) nb).1
-        (either_false (is_repeated x c) (is_repeated o c) nc).1
+        apart_in o b c (omega (arith, same, hb)) (omega (arith, same, hc)) e (or_parts (is_repeated x b) (is_repeated o b) nb).1
+        (or_parts (is_repeated x c) (is_repeated o c) nc).1
 
-cond_passed : (b : Bool) (f : GridFault) (y : Option GridFault) → cond b (Some f) y ≡ None → (b ≡ false) × (y ≡ None)
-cond_passed false f y e = (refl, e)
-cond_passed true f y e = absurd (let no : ◌≡◌ {A = Option GridFault} (Some f) None = e in cc)
+-- where a chain of faults has none, neither has its first link
+pub cond_passed : {A : Type 0} (b : Bool) (fault : A) (rest : Option A) → cond b (Some fault) rest ≡ None → (b ≡ false) × (rest ≡ None)
+cond_passed false fault rest e = (refl, e)
+cond_passed true fault rest e = absurd (cc)
 
-next_passed : (p : Option ℕ) (f : ℕ → GridFault) (y : Option GridFault) → or_next p f y ≡ None → (p ≡ None) × (y ≡ None)
-next_passed None f y e = (refl, e)
-next_passed (Some c) f y e = absurd (let no : ◌≡◌ {A = Option GridFault} (Some (f c)) None = e in cc)
+pub next_passed : {A : Type 0} (o : Option ℕ) (fault : ℕ → A) (rest : Option A) → or_next o fault rest ≡ None → (o ≡ None) × (rest ≡ None)
+next_passed None fault rest e = (refl, e)
+next_passed (Some place) fault rest e = absurd (cc)
 
-not_not : (a : Bool) → not a ≡ false → a ≡ true
-not_not true e = refl
-not_not false e = absurd (let no : ◌≡◌ {A = Bool} true false = e in cc)
-
-pub both_true : (a b : Bool) → (a && b) ≡ true → (a ≡ true) × (b ≡ true)
-both_true true b e = (refl, e)
-both_true false b e = absurd (let no : ◌≡◌ {A = Bool} false true = e in cc)
+pub none_left : (o : Option ℕ) → ((place : ℕ) → o ≡ Some place → ⊥) → o ≡ None
+none_left None no_some = refl
+none_left (Some place) no_some = absurd (no_some place refl)
 
 -- lists without a fault are a grid
 pub accepted_lists : (x o : List ℕ) → first_fault x o ≡ None → IsGrid (record { x = x; o = o })
 accepted_lists x o e =
     let n : ℕ = length x in
     let size = cond_passed (not (nat_le 2 n && nat_le n MAX_SIZE)) Size _ e in
-    let bounds = both_true (nat_le 2 n) (nat_le n MAX_SIZE) (not_not (nat_le 2 n && nat_le n MAX_SIZE) size.0) in
+    let bounds = and_parts (nat_le 2 n) (nat_le n MAX_SIZE) (not-false (nat_le 2 n && nat_le n MAX_SIZE) size.0) in
     let same = cond_passed (not (length o == n)) Length _ size.1 in
     let outside = next_passed (lowest (λ c. is_outside x o c) n) (λ c. Range c) _ same.1 in
     let repeated = next_passed (lowest (λ c. is_repeated x c || is_repeated o c) n) (λ c. Repeat c) _ outside.1 in
     let cell = next_passed (lowest (λ c. slice_index x c == slice_index o c) n) (λ c. Same c) None repeated.1 in
-    accepted x o (leb-true 2 n bounds.0) (leb-true n MAX_SIZE bounds.1) (eqb-true (length o) n (not_not (length o == n) same.0)) outside.0 repeated.0 cell.0
+    accepted x o (leb-true 2 n bounds.0) (leb-true n MAX_SIZE bounds.1) (eqb-true (length o) n (not-false (length o == n) same.0)) outside.0 repeated.0 cell.0
 
 -- and a grid passes them
 pub faultless : (d : Diagram) → IsGrid d → first_fault d.x d.o ≡ None
 faultless d grid =
     let n : ℕ = size d in
-    cond_false (not (nat_le 2 n && nat_le n MAX_SIZE)) (Some Size) _ (ap₂ (λ a b. not (a && b)) (le-leb 2 n grid.least) (le-leb n MAX_SIZE grid.most))
-    ∙ cond_false (not (length d.o == n)) (Some Length) _ (ap (λ b. not b) (eq-eqb (length d.o) n grid.same))
+    cond-false (not (nat_le 2 n && nat_le n MAX_SIZE)) (Some Size) _ (ap₂ (λ a b. not (a && b)) (le-leb 2 n grid.least) (le-leb n MAX_SIZE grid.most))
+    ∙ cond-false (not (length d.o == n)) (Some Length) _ (ap (λ b. not b) (eq-eqb (length d.o) n grid.same))
     ∙ ap (λ p. or_next p (λ c. Range c)
     (or_next (lowest (λ c. is_repeated d.x c || is_repeated d.o c) n) (λ c. Repeat c)
     (or_next (lowest (λ c. slice_index d.x c == slice_index d.o c) n) (λ c. Same c) None)))
     (lowest_none (λ c. is_outside d.x d.o c) n
-    (λ c lt. both_false (nat_le n (slice_index d.x c)) (nat_le n (slice_index d.o c)) (lt-leb n (slice_index d.x c) (row_below d grid Cross c lt))
+    (λ c lt. or_from (nat_le n (slice_index d.x c)) (nat_le n (slice_index d.o c)) (lt-leb n (slice_index d.x c) (row_below d grid Cross c lt))
     (lt-leb n (slice_index d.o c) (row_below d grid Ring c lt))))
     ∙ ap (λ p. or_next p (λ c. Repeat c) (or_next (lowest (λ c. slice_index d.x c == slice_index d.o c) n) (λ c. Same c) None))
     (lowest_none (λ c. is_repeated d.x c || is_repeated d.o c) n
-    (λ c lt. both_false (is_repeated d.x c) (is_repeated d.o c)
+    (λ c lt. or_from (is_repeated d.x c) (is_repeated d.o c)
     (not_earlier d.x c lt (λ b low e. absurd (omega (arith, low, row_once d grid Cross b c (omega arith) lt e))))
     (not_earlier d.o c (omega (arith, grid.same, lt)) (λ b low e. absurd (omega (arith, low, row_once d grid Ring b c (omega arith) lt e))))))
     ∙ ap (λ p. or_next p (λ c. Same c) None)
     (lowest_none (λ c. slice_index d.x c == slice_index d.o c) n (λ c lt. ne_eqb (slice_index d.x c) (slice_index d.o c) (no_cell_twice d grid c lt)))
-  where
-    cond_false : (b : Bool) (x y : Option GridFault) → b ≡ false → cond b x y ≡ y
-    cond_false b x y is = ap (λ t. cond t x y) is
-
-pub true_both : (a b : Bool) → a ≡ true → b ≡ true → (a && b) ≡ true
-true_both a b at_a at_b = ap (λ (t : Bool). t && b) at_a ∙ at_b

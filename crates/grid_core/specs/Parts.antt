@@ -1,5 +1,5 @@
 -- The parts of a grid diagram.
-use Rattle.std.specs.Prelude.{◌==◌, ◌&&◌, ℕ, Bool, count_by, nat_lt}
+use Rattle.std.specs.Prelude.{◌==◌, ◌&&◌, ℕ, Bool, List, count_by, map, nat_lt}
 use Rattle.std.specs.List.{position_or_len, range_with_len}
 use Rattle.grid_core.specs.declared.mark.Kind.{Kind}
 use Rattle.grid_core.specs.declared.mark.Kind.TheVariants.{Cross, Ring}
@@ -18,6 +18,20 @@ column_span d c = span (row_of Cross d c) (row_of Ring d c)
 -- the ends of row r: the columns of its two marks, with the interval of columns between them
 abbrev pub ends : Diagram → ℕ → Span
 ends d r = span (column_of Cross d r) (column_of Ring d r)
+
+-- by column, the row of the lower mark and that of the higher one
+abbrev pub column_lows : Diagram → List ℕ
+column_lows d = map (λ c. (column_span d c).low) (range_with_len 0 (size d))
+
+abbrev pub column_highs : Diagram → List ℕ
+column_highs d = map (λ c. (column_span d c).high) (range_with_len 0 (size d))
+
+-- by row, the column of the left mark and that of the right one
+abbrev pub row_lows : Diagram → List ℕ
+row_lows d = map (λ r. (ends d r).low) (range_with_len 0 (size d))
+
+abbrev pub row_highs : Diagram → List ℕ
+row_highs d = map (λ r. (ends d r).high) (range_with_len 0 (size d))
 
 -- column c covers row r: the row lies strictly between the column's two marks
 abbrev pub covers : Diagram → ℕ → ℕ → Bool

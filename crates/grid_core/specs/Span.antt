@@ -1,5 +1,5 @@
 -- Intervals between the two marks of one column (of rows) or of one row (of columns).
-use Rattle.std.specs.Prelude.{◌==◌, ◌&&◌, ◌||◌, ◌<◌, ◌⊎◌, ℕ, Bool, if◌then◌else◌, nat_lt, nat_le}
+use Rattle.std.specs.Prelude.{◌==◌, ◌&&◌, ◌||◌, ◌<◌, ◌⊎◌, ℕ, Bool, if◌then◌else◌, nat_lt, nat_le, not}
 use Rattle.grid_core.specs.declared.span.Span.{Span}
 
 -- the interval with these two ends, in any order
@@ -25,6 +25,10 @@ share_an_end s t = (s.low == t.low) || (s.low == t.high) || (s.high == t.low) ||
 -- the two have the same two ends
 abbrev pub share_both_ends : Span → Span → Bool
 share_both_ends s t = (s.low == t.low) && (s.high == t.high)
+
+-- the two have exactly one end in common
+abbrev pub share_one_end : Span → Span → Bool
+share_one_end s t = share_an_end s t && not (share_both_ends s t)
 
 -- one lies wholly below the other
 abbrev pub are_disjoint : Span → Span → Bool

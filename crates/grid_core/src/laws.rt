@@ -1,10 +1,10 @@
 //! Laws of grids, over the definitions alone.
-ghost use Rattle.std.specs.Prelude.{◌≡◌, ◌<◌, ◌↔◌, None, ℕ, List, IsTrue, pos, negsuc, not, if◌then◌else◌};
+ghost use Rattle.std.specs.Prelude.{◌≡◌, ◌<◌, ◌↔◌, None, ℕ, List, IsTrue, pos, negsuc, not, slice_index, if◌then◌else◌};
 ghost use Rattle.grid_core.specs.Diagram.{Diagram, IsGrid, IsGridByMarks, HasMark, size, row_of, other};
 ghost use Rattle.grid_core.specs.declared.mark.TheConstants.Corner.{ALL};
 ghost use Rattle.grid_core.specs.Corners.{corners};
 ghost use Rattle.grid_core.specs.Span.{IsBetween};
-ghost use Rattle.grid_core.specs.Parts.{column_of, covers, is_up, is_rightward, is_bottom};
+ghost use Rattle.grid_core.specs.Parts.{column_of, column_span, ends, column_lows, column_highs, row_lows, row_highs, covers, is_up, is_rightward, is_bottom};
 ghost use Rattle.grid_core.specs.Crossing.{crosses, column_direction, row_direction, turned_left, sign, is_positive};
 ghost use Rattle.grid_core.specs.Fault.{first_fault};
 
@@ -46,6 +46,16 @@ pub fn a_grid_is_the_set_of_its_marks()
 /// The constant of all corners is the list of the definitions.
 pub fn all_corners_stand_in_order()
     ensures { ALL ≡ corners }
+{}
+
+/// The lists of all lower and all higher ends have at each place the ends of the span of that column, or of that row.
+pub fn the_listed_ends_are_those_of_the_spans()
+    ensures columns { (d : Diagram) (c : ℕ)
+        → c < size d
+        → column_span d c ≡ record { low = slice_index (column_lows d) c; high = slice_index (column_highs d) c } }
+    ensures rows { (d : Diagram) (r : ℕ)
+        → r < size d
+        → ends d r ≡ record { low = slice_index (row_lows d) r; high = slice_index (row_highs d) r } }
 {}
 
 /// A column covers the rows strictly between its two marks, whichever of the two is the lower.

@@ -1,7 +1,7 @@
 -- A step has one result, and is there exactly where the move has no fault.
 use Rattle.std.proofs.Common.{◌≡◌, ◌<◌, ◌+◌, ◌∙◌, ◌||◌, ◌&&◌, ◌==◌, ℕ, Bool, true, false, cond, nat_lt, arith, sym, refl, ap, Option, Some, None, Result, Ok, Err, IfOk}
 use Rattle.std.specs.Result.{result_err}
-use Rattle.std.proofs.lemmas.Bool.{lt-ltb, eq-eqb, ltb-true, eqb-true}
+use Rattle.std.proofs.lemmas.Bool.{lt-ltb, eq-eqb, ltb-true, eqb-true, and_parts, and_from, cond-true, cond-false}
 use Rattle.grid_core.specs.declared.grid.TheConstants.{MAX_SIZE}
 use Rattle.grid_core.specs.declared.mark.Kind.{Kind}
 use Rattle.grid_core.specs.declared.mark.Corner.{Corner}
@@ -32,7 +32,6 @@ use Rattle.grid_moves.proofs.WidenedGrids.{widened_once, narrowed_once}
 use Rattle.grid_moves.proofs.Stabilised.{stabilised, column_in_new_row-le, stabilised-step}
 use Rattle.grid_moves.proofs.Blocks.{block_made, double_row_is, column_in_double_row_is}
 use Rattle.grid_moves.proofs.Destabilised.{destabilised, destabilised-step}
-use Rattle.grid_core.proofs.Accepted.{both_true, true_both}
 
 stabilised_once : (c : ℕ) (kind : Kind) (corner : Corner) (r s : ℕ) (d e f : Diagram) → IsGrid d → IsGrid e → IsGrid f → Stabilises c kind corner r d e
     → Stabilises c kind corner s d f → e ≡ f
@@ -74,47 +73,41 @@ pub step_once : (d : Diagram) (move : Move) (e f : Diagram) → Step d move e �
 step_once d move e f one two = moves_once move d e f one.before one.after two.after one.marks two.marks
 
 -- a step is legal
-cond_true : {X : Type 0} (b : Bool) (x y : X) → b ≡ true → cond b x y ≡ x
-cond_true b x y is = ap (λ t. cond t x y) is
-
-cond_false : {X : Type 0} (b : Bool) (x y : X) → b ≡ false → cond b x y ≡ y
-cond_false b x y is = ap (λ t. cond t x y) is
-
 shift_legal : (n k : ℕ) → 0 < k → k < n → shift_fault n k ≡ None
-shift_legal n k least most = cond_true (nat_lt 0 k && nat_lt k n) None (Some Range) (true_both (nat_lt 0 k) (nat_lt k n) (lt-ltb 0 k least) (lt-ltb k n most))
+shift_legal n k least most = cond-true (nat_lt 0 k && nat_lt k n) None (Some Range) (and_from (nat_lt 0 k) (nat_lt k n) (lt-ltb 0 k least) (lt-ltb k n most))
 
 exchange_legal : (s t : Span) → MayExchange s t → exchange_fault s t ≡ None
 exchange_legal s t free =
-    cond_false (share_an_end s t) (Some Touching) (cond (are_disjoint s t || are_nested s t) None (Some Interleaved)) free.different
-    ∙ cond_true (are_disjoint s t || are_nested s t) None (Some Interleaved) free.placed
+    cond-false (share_an_end s t) (Some Touching) (cond (are_disjoint s t || are_nested s t) None (Some Interleaved)) free.different
+    ∙ cond-true (are_disjoint s t || are_nested s t) None (Some Interleaved) free.placed
 
 slide_legal : (s t : Span) → MaySlide s t → slide_fault s t ≡ None
 slide_legal s t free =
-    cond_false (share_both_ends s t) (Some Touching) (cond (share_an_end s t) None (Some Apart)) free.not_both
-    ∙ cond_true (share_an_end s t) None (Some Apart) free.shared
+    cond-false (share_both_ends s t) (Some Touching) (cond (share_an_end s t) None (Some Apart)) free.not_both
+    ∙ cond-true (share_an_end s t) None (Some Apart) free.shared
 
 moves_legal : (move : Move) (d e : Diagram) → Moves move d e → first_fault d move ≡ None
 moves_legal (ShiftColumns k) d e a = shift_legal (size d) k a.least a.most
 moves_legal (ShiftRows k) d e a = shift_legal (size d) k a.least a.most
 moves_legal (ExchangeColumns c) d e a =
-    cond_true (nat_lt (c + 1) (size d)) (exchange_fault (column_span d c) (column_span d (c + 1))) (Some Range) (lt-ltb (c + 1) (size d) a.inside)
+    cond-true (nat_lt (c + 1) (size d)) (exchange_fault (column_span d c) (column_span d (c + 1))) (Some Range) (lt-ltb (c + 1) (size d) a.inside)
     ∙ exchange_legal (column_span d c) (column_span d (c + 1)) a.may_exchange
 moves_legal (ExchangeRows r) d e a =
-    cond_true (nat_lt (r + 1) (size d)) (exchange_fault (ends d r) (ends d (r + 1))) (Some Range) (lt-ltb (r + 1) (size d) a.inside)
+    cond-true (nat_lt (r + 1) (size d)) (exchange_fault (ends d r) (ends d (r + 1))) (Some Range) (lt-ltb (r + 1) (size d) a.inside)
     ∙ exchange_legal (ends d r) (ends d (r + 1)) a.may_exchange
 moves_legal (SlideColumns c) d e a =
-    cond_true (nat_lt (c + 1) (size d)) (slide_fault (column_span d c) (column_span d (c + 1))) (Some Range) (lt-ltb (c + 1) (size d) a.inside)
+    cond-true (nat_lt (c + 1) (size d)) (slide_fault (column_span d c) (column_span d (c + 1))) (Some Range) (lt-ltb (c + 1) (size d) a.inside)
     ∙ slide_legal (column_span d c) (column_span d (c + 1)) a.may_slide
 moves_legal (SlideRows r) d e a =
-    cond_true (nat_lt (r + 1) (size d)) (slide_fault (ends d r) (ends d (r + 1))) (Some Range) (lt-ltb (r + 1) (size d) a.inside)
+    cond-true (nat_lt (r + 1) (size d)) (slide_fault (ends d r) (ends d (r + 1))) (Some Range) (lt-ltb (r + 1) (size d) a.inside)
     ∙ slide_legal (ends d r) (ends d (r + 1)) a.may_slide
 moves_legal (Stabilise c kind corner) d e a =
-    cond_true (nat_lt c (size d)) (cond (nat_lt (size d) MAX_SIZE) None (Some Full)) (Some Range) (lt-ltb c (size d) a.1.1.marked.inside)
-    ∙ cond_true (nat_lt (size d) MAX_SIZE) None (Some Full) (lt-ltb (size d) MAX_SIZE a.0)
+    cond-true (nat_lt c (size d)) (cond (nat_lt (size d) MAX_SIZE) None (Some Full)) (Some Range) (lt-ltb c (size d) a.1.1.marked.inside)
+    ∙ cond-true (nat_lt (size d) MAX_SIZE) None (Some Full) (lt-ltb (size d) MAX_SIZE a.0)
 moves_legal (Destabilise c r) d e a =
-    cond_true (nat_lt (c + 1) (size d) && nat_lt (r + 1) (size d)) (block_fault (marks_in_block d c r)) (Some Range)
-    (true_both (nat_lt (c + 1) (size d)) (nat_lt (r + 1) (size d)) (lt-ltb (c + 1) (size d) a.columns) (lt-ltb (r + 1) (size d) a.rows))
-    ∙ cond_true (marks_in_block d c r == 3) None (Some (Block (marks_in_block d c r))) (eq-eqb (marks_in_block d c r) 3 a.three)
+    cond-true (nat_lt (c + 1) (size d) && nat_lt (r + 1) (size d)) (block_fault (marks_in_block d c r)) (Some Range)
+    (and_from (nat_lt (c + 1) (size d)) (nat_lt (r + 1) (size d)) (lt-ltb (c + 1) (size d) a.columns) (lt-ltb (r + 1) (size d) a.rows))
+    ∙ cond-true (marks_in_block d c r == 3) None (Some (Block (marks_in_block d c r))) (eq-eqb (marks_in_block d c r) 3 a.three)
 
 pub step_legal : (d : Diagram) (move : Move) (e : Diagram) → Step d move e → first_fault d move ≡ None
 step_legal d move e step = moves_legal move d e step.marks
@@ -137,10 +130,10 @@ moved (Destabilise c r) d = destabilised c d
 
 pub moved_step : (d : Diagram) (move : Move) → IsGrid d → first_fault d move ≡ None → Step d move (moved move d)
 moved_step d (ShiftColumns k) grid e =
-    let ok = both_true (nat_lt 0 k) (nat_lt k (size d)) (kept_open (nat_lt 0 k && nat_lt k (size d)) None Range e).0 in
+    let ok = and_parts (nat_lt 0 k) (nat_lt k (size d)) (kept_open (nat_lt 0 k && nat_lt k (size d)) None Range e).0 in
     columns_shifted-step k d grid (ltb-true 0 k ok.0) (ltb-true k (size d) ok.1)
 moved_step d (ShiftRows k) grid e =
-    let ok = both_true (nat_lt 0 k) (nat_lt k (size d)) (kept_open (nat_lt 0 k && nat_lt k (size d)) None Range e).0 in
+    let ok = and_parts (nat_lt 0 k) (nat_lt k (size d)) (kept_open (nat_lt 0 k && nat_lt k (size d)) None Range e).0 in
     rows_shifted-step k d grid (ltb-true 0 k ok.0) (ltb-true k (size d) ok.1)
 moved_step d (ExchangeColumns c) grid e =
     let ok = kept_open (nat_lt (c + 1) (size d)) (exchange_fault (column_span d c) (column_span d (c + 1))) Range e in
@@ -160,7 +153,7 @@ moved_step d (Stabilise c kind corner) grid e =
     stabilised-step c kind corner d grid (ltb-true c (size d) ok.0) (ltb-true (size d) MAX_SIZE room.0)
 moved_step d (Destabilise c r) grid e =
     let ok = kept_open (nat_lt (c + 1) (size d) && nat_lt (r + 1) (size d)) (block_fault (marks_in_block d c r)) Range e in
-    let inside = both_true (nat_lt (c + 1) (size d)) (nat_lt (r + 1) (size d)) ok.0 in
+    let inside = and_parts (nat_lt (c + 1) (size d)) (nat_lt (r + 1) (size d)) ok.0 in
     let three = kept_open (marks_in_block d c r == 3) None (Block (marks_in_block d c r)) ok.1 in
     destabilised-step c r d grid (ltb-true (c + 1) (size d) inside.0) (ltb-true (r + 1) (size d) inside.1) (eqb-true (marks_in_block d c r) 3 three.0)
 

@@ -1,5 +1,5 @@
 -- Cyclic shifts.
-use Rattle.std.proofs.Common.{◌≡◌, ◌<◌, ◌≤◌, ◌+◌, ◌-◌, ◌*◌, ◌%◌, ◌++◌, ◌∙◌, ℕ, List, length, get_or, take, drop, map, arith, sym, refl, ap, inl, inr, length-append}
+use Rattle.std.proofs.Common.{◌≡◌, ◌≢◌, ◌<◌, ◌≤◌, ◌+◌, ◌-◌, ◌*◌, ◌%◌, ◌++◌, ◌∙◌, ℕ, List, length, get_or, take, drop, map, arith, sym, refl, ap, inl, inr, length-append}
 use Rattle.std.proofs.Math.Nat.{mod-eq_of_lt}
 use Rattle.std.proofs.lemmas.Bool.{cases_lt}
 use Rattle.std.proofs.lemmas.Nat.{mod-mul-add}
@@ -21,6 +21,16 @@ shifted_high n k c le lt = ap (λ (z : ℕ). z % n) (let e : c + (n - k) ≡ 1 *
 
 pub shifted_below : (n k c : ℕ) → k < n → c < n → shifted n k c < n
 shifted_below n k c most lt = elim (cases_lt c k) [ inl low ↦ omega (arith, shifted_low n k c low most) | inr high ↦ omega (arith, shifted_high n k c high lt) ]
+
+-- k itself comes to 0, and it alone
+pub shifted_to_zero : (n k : ℕ) → k < n → shifted n k k ≡ 0
+shifted_to_zero n k lt = shifted_high n k k (omega arith) lt ∙ omega arith
+
+pub shifted_above_zero : (n k c : ℕ) → k < n → c < n → c ≢ k → 0 < shifted n k c
+shifted_above_zero n k c most lt apart = elim (cases_lt c k) [
+  | inl low ↦ omega (arith, shifted_low n k c low most, most)
+  | inr high ↦ omega (arith, shifted_high n k c high lt, apart)
+]
 
 -- k back, then n - k back, is once round
 pub shifted_round : (n k c : ℕ) → 0 < k → k < n → c < n → shifted n (n - k) (shifted n k c) ≡ c

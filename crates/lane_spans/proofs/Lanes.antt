@@ -50,16 +50,19 @@ masked f at n bs le same =
 
 -- both comparisons with the row
 covering_tests : (row n : ℕ) (xs ys : List ℕ) → length xs ≡ n → length ys ≡ n
-    → map (top 7) (zip2 bit_and (zip2 below xs (replicate n row)) (zip2 below (replicate n row) ys)) ≡ zip2 (λ low high. nat_lt low row && nat_lt row high) xs ys
+    → map (top 7) (zip2 bit_and (zip2 below xs (replicate n row)) (zip2 below (replicate n row) ys))
+    ≡ zip2 (λ low high. nat_lt low row && nat_lt row high) xs ys
 covering_tests row n [] ys p q = refl
 covering_tests row zero (x ∷ xs) ys p q = absurd (omega (arith, p))
 covering_tests row (suc n) (x ∷ xs) [] p q = absurd (omega (arith, q))
 covering_tests row (suc n) (x ∷ xs) (y ∷ ys) p q =
-    ap₂ (λ t ts. t ∷ ts) (ap (top 7) (flag-and (nat_lt x row) (nat_lt row y)) ∙ flag-top (nat_lt x row && nat_lt row y)) (covering_tests row n xs ys (omega (arith, p)) (omega (arith, q)))
+    ap₂ (λ t ts. t ∷ ts) (ap (top 7) (flag-and (nat_lt x row) (nat_lt row y)) ∙ flag-top (nat_lt x row && nat_lt row y))
+    (covering_tests row n xs ys (omega (arith, p)) (omega (arith, q)))
 
 -- the mask that the kernel of `covering_mask` makes of n columns from `at` on
 pub covering_lanes : (lo hi : List ℕ) (row at n : ℕ) → length lo ≡ length hi → at + n ≤ length lo → n ≤ 64
-    → mask_l (map (top 7) (zip2 bit_and (zip2 below (chunk at n lo) (replicate n row)) (zip2 below (replicate n row) (chunk at n hi)))) % 2 ^ 64 ≡ mask_of (covers lo hi row) at n
+    → mask_l (map (top 7) (zip2 bit_and (zip2 below (chunk at n lo) (replicate n row)) (zip2 below (replicate n row) (chunk at n hi)))) % 2 ^ 64
+    ≡ mask_of (covers lo hi row) at n
 covering_lanes lo hi row at n same le small =
     let test : (ℕ → ℕ → Bool) = λ low high. nat_lt low row && nat_lt row high in
     let high : at + n ≤ length hi = omega arith in
@@ -70,28 +73,34 @@ covering_lanes lo hi row at n same le small =
     inside : (c : ℕ) → c < length lo → (nat_lt (get_or lo c 0) row && nat_lt row (get_or hi c 0)) ≡ covers lo hi row c
     inside c lt = grind (arith, nat_tests)
 
--- two spans, each with its low end below its high one, may trade places where one lies wholly below, above, round or inside the other
-pub free : (l h l' h' : ℕ) → l < h → l' < h' → ((nat_lt h l' || nat_lt h' l) || ((nat_lt l l' && nat_lt h' h) || (nat_lt l' l && nat_lt h h'))) ≡ may_trade_places (record { low = l; high = h }) (record { low = l'; high = h' })
+-- of the spans from l to h and from l' to h' one lies wholly below, above, inside or round the other
+abbrev clear : ℕ → ℕ → ℕ → ℕ → Bool
+clear l h l' h' = (nat_lt h l' || nat_lt h' l) || ((nat_lt l l' && nat_lt h' h) || (nat_lt l' l && nat_lt h h'))
+
+-- then they may trade places, where each has its low end below its high one
+pub free : (l h l' h' : ℕ) → l < h → l' < h' → clear l h l' h' ≡ may_trade_places (record { low = l; high = h }) (record { low = l'; high = h' })
 free l h l' h' p q = grind (arith, nat_tests)
 
 -- the same of the spans of a column and its neighbour
 pub free_of_next : (lo hi : List ℕ) (c d : ℕ) → c < length lo → d ≡ next_column (length lo) c → get_or lo c 0 < get_or hi c 0 → get_or lo d 0 < get_or hi d 0
-    → ((nat_lt (get_or hi c 0) (get_or lo d 0) || nat_lt (get_or hi d 0) (get_or lo c 0)) || ((nat_lt (get_or lo c 0) (get_or lo d 0) && nat_lt (get_or hi d 0) (get_or hi c 0)) || (nat_lt (get_or lo d 0) (get_or lo c 0) && nat_lt (get_or hi c 0) (get_or hi d 0)))) ≡ trades lo hi c
+    → clear (get_or lo c 0) (get_or hi c 0) (get_or lo d 0) (get_or hi d 0) ≡ trades lo hi c
 free_of_next lo hi c d column next one other =
     let is_column : nat_lt c (length lo) ≡ true = grind (arith, nat_tests) in
     free (get_or lo c 0) (get_or hi c 0) (get_or lo d 0) (get_or hi d 0) one other
     ∙ ap₂ (λ t e. t && may_trade_places (span_at lo hi c) (span_at lo hi e)) (sym is_column) next
 
-exchange_lane : (l h l' h' : ℕ) → top 7 (bit_or (bit_or (below h l') (below h' l)) (bit_or (bit_and (below l l') (below h' h)) (bit_and (below l' l) (below h h')))) ≡ ((nat_lt h l' || nat_lt h' l) || ((nat_lt l l' && nat_lt h' h) || (nat_lt l' l && nat_lt h h')))
+exchange_lane : (l h l' h' : ℕ)
+    → top 7 (bit_or (bit_or (below h l') (below h' l)) (bit_or (bit_and (below l l') (below h' h)) (bit_and (below l' l) (below h h')))) ≡ clear l h l' h'
 exchange_lane l h l' h' = simp (flag-and, flag-or, flag-top)
 
 -- all the comparisons of low ends, high ends and the neighbours' ends
 abbrev exchange_vector : List ℕ → List ℕ → List ℕ → List ℕ → List ℕ
 exchange_vector ls hs ls' hs' =
-    zip2 bit_or (zip2 bit_or (zip2 below hs ls') (zip2 below hs' ls)) (zip2 bit_or (zip2 bit_and (zip2 below ls ls') (zip2 below hs' hs)) (zip2 bit_and (zip2 below ls' ls) (zip2 below hs hs')))
+    zip2 bit_or (zip2 bit_or (zip2 below hs ls') (zip2 below hs' ls))
+    (zip2 bit_or (zip2 bit_and (zip2 below ls ls') (zip2 below hs' hs)) (zip2 bit_and (zip2 below ls' ls) (zip2 below hs hs')))
 
 exchange_tests : (l h l' h' : ℕ → ℕ) (cs : List ℕ)
-    → map (top 7) (exchange_vector (map l cs) (map h cs) (map l' cs) (map h' cs)) ≡ map (λ c. (nat_lt (h c) (l' c) || nat_lt (h' c) (l c)) || ((nat_lt (l c) (l' c) && nat_lt (h' c) (h c)) || (nat_lt (l' c) (l c) && nat_lt (h c) (h' c)))) cs
+    → map (top 7) (exchange_vector (map l cs) (map h cs) (map l' cs) (map h' cs)) ≡ map (λ c. clear (l c) (h c) (l' c) (h' c)) cs
 exchange_tests l h l' h' [] = refl
 exchange_tests l h l' h' (c ∷ cs) = ap₂ (λ b bs. b ∷ bs) (exchange_lane (l c) (h c) (l' c) (h' c)) (exchange_tests l h l' h' cs)
 
@@ -103,11 +112,13 @@ exchange_lanes lo hi at n same lt small spans =
     let highs = loaded hi at n (omega arith) in
     let next_lows = loaded_later lo at n (omega arith) in
     let next_highs = loaded_later hi at n (omega arith) in
-    let reads = ap₂ (λ (ls hs : List ℕ). exchange_vector ls hs (chunk (at + 1) n lo) (chunk (at + 1) n hi)) lows highs ∙ ap₂ (λ (ls hs : List ℕ). exchange_vector (map (λ c. get_or lo c 0) (range_with_len at n)) (map (λ c. get_or hi c 0) (range_with_len at n)) ls hs) next_lows next_highs in
+    let cs = range_with_len at n in
+    let reads = ap₂ (λ (ls hs : List ℕ). exchange_vector ls hs (chunk (at + 1) n lo) (chunk (at + 1) n hi)) lows highs
+    ∙ ap₂ (λ (ls hs : List ℕ). exchange_vector (map (λ c. get_or lo c 0) cs) (map (λ c. get_or hi c 0) cs) ls hs) next_lows next_highs in
     let lanes = exchange_tests (λ c. get_or lo c 0) (λ c. get_or hi c 0) (λ c. get_or lo (c + 1) 0) (λ c. get_or hi (c + 1) 0) (range_with_len at n) in
     masked (trades lo hi) at n _ small (ap (map (top 7)) reads ∙ lanes ∙ same_tests _ (trades lo hi) at n (λ c from to. inside c (omega arith)))
   where
-    inside : (c : ℕ) → c + 1 < length lo → ((nat_lt (get_or hi c 0) (get_or lo (c + 1) 0) || nat_lt (get_or hi (c + 1) 0) (get_or lo c 0)) || ((nat_lt (get_or lo c 0) (get_or lo (c + 1) 0) && nat_lt (get_or hi (c + 1) 0) (get_or hi c 0)) || (nat_lt (get_or lo (c + 1) 0) (get_or lo c 0) && nat_lt (get_or hi c 0) (get_or hi (c + 1) 0)))) ≡ trades lo hi c
+    inside : (c : ℕ) → c + 1 < length lo → clear (get_or lo c 0) (get_or hi c 0) (get_or lo (c + 1) 0) (get_or hi (c + 1) 0) ≡ trades lo hi c
     inside c before = free_of_next lo hi c (c + 1) (omega arith) (sym (mod-eq_of_lt before)) (spans c (omega arith)) (spans (c + 1) (omega arith))
 
 -- what is no column covers no row, and trades with none

@@ -7,7 +7,7 @@ use Rattle.std.proofs.Math.Nat.{pow-succ'}
 use Rattle.std.proofs.Math.Pow.{pow_mono}
 use Rattle.std.proofs.lemmas.Bool.{cases_lt}
 use Rattle.std.proofs.lemmas.List.{get_or-map, get_or_past}
-use Rattle.std.proofs.lemmas.List.FromFn.{get_or-range_with_len}
+use Rattle.std.proofs.lemmas.List.FromFn.{get_or-range_with_len, length-range_with_len}
 use mir.Val.{bool_byte}
 use Rattle.lane_spans.specs.Columns.{has_bit}
 use Rattle.lane_spans.specs.Partial.{mask_of}
@@ -26,10 +26,6 @@ later_tests f at (suc n) = ap (λ bs. f (at + 1) ∷ bs) (later_tests f (at + 1)
 pub count_tests : (f : ℕ → Bool) (at n : ℕ) → length (map f (range_with_len at n)) ≡ n
 count_tests f at zero = refl
 count_tests f at (suc n) = let more = count_tests f (at + 1) n in omega (arith, more)
-
-count_range : (at n : ℕ) → length (range_with_len at n) ≡ n
-count_range at zero = refl
-count_range at (suc n) = let more = count_range (at + 1) n in omega (arith, more)
 
 -- the mask of some columns is below 2 to their number
 pub mask_of-lt : (f : ℕ → Bool) (at n : ℕ) → mask_of f at n < 2 ^ n
@@ -68,14 +64,16 @@ bit_is true = refl
 bit_is false = refl
 
 -- one column more in front
-pub mask_of-column : (f : ℕ → Bool) (at next n bit rest : ℕ) → at < n → next ≡ at + 1 → bit ≡ cond (f at) 1 0 → rest ≡ mask_of f next (n - next) → bit + 2 * rest ≡ mask_of f at (n - at)
+pub mask_of-column : (f : ℕ → Bool) (at next n bit rest : ℕ) → at < n → next ≡ at + 1 → bit ≡ cond (f at) 1 0 → rest ≡ mask_of f next (n - next)
+    → bit + 2 * rest ≡ mask_of f at (n - at)
 unfolding mask_of
 mask_of-column f at next n bit rest lt one is behind =
     let count : n - at ≡ suc (n - (at + 1)) = omega arith in
     ap₂ (λ b r. b + 2 * r) is (behind ∙ ap (λ m. mask_l (map f (range_with_len m (n - m)))) one) ∙ ap (λ m. mask_l (map f (range_with_len at m))) (sym count)
 
 -- a block of k columns more in front
-pub mask_of-block : (f : ℕ → Bool) (at k next n block rest : ℕ) → next ≤ n → next ≡ at + k → block ≡ mask_of f at k → rest ≡ mask_of f next (n - next) → block + 2 ^ k * rest ≡ mask_of f at (n - at)
+pub mask_of-block : (f : ℕ → Bool) (at k next n block rest : ℕ) → next ≤ n → next ≡ at + k → block ≡ mask_of f at k → rest ≡ mask_of f next (n - next)
+    → block + 2 ^ k * rest ≡ mask_of f at (n - at)
 mask_of-block f at k next n block rest le more is behind =
     let count : n - at ≡ k + (n - (at + k)) = omega arith in
     ap₂ (λ b r. b + 2 ^ k * r) is (behind ∙ ap (λ m. mask_of f m (n - m)) more) ∙ sym (ap (mask_of f at) count ∙ mask_of-split f at k (n - (at + k)))
@@ -86,7 +84,7 @@ bits_of_all f n c past =
     let tests = map f (range_with_len 0 n) in
     let front : 0 + c ≡ c = omega arith in
     ap (λ b. b == 1) (bit_mask_l tests c) ∙ back (get_or tests c false) ∙ elim (cases_lt c n) [
-      | inl lt ↦ get_or-map f (range_with_len 0 n) c 0 false (omega (arith, count_range 0 n)) ∙ ap f (get_or-range_with_len 0 n c 0 lt ∙ front)
+      | inl lt ↦ get_or-map f (range_with_len 0 n) c 0 false (omega (arith, length-range_with_len 0 n)) ∙ ap f (get_or-range_with_len 0 n c 0 lt ∙ front)
       | inr ge ↦ get_or_past tests c false (omega (arith, count_tests f 0 n)) ∙ sym (past ge)
     ]
   where

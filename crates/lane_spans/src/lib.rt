@@ -6,6 +6,7 @@ mod covering;
 mod eight;
 mod exchange;
 mod laws;
+mod mask;
 #[cfg(test)]
 mod plain;
 mod sixteen;
@@ -15,3 +16,4 @@ mod tests;
 pub use covering::covering_mask;
 pub use exchange::exchange_mask;
 pub use laws::trade_or_interleave;
+pub use mask::has_bit;

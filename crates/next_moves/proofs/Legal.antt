@@ -11,27 +11,25 @@ use Rattle.grid_core.specs.declared.mark.Kind.{Kind}
 use Rattle.grid_core.specs.declared.mark.Kind.TheVariants.{Cross, Ring}
 use Rattle.grid_core.specs.declared.span.Span.{Span}
 use Rattle.grid_core.specs.Diagram.{Diagram, IsGrid, size, row_of}
-use Rattle.grid_core.specs.Span.{span, share_an_end, share_both_ends, are_disjoint, are_nested}
-use Rattle.grid_core.specs.Parts.{column_span, column_of, ends}
+use Rattle.grid_core.specs.Span.{span, share_an_end, share_both_ends, share_one_end, are_disjoint, are_nested}
+use Rattle.grid_core.specs.Parts.{column_span, column_of, ends, column_lows, column_highs, row_lows, row_highs}
+use Rattle.grid_core.proofs.ListedSpans.{span_at_place}
 use Rattle.grid_core.proofs.Marks.{row_below, no_cell_twice, column_mark, column_is}
 use Rattle.grid_moves.specs.declared.step.MoveFault.{MoveFault}
 use Rattle.grid_moves.specs.declared.step.MoveFault.TheVariants.{Range, Touching, Interleaved, Apart}
 use Rattle.grid_moves.specs.MoveFault.{exchange_fault, slide_fault}
 use Rattle.grid_moves.specs.Shift.{shifted}
 use Rattle.grid_canon.specs.Translation.{translate}
-use Rattle.grid_canon.proofs.Translated.{origin, shifted-origin, shifted_cases, size-translate, row_of-translate}
+use Rattle.grid_canon.proofs.Translated.{origin, shifted-origin, size-translate, row_of-translate}
+use Rattle.grid_canon.proofs.Joined.{unshifted}
 use Rattle.lane_spans.specs.Span.{Span as Lane, may_trade_places}
 use Rattle.lane_spans.specs.Columns.{span_at, trades, next_column, AreSpans}
 use Rattle.next_moves.specs.Tries.{shift_before, place_after_shift, column_exchange, column_slide, row_exchange, row_slide}
 use Rattle.next_moves.specs.Offers.{is_legal}
-use Rattle.next_moves.specs.Spans.{column_lows, column_highs, row_lows, row_highs, share_one_end}
 use Rattle.next_moves.specs.Extends.{next}
 use Rattle.next_moves.proofs.Sides.{shift_before-below, place_after_shift-below, next-below, first_origin, second_origin, shift_before_cases}
 use Rattle.next_moves.proofs.TranslatedMoves.{column_of-translate}
 use Rattle.std.proofs.Math.Nat.{mod-eq_of_lt, mod_self}
-
-unshifted : (n r : ℕ) → r < n → shifted n 0 r ≡ r
-unshifted n r lt = elim (shifted_cases n 0 r (omega (arith, lt)) lt) [ inl low ↦ absurd (omega (arith, low.0)) | inr high ↦ omega (arith, high.1) ]
 
 -- what is asked of two neighbours on the translate, is asked of the two as they stand round the circle
 asked : (F : Span → Span → Option MoveFault) (s t s' t' : Span) (p n : ℕ) → p < n → s ≡ s' → t ≡ t'
@@ -147,12 +145,7 @@ next_is n c lt = elim (shift_before_cases n c lt) [
 -- lists of spans, and what they say at one place
 listed : (f : ℕ → Span) (n c : ℕ) → c < n
     → span_at (map (λ k. (f k).low) (range_with_len 0 n)) (map (λ k. (f k).high) (range_with_len 0 n)) c ≡ lane (f c)
-listed f n c lt =
-    ap₂ (λ (z w : ℕ). made z w) (get_or-map-range_with_len (λ k. (f k).low) 0 n c c 0 lt (zero-add c))
-    (get_or-map-range_with_len (λ k. (f k).high) 0 n c c 0 lt (zero-add c))
-  where
-    made : ℕ → ℕ → Lane
-    made z w = record { low = z; high = w }
+listed f n c lt = sym (ap (λ (s : Span). lane s) (span_at_place f n c lt))
 
 listed_trades : (f : ℕ → Span) (n c : ℕ) → c < n → next n c < n → (f c).low < (f c).high → (f (next n c)).low < (f (next n c)).high
     → trades (map (λ k. (f k).low) (range_with_len 0 n)) (map (λ k. (f k).high) (range_with_len 0 n)) c ≡ is_none (exchange_fault (f c) (f (next n c)))
@@ -231,9 +224,7 @@ listed_touch f n c lows highs el eh lt far = ap₂ (λ s t. share_one_end s t) (
 
     at : (k : ℕ) → k < n → made (slice_index lows k) (slice_index highs k) ≡ f k
     at k hk =
-        ap₂ (λ (us vs : List ℕ). made (slice_index us k) (slice_index vs k)) el eh
-        ∙ ap₂ (λ (z w : ℕ). made z w) (get_or-map-range_with_len (λ i. (f i).low) 0 n k k 0 hk (zero-add k))
-        (get_or-map-range_with_len (λ i. (f i).high) 0 n k k 0 hk (zero-add k))
+        ap₂ (λ (us vs : List ℕ). made (slice_index us k) (slice_index vs k)) el eh ∙ sym (span_at_place f n k hk)
 
 pub columns_touch : (d : Diagram) (c m : ℕ) (lows highs : List ℕ) → m ≡ size d → lows ≡ column_lows d → highs ≡ column_highs d → c < size d
     → share_one_end (record { low = slice_index lows c; high = slice_index highs c })

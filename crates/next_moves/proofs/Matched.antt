@@ -1,11 +1,10 @@
 -- Each move that is no shift, on any translate, is matched by one of the tries: both lead to translates of each other.
-use Rattle.std.proofs.Common.{◌≡◌, ◌<◌, ◌+◌, ◌++◌, ◌∷◌, ◌∙◌, [], ℕ, List, true, false, map, arith, refl, sym, ap, ap₂, subst, zero-add, ◌%◌}
-use Rattle.std.proofs.Math.Nat.{mod-eq_of_lt}
+use Rattle.std.proofs.Common.{◌≡◌, ◌<◌, ◌+◌, ◌++◌, ◌∷◌, ◌∙◌, [], ℕ, List, true, false, map, arith, refl, sym, ap, ap₂, subst}
 use Rattle.std.specs.List.{Contains, range_with_len, flat_map}
+use Rattle.std.proofs.lemmas.List.Elements.{Contains-append_left, Contains-append_right}
 use Rattle.grid_core.specs.declared.mark.Kind.{Kind}
 use Rattle.grid_core.specs.declared.mark.Kind.TheVariants.{Cross, Ring}
 use Rattle.grid_core.specs.declared.mark.Corner.{Corner}
-use Rattle.grid_core.specs.declared.mark.Corner.TheVariants.{LowLeft, LowRight, HighLeft, HighRight}
 use Rattle.grid_core.specs.Diagram.{Diagram, IsGrid, size, row_of}
 use Rattle.grid_core.proofs.Marks.{row_below, mark_below}
 use Rattle.grid_moves.specs.declared.step.Move.{Move}
@@ -16,9 +15,10 @@ use Rattle.grid_moves.proofs.Shifted.{shifted_below}
 use Rattle.grid_canon.specs.Translation.{translate, translates}
 use Rattle.grid_canon.proofs.Translated.{origin, origin-below, origin-shifted, size-translate, row_of-translate, translate-translate}
 use Rattle.grid_canon.proofs.Joined.{at_origin}
-use Rattle.grid_canon.proofs.LeastTranslates.{translates_contains, contains_left, contains_right, flat_map_contains, range_contains, map_contains}
+use Rattle.grid_canon.proofs.LeastTranslates.{translates_contains, flat_map_contains, range_contains, map_contains, origin_zero}
 use Rattle.next_moves.specs.Neighbours.{is_shift}
 use Rattle.grid_core.specs.Corners.{corners}
+use Rattle.grid_core.proofs.CornerList.{corner_listed}
 use Rattle.next_moves.specs.Tries.{Try, shift_before, place_after_shift, tries, is_exchange, column_exchange, column_slide, column_trades, row_exchange, row_slide, row_trades, destabilisation, destabilisations, stabilisation, stabilisations}
 use Rattle.next_moves.proofs.Members.{contains_first, contains_later}
 use Rattle.next_moves.proofs.Sides.{shift_before-below, place_after_shift-below, first_origin}
@@ -53,45 +53,35 @@ module _ (n : ℕ) where
 
   tries_column : (q : ℕ) (t : Try) → q < n → Contains (column_trades n q) t → Contains (tries n) t
   tries_column q t lt among =
-      contains_left (columns_part ++ rows_part ++ blocks_part) marks_part t
-      (contains_left (columns_part ++ rows_part) blocks_part t
-      (contains_left columns_part rows_part t (flat_map_contains (column_trades n) (range_with_len 0 n) q t (range_contains n q lt) among)))
+      Contains-append_left (columns_part ++ rows_part ++ blocks_part) marks_part t
+      (Contains-append_left (columns_part ++ rows_part) blocks_part t
+      (Contains-append_left columns_part rows_part t (flat_map_contains (column_trades n) (range_with_len 0 n) q t (range_contains n q lt) among)))
 
   tries_row : (q : ℕ) (t : Try) → q < n → Contains (row_trades n q) t → Contains (tries n) t
   tries_row q t lt among =
-      contains_left (columns_part ++ rows_part ++ blocks_part) marks_part t
-      (contains_left (columns_part ++ rows_part) blocks_part t
-      (contains_right columns_part rows_part t (flat_map_contains (row_trades n) (range_with_len 0 n) q t (range_contains n q lt) among)))
+      Contains-append_left (columns_part ++ rows_part ++ blocks_part) marks_part t
+      (Contains-append_left (columns_part ++ rows_part) blocks_part t
+      (Contains-append_right columns_part rows_part t (flat_map_contains (row_trades n) (range_with_len 0 n) q t (range_contains n q lt) among)))
 
   tries_block : (q s : ℕ) → q < n → s < n → Contains (tries n) (destabilisation n q s)
   tries_block q s hq hs =
-      contains_left (columns_part ++ rows_part ++ blocks_part) marks_part (destabilisation n q s)
-      (contains_right (columns_part ++ rows_part) blocks_part (destabilisation n q s)
+      Contains-append_left (columns_part ++ rows_part ++ blocks_part) marks_part (destabilisation n q s)
+      (Contains-append_right (columns_part ++ rows_part) blocks_part (destabilisation n q s)
       (flat_map_contains (destabilisations n) (range_with_len 0 n) q (destabilisation n q s) (range_contains n q hq)
       (map_contains (destabilisation n q) (range_with_len 0 n) s (range_contains n s hs))))
 
   tries_mark : (q : ℕ) (kind : Kind) (corner : Corner) → q < n → Contains (tries n) (stabilisation q kind corner)
   tries_mark q kind corner hq =
-      contains_right (columns_part ++ rows_part ++ blocks_part) marks_part (stabilisation q kind corner)
+      Contains-append_right (columns_part ++ rows_part ++ blocks_part) marks_part (stabilisation q kind corner)
       (flat_map_contains stabilisations (range_with_len 0 n) q (stabilisation q kind corner) (range_contains n q hq) (of_kind kind))
     where
-      each : (corner : Corner) → Contains corners corner
-      each LowLeft = contains_first LowLeft (LowRight ∷ HighLeft ∷ HighRight ∷ [])
-      each LowRight = contains_later LowLeft (LowRight ∷ HighLeft ∷ HighRight ∷ []) LowRight (contains_first LowRight (HighLeft ∷ HighRight ∷ []))
-      each HighLeft =
-          contains_later LowLeft (LowRight ∷ HighLeft ∷ HighRight ∷ []) HighLeft
-          (contains_later LowRight (HighLeft ∷ HighRight ∷ []) HighLeft (contains_first HighLeft (HighRight ∷ [])))
-      each HighRight =
-          contains_later LowLeft (LowRight ∷ HighLeft ∷ HighRight ∷ []) HighRight
-          (contains_later LowRight (HighLeft ∷ HighRight ∷ []) HighRight (contains_later HighLeft (HighRight ∷ []) HighRight (contains_first HighRight [])))
-
       of_kind : (kind : Kind) → Contains (stabilisations q) (stabilisation q kind corner)
       of_kind Cross =
-          contains_left (map (stabilisation q Cross) corners) (map (stabilisation q Ring) corners) (stabilisation q Cross corner)
-          (map_contains (stabilisation q Cross) corners corner (each corner))
+          Contains-append_left (map (stabilisation q Cross) corners) (map (stabilisation q Ring) corners) (stabilisation q Cross corner)
+          (map_contains (stabilisation q Cross) corners corner (corner_listed corner))
       of_kind Ring =
-          contains_right (map (stabilisation q Cross) corners) (map (stabilisation q Ring) corners) (stabilisation q Ring corner)
-          (map_contains (stabilisation q Ring) corners corner (each corner))
+          Contains-append_right (map (stabilisation q Cross) corners) (map (stabilisation q Ring) corners) (stabilisation q Ring corner)
+          (map_contains (stabilisation q Ring) corners corner (corner_listed corner))
 
 -- a translate of a translate, by what its shifts come to
 brought_translate : (d : Diagram) (a b k l t u : ℕ) → IsGrid d → a < size d → b < size d → k < size d → l < size d → origin (size d) k a ≡ t
@@ -99,14 +89,8 @@ brought_translate : (d : Diagram) (a b k l t u : ℕ) → IsGrid d → a < size 
 brought_translate d a b k l t u grid ha hb hk hl et eu = translate-translate d a b k l grid ha hb hk hl ∙ ap₂ (λ (z w : ℕ). translate d z w) et eu
 
 -- back to where it was not shifted
-origin_of_zero : (n b : ℕ) → b < n → origin n b 0 ≡ b
-origin_of_zero n b lt = ap (λ (z : ℕ). z % n) (zero-add b) ∙ at_zero
-  where
-    at_zero : b % n ≡ b
-    at_zero = mod-eq_of_lt lt
-
 back_to_zero : (n b : ℕ) → b < n → origin n (shifted n b 0) b ≡ 0
-back_to_zero n b lt = brought_from n b 0 b 0 lt (omega (arith, lt)) lt (omega (arith, lt)) (at_origin n b lt ∙ sym (origin_of_zero n b lt))
+back_to_zero n b lt = brought_from n b 0 b 0 lt (omega (arith, lt)) lt (omega (arith, lt)) (at_origin n b lt ∙ sym (origin_zero n b lt))
 
 -- columns c and c + 1 of a translate, brought side by side where the tries have them
 record ColumnsRound (d : Diagram) (a b c : ℕ) : Type 0 where

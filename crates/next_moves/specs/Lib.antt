@@ -1,11 +1,11 @@
 pub mod Neighbours
 pub mod Tries
-pub mod Spans
 pub mod Offers
 pub mod Links
 pub mod Extends
 pub mod Reach
 pub use Rattle.grid_core.specs.Diagram
+pub use Rattle.grid_core.specs.Parts
 pub use Rattle.grid_moves.specs.Shift
 pub use Rattle.grid_moves.specs.Step
 pub use Rattle.grid_moves.specs.Joining

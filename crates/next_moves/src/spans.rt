@@ -2,9 +2,9 @@
 ghost use Rattle.std.specs.Prelude.{◌≡◌, ◌<◌, ◌≤◌, ◌++◌, ◌∷◌, [], ℕ, length, slice_index};
 ghost use Rattle.grid_core.specs.declared.grid.TheConstants.{MAX_SIZE};
 ghost use Rattle.grid_core.specs.Diagram.{size};
-ghost use Rattle.grid_core.specs.Parts.{column_of};
+ghost use Rattle.grid_core.specs.Parts.{column_of, column_lows, column_highs, row_lows, row_highs};
+ghost use Rattle.grid_core.specs.Span.{share_one_end};
 ghost use Rattle.lane_spans.specs.Columns.{has_bit, trades, AreSpans};
-ghost use Rattle.next_moves.specs.Spans.{column_lows, column_highs, row_lows, row_highs, share_one_end};
 ghost use Rattle.next_moves.specs.Extends.{next};
 
 use crate::side_by_side::next;
@@ -110,12 +110,4 @@ fn columns_by_row(grid: &Grid, kind: Kind) -> [u8; MAX_SIZE]
         columns[grid.row_of(kind, c) as usize] = c;
     }
     columns
-}
-
-/// Whether a bit of a mask is set.
-pub(crate) fn has_bit(mask: u64, c: u8) -> bool
-    requires { c < 64 }
-    ensures { result ≡ has_bit mask c }
-{
-    (mask >> c) & 1 == 1
 }

@@ -3,22 +3,23 @@ ghost use Rattle.std.specs.Prelude.{◌≡◌, ◌<◌, ◌≤◌, ◌+◌, ◌*
 ghost use Rattle.std.specs.List.{range_with_len, flat_map};
 ghost use Rattle.grid_core.specs.Corners.{corners};
 ghost use Rattle.grid_core.specs.Diagram.{IsGrid, size};
+ghost use Rattle.grid_core.specs.Parts.{column_lows, column_highs, row_lows, row_highs};
 ghost use Rattle.grid_canon.specs.Translation.{translate};
 ghost use Rattle.next_moves.specs.declared.offers.TheConstants.{MAX_OFFERS};
 ghost use Rattle.next_moves.specs.Tries.{column_exchange, row_exchange, column_trades, row_trades, destabilisation, destabilisations, stabilisations, stabilisation};
 ghost use Rattle.next_moves.specs.Offers.{is_legal};
 ghost use Rattle.lane_spans.specs.Columns.{has_bit, trades};
-ghost use Rattle.next_moves.specs.Spans.{column_lows, column_highs, row_lows, row_highs};
 ghost use Rattle.next_moves.specs.Extends.{Extends, row_of_both, if_below};
 
 use crate::links::{Link, Offer};
 use crate::offers::MAX_OFFERS;
 use crate::side_by_side::{next, shift_before};
-use crate::spans::{Spans, has_bit};
+use crate::spans::Spans;
 use arrayvec::ArrayVec;
 use grid_canon::{LeastKey, MAX_SHORT_SIZE, ShortGrid, canonical_key, translate};
 use grid_core::{Corner, Grid, Kind};
 use grid_moves::{Move, apply, widening_of};
+use lane_spans::has_bit;
 use std::marker::Model;
 
 /// Offers in the making.

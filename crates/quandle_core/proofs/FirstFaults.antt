@@ -1,7 +1,7 @@
 -- The first fault, told without a search: its case fails, and no case before it.
-use Rattle.std.proofs.Common.{◌≡◌, ◌<◌, ◌≤◌, ◌*◌, ◌==◌, ◌&&◌, ◌∙◌, ◌⊎◌, inl, inr, ℕ, zero, suc, List, [], ◌∷◌, Bool, true, false, not, Option, Some, None, length, slice_index, refl, sym, ap, subst, arith}
+use Rattle.std.proofs.Common.{◌≡◌, ◌<◌, ◌≤◌, ◌*◌, ◌==◌, ◌&&◌, ◌∙◌, ◌⊎◌, inl, inr, ℕ, zero, suc, List, [], ◌∷◌, not, Option, Some, None, length, slice_index, refl, sym, ap, subst, arith}
 use Rattle.std.specs.Prelude.{nat_lt, nat_le}
-use Rattle.std.proofs.lemmas.Bool.{le-leb, eqb-true, eq-eqb, ltb-true, lt-ltb, leb-true, and_parts, and_from, not-true, cases_lt, cases_order, both_ways, false≢true}
+use Rattle.std.proofs.lemmas.Bool.{le-leb, eqb-true, eq-eqb, ltb-true, lt-ltb, leb-true, and_parts, and_from, not-true, cases_lt, cases_order, both_ways, not-false}
 use Rattle.quandle_core.specs.Quandle.{Table, over}
 use Rattle.quandle_core.specs.Colours.{ComesBefore}
 use Rattle.quandle_core.specs.Cases.{IsFaultOf, IsFirstFault, kind, case_of}
@@ -116,7 +116,7 @@ smaller_distributive t x y z before (Distributive u v w) is less fails =
 smaller_distributive t x y z before NoInverse is less fails = fails
 
 -- a fault without colours has no smaller one
-no_smaller : (xs : List ℕ) → ComesBefore xs [] → ⊥
+pub no_smaller : (xs : List ℕ) → ComesBefore xs [] → ⊥
 no_smaller [] less = less
 no_smaller (x ∷ xs) less = less
 
@@ -177,10 +177,6 @@ of_collision t fault found =
       fails = (ltb-true l.x l.y both.0, l.below.1, l.below.2, eqb-true (over t l.x l.z) (over t l.y l.z) both.1);
       smaller = smaller_collision t l.x l.y l.z l.before;
     })
-  where
-    not-false : (b : Bool) → not b ≡ false → b ≡ true
-    not-false true e = refl
-    not-false false e = absurd (false≢true (sym e))
 
 of_distributive : (t : Table) (fault : QuandleFault) → distributive_fault t ≡ Some fault → IsFirstOfLaw t 5 fault
 of_distributive t fault found =

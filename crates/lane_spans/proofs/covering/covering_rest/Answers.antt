@@ -5,8 +5,11 @@ use Rattle.lane_spans.proofs.Masks.{mask_of-block, mask_of-small}
 use Rattle.lane_spans.proofs.covering.covering_rest.Goals as goal
 
 -- eight columns more in front
-grown : (c : goal.After-covering_one_by_one-else-lo-at-lt8) → c.covering_block.result + 256 * c.covering_one_by_one-else-lo-at-lt8.result ≡ mask_of (covers c.args.lo.now c.args.hi.now c.args.row) c.args.at (length c.args.lo.now - c.args.at)
-grown c = mask_of-block (covers c.args.lo.now c.args.hi.now c.args.row) c.args.at 8 (c.args.at + 8) (length c.args.lo.now) c.covering_block.result c.covering_one_by_one-else-lo-at-lt8.result (omega arith) (omega arith) c.covering_block.ensures c.covering_one_by_one-else-lo-at-lt8.ensures
+grown : (c : goal.After-covering_one_by_one-else-lo-at-lt8) → c.covering_block.result + 256 * c.covering_one_by_one-else-lo-at-lt8.result
+    ≡ mask_of (covers c.args.lo.now c.args.hi.now c.args.row) c.args.at (length c.args.lo.now - c.args.at)
+grown c = mask_of-block (covers c.args.lo.now c.args.hi.now c.args.row) c.args.at 8 (c.args.at + 8)
+    (length c.args.lo.now) c.covering_block.result c.covering_one_by_one-else-lo-at-lt8.result (omega arith)
+    (omega arith) c.covering_block.ensures c.covering_one_by_one-else-lo-at-lt8.ensures
 
 small : (c : goal.After-covering_one_by_one-else-lo-at-lt8) → c.covering_block.result + 256 * c.covering_one_by_one-else-lo-at-lt8.result < 2 ^ 64
 small c = omega (arith, grown c, mask_of-small (covers c.args.lo.now c.args.hi.now c.args.row) c.args.at (length c.args.lo.now - c.args.at) (omega arith))

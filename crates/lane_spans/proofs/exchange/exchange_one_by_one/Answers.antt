@@ -5,11 +5,18 @@ use Rattle.lane_spans.proofs.Masks.{mask_of-column, mask_of-small, mask_of-none,
 use Rattle.lane_spans.proofs.exchange.exchange_one_by_one.Goals as goal
 
 -- one column more in front
-grown : (c : goal.After-from) → c.from.result + 2 * c.loop-at.mask ≡ mask_of (trades c.args.lo.now c.args.hi.now) (c.loop-at.at - 1) (length c.args.lo.now - (c.loop-at.at - 1))
-grown c = mask_of-column (trades c.args.lo.now c.args.hi.now) (c.loop-at.at - 1) c.loop-at.at (length c.args.lo.now) c.from.result c.loop-at.mask (omega arith) (omega arith) (c.from.ensures ∙ bit_is c.may_trade.result ∙ ap (λ b. cond b 1 0) c.may_trade.ensures) c.loop-at.invariant.2
+grown : (c : goal.After-from) → c.from.result + 2 * c.loop-at.mask
+    ≡ mask_of (trades c.args.lo.now c.args.hi.now) (c.loop-at.at - 1) (length c.args.lo.now - (c.loop-at.at - 1))
+grown c = mask_of-column (trades c.args.lo.now c.args.hi.now) (c.loop-at.at - 1) c.loop-at.at (length c.args.lo.now) c.from.result c.loop-at.mask (omega arith)
+    (omega arith) (c.from.ensures ∙ bit_is c.may_trade.result ∙ ap (λ b. cond b 1 0) c.may_trade.ensures) c.loop-at.invariant.2
 
 small : (c : goal.After-from) → c.from.result + 2 * c.loop-at.mask < 18446744073709551616
-small c = omega (arith, grown c, mask_of-small (trades c.args.lo.now c.args.hi.now) (c.loop-at.at - 1) (length c.args.lo.now - (c.loop-at.at - 1)) (omega arith))
+small c = omega (
+  arith,
+  grown c,
+  mask_of-small (trades c.args.lo.now c.args.hi.now) (c.loop-at.at - 1) (length c.args.lo.now - (c.loop-at.at - 1))
+      (omega arith),
+)
 
 pub loop-at-init : goal.loop-at-init
 loop-at-init c = (omega arith, omega arith, sym (mask_of-none (trades c.args.lo.now c.args.hi.now) (length c.args.lo.now)))

@@ -6,11 +6,18 @@ use Rattle.lane_spans.proofs.Lanes.{covers_past}
 use Rattle.lane_spans.proofs.plain.covering_mask.Goals as goal
 
 -- one column more in front
-grown : (c : goal.After-from) → c.from.result + 2 * c.loop-at.mask ≡ mask_of (covers c.args.lo.now c.args.hi.now c.args.row) (c.loop-at.at - 1) (length c.args.lo.now - (c.loop-at.at - 1))
-grown c = mask_of-column (covers c.args.lo.now c.args.hi.now c.args.row) (c.loop-at.at - 1) c.loop-at.at (length c.args.lo.now) c.from.result c.loop-at.mask (omega arith) (omega arith) (c.from.ensures ∙ bit_is c.is_covering.result ∙ ap (λ b. cond b 1 0) c.is_covering.ensures) c.loop-at.invariant.1
+grown : (c : goal.After-from) → c.from.result + 2 * c.loop-at.mask
+    ≡ mask_of (covers c.args.lo.now c.args.hi.now c.args.row) (c.loop-at.at - 1) (length c.args.lo.now - (c.loop-at.at - 1))
+grown c = mask_of-column (covers c.args.lo.now c.args.hi.now c.args.row) (c.loop-at.at - 1) c.loop-at.at (length c.args.lo.now) c.from.result c.loop-at.mask
+    (omega arith) (omega arith) (c.from.ensures ∙ bit_is c.is_covering.result ∙ ap (λ b. cond b 1 0) c.is_covering.ensures) c.loop-at.invariant.1
 
 small : (c : goal.After-from) → c.from.result + 2 * c.loop-at.mask < 18446744073709551616
-small c = omega (arith, grown c, mask_of-small (covers c.args.lo.now c.args.hi.now c.args.row) (c.loop-at.at - 1) (length c.args.lo.now - (c.loop-at.at - 1)) (omega arith))
+small c = omega (
+  arith,
+  grown c,
+  mask_of-small (covers c.args.lo.now c.args.hi.now c.args.row) (c.loop-at.at - 1) (length c.args.lo.now - (c.loop-at.at - 1))
+      (omega arith),
+)
 
 pub loop-at-init : goal.loop-at-init
 loop-at-init c = (omega arith, sym (mask_of-none (covers c.args.lo.now c.args.hi.now c.args.row) (length c.args.lo.now)))
@@ -26,5 +33,6 @@ loop-at-preserved c = (omega arith, grown c)
 
 pub returns : goal.returns
 returns c = record {
-  bits = λ k. mask_of-bits (covers c.args.lo.now c.args.hi.now c.args.row) (length c.args.lo.now) c.loop-at.at c.loop-at.mask k (omega arith) c.loop-at.invariant.1 (covers_past c.args.lo.now c.args.hi.now c.args.row k);
+  bits = λ k. mask_of-bits (covers c.args.lo.now c.args.hi.now c.args.row) (length c.args.lo.now) c.loop-at.at c.loop-at.mask k
+      (omega arith) c.loop-at.invariant.1 (covers_past c.args.lo.now c.args.hi.now c.args.row k);
 }

@@ -1,8 +1,8 @@
 use Rattle.std.proofs.Common.{◌∙◌, List, ℕ, arith, sym, ap, ap₂, subst}
 use Rattle.lane_spans.specs.Columns.{trades, AreSpans}
 use Rattle.grid_core.specs.Diagram.{Diagram, size}
+use Rattle.grid_core.specs.Parts.{column_lows, column_highs}
 use Rattle.next_moves.specs.Tries.{column_trades}
-use Rattle.next_moves.specs.Spans.{column_lows, column_highs}
 use Rattle.next_moves.proofs.Extended.{extends_flat_more}
 use Rattle.next_moves.proofs.Legal.{columns_are_spans}
 use Rattle.next_moves.proofs.tries.Tries.trade_columns.Goals as goal

@@ -1,8 +1,8 @@
 use Rattle.std.proofs.Common.{◌∙◌, List, ℕ, arith, sym, ap, ap₂, subst}
 use Rattle.lane_spans.specs.Columns.{trades, AreSpans}
 use Rattle.grid_core.specs.Diagram.{Diagram, size}
+use Rattle.grid_core.specs.Parts.{row_lows, row_highs}
 use Rattle.next_moves.specs.Tries.{row_trades}
-use Rattle.next_moves.specs.Spans.{row_lows, row_highs}
 use Rattle.next_moves.proofs.Extended.{extends_flat_more}
 use Rattle.next_moves.proofs.Legal.{rows_are_spans}
 use Rattle.next_moves.proofs.tries.Tries.trade_rows.Goals as goal
