@@ -37,9 +37,12 @@ pair_again xs k y z u v least lt u_is v_is =
 
     each : (i : ℕ) → get_or (with_pair (with_pair xs k y z) k u v) i 0 ≡ get_or xs i 0
     each i = elim (cases_eq i k) [
-      | inl at ↦ ap (λ (j : ℕ). get_or (with_pair (with_pair xs k y z) k u v) j 0) at ∙ (get_or-set_same (set (with_pair xs k y z) (k - 1) u) k v 0 (omega (arith, length-set (with_pair xs k y z) (k - 1) u, pair_length xs k y z)) ∙ (last ∙ ap (λ (j : ℕ). get_or xs j 0) (sym at)))
+      | inl at ↦ ap (λ (j : ℕ). get_or (with_pair (with_pair xs k y z) k u v) j 0) at
+          ∙ (get_or-set_same (set (with_pair xs k y z) (k - 1) u) k v 0 (omega (arith, length-set (with_pair xs k y z) (k - 1) u, pair_length xs k y z))
+          ∙ (last ∙ ap (λ (j : ℕ). get_or xs j 0) (sym at)))
       | inr high ↦ elim (cases_eq i (k - 1)) [
-        | inl at ↦ ap (λ (j : ℕ). get_or (with_pair (with_pair xs k y z) k u v) j 0) at ∙ (pair_low (with_pair xs k y z) k u v least (omega (arith, pair_length xs k y z)) ∙ (u_is ∙ ap (λ (j : ℕ). get_or xs j 0) (sym at)))
+        | inl at ↦ ap (λ (j : ℕ). get_or (with_pair (with_pair xs k y z) k u v) j 0) at
+            ∙ (pair_low (with_pair xs k y z) k u v least (omega (arith, pair_length xs k y z)) ∙ (u_is ∙ ap (λ (j : ℕ). get_or xs j 0) (sym at)))
         | inr low ↦ elsewhere i high low
       ]
     ]
@@ -58,12 +61,14 @@ pair_stays t m k y z xs tuple at_y at_z =
 positive_stays : (t : Table) → IsQuandle t → (m k : ℕ) (xs : List ℕ) → 1 ≤ k → k < m → IsTuple t m xs → IsTuple t m (positive t k xs)
 positive_stays t q m k xs least lt tuple =
     let low = low_colour t m k xs least lt tuple in
-    pair_stays t m k (over t (colour_at xs (k + 1)) (colour_at xs k)) (colour_at xs k) xs tuple (q.within (colour_at xs (k + 1)) (colour_at xs k) (high_colour t m k xs least lt tuple) low) low
+    pair_stays t m k (over t (colour_at xs (k + 1)) (colour_at xs k)) (colour_at xs k) xs tuple
+    (q.within (colour_at xs (k + 1)) (colour_at xs k) (high_colour t m k xs least lt tuple) low) low
 
 negative_stays : (t : Table) → IsQuandle t → (m k : ℕ) (xs : List ℕ) → 1 ≤ k → k < m → IsTuple t m xs → IsTuple t m (negative t k xs)
 negative_stays t q m k xs least lt tuple =
     let high = high_colour t m k xs least lt tuple in
-    pair_stays t m k (colour_at xs (k + 1)) (back t (colour_at xs k) (colour_at xs (k + 1))) xs tuple high (q.back_within (colour_at xs k) (colour_at xs (k + 1)) (low_colour t m k xs least lt tuple) high)
+    pair_stays t m k (colour_at xs (k + 1)) (back t (colour_at xs k) (colour_at xs (k + 1))) xs tuple high
+    (q.back_within (colour_at xs k) (colour_at xs (k + 1)) (low_colour t m k xs least lt tuple) high)
 
 -- the two crossings of one pair of strands undo each other
 pub undo_positive : (t : Table) → IsQuandle t → (m k : ℕ) (xs : List ℕ) → 1 ≤ k → k < m → IsTuple t m xs → negative t k (positive t k xs) ≡ xs
@@ -73,7 +78,8 @@ undo_positive t q m k xs least lt tuple =
     let within : k < length xs = omega (arith, tuple.0) in
     let low = pair_low xs k (over t y x) x least within in
     let high = pair_high xs k (over t y x) x least within in
-    pair_again xs k (over t y x) x (colour_at (positive t k xs) (k + 1)) (back t (colour_at (positive t k xs) k) (colour_at (positive t k xs) (k + 1))) least within high
+    pair_again xs k (over t y x) x (colour_at (positive t k xs) (k + 1))
+    (back t (colour_at (positive t k xs) k) (colour_at (positive t k xs) (k + 1))) least within high
     (ap₂ (back t) low high ∙ q.back_over y x (high_colour t m k xs least lt tuple) (low_colour t m k xs least lt tuple))
 
 pub undo_negative : (t : Table) → IsQuandle t → (m k : ℕ) (xs : List ℕ) → 1 ≤ k → k < m → IsTuple t m xs → positive t k (negative t k xs) ≡ xs
@@ -91,7 +97,8 @@ letter_negated m (pos zero) letter = letter
 letter_negated m (pos (suc k)) letter = record { least = letter.least; most = letter.most }
 letter_negated m (negsuc k) letter = record { least = letter.least; most = letter.most }
 
-pub letter_undone : (t : Table) → IsQuandle t → (m : ℕ) (a : ℤ) → IsLetter m a → (xs : List ℕ) → IsTuple t m xs → letter_action t (letter_action t xs a) (neg_ℤ a) ≡ xs
+pub letter_undone : (t : Table) → IsQuandle t → (m : ℕ) (a : ℤ) → IsLetter m a → (xs : List ℕ) → IsTuple t m xs
+    → letter_action t (letter_action t xs a) (neg_ℤ a) ≡ xs
 letter_undone t q m (pos zero) letter xs tuple = absurd (let least = letter.least in omega arith)
 letter_undone t q m (pos (suc k)) letter xs tuple =
     let most = letter.most in
@@ -119,11 +126,13 @@ letter_bijection t q m a letter = record {
     letter_stays t q m (neg_ℤ a) (letter_negated m a letter) ys tuple,
     ap (letter_action t (letter_action t ys (neg_ℤ a))) (sym (negated_twice a)) ∙ letter_undone t q m (neg_ℤ a) (letter_negated m a letter) ys tuple,
   );
-  one = λ xs ys at_x at_y e. sym (letter_undone t q m a letter xs at_x) ∙ (ap (λ (zs : List ℕ). letter_action t zs (neg_ℤ a)) e ∙ letter_undone t q m a letter ys at_y);
+  one = λ xs ys at_x at_y e. sym (letter_undone t q m a letter xs at_x)
+      ∙ (ap (λ (zs : List ℕ). letter_action t zs (neg_ℤ a)) e ∙ letter_undone t q m a letter ys at_y);
 }
 
 -- a list of letters acts letter by letter
-pub action_bijection : (t : Table) → IsQuandle t → (m : ℕ) (letters : List ℤ) → All (IsLetter m) letters → IsBijection (IsTuple t m) (IsTuple t m) (action t letters)
+pub action_bijection : (t : Table) → IsQuandle t → (m : ℕ) (letters : List ℤ) → All (IsLetter m) letters
+    → IsBijection (IsTuple t m) (IsTuple t m) (action t letters)
 action_bijection t q m [] all = record {
   into = λ xs tuple. tuple;
   onto = λ ys tuple. (ys, tuple, refl);
@@ -138,7 +147,9 @@ action_bijection t q m (a ∷ letters) all =
       one = λ xs ys at_x at_y e. first.one xs ys at_x at_y (rest.one (letter_action t xs a) (letter_action t ys a) (first.into xs at_x) (first.into ys at_y) e);
     }
   where
-    found : (t : Table) (m : ℕ) (a : ℤ) (letters : List ℤ) → IsBijection (IsTuple t m) (IsTuple t m) (λ xs. letter_action t xs a) → IsBijection (IsTuple t m) (IsTuple t m) (action t letters) → (ys : List ℕ) → IsTuple t m ys → (xs : List ℕ) × IsTuple t m xs × (action t (a ∷ letters) xs ≡ ys)
+    found : (t : Table) (m : ℕ) (a : ℤ) (letters : List ℤ) → IsBijection (IsTuple t m) (IsTuple t m) (λ xs. letter_action t xs a)
+        → IsBijection (IsTuple t m) (IsTuple t m) (action t letters) → (ys : List ℕ) → IsTuple t m ys
+        → (xs : List ℕ) × IsTuple t m xs × (action t (a ∷ letters) xs ≡ ys)
     found t m a letters first rest ys tuple =
         let middle = rest.onto ys tuple in
         let start = first.onto middle.0 middle.1 in

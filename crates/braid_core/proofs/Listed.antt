@@ -74,7 +74,8 @@ heads_listable q m a zero tuples within all = All-nil (IsListable q (suc m))
 heads_listable q m a (suc n) tuples within all =
     All-append (IsListable q (suc m)) (map (λ (rest : List ℕ). a ∷ rest) tuples) (heads (a + 1) n tuples)
     (All-map (IsListable q (suc m)) (λ (rest : List ℕ). a ∷ rest) tuples
-    (All-weaker (IsListable q m) (λ rest. IsListable q (suc m) (a ∷ rest)) (λ rest is. (ap suc is.0, All-cons (λ y. y < q) a rest (omega arith) is.1)) tuples all))
+    (All-weaker (IsListable q m) (λ rest. IsListable q (suc m) (a ∷ rest))
+    (λ rest is. (ap suc is.0, All-cons (λ y. y < q) a rest (omega arith) is.1)) tuples all))
     (heads_listable q m (a + 1) n tuples (omega arith) all)
 
 -- each list that is listed is a tuple
@@ -92,7 +93,7 @@ same_first x xs ys e =
     ∙ (ap (λ b. ordering_then (cond b Equal Greater) (slice_cmp nat_cmp xs ys)) (eq-eqb x x refl) ∙ e)
 
 -- each list comes before all later ones
-abbrev Rises : List (List ℕ) → Type 0
+abbrev pub Rises : List (List ℕ) → Type 0
 Rises [] = Unit {0}
 Rises (x ∷ xs) = All (IsBefore x) xs × Rises xs
 
@@ -121,7 +122,8 @@ heads_rise : (a n : ℕ) (tuples : List (List ℕ)) → Rises tuples → Rises (
 heads_rise a zero tuples up = tt
 heads_rise a (suc n) tuples up =
     rises_append (map (λ (rest : List ℕ). a ∷ rest) tuples) (heads (a + 1) n tuples) (rises_head a tuples up) (heads_rise (a + 1) n tuples up)
-    (All-map (λ x. All (IsBefore x) (heads (a + 1) n tuples)) (λ (rest : List ℕ). a ∷ rest) tuples (λ k d at. heads_later a (a + 1) n (get_or tuples k d) tuples (omega arith)))
+    (All-map (λ x. All (IsBefore x) (heads (a + 1) n tuples)) (λ (rest : List ℕ). a ∷ rest) tuples
+    (λ k d at. heads_later a (a + 1) n (get_or tuples k d) tuples (omega arith)))
 
 tuples_rise : (q m : ℕ) → Rises (all_tuples q m)
 tuples_rise q zero = (All-nil (IsBefore []), tt)
@@ -132,14 +134,18 @@ pairs [] up = λ i j d lt within. absurd (omega (arith, within))
 pairs (x ∷ xs) up = AllPairs-cons IsBefore x xs up.0 (pairs xs up.1)
 
 pub fixed_in_order : (t : Table) (b : Word) → AllPairs IsBefore (fixed_points t b)
-fixed_in_order t b = AllPairs-filter IsBefore (is_fixed t b) (all_tuples t.order b.strands) (pairs (all_tuples t.order b.strands) (tuples_rise t.order b.strands))
+fixed_in_order t b = AllPairs-filter IsBefore (is_fixed t b) (all_tuples t.order b.strands)
+    (pairs (all_tuples t.order b.strands) (tuples_rise t.order b.strands))
 
 pub listed_fixed : (t : Table) (b : Word) (xs : List ℕ) → Contains (fixed_points t b) xs → IsFixedPoint t b xs
 listed_fixed t b xs at = record {
-  tuple = All-contains (IsTuple t b.strands) (fixed_points t b) xs (All-filter (is_fixed t b) (IsTuple t b.strands) (all_tuples t.order b.strands) (listed_tuple t.order b.strands)) at;
-  fixed = (bytes_eq-Decides (action t b.letters xs) xs).0 (All-contains (λ ys. is_fixed t b ys ≡ true) (fixed_points t b) xs (filter_passes (is_fixed t b) (all_tuples t.order b.strands)) at);
+  tuple = All-contains (IsTuple t b.strands) (fixed_points t b) xs
+      (All-filter (is_fixed t b) (IsTuple t b.strands) (all_tuples t.order b.strands) (listed_tuple t.order b.strands)) at;
+  fixed = (bytes_eq-Decides (action t b.letters xs) xs).0 (All-contains (λ ys. is_fixed t b ys ≡ true) (fixed_points t b) xs
+      (filter_passes (is_fixed t b) (all_tuples t.order b.strands)) at);
 }
 
 pub fixed_listed : (t : Table) (b : Word) (xs : List ℕ) → IsFixedPoint t b xs → Contains (fixed_points t b) xs
 fixed_listed t b xs point =
-    contains_filter (is_fixed t b) xs (all_tuples t.order b.strands) ((bytes_eq-Decides (action t b.letters xs) xs).1 point.fixed) (tuple_listed t.order b.strands xs point.tuple.0 point.tuple.1)
+    contains_filter (is_fixed t b) xs (all_tuples t.order b.strands) ((bytes_eq-Decides (action t b.letters xs) xs).1 point.fixed)
+    (tuple_listed t.order b.strands xs point.tuple.0 point.tuple.1)

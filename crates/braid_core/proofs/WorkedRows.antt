@@ -1,5 +1,6 @@
 -- Worked examples, by computing.
-use Rattle.std.proofs.Common.{◌≡◌, ◌∷◌, [], ℕ, ℤ, List, pos, negsuc, length, refl, Some, None}
+use Rattle.std.proofs.Common.{◌≡◌, ◌∷◌, [], ◌++◌, ◌-◌, replicate, ℕ, ℤ, List, pos, negsuc, length, refl, Some, None}
+use Rattle.grid_core.specs.declared.grid.TheConstants.{MAX_SIZE}
 use Rattle.quandle_core.specs.Tables.{trivial, dihedral, tetrahedral}
 use Rattle.braid_core.specs.Braid.{Word}
 use Rattle.braid_core.specs.Action.{letter_action, action}
@@ -47,7 +48,8 @@ trefoil_by_reflections = refl
 trefoil_by_rotations : length (fixed_points tetrahedral trefoil) ≡ 16
 trefoil_by_rotations = refl
 
-trefoil_of_three_strands : fixed_points (dihedral 3) (word 3 (plus 2 ∷ plus 1 ∷ plus 2 ∷ plus 1 ∷ [])) ≡ (0 ∷ 0 ∷ 0 ∷ []) ∷ (0 ∷ 1 ∷ 0 ∷ []) ∷ (0 ∷ 2 ∷ 0 ∷ []) ∷ (1 ∷ 0 ∷ 1 ∷ []) ∷ (1 ∷ 1 ∷ 1 ∷ []) ∷ (1 ∷ 2 ∷ 1 ∷ []) ∷ (2 ∷ 0 ∷ 2 ∷ []) ∷ (2 ∷ 1 ∷ 2 ∷ []) ∷ (2 ∷ 2 ∷ 2 ∷ []) ∷ []
+trefoil_of_three_strands : fixed_points (dihedral 3) (word 3 (plus 2 ∷ plus 1 ∷ plus 2 ∷ plus 1 ∷ []))
+    ≡ (0 ∷ 0 ∷ 0 ∷ []) ∷ (0 ∷ 1 ∷ 0 ∷ []) ∷ (0 ∷ 2 ∷ 0 ∷ []) ∷ (1 ∷ 0 ∷ 1 ∷ []) ∷ (1 ∷ 1 ∷ 1 ∷ []) ∷ (1 ∷ 2 ∷ 1 ∷ []) ∷ (2 ∷ 0 ∷ 2 ∷ []) ∷ (2 ∷ 1 ∷ 2 ∷ []) ∷ (2 ∷ 2 ∷ 2 ∷ []) ∷ []
 trefoil_of_three_strands = refl
 
 figure_eight_by_reflections : fixed_points (dihedral 3) figure_eight ≡ (0 ∷ 0 ∷ 0 ∷ []) ∷ (1 ∷ 1 ∷ 1 ∷ []) ∷ (2 ∷ 2 ∷ 2 ∷ []) ∷ []
@@ -81,10 +83,11 @@ third_letter = refl
 zero_letter : first_fault (word 3 (plus 1 ∷ pos 0 ∷ [])) ≡ Some (Letter 1)
 zero_letter = refl
 
-no_room : first_fault (word 8 (plus 1 ∷ plus 1 ∷ plus 1 ∷ plus 1 ∷ plus 1 ∷ plus 1 ∷ plus 1 ∷ plus 1 ∷ plus 7 ∷ [])) ≡ Some Size
+-- one letter more than eight strands leave room for, and as many
+no_room : first_fault (word 8 (replicate (MAX_SIZE - 16) (plus 1) ++ plus 7 ∷ [])) ≡ Some Size
 no_room = refl
 
-just_room : first_fault (word 8 (plus 1 ∷ plus 1 ∷ plus 1 ∷ plus 1 ∷ plus 1 ∷ plus 1 ∷ plus 1 ∷ plus 7 ∷ [])) ≡ None
+just_room : first_fault (word 8 (replicate (MAX_SIZE - 17) (plus 1) ++ plus 7 ∷ [])) ≡ None
 just_room = refl
 
 four_wide : wide_fault (trivial 16) (word 4 []) ≡ None

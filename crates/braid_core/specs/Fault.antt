@@ -2,6 +2,7 @@
 use Rattle.std.specs.Prelude.{◌+◌, ◌*◌, ◌&&◌, ℕ, ℤ, Bool, not, length, nat_lt, nat_le, if◌then◌else◌, Option, Some, None, unsigned_abs}
 use Rattle.std.specs.List.{position}
 use Rattle.grid_core.specs.declared.grid.TheConstants.{MAX_SIZE}
+use Rattle.grid_core.specs.Fault.{or_next}
 use Rattle.braid_core.specs.Braid.{Word}
 use Rattle.braid_core.specs.declared.braid.TheConstants.{MAX_STRANDS}
 use Rattle.braid_core.specs.declared.fault.BraidFault.{BraidFault}
@@ -10,11 +11,6 @@ use Rattle.braid_core.specs.declared.fault.BraidFault.TheVariants.{Strands, Lett
 -- 0, or of an absolute value that is not below the number of strands
 abbrev pub is_outside : ℕ → ℤ → Bool
 is_outside m a = not (nat_le 1 (unsigned_abs a) && nat_lt (unsigned_abs a) m)
-
--- the fault at that place where there is one, else what comes after
-abbrev pub or_next : Option ℕ → (ℕ → BraidFault) → Option BraidFault → Option BraidFault
-or_next (Some place) fault next = Some (fault place)
-or_next None fault next = next
 
 -- strands, the first bad letter, size, in this order
 abbrev pub first_fault : Word → Option BraidFault

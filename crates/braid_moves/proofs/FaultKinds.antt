@@ -58,7 +58,8 @@ fault_free None place rest here after = after
 ruled_free : (word wanted : Word) (place : ℕ) (steps : List BraidMove) → IsFree (fault_of (ruled word wanted place steps))
 ruled_free word wanted place [] = end_free (are_same word wanted)
 ruled_free word wanted place (step ∷ steps) =
-    fault_free (first_fault word step) place (ruled (moved word step) wanted (place + 1) steps) (never_memory word step) (ruled_free (moved word step) wanted (place + 1) steps)
+    fault_free (first_fault word step) place (ruled (moved word step) wanted (place + 1) steps) (never_memory word step)
+    (ruled_free (moved word step) wanted (place + 1) steps)
 
 pub never_ruled : (word wanted : Word) (from : ℕ) (steps : List BraidMove) (place : ℕ) → ruled word wanted from steps ≡ Step place OutOfMemory → ⊥
 never_ruled word wanted from steps place e = ruled_free word wanted from steps (ap fault_of e)

@@ -51,7 +51,8 @@ pub far_letters : (t : Table) (a b : ℤ) (xs : List ℕ) → 1 ≤ unsigned_abs
 far_letters t a b xs least apart lt =
     let first = split_at (unsigned_abs a) xs least (omega arith) in
     let behind = first.behind in
-    far_split t a b xs (unsigned_abs b - unsigned_abs a - 1) first (split_at (unsigned_abs b - unsigned_abs a - 1) first.right (omega arith) (omega arith)) (omega arith)
+    far_split t a b xs (unsigned_abs b - unsigned_abs a - 1) first (split_at (unsigned_abs b - unsigned_abs a - 1) first.right (omega arith) (omega arith))
+    (omega arith)
 
 -- three neighbouring colours
 pub record Split3 (k : ℕ) (xs : List ℕ) : Type 0 where
@@ -70,13 +71,19 @@ positive_triple : (t : Table) → IsQuandle t → (j k : ℕ) (left : List ℕ) 
 unfolding low_of high_of
 positive_triple t q j k left x y z right at_x at_y at_z at_j at_k =
     let two : (u : ℕ) → length (left ++ u ∷ []) + 1 ≡ k = λ u. (let e = length-append left (u ∷ []) in omega arith) in
-    ap (λ (zs : List ℕ). letter_action t (letter_action t zs (pos k)) (pos j)) (letter_pair t (pos j) left x y (z ∷ right) at_j ∙ second_assoc left (over t y x) x (z ∷ right))
-    ∙ (ap (λ (zs : List ℕ). letter_action t zs (pos j)) (letter_pair t (pos k) (left ++ over t y x ∷ []) x z right (two (over t y x)) ∙ sym (second_assoc left (over t y x) (over t z x) (x ∷ right)))
+    ap (λ (zs : List ℕ). letter_action t (letter_action t zs (pos k)) (pos j))
+    (letter_pair t (pos j) left x y (z ∷ right) at_j ∙ second_assoc left (over t y x) x (z ∷ right))
+    ∙ (ap (λ (zs : List ℕ). letter_action t zs (pos j)) (letter_pair t (pos k) (left ++ over t y x ∷ []) x z right (two (over t y x))
+    ∙ sym (second_assoc left (over t y x) (over t z x) (x ∷ right)))
     ∙ (letter_pair t (pos j) left (over t y x) (over t z x) (x ∷ right) at_j
     ∙ (ap (λ (u : ℕ). left ++ u ∷ over t y x ∷ x ∷ right) (sym (q.distributive z y x at_z at_y at_x))
-    ∙ sym (ap (λ (zs : List ℕ). letter_action t (letter_action t zs (pos j)) (pos k)) (ap (λ (zs : List ℕ). letter_action t zs (pos k)) (second_assoc left x y (z ∷ right)) ∙ (letter_pair t (pos k) (left ++ x ∷ []) y z right (two x) ∙ sym (second_assoc left x (over t z y) (y ∷ right))))
-    ∙ (ap (λ (zs : List ℕ). letter_action t zs (pos k)) (letter_pair t (pos j) left x (over t z y) (y ∷ right) at_j ∙ second_assoc left (over t (over t z y) x) x (y ∷ right))
-    ∙ (letter_pair t (pos k) (left ++ over t (over t z y) x ∷ []) x y right (two (over t (over t z y) x)) ∙ sym (second_assoc left (over t (over t z y) x) (over t y x) (x ∷ right))))))))
+    ∙ sym (ap (λ (zs : List ℕ). letter_action t (letter_action t zs (pos j)) (pos k))
+    (ap (λ (zs : List ℕ). letter_action t zs (pos k)) (second_assoc left x y (z ∷ right))
+    ∙ (letter_pair t (pos k) (left ++ x ∷ []) y z right (two x) ∙ sym (second_assoc left x (over t z y) (y ∷ right))))
+    ∙ (ap (λ (zs : List ℕ). letter_action t zs (pos k)) (letter_pair t (pos j) left x (over t z y) (y ∷ right) at_j
+    ∙ second_assoc left (over t (over t z y) x) x (y ∷ right))
+    ∙ (letter_pair t (pos k) (left ++ over t (over t z y) x ∷ []) x y right (two (over t (over t z y) x))
+    ∙ sym (second_assoc left (over t (over t z y) x) (over t y x) (x ∷ right))))))))
 
 negative_triple : (t : Table) → IsQuandle t → (j k : ℕ) (left : List ℕ) (x y z : ℕ) (right : List ℕ) → x < t.order → y < t.order → z < t.order
     → length left ≡ j → j + 1 ≡ k
@@ -85,13 +92,19 @@ unfolding low_of high_of
 negative_triple t q j k left x y z right at_x at_y at_z at_j at_k =
     let one : length left + 1 ≡ suc j = omega arith in
     let two : (u : ℕ) → length (left ++ u ∷ []) + 1 ≡ suc k = λ u. (let e = length-append left (u ∷ []) in omega arith) in
-    ap (λ (zs : List ℕ). letter_action t (letter_action t zs (negsuc k)) (negsuc j)) (letter_pair t (negsuc j) left x y (z ∷ right) one ∙ second_assoc left y (back t x y) (z ∷ right))
-    ∙ (ap (λ (zs : List ℕ). letter_action t zs (negsuc j)) (letter_pair t (negsuc k) (left ++ y ∷ []) (back t x y) z right (two y) ∙ sym (second_assoc left y z (back t (back t x y) z ∷ right)))
+    ap (λ (zs : List ℕ). letter_action t (letter_action t zs (negsuc k)) (negsuc j))
+    (letter_pair t (negsuc j) left x y (z ∷ right) one ∙ second_assoc left y (back t x y) (z ∷ right))
+    ∙ (ap (λ (zs : List ℕ). letter_action t zs (negsuc j)) (letter_pair t (negsuc k) (left ++ y ∷ []) (back t x y) z right (two y)
+    ∙ sym (second_assoc left y z (back t (back t x y) z ∷ right)))
     ∙ (letter_pair t (negsuc j) left y z (back t (back t x y) z ∷ right) one
     ∙ (ap (λ (u : ℕ). left ++ z ∷ back t y z ∷ u ∷ right) (back_back_kept t q x y z at_x at_y at_z)
-    ∙ sym (ap (λ (zs : List ℕ). letter_action t (letter_action t zs (negsuc j)) (negsuc k)) (ap (λ (zs : List ℕ). letter_action t zs (negsuc k)) (second_assoc left x y (z ∷ right)) ∙ (letter_pair t (negsuc k) (left ++ x ∷ []) y z right (two x) ∙ sym (second_assoc left x z (back t y z ∷ right))))
-    ∙ (ap (λ (zs : List ℕ). letter_action t zs (negsuc k)) (letter_pair t (negsuc j) left x z (back t y z ∷ right) one ∙ second_assoc left z (back t x z) (back t y z ∷ right))
-    ∙ (letter_pair t (negsuc k) (left ++ z ∷ []) (back t x z) (back t y z) right (two z) ∙ sym (second_assoc left z (back t y z) (back t (back t x z) (back t y z) ∷ right))))))))
+    ∙ sym (ap (λ (zs : List ℕ). letter_action t (letter_action t zs (negsuc j)) (negsuc k))
+    (ap (λ (zs : List ℕ). letter_action t zs (negsuc k)) (second_assoc left x y (z ∷ right))
+    ∙ (letter_pair t (negsuc k) (left ++ x ∷ []) y z right (two x) ∙ sym (second_assoc left x z (back t y z ∷ right))))
+    ∙ (ap (λ (zs : List ℕ). letter_action t zs (negsuc k)) (letter_pair t (negsuc j) left x z (back t y z ∷ right) one
+    ∙ second_assoc left z (back t x z) (back t y z ∷ right))
+    ∙ (letter_pair t (negsuc k) (left ++ z ∷ []) (back t x z) (back t y z) right (two z)
+    ∙ sym (second_assoc left z (back t y z) (back t (back t x z) (back t y z) ∷ right))))))))
 
 split3_at : (k : ℕ) (xs : List ℕ) → 1 ≤ k → k + 1 < length xs → Split3 k xs
 split3_at k xs least lt =
@@ -103,7 +116,8 @@ split3_at k xs least lt =
       z = get_or xs (k + 1) 0;
       right = drop (k + 1 + 1) xs;
       is = sym (take-append-drop (k - 1) xs) ∙ ap (λ (zs : List ℕ). take (k - 1) xs ++ zs)
-          (drop_more xs (k - 1) 0 (omega arith) ∙ ap (λ (zs : List ℕ). get_or xs (k - 1) 0 ∷ zs) (ap (λ (i : ℕ). drop i xs) (let e : k - 1 + 1 ≡ k = omega arith in e)
+          (drop_more xs (k - 1) 0 (omega arith) ∙ ap (λ (zs : List ℕ). get_or xs (k - 1) 0 ∷ zs)
+          (ap (λ (i : ℕ). drop i xs) (let e : k - 1 + 1 ≡ k = omega arith in e)
           ∙ (drop_more xs k 0 (omega arith) ∙ ap (λ (zs : List ℕ). get_or xs k 0 ∷ zs) (drop_more xs (k + 1) 0 lt))));
       before = omega arith;
     }
@@ -128,5 +142,6 @@ triple_negative t q m j k xs tuple next lt =
     let before = s.before in
     let colour : (i : ℕ) → i < m → get_or xs i 0 < t.order = λ i within. All-get_or (λ y. y < t.order) xs i 0 (omega arith) tuple.1 in
     ap (action t (negsuc j ∷ negsuc k ∷ negsuc j ∷ [])) s.is
-    ∙ (negative_triple t q j k s.left s.x s.y s.z s.right (colour (j + 1 - 1) (omega arith)) (colour (j + 1) (omega arith)) (colour (j + 1 + 1) (omega arith)) (omega arith) next
+    ∙ (negative_triple t q j k s.left s.x s.y s.z s.right (colour (j + 1 - 1) (omega arith)) (colour (j + 1) (omega arith)) (colour (j + 1 + 1) (omega arith))
+    (omega arith) next
     ∙ ap (action t (negsuc k ∷ negsuc j ∷ negsuc k ∷ [])) (sym s.is))

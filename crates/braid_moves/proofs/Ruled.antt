@@ -25,7 +25,8 @@ word m letters = record { strands = m; letters = letters }
 pub same_from : (v w : Word) → are_same v w ≡ true → v ≡ w
 same_from v w e =
     let parts = and_parts (v.strands == w.strands) (pointwise int_eq v.letters w.letters) e in
-    ap₂ word (eqb-true v.strands w.strands parts.0) ((slice_eq-Decides Decides-int_eq v.letters w.letters (pointwise int_eq v.letters w.letters) refl).0 parts.1)
+    ap₂ word (eqb-true v.strands w.strands parts.0) ((slice_eq-Decides Decides-int_eq v.letters w.letters
+    (pointwise int_eq v.letters w.letters) refl).0 parts.1)
 
 accepted_end : (b : Bool) → cond b Accepted OtherEnd ≡ Accepted → b ≡ true
 accepted_end true e = refl

@@ -140,7 +140,8 @@ neighbours_alike t q m a b at_a at_b (down_under j k next b_is a_is) =
 pub triple_alike : (t : Table) → IsQuandle t → (m : ℕ) (a b c : ℤ) → IsLetter m a → IsLetter m b → are_triple a b c ≡ true
     → ActAlike t m (a ∷ b ∷ c ∷ []) (b ∷ a ∷ b ∷ [])
 triple_alike t q m a b c at_a at_b triple xs tuple =
-    let parts = and_parts (int_eq c a && cond (is_negative a) (is_negative b) (not (is_negative b))) ((unsigned_abs a + 1 == unsigned_abs b) || (unsigned_abs b + 1 == unsigned_abs a)) triple in
+    let parts = and_parts (int_eq c a && cond (is_negative a) (is_negative b) (not (is_negative b)))
+    ((unsigned_abs a + 1 == unsigned_abs b) || (unsigned_abs b + 1 == unsigned_abs a)) triple in
     let first = and_parts (int_eq c a) (cond (is_negative a) (is_negative b) (not (is_negative b))) parts.0 in
     let same : c ≡ a = (Decides-int_eq c a).0 first.0 in
     ap (λ (z : ℤ). action t (a ∷ b ∷ z ∷ []) xs) same

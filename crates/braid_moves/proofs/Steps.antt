@@ -5,7 +5,7 @@ use Rattle.std.proofs.Common.{length-append, get_or}
 use Rattle.std.specs.Prelude.{nat_lt, nat_le, ◌==◌, ◌&&◌}
 use Rattle.std.specs.List.{list_all}
 use Rattle.std.specs.Ordering.{int_eq}
-use Rattle.std.proofs.lemmas.Bool.{leb-true, ltb-true, eqb-true, eqb-false, and_parts}
+use Rattle.std.proofs.lemmas.Bool.{leb-true, ltb-true, eqb-true, eqb-false, and_parts, not-true}
 use Rattle.std.proofs.lemmas.Bool.Decides.{Decides-int_eq}
 use Rattle.std.proofs.lemmas.List.{take-append-drop, length-take-le, take_all, take_more}
 use Rattle.std.proofs.lemmas.List.Elements.{All-take, All-drop, All-append, All-nil, All-cons}
@@ -34,12 +34,8 @@ pub none_unless : (b : Bool) (fault : BraidMoveFault) (next : Option BraidMoveFa
 none_unless true fault next e = (refl, e)
 none_unless false fault next e = absurd (let never : ◌≡◌ {A = Option BraidMoveFault} (Some fault) None = e in cc)
 
-negated : (s : Bool) → not s ≡ true → s ≡ false
-negated true h = absurd (let never : ◌≡◌ {A = Bool} false true = h in cc)
-negated false h = refl
-
 not_outside : (m : ℕ) (a : ℤ) → not (is_outside m a) ≡ true → IsLetter m a
-not_outside m a e = letter_from m a (negated (is_outside m a) e)
+not_outside m a e = letter_from m a (not-true (is_outside m a) e)
 
 -- what is known of a word without its last letter
 record LastLetter (w : Word) : Type 0 where
@@ -79,7 +75,7 @@ last_letter w braid alone =
     }
   where
     apart : (i j : ℕ) → not (i == j) ≡ true → i ≢ j
-    apart i j e = eqb-false i j (negated (i == j) e)
+    apart i j e = eqb-false i j (not-true (i == j) e)
 
 -- a braid with other letters, and room for them
 with_braid : (w : Word) → IsBraid w → (letters : List ℤ) → All (IsLetter w.strands) letters → length letters + 2 * w.strands ≤ MAX_SIZE
@@ -140,7 +136,8 @@ step_braid w braid (Insert place a) e =
     let now = length-append (take place ls) (a ∷ neg_ℤ a ∷ drop place ls) in
     with_braid w braid (take place ls ++ a ∷ neg_ℤ a ∷ drop place ls)
     (All-append (IsLetter m) (take place ls) (a ∷ neg_ℤ a ∷ drop place ls) (All-take (IsLetter m) place ls braid.crossings)
-    (All-cons (IsLetter m) a (neg_ℤ a ∷ drop place ls) letter (All-cons (IsLetter m) (neg_ℤ a) (drop place ls) (letter_negated m a letter) (All-drop (IsLetter m) place ls braid.crossings))))
+    (All-cons (IsLetter m) a (neg_ℤ a ∷ drop place ls) letter
+    (All-cons (IsLetter m) (neg_ℤ a) (drop place ls) (letter_negated m a letter) (All-drop (IsLetter m) place ls braid.crossings))))
     (omega arith)
 step_braid w braid (Turn k) e =
     let m = w.strands in
@@ -213,9 +210,12 @@ step_carries t q w braid (Triple p) e =
     let range = none_unless (nat_lt (p + 2) (length ls)) Range _ e in
     let shape = none_unless (are_triple (letter_at w p) (letter_at w (p + 1)) (letter_at w (p + 2))) Shape None range.1 in
     let lt = ltb-true (p + 2) (length ls) range.0 in
-    from_letters t m ls (take p ls) (at ls p ∷ at ls (p + 1) ∷ at ls (p + 2) ∷ []) (at ls (p + 1) ∷ at ls p ∷ at ls (p + 1) ∷ []) (drop (p + 3) ls) (three_at ls p lt)
-    (alike_within t q m (take p ls) (at ls p ∷ at ls (p + 1) ∷ at ls (p + 2) ∷ []) (at ls (p + 1) ∷ at ls p ∷ at ls (p + 1) ∷ []) (drop (p + 3) ls) (All-take (IsLetter m) p ls braid.crossings)
-    (triple_alike t q m (at ls p) (at ls (p + 1)) (at ls (p + 2)) (letter_is m ls p braid.crossings (omega arith)) (letter_is m ls (p + 1) braid.crossings (omega arith)) shape.0))
+    from_letters t m ls (take p ls) (at ls p ∷ at ls (p + 1) ∷ at ls (p + 2) ∷ []) (at ls (p + 1) ∷ at ls p ∷ at ls (p + 1) ∷ []) (drop (p + 3) ls)
+    (three_at ls p lt)
+    (alike_within t q m (take p ls) (at ls p ∷ at ls (p + 1) ∷ at ls (p + 2) ∷ []) (at ls (p + 1) ∷ at ls p ∷ at ls (p + 1) ∷ []) (drop (p + 3) ls)
+    (All-take (IsLetter m) p ls braid.crossings)
+    (triple_alike t q m (at ls p) (at ls (p + 1)) (at ls (p + 2)) (letter_is m ls p braid.crossings (omega arith))
+    (letter_is m ls (p + 1) braid.crossings (omega arith)) shape.0))
 step_carries t q w braid (Cancel p) e =
     let m = w.strands in
     let ls = w.letters in
@@ -224,7 +224,8 @@ step_carries t q w braid (Cancel p) e =
     let lt = ltb-true (p + 1) (length ls) range.0 in
     from_letters t m ls (take p ls) (at ls p ∷ at ls (p + 1) ∷ []) [] (drop (p + 2) ls) (two_at ls p lt)
     (alike_within t q m (take p ls) (at ls p ∷ at ls (p + 1) ∷ []) [] (drop (p + 2) ls) (All-take (IsLetter m) p ls braid.crossings)
-    (cancel_alike t q m (at ls p) (at ls (p + 1)) (letter_is m ls p braid.crossings (omega arith)) ((Decides-int_eq (at ls (p + 1)) (neg_ℤ (at ls p))).0 shape.0)))
+    (cancel_alike t q m (at ls p) (at ls (p + 1)) (letter_is m ls p braid.crossings (omega arith))
+    ((Decides-int_eq (at ls (p + 1)) (neg_ℤ (at ls p))).0 shape.0)))
 step_carries t q w braid (Insert place a) e =
     let m = w.strands in
     let ls = w.letters in
@@ -236,7 +237,8 @@ step_carries t q w braid (Insert place a) e =
 step_carries t q w braid (Turn k) e =
     let m = w.strands in
     let ls = w.letters in
-    subst (λ (us : List ℤ). IsBijection (IsFixedPoint t (record { strands = m; letters = us })) (IsFixedPoint t (moved w (Turn k))) (carried t w (Turn k))) (take-append-drop k ls)
+    subst (λ (us : List ℤ). IsBijection (IsFixedPoint t (record { strands = m; letters = us })) (IsFixedPoint t (moved w (Turn k))) (carried t w (Turn k)))
+    (take-append-drop k ls)
     (turned_fixed t q m (take k ls) (drop k ls) (All-take (IsLetter m) k ls braid.crossings) (All-drop (IsLetter m) k ls braid.crossings))
 step_carries t q w braid (Grow positive) e = grown_fixed t q w.strands w.letters positive braid.least braid.crossings
 step_carries t q w braid Shrink e =
@@ -244,5 +246,6 @@ step_carries t q w braid Shrink e =
     let last = last_letter w braid alone.0 in
     let two = last.strands in
     let front = take (length w.letters - 1) w.letters in
-    subst (λ (v : Word). IsBijection (IsFixedPoint t v) (IsFixedPoint t (moved w Shrink)) (carried t w Shrink)) (ap₂ word (let n : w.strands - 1 + 1 ≡ w.strands = omega arith in n) (sym last.letters))
+    subst (λ (v : Word). IsBijection (IsFixedPoint t v) (IsFixedPoint t (moved w Shrink)) (carried t w Shrink))
+    (ap₂ word (let n : w.strands - 1 + 1 ≡ w.strands = omega arith in n) (sym last.letters))
     (dropped_fixed t q (w.strands - 1) front last.positive (omega arith) last.fewer)

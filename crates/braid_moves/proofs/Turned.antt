@@ -90,7 +90,8 @@ record Ends (front back_part : List ℕ) (u v z : ℕ) : Type 0 where
 
 two_ends : (front back_part : List ℕ) (p r v z : ℕ) → front ++ p ∷ r ∷ [] ≡ back_part ++ v ∷ z ∷ [] → (front ≡ back_part) × (p ≡ v) × (r ≡ z)
 two_ends front back_part p r v z e =
-    let outer = same_from_push (front ++ p ∷ []) (back_part ++ v ∷ []) r z (append_assoc front (p ∷ []) (r ∷ []) ∙ (e ∙ sym (append_assoc back_part (v ∷ []) (z ∷ [])))) in
+    let outer = same_from_push (front ++ p ∷ []) (back_part ++ v ∷ []) r z
+    (append_assoc front (p ∷ []) (r ∷ []) ∙ (e ∙ sym (append_assoc back_part (v ∷ []) (z ∷ [])))) in
     let inner = same_from_push front back_part p v outer.0 in
     (inner.0, inner.1, outer.1)
 
@@ -124,9 +125,14 @@ grown_into t q m letters positive least all xs point =
     let whole = last_split xs m long least in
     let size = length-take-le (m - 1) xs (omega arith) in
     record {
-      tuple = (length-append xs (u ∷ []) ∙ omega arith, All-append (λ y. y < t.order) xs (u ∷ []) point.tuple.1 (All-cons (λ y. y < t.order) u [] at (All-nil (λ y. y < t.order))));
+      tuple = (
+        length-append xs (u ∷ []) ∙ omega arith,
+        All-append (λ y. y < t.order) xs (u ∷ []) point.tuple.1
+            (All-cons (λ y. y < t.order) u [] at (All-nil (λ y. y < t.order))),
+      );
       fixed = fold-append (letter_action t) (doubled m xs) letters (crossing m positive ∷ [])
-          ∙ (ap (λ (ys : List ℕ). letter_action t ys (crossing m positive)) (acts_front t q m letters all xs u point.tuple ∙ (ap (λ (ys : List ℕ). ys ++ u ∷ []) (point.fixed ∙ whole) ∙ pushed_assoc (take (m - 1) xs) u u))
+          ∙ (ap (λ (ys : List ℕ). letter_action t ys (crossing m positive))
+          (acts_front t q m letters all xs u point.tuple ∙ (ap (λ (ys : List ℕ). ys ++ u ∷ []) (point.fixed ∙ whole) ∙ pushed_assoc (take (m - 1) xs) u u))
           ∙ (crosses_equal t q m positive (take (m - 1) xs) u at (omega arith)
           ∙ (sym (pushed_assoc (take (m - 1) xs) u u) ∙ ap (λ (ys : List ℕ). ys ++ u ∷ []) (sym whole))));
     }
@@ -155,13 +161,19 @@ grown_onto t q m letters positive least all ys given =
     let acted_whole = last_split acted m acted_tuple.0 least in
     let xs_whole = last_split xs m size least in
     let crossed : letter_action t (take (m - 1) acted ++ u ∷ z ∷ []) (crossing m positive) ≡ take (m - 1) xs ++ v ∷ z ∷ [] =
-    sym (ap (λ (zs : List ℕ). letter_action t zs (crossing m positive)) (acts_front t q m letters all xs z tuple ∙ (ap (λ (zs : List ℕ). zs ++ z ∷ []) acted_whole ∙ pushed_assoc (take (m - 1) acted) u z)))
+    sym (ap (λ (zs : List ℕ). letter_action t zs (crossing m positive))
+    (acts_front t q m letters all xs z tuple ∙ (ap (λ (zs : List ℕ). zs ++ z ∷ []) acted_whole ∙ pushed_assoc (take (m - 1) acted) u z)))
     ∙ (sym (fold-append (letter_action t) (xs ++ z ∷ []) letters (crossing m positive ∷ []))
     ∙ (ap (action t (letters ++ crossing m positive ∷ [])) (sym whole)
     ∙ (given.fixed ∙ (whole ∙ (ap (λ (zs : List ℕ). zs ++ z ∷ []) xs_whole ∙ pushed_assoc (take (m - 1) xs) v z))))) in
-    let ends = crossed_back t q m positive (take (m - 1) acted) (take (m - 1) xs) u v z at_u at_z (let n = length-take-le (m - 1) acted (let k = acted_tuple.0 in omega arith) in omega arith) crossed in
+    let ends = crossed_back t q m positive (take (m - 1) acted) (take (m - 1) xs) u v z at_u at_z
+    (let n = length-take-le (m - 1) acted (let k = acted_tuple.0 in omega arith) in omega arith) crossed in
     record {
-      point = record { tuple = tuple; fixed = acted_whole ∙ (ap₂ (λ (zs : List ℕ) (w : ℕ). zs ++ w ∷ []) ends.fronts (ends.last ∙ sym ends.before) ∙ sym xs_whole) };
+      point = record {
+        tuple = tuple;
+        fixed = acted_whole ∙ (ap₂ (λ (zs : List ℕ) (w : ℕ). zs ++ w ∷ []) ends.fronts (ends.last ∙ sym ends.before)
+            ∙ sym xs_whole);
+      };
       again = ap (λ (w : ℕ). xs ++ w ∷ []) ends.before ∙ sym whole;
     }
 

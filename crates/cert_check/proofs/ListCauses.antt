@@ -5,19 +5,20 @@ use Rattle.std.proofs.lemmas.Bool.{eqb-false, ne_eqb}
 use Rattle.grid_core.specs.Diagram.{Diagram}
 use Rattle.grid_core.specs.Parts.{bottoms}
 use Rattle.quandle_core.specs.Quandle.{Table}
+use Rattle.quandle_core.specs.Fault.{or_else}
 use Rattle.colour_list.specs.Fits.{fits}
 use Rattle.colour_list.specs.Listing.{colourings}
 use Rattle.cert_check.specs.declared.ruling.Why.{Why}
 use Rattle.cert_check.specs.declared.ruling.Why.TheVariants as why
 use Rattle.verdict_core.specs.Evidence.{TellsApart}
-use Rattle.cert_check.specs.Cause.{first_difference, or_next, cause_of_lists}
+use Rattle.cert_check.specs.Cause.{first_difference, cause_of_lists}
 use Rattle.cert_check.proofs.FirstDifference.{none_of_equal, equal_of_none}
 
 -- the cause, by what the five tests give and the numbers of bottoms
 abbrev cause_by : ℕ → ℕ → Bool → Bool → Option ℕ → Option ℕ → Bool → Option Why
 cause_by b b' f f' p p' s =
-    or_next (if f then None else Some (why.Wide 1 b)) (or_next (if f' then None else Some (why.Wide 2 b')) (
-    or_next (option_map (λ place. why.List 1 place) p) (or_next (option_map (λ place. why.List 2 place) p') (
+    or_else (if f then None else Some (why.Wide 1 b)) (or_else (if f' then None else Some (why.Wide 2 b')) (
+    or_else (option_map (λ place. why.List 1 place) p) (or_else (option_map (λ place. why.List 2 place) p') (
     if s then Some why.SameLength else None))))
 
 pub tells_apart : (t : Table) (d e : Diagram) (one two : List (List ℕ)) → cause_of_lists t d e one two ≡ None → TellsApart t d e one two

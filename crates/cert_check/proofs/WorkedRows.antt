@@ -1,8 +1,8 @@
 -- Worked examples, by computing: first differences, and the causes of lists.
 use Rattle.std.proofs.Common.{◌≡◌, refl, [], ◌∷◌, ℕ, List, Some, None}
 use Rattle.grid_core.specs.Diagram.{Diagram}
+use Rattle.grid_core.proofs.WorkedRows.{unknot, right_trefoil}
 use Rattle.quandle_core.specs.Tables.{trivial, dihedral}
-use Rattle.colour_rows.proofs.WorkedRows.{right_trefoil}
 use Rattle.cert_check.specs.declared.ruling.Why.TheVariants as why
 use Rattle.cert_check.specs.Cause.{first_difference, cause_of_lists}
 
@@ -15,9 +15,6 @@ at_the_end = refl
 
 past_the_end : first_difference ((0 ∷ []) ∷ (1 ∷ []) ∷ (2 ∷ []) ∷ []) ((0 ∷ []) ∷ (1 ∷ []) ∷ []) ≡ Some 2
 past_the_end = refl
-
-abbrev unknot : Diagram
-unknot = record { x = 0 ∷ 1 ∷ []; o = 1 ∷ 0 ∷ [] }
 
 abbrev five_unknots : Diagram
 five_unknots = record { x = 0 ∷ 1 ∷ 2 ∷ 3 ∷ 4 ∷ 5 ∷ 6 ∷ 7 ∷ 8 ∷ 9 ∷ []; o = 1 ∷ 0 ∷ 3 ∷ 2 ∷ 5 ∷ 4 ∷ 7 ∷ 6 ∷ 9 ∷ 8 ∷ [] }

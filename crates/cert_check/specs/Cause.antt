@@ -6,6 +6,7 @@ use Rattle.grid_core.specs.Parts.{bottoms}
 use Rattle.grid_moves.specs.declared.step.Move.{Move}
 use Rattle.grid_moves.specs.Joining.{Joins, StopsAt}
 use Rattle.quandle_core.specs.Quandle.{Table}
+use Rattle.quandle_core.specs.Fault.{or_else}
 use Rattle.colour_list.specs.Fits.{fits}
 use Rattle.colour_list.specs.Listing.{colourings, lists_of, is_same}
 use Rattle.verdict_core.specs.declared.verdict.Verdict.{Verdict}
@@ -42,15 +43,10 @@ list_differs which t d given = option_map (λ place. why.List which place) (firs
 abbrev pub same_length : List (List ℕ) → List (List ℕ) → Option Why
 same_length one two = if length one == length two then Some why.SameLength else None
 
--- this cause, where there is one, else the next
-abbrev pub or_next : Option Why → Option Why → Option Why
-or_next (Some cause) next = Some cause
-or_next None next = next
-
 -- the first cause for which the quandle does not tell d and e apart by these lists
 abbrev pub cause_of_lists : Table → Diagram → Diagram → List (List ℕ) → List (List ℕ) → Option Why
 cause_of_lists t d e one two =
-    or_next (wide 1 t d) (or_next (wide 2 t e) (or_next (list_differs 1 t d one) (or_next (list_differs 2 t e two) (same_length one two))))
+    or_else (wide 1 t d) (or_else (wide 2 t e) (or_else (list_differs 1 t d one) (or_else (list_differs 2 t e two) (same_length one two))))
 
 -- the first cause for which the evidence of a verdict on d and e does not hold
 abbrev pub IsCause : Diagram → Diagram → Verdict → Why → Type 0

@@ -63,7 +63,8 @@ const THREE: Lines = &[&[0, 0], &[1, 1], &[2, 2]];
 
 const TRIVIAL_2: QuandleName = QuandleName::Trivial(2);
 
-const TRIVIAL_16: QuandleName = QuandleName::Trivial(16);
+/// Of ten colours five rings have more than 65,536 choices.
+const TRIVIAL_10: QuandleName = QuandleName::Trivial(10);
 
 const DIHEDRAL_3: QuandleName = QuandleName::Dihedral(3);
 
@@ -192,7 +193,7 @@ fn lists_have_their_rulings(rt: HostRuntime) -> Result<(), Fail> {
         (
             FIVE,
             UNKNOT,
-            TRIVIAL_16,
+            TRIVIAL_10,
             none,
             none,
             Ruling::Rejected(Why::Wide {
@@ -203,7 +204,7 @@ fn lists_have_their_rulings(rt: HostRuntime) -> Result<(), Fail> {
         (
             UNKNOT,
             FIVE,
-            TRIVIAL_16,
+            TRIVIAL_10,
             none,
             none,
             Ruling::Rejected(Why::Wide {

@@ -1,8 +1,8 @@
 -- Finding the starts from the left: a column is a start exactly where no component of an earlier start has it.
-use Rattle.std.proofs.Common.{◌≡◌, ◌≢◌, ◌<◌, ◌≤◌, ◌+◌, ◌++◌, ◌∙◌, ◌∷◌, [], inl, inr, ℕ, Bool, true, false, cond, not, List, refl, sym, ap}
+use Rattle.std.proofs.Common.{◌≡◌, ◌≢◌, ◌<◌, ◌≤◌, ◌+◌, ◌++◌, ◌∙◌, ◌∷◌, [], inl, inr, ℕ, Bool, true, false, cond, not, List, sym, ap}
 use Rattle.std.proofs.Common.{arith, ◌==◌, ◌||◌, append-nil}
 use Rattle.std.specs.List.{range_with_len, filter, flat_map, list_any}
-use Rattle.std.proofs.lemmas.Bool.{cases_Bool, false_from_ne_true}
+use Rattle.std.proofs.lemmas.Bool.{cases_Bool, false_from_ne_true, not-false, not-true}
 use Rattle.std.proofs.lemmas.List.Elements.{filter-append}
 use Rattle.std.proofs.lemmas.List.Concat.{flat_map-append}
 use Rattle.std.proofs.lemmas.List.Folds.{list_any-append}
@@ -54,17 +54,9 @@ starts_step d i b e =
     ap (filter (is_least d)) (range_longer 0 i ∙ ap (λ (k : ℕ). range_with_len 0 i ++ k ∷ []) same)
     ∙ (filter-append (is_least d) (range_with_len 0 i) (i ∷ []) ∙ ap (λ c. so_far d i ++ cond c (i ∷ []) []) e)
 
-not_seen : (b : Bool) → not b ≡ false → b ≡ true
-not_seen true e = refl
-not_seen false e = sym e
-
-seen_not : (b : Bool) → not b ≡ true → b ≡ false
-seen_not true e = sym e
-seen_not false e = refl
-
 -- a column that was not reached is the next start
 pub start_found : (d : Diagram) → IsGrid d → (i : ℕ) → i < size d → list_any (λ b. b == i) (reached d i) ≡ false → so_far d (i + 1) ≡ so_far d i ++ i ∷ []
-start_found d grid i lt e = starts_step d i true (not_seen (is_least d i) (sym (reached_or_start d grid i lt) ∙ e))
+start_found d grid i lt e = starts_step d i true (not-false (is_least d i) (sym (reached_or_start d grid i lt) ∙ e))
 
 pub reached_more : (d : Diagram) → IsGrid d → (i : ℕ) → i < size d → list_any (λ b. b == i) (reached d i) ≡ false → (k : ℕ)
     → list_any (λ b. b == k) (reached d (i + 1)) ≡ (list_any (λ b. b == k) (reached d i) || list_any (λ b. b == k) (component d i))
@@ -75,4 +67,4 @@ reached_more d grid i lt e k =
 
 -- one that was reached is none
 pub start_passed : (d : Diagram) → IsGrid d → (i : ℕ) → i < size d → list_any (λ b. b == i) (reached d i) ≡ true → so_far d (i + 1) ≡ so_far d i
-start_passed d grid i lt e = starts_step d i false (seen_not (is_least d i) (sym (reached_or_start d grid i lt) ∙ e)) ∙ append-nil (so_far d i)
+start_passed d grid i lt e = starts_step d i false (not-true (is_least d i) (sym (reached_or_start d grid i lt) ∙ e)) ∙ append-nil (so_far d i)

@@ -3,6 +3,7 @@ use Rattle.std.proofs.Common.{◌≡◌, ◌∷◌, [], refl, true, false, map}
 use Rattle.std.specs.Prelude.{codes}
 use Rattle.std.specs.Fmt.{digits}
 use Rattle.grid_core.specs.Diagram.{Diagram}
+use Rattle.grid_core.proofs.WorkedRows.{right_trefoil, left_trefoil, unknot}
 use Rattle.quandle_core.specs.Tables.{dihedral, tetrahedral}
 use Rattle.crossing_codes.specs.Components.{component, starts}
 use Rattle.crossing_codes.specs.StrandPlaces.{on_column, on_row, place_after, met_after, at_cross}
@@ -11,15 +12,6 @@ use Rattle.crossing_codes.specs.Code.{code}
 use Rattle.crossing_codes.specs.CodeColouring.{is_code_colouring}
 use Rattle.crossing_codes.specs.EdgeColouring.{edge_colours, place_where_column_begins}
 use Rattle.crossing_codes.specs.Printed.{pd_text, gauss_text}
-
-abbrev pub right_trefoil : Diagram
-right_trefoil = record { x = 4 ∷ 3 ∷ 2 ∷ 1 ∷ 0 ∷ []; o = 2 ∷ 1 ∷ 0 ∷ 4 ∷ 3 ∷ [] }
-
-abbrev pub left_trefoil : Diagram
-left_trefoil = record { x = 0 ∷ 1 ∷ 2 ∷ 3 ∷ 4 ∷ []; o = 2 ∷ 3 ∷ 4 ∷ 0 ∷ 1 ∷ [] }
-
-abbrev pub unknot : Diagram
-unknot = record { x = 0 ∷ 1 ∷ []; o = 1 ∷ 0 ∷ [] }
 
 abbrev pub figure_eight : Diagram
 figure_eight = record { x = 5 ∷ 3 ∷ 0 ∷ 1 ∷ 2 ∷ 4 ∷ 6 ∷ 7 ∷ 8 ∷ 9 ∷ []; o = 9 ∷ 6 ∷ 4 ∷ 3 ∷ 5 ∷ 8 ∷ 7 ∷ 2 ∷ 1 ∷ 0 ∷ [] }

@@ -32,10 +32,12 @@ undoes t q zs all =
     zs all
 
 over_stays : (t : Table) → IsQuandle t → (zs : List ℕ) → All (below t) zs → (x : ℕ) → below t x → below t (fold (over t) x zs)
-over_stays t q zs all x at = fold_keeps (over t) (below t) zs (All-weaker (below t) (λ z. (y : ℕ) → below t y → below t (over t y z)) (λ z by_z y by_y. q.within y z by_y by_z) zs all) x at
+over_stays t q zs all x at = fold_keeps (over t) (below t) zs
+    (All-weaker (below t) (λ z. (y : ℕ) → below t y → below t (over t y z)) (λ z by_z y by_y. q.within y z by_y by_z) zs all) x at
 
 back_stays : (t : Table) → IsQuandle t → (zs : List ℕ) → All (below t) zs → (x : ℕ) → below t x → below t (fold (back t) x zs)
-back_stays t q zs all x at = fold_keeps (back t) (below t) zs (All-weaker (below t) (λ z. (y : ℕ) → below t y → below t (back t y z)) (λ z by_z y by_y. q.back_within y z by_y by_z) zs all) x at
+back_stays t q zs all x at = fold_keeps (back t) (below t) zs
+    (All-weaker (below t) (λ z. (y : ℕ) → below t y → below t (back t y z)) (λ z by_z y by_y. q.back_within y z by_y by_z) zs all) x at
 
 -- the colours between the ends of a row
 pub between_below : (t : Table) (d : Diagram) → IsGrid d → (e : ℕ → ℕ) → ((c : ℕ) → c < size d → e c < t.order) → (r : ℕ) → r < size d
@@ -54,7 +56,8 @@ moved_below t q d grid e e_below r lt =
     let row = has_row d grid r lt in
     let start = e_below (column_of Ring d r) row.ring_inside in
     elim (row_moves d grid r lt) [
-      | inl m ↦ subst (below t) (sym (moved_left t d e r m.ordered)) (over_stays t q (reverse zs) (reversed_all (below t) zs all) (e (column_of Ring d r)) start)
+      | inl m ↦ subst (below t) (sym (moved_left t d e r m.ordered))
+          (over_stays t q (reverse zs) (reversed_all (below t) zs all) (e (column_of Ring d r)) start)
       | inr m ↦ subst (below t) (sym (moved_right t d e r m.ordered)) (back_stays t q zs all (e (column_of Ring d r)) start)
     ]
 
@@ -69,7 +72,8 @@ strands_close t q d grid e e_below r lt closes =
       | inl m ↦
           let is = ends_left d r m.ordered in
           moved_left t d e r m.ordered
-          ∙ (ap (λ (x : ℕ). fold (over t) x (reverse zs)) (sym (ap (λ (s : Span). fold (back t) (e s.low) zs) (sym is) ∙ (closes ∙ ap (λ (s : Span). e s.high) is)))
+          ∙ (ap (λ (x : ℕ). fold (over t) x (reverse zs)) (sym
+          (ap (λ (s : Span). fold (back t) (e s.low) zs) (sym is) ∙ (closes ∙ ap (λ (s : Span). e s.high) is)))
           ∙ undo_there (below t) (back t) (over t) zs (undoes t q zs all) (e (column_of Cross d r)) (e_below (column_of Cross d r) row.cross_inside))
       | inr m ↦
           let is = ends_right d r (let less = m.ordered in omega arith) in

@@ -30,7 +30,8 @@ pub highest_strands : (d : Diagram) → IsGrid d → strands_at d (size d) ≡ d
 highest_strands d grid =
     passing_all (is_strand d (size d)) (size d)
     ∙ filter_range (is_strand d (size d)) (λ c. not (is_up d c)) 0 (size d)
-    (λ c least most. runs_highest (row_of Cross d c) (row_of Ring d c) (size d) (row_below d grid Cross c (omega arith)) (row_below d grid Ring c (omega arith)))
+    (λ c least most. runs_highest (row_of Cross d c) (row_of Ring d c) (size d) (row_below d grid Cross c (omega arith))
+    (row_below d grid Ring c (omega arith)))
 
 pub letters_more : (d : Diagram) (h : ℕ) → letters_below d (h + 1) ≡ letters_below d h ++ row_letters d h
 letters_more d h =
@@ -64,7 +65,8 @@ followed t d grid e arrives =
 pub strand_count : (d : Diagram) → IsGrid d → (h : ℕ) → h ≤ size d → length (strands_at d h) ≡ length (down_columns d)
 strand_count d grid zero le = ap length (lowest_strands d)
 strand_count d grid (suc h) le =
-    ap (λ (k : ℕ). length (strands_at d k)) (let e : suc h ≡ h + 1 = omega arith in e) ∙ (row_counts d h grid (omega arith) ∙ strand_count d grid h (omega arith))
+    ap (λ (k : ℕ). length (strands_at d k)) (let e : suc h ≡ h + 1 = omega arith in e)
+    ∙ (row_counts d h grid (omega arith) ∙ strand_count d grid h (omega arith))
 
 pub letters_fit : (d : Diagram) → IsGrid d → (h : ℕ) → h ≤ size d → All (IsLetter (length (down_columns d))) (letters_below d h)
 letters_fit d grid zero le = All-nil (IsLetter (length (down_columns d)))
@@ -72,7 +74,8 @@ letters_fit d grid (suc h) le =
     let m = length (down_columns d) in
     All-same (IsLetter m) (letters_below d (suc h)) (letters_below d h ++ row_letters d h)
     (ap (letters_below d) (let e : suc h ≡ h + 1 = omega arith in e) ∙ letters_more d h)
-    (All-append (IsLetter m) (letters_below d h) (row_letters d h) (letters_fit d grid h (omega arith)) (row_word d h m grid (omega arith) (strand_count d grid h (omega arith))))
+    (All-append (IsLetter m) (letters_below d h) (row_letters d h) (letters_fit d grid h (omega arith))
+    (row_word d h m grid (omega arith) (strand_count d grid h (omega arith))))
 
 pub word_fits : (d : Diagram) → IsGrid d → IsWord (word d)
 word_fits d grid = letters_fit d grid (size d) (omega arith)

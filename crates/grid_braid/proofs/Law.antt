@@ -7,6 +7,7 @@ use Rattle.std.proofs.lemmas.List.Elements.{All-get_or, All-from_get_or, filter-
 use Rattle.std.proofs.lemmas.List.FromFn.{length-map-range_with_len, get_or-map-range_with_len}
 use Rattle.std.specs.Str.{bytes_eq}
 use Rattle.std.proofs.lemmas.Slice.Eq.{bytes_eq-Decides}
+use Rattle.std.proofs.lemmas.Bool.{not-false}
 use Rattle.grid_core.specs.Diagram.{Diagram, IsGrid, size}
 use Rattle.grid_core.specs.Parts.{is_up}
 use Rattle.quandle_core.specs.Quandle.{Table, IsQuandle}
@@ -42,7 +43,8 @@ feet_colours : (t : Table) → IsQuandle t → (d : Diagram) (f : List ℕ) → 
 feet_colours t q d f at =
     let e = strand_stays t q d f at in (
       length-map (down_columns d) (read (strand_colours t d f)),
-      all_passing (λ c. not (is_up d c)) (λ y. y < t.order) (read (strand_colours t d f)) 0 (size d) (λ c least most passes. All-get_or (λ y. y < t.order) (strand_colours t d f) c 0 (omega (arith, e.0)) e.1),
+      all_passing (λ c. not (is_up d c)) (λ y. y < t.order) (read (strand_colours t d f)) 0 (size d)
+          (λ c least most passes. All-get_or (λ y. y < t.order) (strand_colours t d f) c 0 (omega (arith, e.0)) e.1),
     )
 
 -- at each height the strands have the colours that the word has made of the feet
@@ -65,7 +67,8 @@ feet_single t q d grid f g cf cg same =
     sym (strand_columns t q d f cf.colours_are)
     ∙ (ap (column_colours t d)
     (ext_get_or 0 (strand_colours t d f) (strand_colours t d g) (strand_long t d f cf.colours_are.0 ∙ sym (strand_long t d g cg.colours_are.0))
-    (λ c lt. same_arrivals t d grid (read (strand_colours t d f)) (read (strand_colours t d g)) (colouring_arrives t q d grid f cf) (colouring_arrives t q d grid g cg) same c (omega (arith, strand_long t d f cf.colours_are.0))))
+    (λ c lt. same_arrivals t d grid (read (strand_colours t d f)) (read (strand_colours t d g)) (colouring_arrives t q d grid f cf)
+    (colouring_arrives t q d grid g cg) same c (omega (arith, strand_long t d f cf.colours_are.0))))
     ∙ strand_columns t q d g cg.colours_are)
 
 -- the feet, laid on the down columns, are read back there
@@ -75,8 +78,10 @@ counted p tuple zero le = refl
 counted p tuple (suc n) le =
     let front = filter p (range_with_len 0 n) in
     let f = λ (c : ℕ). get_or tuple (length (filter p (range_with_len 0 c))) 0 in
-    let split = ap (λ (k : ℕ). filter p (range_with_len 0 k)) (let e : suc n ≡ n + 1 = omega arith in e) ∙ (ap (filter p) (range_next n) ∙ filter-append p (range_with_len 0 n) (n ∷ [])) in
-    subst (λ (zs : List ℕ). map f zs ≡ take (length zs) tuple) (sym split) (by_test (p n) (filter p (range_with_len 0 n)) refl (subst (λ (zs : List ℕ). length zs ≤ length tuple) split le) (λ less. counted p tuple n less))
+    let split = ap (λ (k : ℕ). filter p (range_with_len 0 k)) (let e : suc n ≡ n + 1 = omega arith in e)
+    ∙ (ap (filter p) (range_next n) ∙ filter-append p (range_with_len 0 n) (n ∷ [])) in
+    subst (λ (zs : List ℕ). map f zs ≡ take (length zs) tuple) (sym split)
+    (by_test (p n) (filter p (range_with_len 0 n)) refl (subst (λ (zs : List ℕ). length zs ≤ length tuple) split le) (λ less. counted p tuple n less))
   where
     by_test : (b : Bool) (front : List ℕ) → front ≡ filter p (range_with_len 0 n) → length (front ++ cond b (n ∷ []) []) ≤ length tuple
         → (length front ≤ length tuple → map (λ c. get_or tuple (length (filter p (range_with_len 0 c))) 0) front ≡ take (length front) tuple)
@@ -88,7 +93,8 @@ counted p tuple (suc n) le =
         ∙ (sym (take_more tuple (length front) 0 (omega arith)) ∙ ap (λ (k : ℕ). take k tuple) (sym long)))
     by_test false front is le before =
         ap (map (λ c. get_or tuple (length (filter p (range_with_len 0 c))) 0)) (append-nil front)
-        ∙ (before (subst (λ (zs : List ℕ). length zs ≤ length tuple) (append-nil front) le) ∙ ap (λ (zs : List ℕ). take (length zs) tuple) (sym (append-nil front)))
+        ∙ (before (subst (λ (zs : List ℕ). length zs ≤ length tuple) (append-nil front) le)
+        ∙ ap (λ (zs : List ℕ). take (length zs) tuple) (sym (append-nil front)))
 
 laid_at : (d : Diagram) (tuple : List ℕ) (c : ℕ) → c < size d → get_or (laid d tuple) c 0 ≡ cond (is_up d c) 0 (get_or tuple (length (downs_before d c)) 0)
 laid_at d tuple c lt = get_or-map-range_with_len (λ k. cond (is_up d k) 0 (get_or tuple (length (downs_before d k)) 0)) 0 (size d) c c 0 lt (omega arith)
@@ -105,8 +111,11 @@ laid_read d tuple long =
 
 pub laid_colours : (t : Table) → IsQuandle t → (d : Diagram) (tuple : List ℕ) → All (λ y. y < t.order) tuple → AreColours (size d) t.order (laid d tuple)
 laid_colours t q d tuple below =
-    let long = length-map-range_with_len (λ k. cond (is_up d k) 0 (get_or tuple (length (downs_before d k)) 0)) 0 (size d) in
-    (long, All-from_get_or (λ y. y < t.order) (laid d tuple) 0 (λ c lt. subst (λ (y : ℕ). y < t.order) (sym (laid_at d tuple c (omega arith))) (each (is_up d c) c)))
+    let long = length-map-range_with_len (λ k. cond (is_up d k) 0 (get_or tuple (length (downs_before d k)) 0)) 0 (size d) in (
+      long,
+      All-from_get_or (λ y. y < t.order) (laid d tuple) 0
+          (λ c lt. subst (λ (y : ℕ). y < t.order) (sym (laid_at d tuple c (omega arith))) (each (is_up d c) c)),
+    )
   where
     each : (b : Bool) (c : ℕ) → cond b 0 (get_or tuple (length (downs_before d c)) 0) < t.order
     each true c = let least = q.least in omega arith
@@ -153,11 +162,7 @@ feet_bijection t q d grid = record {
 
 -- what the test of two lists tells
 pub lists_same : (b : Bool) (xs ys : List ℕ) → b ≡ not (bytes_eq xs ys) → b ≡ false → xs ≡ ys
-lists_same b xs ys test is = (bytes_eq-Decides xs ys).0 (negated (bytes_eq xs ys) (sym test ∙ is))
-  where
-    negated : (s : Bool) → not s ≡ false → s ≡ true
-    negated true e = refl
-    negated false e = absurd (let never : ◌≡◌ {A = Bool} true false = e in cc)
+lists_same b xs ys test is = (bytes_eq-Decides xs ys).0 (not-false (bytes_eq xs ys) (sym test ∙ is))
 
 pub lists_differ : (b : Bool) (xs ys : List ℕ) → b ≡ not (bytes_eq xs ys) → b ≡ true → xs ≡ ys → ⊥
 lists_differ b xs ys test is same =

@@ -31,34 +31,45 @@ pub rightward_acts : (t : Table) (left between right : List ℕ) (y : ℕ)
 rightward_acts t left [] right y = refl
 rightward_acts t left (z ∷ between) right y =
     ap (λ (ls : List ℤ). action t ls (left ++ y ∷ z ∷ (between ++ right))) (rightward_more (length left) (length between))
-    ∙ (ap (action t (rightward (length left + 1) (length between))) (pair_negative t (length left + 1) left y z (between ++ right) refl ∙ second_assoc left z (back t y z) (between ++ right))
+    ∙ (ap (action t (rightward (length left + 1) (length between)))
+    (pair_negative t (length left + 1) left y z (between ++ right) refl ∙ second_assoc left z (back t y z) (between ++ right))
     ∙ (ap (λ (n : ℕ). action t (rightward n (length between)) ((left ++ z ∷ []) ++ back t y z ∷ (between ++ right))) (sym (length-append left (z ∷ [])))
     ∙ (rightward_acts t (left ++ z ∷ []) between right (back t y z)
     ∙ append_assoc left (z ∷ []) (between ++ fold (back t) (back t y z) between ∷ right))))
 
 -- to the left: under the strands of these colours, the rightmost first
-pub leftward_acts : (t : Table) (left passed right : List ℕ) (y : ℕ) → action t (leftward (length left + length passed) (length passed)) (left ++ (reverse passed ++ y ∷ right)) ≡ left ++ fold (over t) y passed ∷ (reverse passed ++ right)
+pub leftward_acts : (t : Table) (left passed right : List ℕ) (y : ℕ)
+    → action t (leftward (length left + length passed) (length passed)) (left ++ (reverse passed ++ y ∷ right))
+    ≡ left ++ fold (over t) y passed ∷ (reverse passed ++ right)
 leftward_acts t left [] right y = refl
 leftward_acts t left (z ∷ passed) right y =
-    ap₂ (action t) (leftward_more (length left + suc (length passed)) (length passed)) (ap (λ (zs : List ℕ). left ++ (zs ++ y ∷ right)) (reverse-append (z ∷ []) passed) ∙ ap (λ (zs : List ℕ). left ++ zs) (append_assoc (reverse passed) (z ∷ []) (y ∷ right)))
+    ap₂ (action t) (leftward_more (length left + suc (length passed)) (length passed))
+    (ap (λ (zs : List ℕ). left ++ (zs ++ y ∷ right)) (reverse-append (z ∷ []) passed)
+    ∙ ap (λ (zs : List ℕ). left ++ zs) (append_assoc (reverse passed) (z ∷ []) (y ∷ right)))
     ∙ (ap (action t (leftward (length left + suc (length passed) - 1) (length passed))) step
     ∙ (ap (λ (n : ℕ). action t (leftward n (length passed)) (left ++ (reverse passed ++ over t y z ∷ z ∷ right))) (omega arith)
     ∙ (leftward_acts t left passed (z ∷ right) (over t y z)
-    ∙ ap (λ (zs : List ℕ). left ++ fold (over t) (over t y z) passed ∷ zs) (sym (append_assoc (reverse passed) (z ∷ []) right) ∙ ap (λ (zs : List ℕ). zs ++ right) (sym (reverse-append (z ∷ []) passed))))))
+    ∙ ap (λ (zs : List ℕ). left ++ fold (over t) (over t y z) passed ∷ zs)
+    (sym (append_assoc (reverse passed) (z ∷ []) right) ∙ ap (λ (zs : List ℕ). zs ++ right) (sym (reverse-append (z ∷ []) passed))))))
   where
     step : positive t (length left + suc (length passed)) (left ++ (reverse passed ++ z ∷ y ∷ right)) ≡ left ++ (reverse passed ++ over t y z ∷ z ∷ right)
     step =
         ap (positive t (length left + suc (length passed))) (sym (append_assoc left (reverse passed) (z ∷ y ∷ right)))
-        ∙ (pair_positive t (length left + suc (length passed)) (left ++ reverse passed) z y right (omega (arith, length-append left (reverse passed), length-reverse passed))
+        ∙ (pair_positive t (length left + suc (length passed)) (left ++ reverse passed) z y right
+        (omega (arith, length-append left (reverse passed), length-reverse passed))
         ∙ append_assoc left (reverse passed) (over t y z ∷ z ∷ right))
 
 -- all letters of a move are letters of so many strands
 pub leftward_letters : (m ahead n : ℕ) → n ≤ ahead → ahead < m → All (IsLetter m) (leftward ahead n)
 leftward_letters m ahead zero le lt = All-nil (IsLetter m)
 leftward_letters m ahead (suc n) le lt =
-    All-same (IsLetter m) (leftward ahead (suc n)) (pos ahead ∷ leftward (ahead - 1) n) (leftward_more ahead n) (All-cons (IsLetter m) (pos ahead) (leftward (ahead - 1) n) (record { least = omega arith; most = lt }) (leftward_letters m (ahead - 1) n (omega arith) (omega arith)))
+    All-same (IsLetter m) (leftward ahead (suc n)) (pos ahead ∷ leftward (ahead - 1) n) (leftward_more ahead n)
+    (All-cons (IsLetter m) (pos ahead) (leftward (ahead - 1) n) (record { least = omega arith; most = lt })
+    (leftward_letters m (ahead - 1) n (omega arith) (omega arith)))
 
 pub rightward_letters : (m ahead n : ℕ) → ahead + n < m → All (IsLetter m) (rightward ahead n)
 rightward_letters m ahead zero lt = All-nil (IsLetter m)
 rightward_letters m ahead (suc n) lt =
-    All-same (IsLetter m) (rightward ahead (suc n)) (negsuc ahead ∷ rightward (ahead + 1) n) (rightward_more ahead n) (All-cons (IsLetter m) (negsuc ahead) (rightward (ahead + 1) n) (record { least = omega arith; most = omega arith }) (rightward_letters m (ahead + 1) n (omega arith)))
+    All-same (IsLetter m) (rightward ahead (suc n)) (negsuc ahead ∷ rightward (ahead + 1) n) (rightward_more ahead n)
+    (All-cons (IsLetter m) (negsuc ahead) (rightward (ahead + 1) n) (record { least = omega arith; most = omega arith })
+    (rightward_letters m (ahead + 1) n (omega arith)))

@@ -11,7 +11,8 @@ use Rattle.colour_rows.proofs.Ranges.{range_append}
 pub filter_range : (p q : ℕ → Bool) (a n : ℕ) → ((c : ℕ) → a ≤ c → c < a + n → p c ≡ q c) → filter p (range_with_len a n) ≡ filter q (range_with_len a n)
 filter_range p q a zero agree = refl
 filter_range p q a (suc n) agree =
-    ap₂ (λ (b : Bool) (zs : List ℕ). cond b (a ∷ zs) zs) (agree a (omega arith) (omega arith)) (filter_range p q (a + 1) n (λ c from to. agree c (omega arith) (omega arith)))
+    ap₂ (λ (b : Bool) (zs : List ℕ). cond b (a ∷ zs) zs) (agree a (omega arith) (omega arith))
+    (filter_range p q (a + 1) n (λ c from to. agree c (omega arith) (omega arith)))
 
 -- a test of one number
 pub filter_one : (p : ℕ → Bool) (a : ℕ) (b : Bool) → p a ≡ b → filter p (range_with_len a 1) ≡ cond b (a ∷ []) []
@@ -23,7 +24,9 @@ pub map_range : (p : ℕ → Bool) (f g : ℕ → ℕ) (a n : ℕ) → ((c : ℕ
 map_range p f g a zero agree = refl
 map_range p f g a (suc n) agree = by_test (p a) refl (map_range p f g (a + 1) n (λ c from to. agree c (omega arith) (omega arith)))
   where
-    by_test : (b : Bool) → p a ≡ b → map f (filter p (range_with_len (a + 1) n)) ≡ map g (filter p (range_with_len (a + 1) n)) → map f (cond (p a) (a ∷ filter p (range_with_len (a + 1) n)) (filter p (range_with_len (a + 1) n))) ≡ map g (cond (p a) (a ∷ filter p (range_with_len (a + 1) n)) (filter p (range_with_len (a + 1) n)))
+    by_test : (b : Bool) → p a ≡ b → map f (filter p (range_with_len (a + 1) n)) ≡ map g (filter p (range_with_len (a + 1) n))
+        → map f (cond (p a) (a ∷ filter p (range_with_len (a + 1) n)) (filter p (range_with_len (a + 1) n)))
+        ≡ map g (cond (p a) (a ∷ filter p (range_with_len (a + 1) n)) (filter p (range_with_len (a + 1) n)))
     by_test true e rest =
         let later = filter p (range_with_len (a + 1) n) in
         ap (λ (s : Bool). map f (cond s (a ∷ later) later)) e

@@ -72,17 +72,20 @@ has_row d grid r lt =
     }
 
 pub ends_left : (d : Diagram) (r : ℕ) → column_of Cross d r < column_of Ring d r → ends d r ≡ record { low = column_of Cross d r; high = column_of Ring d r }
-ends_left d r lt = ap (λ (b : Bool). cond {A = Span} b (record { low = column_of Cross d r; high = column_of Ring d r }) (record { low = column_of Ring d r; high = column_of Cross d r })) (lt-ltb (column_of Cross d r) (column_of Ring d r) lt)
+ends_left d r lt = ap (λ (b : Bool). cond {A = Span} b (record { low = column_of Cross d r; high = column_of Ring d r })
+    (record { low = column_of Ring d r; high = column_of Cross d r })) (lt-ltb (column_of Cross d r) (column_of Ring d r) lt)
 
 pub ends_right : (d : Diagram) (r : ℕ) → column_of Ring d r ≤ column_of Cross d r → ends d r ≡ record { low = column_of Ring d r; high = column_of Cross d r }
-ends_right d r le = ap (λ (b : Bool). cond {A = Span} b (record { low = column_of Cross d r; high = column_of Ring d r }) (record { low = column_of Ring d r; high = column_of Cross d r })) (le-ltb (column_of Cross d r) (column_of Ring d r) le)
+ends_right d r le = ap (λ (b : Bool). cond {A = Span} b (record { low = column_of Cross d r; high = column_of Ring d r })
+    (record { low = column_of Ring d r; high = column_of Cross d r })) (le-ltb (column_of Cross d r) (column_of Ring d r) le)
 
 -- the strands at a height in parts, and the parts above the row are those below it
 parts_at : (d : Diagram) (h lo hi : ℕ) (s t : Bool) → lo < hi → hi < size d → is_strand d h lo ≡ s → is_strand d h hi ≡ t → strands_at d h
     ≡ strands_within d h 0 lo ++ (cond s (lo ∷ []) [] ++ (strands_within d h (lo + 1) hi ++ (cond t (hi ∷ []) [] ++ strands_within d h (hi + 1) (size d))))
 parts_at d h lo hi s t ordered inside at_lo at_hi =
     passing_parts (is_strand d h) lo hi (size d) ordered inside
-    ∙ ap₂ (λ (u v : Bool). strands_within d h 0 lo ++ (cond u (lo ∷ []) [] ++ (strands_within d h (lo + 1) hi ++ (cond v (hi ∷ []) [] ++ strands_within d h (hi + 1) (size d))))) at_lo at_hi
+    ∙ ap₂ (λ (u v : Bool). strands_within d h 0 lo ++ (cond u
+    (lo ∷ []) [] ++ (strands_within d h (lo + 1) hi ++ (cond v (hi ∷ []) [] ++ strands_within d h (hi + 1) (size d))))) at_lo at_hi
 
 part_above : (d : Diagram) (r from to : ℕ) → HasRow d r → to ≤ size d
     → ((c : ℕ) → from ≤ c → c < to → (c ≢ column_of Cross d r) × (c ≢ column_of Ring d r))
@@ -153,7 +156,8 @@ row_moves d grid r lt =
     apart : HasRow d r → column_of Ring d r ≤ column_of Cross d r → column_of Ring d r < column_of Cross d r
     apart row le = elim (cases_lt (column_of Ring d r) (column_of Cross d r)) [
       | inl less ↦ less
-      | inr ge ↦ absurd (let same : column_of Cross d r ≡ column_of Ring d r = omega arith in let no : ◌≡◌ {A = Bool} false true = sym row.cross_below ∙ (ap (is_strand d r) same ∙ row.ring_below) in cc)
+      | inr ge ↦ absurd (let same : column_of Cross d r ≡ column_of Ring d r = omega arith in
+          let no : ◌≡◌ {A = Bool} false true = sym row.cross_below ∙ (ap (is_strand d r) same ∙ row.ring_below) in cc)
     ]
 
 -- a function of the columns at the strands in a part of the columns
@@ -193,26 +197,30 @@ map_first e left between right c = map-append e left (c ∷ (between ++ right)) 
 pub moved_left : (t : Table) (d : Diagram) (e : ℕ → ℕ) (r : ℕ) → column_of Cross d r < column_of Ring d r
     → moved t d e r ≡ fold (over t) (e (column_of Ring d r)) (reverse (map e (strands_between d r)))
 moved_left t d e r lt =
-    ap (λ (b : Bool). cond b (fold (back t) (e (column_of Ring d r)) (map e (strands_between d r))) (fold (over t) (e (column_of Ring d r)) (reverse (map e (strands_between d r)))))
+    ap (λ (b : Bool). cond b (fold (back t) (e (column_of Ring d r)) (map e (strands_between d r)))
+    (fold (over t) (e (column_of Ring d r)) (reverse (map e (strands_between d r)))))
     (le-ltb (column_of Ring d r) (column_of Cross d r) (omega arith))
 
 pub moved_right : (t : Table) (d : Diagram) (e : ℕ → ℕ) (r : ℕ) → column_of Ring d r < column_of Cross d r
     → moved t d e r ≡ fold (back t) (e (column_of Ring d r)) (map e (strands_between d r))
 moved_right t d e r lt =
-    ap (λ (b : Bool). cond b (fold (back t) (e (column_of Ring d r)) (map e (strands_between d r))) (fold (over t) (e (column_of Ring d r)) (reverse (map e (strands_between d r)))))
+    ap (λ (b : Bool). cond b (fold (back t) (e (column_of Ring d r)) (map e (strands_between d r)))
+    (fold (over t) (e (column_of Ring d r)) (reverse (map e (strands_between d r)))))
     (lt-ltb (column_of Ring d r) (column_of Cross d r) lt)
 
 letters_left : (d : Diagram) (r : ℕ) → MovesLeft d r
     → row_letters d r ≡ leftward (length (left_part d r) + length (strands_between d r)) (length (strands_between d r))
 letters_left d r m =
     let lt = m.ordered in
-    ap (λ (b : Bool). cond b (rightward (length (strands_ahead d r)) (length (strands_between d r))) (leftward (length (strands_ahead d r)) (length (strands_between d r))))
+    ap (λ (b : Bool). cond b (rightward (length (strands_ahead d r)) (length (strands_between d r)))
+    (leftward (length (strands_ahead d r)) (length (strands_between d r))))
     (le-ltb (column_of Ring d r) (column_of Cross d r) (omega arith))
     ∙ ap (λ (n : ℕ). leftward n (length (strands_between d r))) (ap length m.ahead ∙ length-append (left_part d r) (strands_between d r))
 
 letters_right : (d : Diagram) (r : ℕ) → MovesRight d r → row_letters d r ≡ rightward (length (left_part d r)) (length (strands_between d r))
 letters_right d r m =
-    ap (λ (b : Bool). cond b (rightward (length (strands_ahead d r)) (length (strands_between d r))) (leftward (length (strands_ahead d r)) (length (strands_between d r))))
+    ap (λ (b : Bool). cond b (rightward (length (strands_ahead d r)) (length (strands_between d r)))
+    (leftward (length (strands_ahead d r)) (length (strands_between d r))))
     (lt-ltb (column_of Ring d r) (column_of Cross d r) m.ordered)
     ∙ ap (λ (us : List ℕ). rightward (length us) (length (strands_between d r))) m.ahead
 
@@ -277,11 +285,15 @@ row_counts d r grid lt = elim (row_moves d grid r lt) [
     last_size : (left between right : List ℕ) (c : ℕ) → length (left ++ (between ++ c ∷ right)) ≡ length left + (length between + length right) + 1
     last_size left between right c = length-append left (between ++ c ∷ right) ∙ omega (arith, length-append between (c ∷ right))
 
-    sizes : MovesLeft d r → length (left_part d r ++ column_of Cross d r ∷ (strands_between d r ++ right_part d r)) ≡ length (left_part d r ++ (strands_between d r ++ column_of Ring d r ∷ right_part d r))
-    sizes m = first_size (left_part d r) (strands_between d r) (right_part d r) (column_of Cross d r) ∙ sym (last_size (left_part d r) (strands_between d r) (right_part d r) (column_of Ring d r))
+    sizes : MovesLeft d r → length (left_part d r ++ column_of Cross d r ∷ (strands_between d r ++ right_part d r))
+        ≡ length (left_part d r ++ (strands_between d r ++ column_of Ring d r ∷ right_part d r))
+    sizes m = first_size (left_part d r) (strands_between d r) (right_part d r) (column_of Cross d r)
+        ∙ sym (last_size (left_part d r) (strands_between d r) (right_part d r) (column_of Ring d r))
 
-    sizes_right : MovesRight d r → length (left_part d r ++ column_of Ring d r ∷ (strands_between d r ++ right_part d r)) ≡ length (left_part d r ++ (strands_between d r ++ column_of Cross d r ∷ right_part d r))
-    sizes_right m = first_size (left_part d r) (strands_between d r) (right_part d r) (column_of Ring d r) ∙ sym (last_size (left_part d r) (strands_between d r) (right_part d r) (column_of Cross d r))
+    sizes_right : MovesRight d r → length (left_part d r ++ column_of Ring d r ∷ (strands_between d r ++ right_part d r))
+        ≡ length (left_part d r ++ (strands_between d r ++ column_of Cross d r ∷ right_part d r))
+    sizes_right m = first_size (left_part d r) (strands_between d r) (right_part d r) (column_of Ring d r)
+        ∙ sym (last_size (left_part d r) (strands_between d r) (right_part d r) (column_of Cross d r))
 
 pub row_word : (d : Diagram) (r m : ℕ) → IsGrid d → r < size d → length (strands_at d r) ≡ m → All (IsLetter m) (row_letters d r)
 row_word d r m grid lt m_is =
@@ -291,10 +303,12 @@ row_word d r m grid lt m_is =
     elim (row_moves d grid r lt) [
       | inl w ↦ All-same (IsLetter m) (row_letters d r) (leftward (length left + length between) (length between)) (letters_left d r w)
           (leftward_letters m (length left + length between) (length between) (omega arith)
-          (let size = sym m_is ∙ (ap length w.below ∙ length-append left (between ++ column_of Ring d r ∷ right)) in omega (arith, length-append between (column_of Ring d r ∷ right))))
+          (let size = sym m_is ∙ (ap length w.below ∙ length-append left (between ++ column_of Ring d r ∷ right)) in
+          omega (arith, length-append between (column_of Ring d r ∷ right))))
       | inr w ↦ All-same (IsLetter m) (row_letters d r) (rightward (length left) (length between)) (letters_right d r w)
           (rightward_letters m (length left) (length between)
-          (let size = sym m_is ∙ (ap length w.below ∙ length-append left (column_of Ring d r ∷ (between ++ right))) in omega (arith, length-append between right)))
+          (let size = sym m_is ∙ (ap length w.below ∙ length-append left (column_of Ring d r ∷ (between ++ right))) in
+          omega (arith, length-append between right)))
     ]
 
 -- a strand that moves left has those between the row's ends among those ahead of it

@@ -37,7 +37,8 @@ filter_out p n fails = filter_last p n false fails ∙ append-nil (filter p (ran
 pub fold_in : {B : Type 0} (op : B → ℕ → B) (p : ℕ → Bool) (from to : ℕ) (a : B) → from ≤ to → p to ≡ true
     → fold op a (passing p from (to + 1)) ≡ op (fold op a (passing p from to)) to
 fold_in op p from to a le passes =
-    ap (fold op a) (passing_last p from to le ∙ ap (λ (b : Bool). passing p from to ++ cond b (to ∷ []) []) passes) ∙ fold-append op a (passing p from to) (to ∷ [])
+    ap (fold op a) (passing_last p from to le ∙ ap (λ (b : Bool). passing p from to ++ cond b (to ∷ []) []) passes)
+    ∙ fold-append op a (passing p from to) (to ∷ [])
 
 pub fold_out : {B : Type 0} (op : B → ℕ → B) (p : ℕ → Bool) (from to : ℕ) (a : B) → from ≤ to → p to ≡ false
     → fold op a (passing p from (to + 1)) ≡ fold op a (passing p from to)
@@ -99,12 +100,14 @@ listed_out op p n done c a x y lt c_is fails x_is y_is =
 pub returned_in : (op : ℕ → ℕ → ℕ) (e : ℕ → ℕ) (p : ℕ → Bool) (n done c a x y : ℕ) → done < n → c ≡ n - 1 - done → p c ≡ true
     → x ≡ fold op a (reverse (map e (passing p (n - done) n))) → y ≡ op x (e c) → y ≡ fold op a (reverse (map e (passing p (n - (done + 1)) n)))
 returned_in op e p n done c a x y lt c_is passes x_is y_is =
-    listed_in (λ z k. op z (e k)) p n done c a x y lt c_is passes (x_is ∙ back_mapped op e a (passing p (n - done) n)) y_is ∙ sym (back_mapped op e a (passing p (n - (done + 1)) n))
+    listed_in (λ z k. op z (e k)) p n done c a x y lt c_is passes (x_is ∙ back_mapped op e a (passing p (n - done) n)) y_is
+    ∙ sym (back_mapped op e a (passing p (n - (done + 1)) n))
 
 pub returned_out : (op : ℕ → ℕ → ℕ) (e : ℕ → ℕ) (p : ℕ → Bool) (n done c a x y : ℕ) → done < n → c ≡ n - 1 - done → p c ≡ false
     → x ≡ fold op a (reverse (map e (passing p (n - done) n))) → y ≡ x → y ≡ fold op a (reverse (map e (passing p (n - (done + 1)) n)))
 returned_out op e p n done c a x y lt c_is fails x_is y_is =
-    listed_out (λ z k. op z (e k)) p n done c a x y lt c_is fails (x_is ∙ back_mapped op e a (passing p (n - done) n)) y_is ∙ sym (back_mapped op e a (passing p (n - (done + 1)) n))
+    listed_out (λ z k. op z (e k)) p n done c a x y lt c_is fails (x_is ∙ back_mapped op e a (passing p (n - done) n)) y_is
+    ∙ sym (back_mapped op e a (passing p (n - (done + 1)) n))
 
 -- all columns from the first
 pub last_in : {B : Type 0} (op : B → ℕ → B) (p : ℕ → Bool) (n : ℕ) (a x y : B) → p n ≡ true → x ≡ fold op a (filter p (range_with_len 0 n))
@@ -120,7 +123,8 @@ last_out op p n a x y fails x_is y_is = y_is ∙ (x_is ∙ ap (fold op a) (sym (
 -- a number that passes has fewer before it than there are in all
 pub passing_room : (p : ℕ → Bool) (c n : ℕ) → c < n → p c ≡ true → length (filter p (range_with_len 0 c)) < length (filter p (range_with_len 0 n))
 passing_room p c n lt passes =
-    let whole = ap length (sym (passing_all p n) ∙ (passing_cut p 0 c n (omega arith) (omega arith) ∙ ap (λ (zs : List ℕ). passing p 0 c ++ zs) (passing_first p c n lt ∙ ap (λ (b : Bool). cond b (c ∷ []) [] ++ passing p (c + 1) n) passes))) in
+    let whole = ap length (sym (passing_all p n) ∙ (passing_cut p 0 c n (omega arith) (omega arith)
+    ∙ ap (λ (zs : List ℕ). passing p 0 c ++ zs) (passing_first p c n lt ∙ ap (λ (b : Bool). cond b (c ∷ []) [] ++ passing p (c + 1) n) passes))) in
     let parts = length-append (passing p 0 c) (c ∷ passing p (c + 1) n) in
     let front = ap length (passing_all p c) in
     omega arith

@@ -38,7 +38,8 @@ swept_stays t q d grid f at (suc h) le =
     subst (AreColours (size d) t.order) (sym (swept_more t d f h) ∙ ap (swept t d f) (let e : h + 1 ≡ suc h = omega arith in e)) (
       length-set ys a (moved t d (λ c. get_or ys c 0) h) ∙ before.0,
       All-set (λ y. y < t.order) ys a (moved t d (λ c. get_or ys c 0) h)
-          (moved_below t q d grid (λ c. get_or ys c 0) (λ c lt. All-get_or (λ y. y < t.order) ys c 0 (omega (arith, before.0)) before.1) h (omega arith)) before.1,
+          (moved_below t q d grid (λ c. get_or ys c 0) (λ c lt. All-get_or (λ y. y < t.order) ys c 0 (omega (arith, before.0)) before.1) h
+          (omega arith)) before.1,
     )
 
 swept_length : (t : Table) (d : Diagram) (f : List ℕ) (h : ℕ) → length (swept t d f h) ≡ length f
@@ -74,7 +75,8 @@ swept_after : (t : Table) (d : Diagram) → IsGrid d → (f : List ℕ) (c h k :
 swept_after t d grid f c h zero lt above le = ap (λ (i : ℕ). get_or (swept t d f i) c 0) (let e : h + 0 ≡ h = omega arith in e)
 swept_after t d grid f c h (suc k) lt above le =
     ap (λ (i : ℕ). get_or (swept t d f i) c 0) (let e : h + suc k ≡ h + k + 1 = omega arith in e)
-    ∙ (swept_other t d f (h + k) c (λ e. let is = (column_mark d grid Cross (h + k) (omega arith)).row in let same = ap (row_of Cross d) e in absurd (omega arith))
+    ∙ (swept_other t d f (h + k) c (λ e. let is = (column_mark d grid Cross (h + k) (omega arith)).row in let same = ap (row_of Cross d) e in
+    absurd (omega arith))
     ∙ swept_after t d grid f c h k lt above (omega arith))
 
 -- the word leads from the feet to the colours of the strands at each height
@@ -112,7 +114,8 @@ strand_settled t d grid f returned r lt c inside at = elim (cases_lt (row_of Cro
       ap (λ (k : ℕ). get_or (swept t d f k) c 0) (let e : size d ≡ r + (size d - r) = omega arith in e)
       ∙ swept_after t d grid f c r (size d - r) inside above (omega arith)
   | inr ahead ↦
-      passing_same (λ k. not (is_up d k)) (λ k. get_or (swept t d f (size d)) k 0) (λ k. get_or f k 0) 0 (size d) returned c (omega arith) (omega arith) (down (is_up d c) refl ahead)
+      passing_same (λ k. not (is_up d k)) (λ k. get_or (swept t d f (size d)) k 0) (λ k. get_or f k 0) 0 (size d) returned c (omega arith) (omega arith)
+      (down (is_up d c) refl ahead)
       ∙ sym (swept_before t d grid f c inside r ahead)
 ]
   where

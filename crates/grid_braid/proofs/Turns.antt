@@ -111,7 +111,8 @@ part_more t d f ys k p inside false is = record {
 part_next : (t : Table) (d : Diagram) (f : List ℕ) (k : ℕ) → part t d f (k + 1) ≡ cond (is_up d k) (part t d f k) (passed_under t (part t d f k) k)
 unfolding part
 part_next t d f k =
-    ap (λ (cs : List ℕ). fold (passed_under t) f (filter (λ c. not (is_up d c)) cs)) (range_longer 0 k ∙ ap (λ (z : ℕ). range_with_len 0 k ++ z ∷ []) (let e : 0 + k ≡ k = omega arith in e))
+    ap (λ (cs : List ℕ). fold (passed_under t) f (filter (λ c. not (is_up d c)) cs))
+    (range_longer 0 k ∙ ap (λ (z : ℕ). range_with_len 0 k ++ z ∷ []) (let e : 0 + k ≡ k = omega arith in e))
     ∙ (ap (fold (passed_under t) f) (filter-append (λ c. not (is_up d c)) (range_with_len 0 k) (k ∷ []))
     ∙ (fold-append (passed_under t) f (filter (λ c. not (is_up d c)) (range_with_len 0 k)) (filter (λ c. not (is_up d c)) (k ∷ []))
     ∙ by_test (is_up d k)))

@@ -25,15 +25,18 @@ passes_undo t q n c lt = record {
 pub downs_inside : (d : Diagram) → All (λ c. c < size d) (down_columns d)
 downs_inside d =
     All-filter (λ c. not (is_up d c)) (λ c. c < size d) (range_with_len 0 (size d))
-    (λ k e lt. let is = get_or-range_with_len 0 (size d) k e (omega (arith, length-range_with_len 0 (size d))) in omega (arith, length-range_with_len 0 (size d)))
+    (λ k e lt. let is = get_or-range_with_len 0 (size d) k e (omega (arith, length-range_with_len 0 (size d))) in
+    omega (arith, length-range_with_len 0 (size d)))
 
 passes_all : (t : Table) → IsQuandle t → (d : Diagram) → All (Undoes (AreColours (size d) t.order) (passed_under t) (passed_back t)) (down_columns d)
-passes_all t q d = All-weaker (λ c. c < size d) (Undoes (AreColours (size d) t.order) (passed_under t) (passed_back t)) (λ c lt. passes_undo t q (size d) c lt) (down_columns d) (downs_inside d)
+passes_all t q d = All-weaker (λ c. c < size d) (Undoes (AreColours (size d) t.order) (passed_under t) (passed_back t)) (λ c lt. passes_undo t q (size d) c lt)
+    (down_columns d) (downs_inside d)
 
 pub strand_stays : (t : Table) → IsQuandle t → (d : Diagram) (f : List ℕ) → AreColours (size d) t.order f → AreColours (size d) t.order (strand_colours t d f)
 strand_stays t q d f at =
     fold_keeps (passed_under t) (AreColours (size d) t.order) (down_columns d)
-    (All-weaker (λ c. c < size d) (λ c. (ys : List ℕ) → AreColours (size d) t.order ys → AreColours (size d) t.order (passed_under t ys c)) (λ c lt. (passes_undo t q (size d) c lt).to) (down_columns d) (downs_inside d))
+    (All-weaker (λ c. c < size d) (λ c. (ys : List ℕ) → AreColours (size d) t.order ys → AreColours (size d) t.order (passed_under t ys c))
+    (λ c lt. (passes_undo t q (size d) c lt).to) (down_columns d) (downs_inside d))
     f at
 
 pub column_stays : (t : Table) → IsQuandle t → (d : Diagram) (ys : List ℕ) → AreColours (size d) t.order ys

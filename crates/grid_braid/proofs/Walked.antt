@@ -17,7 +17,8 @@ use Rattle.grid_braid.proofs.Turns.{Respects, turn, turn_respects, turn_next, co
 -- one column: what the walk does, seen behind the column, is what the strand does, if one runs there
 column_passed : (t : Table) → IsQuandle t → (h : ℕ → ℕ) → Respects t h → (up covered strand : Bool) (x y : ℕ) → x < t.order → y < t.order
     → strand ≡ cond up covered (not covered)
-    → cond up (h (cond covered (cond up (back t x y) (over t x y)) x)) (back t (h (cond covered (cond up (back t x y) (over t x y)) x)) (h y)) ≡ cond strand (back t (h x) (h y)) (h x)
+    → cond up (h (cond covered (cond up (back t x y) (over t x y)) x)) (back t (h (cond covered (cond up (back t x y) (over t x y)) x)) (h y))
+    ≡ cond strand (back t (h x) (h y)) (h x)
 column_passed t q h r true true strand x y at by_y is = r.back_kept x y at by_y ∙ sym (ap (λ (b : Bool). cond b (back t (h x) (h y)) (h x)) is)
 column_passed t q h r true false strand x y at by_y is = sym (ap (λ (b : Bool). cond b (back t (h x) (h y)) (h x)) is)
 column_passed t q h r false true strand x y at by_y is =
@@ -46,7 +47,8 @@ walk_columns : (t : Table) → IsQuandle t → (d : Diagram) (f : List ℕ) → 
     → ((c : ℕ) → a ≤ c → c < a + n → e c ≡ turn t d f c (get_or f c 0))
     → ((c : ℕ) → a ≤ c → c < a + n → row_of Cross d c ≢ r)
     → ((c : ℕ) → a ≤ c → c < a + n → row_of Ring d c ≢ r)
-    → turn t d f (a + n) (fold (under t d f) x (filter (λ c. covers d c r) (range_with_len a n))) ≡ fold (back t) (turn t d f a x) (map e (filter (is_strand d r) (range_with_len a n)))
+    → turn t d f (a + n) (fold (under t d f) x (filter (λ c. covers d c r) (range_with_len a n)))
+    ≡ fold (back t) (turn t d f a x) (map e (filter (is_strand d r) (range_with_len a n)))
 walk_columns t q d f below e r a zero x at is apart free = ap (λ (k : ℕ). turn t d f k x) (let n : a + 0 ≡ a = omega arith in n)
 walk_columns t q d f below e r a (suc n) x at is apart free =
     let y = get_or f a 0 in
@@ -54,18 +56,22 @@ walk_columns t q d f below e r a (suc n) x at is apart free =
     let later = filter (λ c. covers d c r) (range_with_len (a + 1) n) in
     let behind = filter (is_strand d r) (range_with_len (a + 1) n) in
     ap₂ (λ (k w : ℕ). turn t d f k w) (let s : a + suc n ≡ a + 1 + n = omega arith in s) (covered (covers d a r) later)
-    ∙ (walk_columns t q d f below e r (a + 1) n z (passed_below t q (is_up d a) (covers d a r) x y at (colour_below t q f below a)) (λ c from to. is c (omega arith) (omega arith)) (λ c from to. apart c (omega arith) (omega arith)) (λ c from to. free c (omega arith) (omega arith))
+    ∙ (walk_columns t q d f below e r (a + 1) n z (passed_below t q (is_up d a) (covers d a r) x y at (colour_below t q f below a))
+    (λ c from to. is c (omega arith) (omega arith)) (λ c from to. apart c (omega arith) (omega arith)) (λ c from to. free c (omega arith) (omega arith))
     ∙ (ap (λ (w : ℕ). fold (back t) w (map e behind))
     (turn_next t d f a z
-    ∙ (column_passed t q (turn t d f a) (turn_respects t q d f below a) (is_up d a) (covers d a r) (is_strand d r a) x y at (colour_below t q f below a) (strand_by d r a (apart a (omega arith) (omega arith)) (free a (omega arith) (omega arith)))
+    ∙ (column_passed t q (turn t d f a) (turn_respects t q d f below a) (is_up d a) (covers d a r) (is_strand d r a) x y at (colour_below t q f below a)
+    (strand_by d r a (apart a (omega arith) (omega arith)) (free a (omega arith) (omega arith)))
     ∙ ap (λ (w : ℕ). cond (is_strand d r a) (back t (turn t d f a x) w) (turn t d f a x)) (sym (is a (omega arith) (omega arith)))))
     ∙ stood (is_strand d r a) behind))
   where
-    covered : (b : Bool) (later : List ℕ) → fold (under t d f) x (cond b (a ∷ later) later) ≡ fold (under t d f) (cond b (cond (is_up d a) (back t x (get_or f a 0)) (over t x (get_or f a 0))) x) later
+    covered : (b : Bool) (later : List ℕ) → fold (under t d f) x (cond b (a ∷ later) later)
+        ≡ fold (under t d f) (cond b (cond (is_up d a) (back t x (get_or f a 0)) (over t x (get_or f a 0))) x) later
     covered true later = refl
     covered false later = refl
 
-    stood : (b : Bool) (behind : List ℕ) → fold (back t) (cond b (back t (turn t d f a x) (e a)) (turn t d f a x)) (map e behind) ≡ fold (back t) (turn t d f a x) (map e (cond b (a ∷ behind) behind))
+    stood : (b : Bool) (behind : List ℕ) → fold (back t) (cond b (back t (turn t d f a x) (e a)) (turn t d f a x)) (map e behind)
+        ≡ fold (back t) (turn t d f a x) (map e (cond b (a ∷ behind) behind))
     stood true behind = refl
     stood false behind = refl
 

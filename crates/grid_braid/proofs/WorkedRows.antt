@@ -3,6 +3,7 @@ use Rattle.std.specs.Prelude.{◌≡◌, ℕ, pos, negsuc, List, [], ◌∷◌, 
 use Rattle.std.specs.List.{range_with_len}
 use Rattle.std.proofs.Common.{refl}
 use Rattle.grid_core.specs.Diagram.{Diagram, size}
+use Rattle.grid_core.proofs.WorkedRows.{right_trefoil, left_trefoil, unknot}
 use Rattle.quandle_core.specs.Quandle.{Table}
 use Rattle.quandle_core.specs.Tables.{trivial, dihedral, tetrahedral}
 use Rattle.quandle_core.specs.Colours.{all_lists}
@@ -12,15 +13,6 @@ use Rattle.braid_core.specs.FixedPoints.{fixed_points}
 use Rattle.grid_braid.specs.Strands.{strands_at}
 use Rattle.grid_braid.specs.Word.{row_letters, word}
 use Rattle.grid_braid.specs.Feet.{at_feet}
-
-abbrev right_trefoil : Diagram
-right_trefoil = record { x = 4 ∷ 3 ∷ 2 ∷ 1 ∷ 0 ∷ []; o = 2 ∷ 1 ∷ 0 ∷ 4 ∷ 3 ∷ [] }
-
-abbrev left_trefoil : Diagram
-left_trefoil = record { x = 0 ∷ 1 ∷ 2 ∷ 3 ∷ 4 ∷ []; o = 2 ∷ 3 ∷ 4 ∷ 0 ∷ 1 ∷ [] }
-
-abbrev unknot : Diagram
-unknot = record { x = 0 ∷ 1 ∷ []; o = 1 ∷ 0 ∷ [] }
 
 -- two strands, with crossings of both signs
 abbrev kink : Diagram
@@ -52,14 +44,16 @@ trefoil_feet = refl
 not_fixed : action (dihedral 3) (word right_trefoil).letters (0 ∷ 1 ∷ 1 ∷ []) ≡ 2 ∷ 2 ∷ 0 ∷ []
 not_fixed = refl
 
-trefoil_fixed : fixed_points (dihedral 3) (word right_trefoil) ≡ (0 ∷ 0 ∷ 0 ∷ []) ∷ (0 ∷ 1 ∷ 0 ∷ []) ∷ (0 ∷ 2 ∷ 0 ∷ []) ∷ (1 ∷ 0 ∷ 1 ∷ []) ∷ (1 ∷ 1 ∷ 1 ∷ []) ∷ (1 ∷ 2 ∷ 1 ∷ []) ∷ (2 ∷ 0 ∷ 2 ∷ []) ∷ (2 ∷ 1 ∷ 2 ∷ []) ∷ (2 ∷ 2 ∷ 2 ∷ []) ∷ []
+trefoil_fixed : fixed_points (dihedral 3) (word right_trefoil)
+    ≡ (0 ∷ 0 ∷ 0 ∷ []) ∷ (0 ∷ 1 ∷ 0 ∷ []) ∷ (0 ∷ 2 ∷ 0 ∷ []) ∷ (1 ∷ 0 ∷ 1 ∷ []) ∷ (1 ∷ 1 ∷ 1 ∷ []) ∷ (1 ∷ 2 ∷ 1 ∷ []) ∷ (2 ∷ 0 ∷ 2 ∷ []) ∷ (2 ∷ 1 ∷ 2 ∷ []) ∷ (2 ∷ 2 ∷ 2 ∷ []) ∷ []
 trefoil_fixed = refl
 
 unknot_fixed : fixed_points (trivial 2) (word unknot) ≡ (0 ∷ []) ∷ (1 ∷ []) ∷ []
 unknot_fixed = refl
 
 -- the colourings in their order have these feet, which are the fixed points in another order
-trefoil_all_feet : map (at_feet (dihedral 3) right_trefoil) (colourings (dihedral 3) right_trefoil) ≡ (0 ∷ 0 ∷ 0 ∷ []) ∷ (0 ∷ 2 ∷ 0 ∷ []) ∷ (0 ∷ 1 ∷ 0 ∷ []) ∷ (1 ∷ 2 ∷ 1 ∷ []) ∷ (1 ∷ 1 ∷ 1 ∷ []) ∷ (1 ∷ 0 ∷ 1 ∷ []) ∷ (2 ∷ 1 ∷ 2 ∷ []) ∷ (2 ∷ 0 ∷ 2 ∷ []) ∷ (2 ∷ 2 ∷ 2 ∷ []) ∷ []
+trefoil_all_feet : map (at_feet (dihedral 3) right_trefoil) (colourings (dihedral 3) right_trefoil)
+    ≡ (0 ∷ 0 ∷ 0 ∷ []) ∷ (0 ∷ 2 ∷ 0 ∷ []) ∷ (0 ∷ 1 ∷ 0 ∷ []) ∷ (1 ∷ 2 ∷ 1 ∷ []) ∷ (1 ∷ 1 ∷ 1 ∷ []) ∷ (1 ∷ 0 ∷ 1 ∷ []) ∷ (2 ∷ 1 ∷ 2 ∷ []) ∷ (2 ∷ 0 ∷ 2 ∷ []) ∷ (2 ∷ 2 ∷ 2 ∷ []) ∷ []
 trefoil_all_feet = refl
 
 left_trefoil_by_rotations : length (fixed_points tetrahedral (word left_trefoil)) ≡ 16

@@ -108,7 +108,8 @@ one_row_more d grid h lt numbers old = record {
       omega (arith, at, smaller, before);
   fixed = λ c within. fixed_at c within (cases_eq (slice_index numbers c) m);
   rows = λ r below. elim (cases_eq r h) [
-    | inl is ↦ subst (λ (s : ℕ). slice_index (united_at d h numbers) (column_of Cross d s) ≡ slice_index (united_at d h numbers) (column_of Ring d s)) (sym is) own_row
+    | inl is ↦ subst (λ (s : ℕ). slice_index (united_at d h numbers) (column_of Cross d s) ≡ slice_index (united_at d h numbers) (column_of Ring d s))
+        (sym is) own_row
     | inr ne ↦
         let inside = mark_columns d grid r (omega (arith, ne, below, lt)) in
         index (column_of Cross d r) inside.0 ∙ (ap (unite l m) (old.rows r (omega (arith, ne, below))) ∙ sym (index (column_of Ring d r) inside.1))
@@ -147,7 +148,8 @@ one_row_more d grid h lt numbers old = record {
       | inr ne ↦
           let e : slice_index (united_at d h numbers) c ≡ slice_index numbers c = index c within ∙ unite_other l m (slice_index numbers c) ne in
           let le = old.least c within in
-          ap (slice_index (united_at d h numbers)) e ∙ (index (slice_index numbers c) (omega (arith, le, within)) ∙ (ap (unite l m) (old.fixed c within) ∙ (unite_other l m (slice_index numbers c) ne ∙ sym e)))
+          ap (slice_index (united_at d h numbers)) e ∙ (index (slice_index numbers c) (omega (arith, le, within))
+          ∙ (ap (unite l m) (old.fixed c within) ∙ (unite_other l m (slice_index numbers c) ne ∙ sym e)))
     ]
 
     own_row : slice_index (united_at d h numbers) (column_of Cross d h) ≡ slice_index (united_at d h numbers) (column_of Ring d h)
@@ -155,8 +157,10 @@ one_row_more d grid h lt numbers old = record {
         let inside = mark_columns d grid h lt in
         let both = unite_both (slice_index numbers (ends d h).low) (slice_index numbers (ends d h).high) l m (numbers_ends d h numbers) in
         index (column_of Cross d h) inside.0 ∙ (elim (span_ends (column_of Cross d h) (column_of Ring d h)).either [
-          | inl is ↦ ap (λ (c : ℕ). unite l m (slice_index numbers c)) (sym is.0) ∙ (both.0 ∙ (sym both.1 ∙ ap (λ (c : ℕ). unite l m (slice_index numbers c)) is.1))
-          | inr is ↦ ap (λ (c : ℕ). unite l m (slice_index numbers c)) (sym is.1) ∙ (both.1 ∙ (sym both.0 ∙ ap (λ (c : ℕ). unite l m (slice_index numbers c)) is.0))
+          | inl is ↦ ap (λ (c : ℕ). unite l m (slice_index numbers c)) (sym is.0)
+              ∙ (both.0 ∙ (sym both.1 ∙ ap (λ (c : ℕ). unite l m (slice_index numbers c)) is.1))
+          | inr is ↦ ap (λ (c : ℕ). unite l m (slice_index numbers c)) (sym is.1)
+              ∙ (both.1 ∙ (sym both.0 ∙ ap (λ (c : ℕ). unite l m (slice_index numbers c)) is.0))
         ] ∙ sym (index (column_of Ring d h) inside.1))
 
 numbering : (d : Diagram) → IsGrid d → (h : ℕ) → h ≤ size d → IsNumbering d h (numbers_below d h)
@@ -200,7 +204,8 @@ pub record JoinsRows (d : Diagram) (R : ℕ → ℕ → Type 0) : Type 0 where
 joined_ends : (d : Diagram) (R : ℕ → ℕ → Type 0) → JoinsRows d R → (r : ℕ) → r < size d → R (ends d r).low (ends d r).high
 joined_ends d R joins r lt = elim (span_ends (column_of Cross d r) (column_of Ring d r)).either [
   | inl is ↦ subst (λ (a : ℕ). R a (ends d r).high) (sym is.0) (subst (R (column_of Cross d r)) (sym is.1) (joins.rows r lt))
-  | inr is ↦ subst (λ (a : ℕ). R a (ends d r).high) (sym is.0) (subst (R (column_of Ring d r)) (sym is.1) (joins.back (column_of Cross d r) (column_of Ring d r) (joins.rows r lt)))
+  | inr is ↦ subst (λ (a : ℕ). R a (ends d r).high) (sym is.0)
+      (subst (R (column_of Ring d r)) (sym is.1) (joins.back (column_of Cross d r) (column_of Ring d r) (joins.rows r lt)))
 ]
 
 -- it joins the two numbers that become one at a row
@@ -210,7 +215,8 @@ joined_numbers d R grid joins r lt numbers old =
     let inside = ends_inside d grid r lt in
     let low = slice_index numbers (ends d r).low in
     let high = slice_index numbers (ends d r).high in
-    let forth : R low high = joins.after low (ends d r).low high (old (ends d r).low inside.0) (joins.after (ends d r).low (ends d r).high high (joined_ends d R joins r lt) (joins.back high (ends d r).high (old (ends d r).high inside.1))) in
+    let forth : R low high = joins.after low (ends d r).low high (old (ends d r).low inside.0)
+    (joins.after (ends d r).low (ends d r).high high (joined_ends d R joins r lt) (joins.back high (ends d r).high (old (ends d r).high inside.1))) in
     elim (numbers_ends d r numbers).either [
       | inl is ↦ subst (λ (a : ℕ). R a (high_at d r numbers)) (sym is.0) (subst (R low) (sym is.1) forth)
       | inr is ↦ subst (λ (a : ℕ). R a (high_at d r numbers)) (sym is.0) (subst (R high) (sym is.1) (joins.back low high forth))
@@ -225,9 +231,12 @@ related_below d R grid joins (suc h) le c lt =
     let long = (numbering d grid h (omega arith)).long in
     let at = united_index d h (numbers_below d h) c (omega (arith, lt, long)) in
     elim (cases_eq (slice_index (numbers_below d h) c) (high_at d h (numbers_below d h))) [
-      | inl is ↦ subst (λ (b : ℕ). R b c) (sym (at ∙ unite_high (low_at d h (numbers_below d h)) (high_at d h (numbers_below d h)) (slice_index (numbers_below d h) c) is))
-          (joins.after (low_at d h (numbers_below d h)) (high_at d h (numbers_below d h)) c (joined_numbers d R grid joins h (omega arith) (numbers_below d h) old) (subst (λ (b : ℕ). R b c) is (old c lt)))
-      | inr ne ↦ subst (λ (b : ℕ). R b c) (sym (at ∙ unite_other (low_at d h (numbers_below d h)) (high_at d h (numbers_below d h)) (slice_index (numbers_below d h) c) ne)) (old c lt)
+      | inl is ↦ subst (λ (b : ℕ). R b c) (sym (at ∙ unite_high (low_at d h (numbers_below d h)) (high_at d h (numbers_below d h))
+          (slice_index (numbers_below d h) c) is))
+          (joins.after (low_at d h (numbers_below d h)) (high_at d h (numbers_below d h)) c
+          (joined_numbers d R grid joins h (omega arith) (numbers_below d h) old) (subst (λ (b : ℕ). R b c) is (old c lt)))
+      | inr ne ↦ subst (λ (b : ℕ). R b c) (sym (at ∙ unite_other (low_at d h (numbers_below d h)) (high_at d h (numbers_below d h))
+          (slice_index (numbers_below d h) c) ne)) (old c lt)
     ]
 
 -- every such equivalence joins a column to the number of its component
@@ -264,7 +273,8 @@ chains_join_rows d grid = record {
   same = λ c lt. ([], (lt, refl));
   back = λ b c joined. joined_back d b c joined.0 joined.1;
   after = joined_after d;
-  rows = λ r lt. joined_once d (column_of Cross d r) (column_of Ring d r) (record { row = r; one = Cross; other = Ring; of_first = column_mark d grid Cross r lt; of_second = column_mark d grid Ring r lt });
+  rows = λ r lt. joined_once d (column_of Cross d r) (column_of Ring d r)
+      (record { row = r; one = Cross; other = Ring; of_first = column_mark d grid Cross r lt; of_second = column_mark d grid Ring r lt });
 }
 
 chain_component : (d : Diagram) → IsGrid d → (b c : ℕ) (chain : List ℕ) → IsChain d b chain c → component_number d b ≡ component_number d c
@@ -280,7 +290,8 @@ component_joined d grid c lt = related d (OfOneComponent d) grid (chains_join_ro
 pub same_component_joined : (d : Diagram) → IsGrid d → (b c : ℕ) → b < size d → c < size d → component_number d b ≡ component_number d c → OfOneComponent d b c
 same_component_joined d grid b c in_b in_c same =
     let from_b = component_joined d grid b in_b in
-    joined_after d b (component_number d b) c (joined_back d (component_number d b) b from_b.0 from_b.1) (subst (λ (z : ℕ). OfOneComponent d z c) (sym same) (component_joined d grid c in_c))
+    joined_after d b (component_number d b) c (joined_back d (component_number d b) b from_b.0 from_b.1)
+    (subst (λ (z : ℕ). OfOneComponent d z c) (sym same) (component_joined d grid c in_c))
 
 -- a chain begins in the diagram
 chain_begins : (d : Diagram) (b c : ℕ) (chain : List ℕ) → IsChain d b chain c → b < size d

@@ -11,10 +11,9 @@ use Rattle.grid_core.specs.Diagram.{Diagram, IsGrid, size, row_of, other}
 use Rattle.grid_core.specs.Places.{lifted, lowered}
 use Rattle.grid_core.proofs.Gaps.{lifted-apart, lifted-same, lifted-below, lowered-below, lifted-lowered}
 use Rattle.linking_core.proofs.Shuffles.{Shuffles, Member, shuffles_from, map_apart, map_member, member_of_map, range_apart, range_member, member_of_range}
-use Rattle.linking_core.proofs.Sums.{total, where_true, total_same, over_map, over_shuffled, over_zero}
+use Rattle.linking_core.proofs.Sums.{total, where_true, total_same, over_map, over_shuffled, over_zero, where_zero}
 use Rattle.linking_core.proofs.Forms.{count, interleaving, columns_meet, by_columns}
 use Rattle.linking_core.proofs.Growths.{Grows, fresh, IsNear, near_order, near_row, near_fresh}
-use Rattle.linking_core.proofs.ShiftSums.{where_zero}
 
 -- the numbers below n + 1 are p and the others
 one_more : (n p : ℕ) → p < n + 1 → Shuffles (p ∷ map (lifted p) (range_with_len 0 n)) (range_with_len 0 (n + 1))
@@ -38,7 +37,8 @@ one_more n p in_p =
       | inl is ↦ inl is
       | inr ne ↦
           let old = lowered-below p z n lt in_p ne in
-          inr (subst (λ (w : ℕ). Member w (map (lifted p) (range_with_len 0 n))) (lifted-lowered p z ne) (member_of_map (lifted p) (lowered p z) (range_with_len 0 n) (member_of_range 0 n (lowered p z) (omega arith) (omega (arith, old)))))
+          inr (subst (λ (w : ℕ). Member w (map (lifted p) (range_with_len 0 n))) (lifted-lowered p z ne)
+          (member_of_map (lifted p) (lowered p z) (range_with_len 0 n) (member_of_range 0 n (lowered p z) (omega arith) (omega (arith, old)))))
     ])
 
 total_grown : (n p : ℕ) → p < n + 1 → (f : ℕ → ℤ) → total (n + 1) f ≡ f p +ℤ total n (λ b. f (lifted p b))
@@ -86,13 +86,16 @@ none_where false u v z same = refl
 
 pub growth_sum : (kind : Kind) (place : Kind → ℕ) (c r q : ℕ) (d e : Diagram) → IsGrid d → Grows kind place c r q d e → (a b a' b' : ℕ → Bool)
     → AreDisjoint d a b
-    → ((p : ℕ) → p < size d → a' (lifted (fresh kind place) p) ≡ a p) → ((p : ℕ) → p < size d → b' (lifted (fresh kind place) p) ≡ b p) → a' (fresh kind place) ≡ a c → b' (fresh kind place) ≡ b c
+    → ((p : ℕ) → p < size d → a' (lifted (fresh kind place) p) ≡ a p) → ((p : ℕ) → p < size d → b' (lifted (fresh kind place) p) ≡ b p)
+    → a' (fresh kind place) ≡ a c → b' (fresh kind place) ≡ b c
     → by_columns e a' b' ≡ by_columns d a b
 growth_sum kind place c r q d e grid grows a b a' b' disjoint of_a of_b own_a own_b =
     ap (λ (n : ℕ). total n (λ s. total n (λ p. at s p))) grows.wide.larger
     ∙ (twice_grown (size d) f inside at both_new first_new second_new
-    ∙ total_same (size d) (λ s. total (size d) (λ p. at (lifted f s) (lifted f p))) (λ s. total (size d) (λ p. where_true (b s && a p) (where_true (nat_lt s p) (columns_meet d p s)))) (λ s in_s.
-    total_same (size d) (λ p. at (lifted f s) (lifted f p)) (λ p. where_true (b s && a p) (where_true (nat_lt s p) (columns_meet d p s))) (λ p in_p. each s p in_s in_p)))
+    ∙ total_same (size d) (λ s. total (size d) (λ p. at (lifted f s) (lifted f p)))
+    (λ s. total (size d) (λ p. where_true (b s && a p) (where_true (nat_lt s p) (columns_meet d p s)))) (λ s in_s.
+    total_same (size d) (λ p. at (lifted f s) (lifted f p)) (λ p. where_true (b s && a p) (where_true (nat_lt s p) (columns_meet d p s)))
+    (λ p in_p. each s p in_s in_p)))
   where
     f : ℕ
     f = fresh kind place
@@ -120,19 +123,22 @@ growth_sum kind place c r q d e grid grows a b a' b' disjoint of_a of_b own_a ow
     far_b p lt tb ta k e' = disjoint.rows c p in_c lt ta tb kind k (grows.marked.row ∙ e')
 
     both_new : at f f ≡ pos 0
-    both_new = none_where (b' f) (a' f) (nat_lt f f) (columns_meet e f f) (λ tb ta. absurd (disjoint.rows c c in_c in_c (sym own_a ∙ ta) (sym own_b ∙ tb) kind kind refl))
+    both_new = none_where (b' f) (a' f) (nat_lt f f) (columns_meet e f f)
+        (λ tb ta. absurd (disjoint.rows c c in_c in_c (sym own_a ∙ ta) (sym own_b ∙ tb) kind kind refl))
 
     first_new : (p : ℕ) → p < size d → at f (lifted f p) ≡ pos 0
     first_new p lt = none_where (b' f) (a' (lifted f p)) (nat_lt f (lifted f p)) (columns_meet e (lifted f p) f) (λ tb ta.
         let away = far_a p lt (sym own_b ∙ tb) (sym (of_a p lt) ∙ ta) in
-        near_pairs r q (row_of Cross d p) (row_of Ring d p) r r (row_of Cross e (lifted f p)) (row_of Ring e (lifted f p)) (row_of Cross e f) (row_of Ring e f) grows.near
+        near_pairs r q (row_of Cross d p) (row_of Ring d p) r r (row_of Cross e (lifted f p)) (row_of Ring e (lifted f p)) (row_of Cross e f)
+        (row_of Ring e f) grows.near
         (old Cross p lt) (old Ring p lt) (new Cross) (new Ring) (away Cross) (away Cross) (away Ring) (away Ring)
         ∙ omega (arith, ints))
 
     second_new : (p : ℕ) → p < size d → at (lifted f p) f ≡ pos 0
     second_new p lt = none_where (b' (lifted f p)) (a' f) (nat_lt (lifted f p) f) (columns_meet e f (lifted f p)) (λ tb ta.
         let away = far_b p lt (sym (of_b p lt) ∙ tb) (sym own_a ∙ ta) in
-        near_pairs r q r r (row_of Cross d p) (row_of Ring d p) (row_of Cross e f) (row_of Ring e f) (row_of Cross e (lifted f p)) (row_of Ring e (lifted f p)) grows.near
+        near_pairs r q r r (row_of Cross d p) (row_of Ring d p) (row_of Cross e f) (row_of Ring e f) (row_of Cross e (lifted f p))
+        (row_of Ring e (lifted f p)) grows.near
         (new Cross) (new Ring) (old Cross p lt) (old Ring p lt) (away Cross) (away Ring) (away Cross) (away Ring)
         ∙ omega (arith, ints))
 
@@ -141,9 +147,13 @@ growth_sum kind place c r q d e grid grows a b a' b' disjoint of_a of_b own_a ow
 
     each : (s p : ℕ) → s < size d → p < size d → at (lifted f s) (lifted f p) ≡ where_true (b s && a p) (where_true (nat_lt s p) (columns_meet d p s))
     each s p in_s in_p =
-        ap₂ (λ (t u : Bool). where_true (t && u) (where_true (nat_lt (lifted f s) (lifted f p)) (columns_meet e (lifted f p) (lifted f s)))) (of_b s in_s) (of_a p in_p)
-        ∙ when_both (b s) (a p) (where_true (nat_lt (lifted f s) (lifted f p)) (columns_meet e (lifted f p) (lifted f s))) (where_true (nat_lt s p) (columns_meet d p s)) (λ tb ta.
+        ap₂ (λ (t u : Bool). where_true (t && u) (where_true (nat_lt (lifted f s) (lifted f p)) (columns_meet e (lifted f p) (lifted f s)))) (of_b s in_s)
+        (of_a p in_p)
+        ∙ when_both (b s) (a p) (where_true (nat_lt (lifted f s) (lifted f p)) (columns_meet e (lifted f p) (lifted f s)))
+        (where_true (nat_lt s p) (columns_meet d p s)) (λ tb ta.
         ap₂ where_true (order s p)
-        (near_pairs r q (row_of Cross d p) (row_of Ring d p) (row_of Cross d s) (row_of Ring d s) (row_of Cross e (lifted f p)) (row_of Ring e (lifted f p)) (row_of Cross e (lifted f s)) (row_of Ring e (lifted f s)) grows.near
+        (near_pairs r q (row_of Cross d p) (row_of Ring d p) (row_of Cross d s) (row_of Ring d s) (row_of Cross e (lifted f p)) (row_of Ring e (lifted f p))
+        (row_of Cross e (lifted f s)) (row_of Ring e (lifted f s)) grows.near
         (old Cross p in_p) (old Ring p in_p) (old Cross s in_s) (old Ring s in_s)
-        (disjoint.rows p s in_p in_s ta tb Cross Cross) (disjoint.rows p s in_p in_s ta tb Cross Ring) (disjoint.rows p s in_p in_s ta tb Ring Cross) (disjoint.rows p s in_p in_s ta tb Ring Ring)))
+        (disjoint.rows p s in_p in_s ta tb Cross Cross) (disjoint.rows p s in_p in_s ta tb Cross Ring) (disjoint.rows p s in_p in_s ta tb Ring Cross)
+        (disjoint.rows p s in_p in_s ta tb Ring Ring)))

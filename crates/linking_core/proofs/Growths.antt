@@ -97,7 +97,8 @@ pub near_fresh : (kind : Kind) (place : Kind → ℕ) (c r q : ℕ) (d e : Diagr
     → IsNear r q r (row_of k e (fresh kind place))
 near_fresh kind place c r q d e grows k = elim (kinds kind k) [
   | inr far ↦ beside refl (ap (λ (z : Kind). row_of z e (fresh kind place)) far ∙ grows.wide.fresh (other kind))
-  | inl own ↦ moved (ap (λ (z : Kind). row_of z e (fresh kind place)) own ∙ (ap (row_of kind e) (sym (fresh_column kind place c grows.beside)) ∙ (grows.wide.kept kind c grows.marked.inside ∙ ap (lifted q) grows.marked.row)))
+  | inl own ↦ moved (ap (λ (z : Kind). row_of z e (fresh kind place)) own
+      ∙ (ap (row_of kind e) (sym (fresh_column kind place c grows.beside)) ∙ (grows.wide.kept kind c grows.marked.inside ∙ ap (lifted q) grows.marked.row)))
 ]
 
 place_below : (kind : Kind) (place : Kind → ℕ) (c r q : ℕ) (d e : Diagram) → Grows kind place c r q d e → (k : Kind) → place k < size e
@@ -129,7 +130,9 @@ by_kind : (kind : Kind) (place : Kind → ℕ) (c r q : ℕ) (d e : Diagram) →
 by_kind kind place c r q d e grid' grows k b = elim (kinds kind k) [
   | inr far ↦ ap (λ (z : Kind). component_number e (lifted (place z) b)) far
   | inl own ↦ ap (λ (z : Kind). component_number e (lifted (place z) b)) own ∙ (elim (cases_eq b c) [
-    | inl is ↦ ap (λ (a : ℕ). component_number e (lifted (twin kind place) a)) is ∙ (ap (component_number e) (fresh_column kind place c grows.beside) ∙ (fresh_component kind place c r q d e grid' grows ∙ sym (ap (λ (a : ℕ). component_number e (lifted (fresh kind place) a)) is)))
+    | inl is ↦ ap (λ (a : ℕ). component_number e (lifted (twin kind place) a)) is
+        ∙ (ap (component_number e) (fresh_column kind place c grows.beside)
+        ∙ (fresh_component kind place c r q d e grid' grows ∙ sym (ap (λ (a : ℕ). component_number e (lifted (fresh kind place) a)) is)))
     | inr ne ↦ ap (component_number e) (far_column kind place c b grows.beside ne)
   ])
 ]
@@ -170,7 +173,8 @@ growth_corresponds kind place c r q d e grid grid' grows = record {
   returns = λ t lt.
       let one = origin kind place c r q d e grows Cross (column_of Cross e t) t (column_mark e grid' Cross t lt) in
       let two = origin kind place c r q d e grows Ring (column_of Ring e t) t (column_mark e grid' Ring t lt) in
-      component_shared d grid (lowered c (column_of Cross e t)) (lowered c (column_of Ring e t)) (record { row = lowered r t; one = one.0; other = two.0; of_first = one.1; of_second = two.1 });
+      component_shared d grid (lowered c (column_of Cross e t)) (lowered c (column_of Ring e t))
+      (record { row = lowered r t; one = one.0; other = two.0; of_first = one.1; of_second = two.1 });
   there = λ b lt. ap (component_number d) (beside_back c (fresh kind place) b (grows.beside.near (other kind)));
   again = λ b lt. elim (cases_eq b (fresh kind place)) [
     | inl is ↦

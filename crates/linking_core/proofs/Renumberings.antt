@@ -40,7 +40,8 @@ renumbered_corresponds f f' g g' d e grid grid' columns rows marks = record {
       ∙ (component_rows e grid' (g r) (omega (arith, in', marks.same_size)) ∙ ap (component_number e) (new_column_of f g d e grid grid' marks Ring r lt));
   returns = λ r lt.
       let old = rows.from r (omega (arith, lt, marks.same_size)) in
-      ap (component_number d) (old_column r Cross (omega (arith, lt, marks.same_size))) ∙ (component_rows d grid (g' r) old ∙ sym (ap (component_number d) (old_column r Ring (omega (arith, lt, marks.same_size)))));
+      ap (component_number d) (old_column r Cross (omega (arith, lt, marks.same_size)))
+      ∙ (component_rows d grid (g' r) old ∙ sym (ap (component_number d) (old_column r Ring (omega (arith, lt, marks.same_size)))));
   there = λ c lt. ap (component_number d) (columns.there c lt);
   again = λ c lt. ap (component_number e) (columns.again c (omega (arith, lt, marks.same_size)));
 }
@@ -88,8 +89,10 @@ columns_moved f f' g d e columns marks a b a' b' of_a of_b =
     ∙ twice_same (size d) (λ q c. at (f q) (f c)) (λ q c. where_true (b q && a c) (columns_after d f g q c)) (λ q c in_q in_c.
     ap₂ (λ (t u : Bool). where_true (t && u) (where_true (nat_lt (f q) (f c)) (columns_meet e (f c) (f q)))) (of_b.same q in_q) (of_a.same c in_c)
     ∙ ap (λ (z : ℤ). where_true (b q && a c) (where_true (nat_lt (f q) (f c)) z))
-    (four_same (g (row_of Cross d c)) (g (row_of Ring d c)) (g (row_of Cross d q)) (g (row_of Ring d q)) (row_of Cross e (f c)) (row_of Ring e (f c)) (row_of Cross e (f q)) (row_of Ring e (f q))
-    (renumbered_row f g d e marks Cross c in_c) (renumbered_row f g d e marks Ring c in_c) (renumbered_row f g d e marks Cross q in_q) (renumbered_row f g d e marks Ring q in_q))))
+    (four_same (g (row_of Cross d c)) (g (row_of Ring d c)) (g (row_of Cross d q)) (g (row_of Ring d q)) (row_of Cross e (f c)) (row_of Ring e (f c))
+    (row_of Cross e (f q)) (row_of Ring e (f q))
+    (renumbered_row f g d e marks Cross c in_c) (renumbered_row f g d e marks Ring c in_c) (renumbered_row f g d e marks Cross q in_q)
+    (renumbered_row f g d e marks Ring q in_q))))
   where
     at : ℕ → ℕ → ℤ
     at q c = where_true (b' q && a' c) (where_true (nat_lt q c) (columns_meet e c q))
@@ -103,8 +106,10 @@ rows_moved f g g' d e grid grid' rows marks a b a' b' of_a of_b =
     ∙ twice_same (size d) (λ r s. at (g r) (g s)) (λ r s. where_true (has_row d b s && has_row d a r) (rows_after d f g r s)) (λ r s in_r in_s.
     ap₂ (λ (t u : Bool). where_true (t && u) (where_true (nat_lt (g r) (g s)) (rows_meet e (g r) (g s)))) (class b b' of_b s in_s) (class a a' of_a r in_r)
     ∙ ap (λ (z : ℤ). where_true (has_row d b s && has_row d a r) (where_true (nat_lt (g r) (g s)) z))
-    (four_same (f (column_of Cross d s)) (f (column_of Ring d s)) (f (column_of Cross d r)) (f (column_of Ring d r)) (column_of Cross e (g s)) (column_of Ring e (g s)) (column_of Cross e (g r)) (column_of Ring e (g r))
-    (new_column_of f g d e grid grid' marks Cross s in_s) (new_column_of f g d e grid grid' marks Ring s in_s) (new_column_of f g d e grid grid' marks Cross r in_r) (new_column_of f g d e grid grid' marks Ring r in_r))))
+    (four_same (f (column_of Cross d s)) (f (column_of Ring d s)) (f (column_of Cross d r)) (f (column_of Ring d r)) (column_of Cross e (g s))
+    (column_of Ring e (g s)) (column_of Cross e (g r)) (column_of Ring e (g r))
+    (new_column_of f g d e grid grid' marks Cross s in_s) (new_column_of f g d e grid grid' marks Ring s in_s)
+    (new_column_of f g d e grid grid' marks Cross r in_r) (new_column_of f g d e grid grid' marks Ring r in_r))))
   where
     at : ℕ → ℕ → ℤ
     at r s = where_true (has_row e b' s && has_row e a' r) (where_true (nat_lt r s) (rows_meet e r s))

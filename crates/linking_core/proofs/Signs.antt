@@ -58,7 +58,8 @@ lies_between a b s na nb = record {
 -- the sign where a column with marks x, o on this side crosses a row with marks l, m on this side
 signed : (x o l m up right : Bool) → (x ≡ true → o ≡ false → up ≡ true) → (x ≡ false → o ≡ true → up ≡ false) → (m ≡ true → l ≡ false → right ≡ true)
     → (m ≡ false → l ≡ true → right ≡ false)
-    → where_true (one_of x o && one_of l m) (cross_product (record { x = pos 0; y = unit up }) (record { x = unit right; y = pos 0 })) ≡ where_true l (count x -ℤ count o) -ℤ where_true m (count x -ℤ count o)
+    → where_true (one_of x o && one_of l m) (cross_product (record { x = pos 0; y = unit up }) (record { x = unit right; y = pos 0 }))
+    ≡ where_true l (count x -ℤ count o) -ℤ where_true m (count x -ℤ count o)
 signed true true true true up right rises falls goes comes = refl
 signed true true true false up right rises falls goes comes = refl
 signed true true false true up right rises falls goes comes = refl
@@ -84,11 +85,13 @@ signed false false false false up right rises falls goes comes = refl
 sign_by_marks : (d : Diagram) → IsGrid d → (c r : ℕ) → c < size d → r < size d → c ≢ column_of Cross d r → c ≢ column_of Ring d r
     → where_true (crosses d c r) (sign d c r) ≡ passing d c r
 sign_by_marks d grid c r in_c in_r not_cross not_ring =
-    let column = lies_between (row_of Cross d c) (row_of Ring d c) r (λ e. not_cross (sym (column_is d grid Cross c r (record { inside = in_c; row = sym e })))) (λ e. not_ring (sym (column_is d grid Ring c r (record { inside = in_c; row = sym e })))) in
+    let column = lies_between (row_of Cross d c) (row_of Ring d c) r (λ e. not_cross (sym (column_is d grid Cross c r (record { inside = in_c; row = sym e }))))
+    (λ e. not_ring (sym (column_is d grid Ring c r (record { inside = in_c; row = sym e })))) in
     let row = lies_between (column_of Cross d r) (column_of Ring d r) c not_cross not_ring in
     let back = lies_between (column_of Ring d r) (column_of Cross d r) c not_ring not_cross in
     ap₂ (λ t u. where_true (t && u) (sign d c r)) column.within row.within
-    ∙ signed (nat_lt (row_of Cross d c) r) (nat_lt (row_of Ring d c) r) (nat_lt (column_of Cross d r) c) (nat_lt (column_of Ring d r) c) (is_up d c) (is_rightward d r)
+    ∙ signed (nat_lt (row_of Cross d c) r) (nat_lt (row_of Ring d c) r) (nat_lt (column_of Cross d r) c) (nat_lt (column_of Ring d r) c) (is_up d c)
+    (is_rightward d r)
     column.rises column.falls back.rises back.falls
 
 -- the class of a component
@@ -100,7 +103,9 @@ under_both true true x y z same = same refl refl
 under_both true false x y z same = refl
 under_both false u x y z same = refl
 
-each_crossing : (d : Diagram) → IsGrid d → (i j : ℕ) → i ≢ j → (r : ℕ) → r < size d → (c : ℕ) → c < size d → where_true (row_component_number d r == j) (where_true (is_of d i c && crosses d c r) (sign d c r)) ≡ where_true (has_row d (is_of d j) r && is_of d i c) (passing d c r)
+each_crossing : (d : Diagram) → IsGrid d → (i j : ℕ) → i ≢ j → (r : ℕ) → r < size d → (c : ℕ) → c < size d
+    → where_true (row_component_number d r == j) (where_true (is_of d i c && crosses d c r) (sign d c r))
+    ≡ where_true (has_row d (is_of d j) r && is_of d i c) (passing d c r)
 each_crossing d grid i j ne r in_r c in_c =
     let own = row_component_is d grid r in_r in
     ap (λ (k : ℕ). where_true (k == j) (where_true (is_of d i c && crosses d c r) (sign d c r))) own.0
@@ -111,14 +116,20 @@ each_crossing d grid i j ne r in_r c in_c =
     (λ e. ne (sym of_column ∙ (ap (component_number d) e ∙ of_row)))
     (λ e. ne (sym of_column ∙ (ap (component_number d) e ∙ (sym own.1 ∙ (own.0 ∙ of_row))))))
 
-row_sum : (d : Diagram) → IsGrid d → (i j : ℕ) → i ≢ j → (r : ℕ) → r < size d → where_true (row_component_number d r == j) (total (size d) (λ c. where_true (is_of d i c && crosses d c r) (sign d c r))) ≡ total (size d) (λ c. where_true (has_row d (is_of d j) r && is_of d i c) (passing d c r))
+row_sum : (d : Diagram) → IsGrid d → (i j : ℕ) → i ≢ j → (r : ℕ) → r < size d
+    → where_true (row_component_number d r == j) (total (size d) (λ c. where_true (is_of d i c && crosses d c r) (sign d c r)))
+    ≡ total (size d) (λ c. where_true (has_row d (is_of d j) r && is_of d i c) (passing d c r))
 row_sum d grid i j ne r lt =
     sym (over_where (row_component_number d r == j) (λ c. where_true (is_of d i c && crosses d c r) (sign d c r)) (range_with_len 0 (size d)))
-    ∙ total_same (size d) (λ c. where_true (row_component_number d r == j) (where_true (is_of d i c && crosses d c r) (sign d c r))) (λ c. where_true (has_row d (is_of d j) r && is_of d i c) (passing d c r)) (each_crossing d grid i j ne r lt)
+    ∙ total_same (size d) (λ c. where_true (row_component_number d r == j) (where_true (is_of d i c && crosses d c r) (sign d c r)))
+    (λ c. where_true (has_row d (is_of d j) r && is_of d i c) (passing d c r)) (each_crossing d grid i j ne r lt)
 
 pub linking_by_crossings : (d : Diagram) → IsGrid d → (i j : ℕ) → i ≢ j → linking_number d i j ≡ by_crossings d (is_of d i) (is_of d j)
 linking_by_crossings d grid i j ne =
     sum_of_flat_map (signs_of_row d i) (filter (λ r. row_component_number d r == j) (range_with_len 0 (size d)))
     ∙ (over_filter (λ r. sum_of (signs_of_row d i r)) (λ r. row_component_number d r == j) (range_with_len 0 (size d))
-    ∙ total_same (size d) (λ r. where_true (row_component_number d r == j) (sum_of (signs_of_row d i r))) (λ r. total (size d) (λ c. where_true (has_row d (is_of d j) r && is_of d i c) (passing d c r)))
-    (λ r lt. ap (where_true (row_component_number d r == j)) (sum_of_map (λ c. sign d c r) (filter (λ c. is_of d i c && crosses d c r) (range_with_len 0 (size d))) ∙ over_filter (λ c. sign d c r) (λ c. is_of d i c && crosses d c r) (range_with_len 0 (size d))) ∙ row_sum d grid i j ne r lt))
+    ∙ total_same (size d) (λ r. where_true (row_component_number d r == j) (sum_of (signs_of_row d i r)))
+    (λ r. total (size d) (λ c. where_true (has_row d (is_of d j) r && is_of d i c) (passing d c r)))
+    (λ r lt. ap (where_true (row_component_number d r == j))
+    (sum_of_map (λ c. sign d c r) (filter (λ c. is_of d i c && crosses d c r) (range_with_len 0 (size d)))
+    ∙ over_filter (λ c. sign d c r) (λ c. is_of d i c && crosses d c r) (range_with_len 0 (size d))) ∙ row_sum d grid i j ne r lt))

@@ -69,7 +69,8 @@ columns_shift : (k : ℕ) (d e : Diagram) → IsGrid d → IsGrid e → ShiftsCo
 columns_shift k d e grid grid' shift = alike_by_sums d e grid grid' f back corr (record {
   equal = λ i j at_i at_j ne.
       columns_from_crossings e grid' (is_of e (named e f i)) (is_of e (named e f j)) (closed e grid' (named e f j))
-      ∙ (columns_moved f back unchanged d e turn shift.renumbered (is_of d i) (is_of d j) (is_of e (named e f i)) (is_of e (named e f j)) (moved d e grid grid' f back corr i at_i) (moved d e grid grid' f back corr j at_j)
+      ∙ (columns_moved f back unchanged d e turn shift.renumbered (is_of d i) (is_of d j) (is_of e (named e f i)) (is_of e (named e f j))
+      (moved d e grid grid' f back corr i at_i) (moved d e grid grid' f back corr j at_j)
       ∙ (columns_shifted_sum d grid k shift.most (is_of d i) (is_of d j) (closed d grid i) (closed d grid j)
       ∙ sym (columns_from_crossings d grid (is_of d i) (is_of d j) (closed d grid j))));
 })
@@ -90,13 +91,16 @@ rows_shift : (k : ℕ) (d e : Diagram) → IsGrid d → IsGrid e → ShiftsRows 
 rows_shift k d e grid grid' shift = alike_by_sums d e grid grid' unchanged unchanged corr (record {
   equal = λ i j at_i at_j ne.
       columns_from_crossings e grid' (is_of e (named e unchanged i)) (is_of e (named e unchanged j)) (closed e grid' (named e unchanged j))
-      ∙ (columns_moved unchanged unchanged (shifted (size d) k) d e (unchanged_renumbers (size d)) shift.renumbered (is_of d i) (is_of d j) (is_of e (named e unchanged i)) (is_of e (named e unchanged j)) (moved d e grid grid' unchanged unchanged corr i at_i) (moved d e grid grid' unchanged unchanged corr j at_j)
+      ∙ (columns_moved unchanged unchanged (shifted (size d) k) d e (unchanged_renumbers (size d)) shift.renumbered (is_of d i) (is_of d j)
+      (is_of e (named e unchanged i)) (is_of e (named e unchanged j)) (moved d e grid grid' unchanged unchanged corr i at_i)
+      (moved d e grid grid' unchanged unchanged corr j at_j)
       ∙ (rows_shifted_sum d grid k shift.most (is_of d i) (is_of d j)
       ∙ sym (columns_from_crossings d grid (is_of d i) (is_of d j) (closed d grid j))));
 })
   where
     corr : Corresponds d e unchanged unchanged
-    corr = renumbered_corresponds unchanged unchanged (shifted (size d) k) (shifted (size d) (size d - k)) d e grid grid' (unchanged_renumbers (size d)) (shift_renumbers (size d) k shift.least shift.most) shift.renumbered
+    corr = renumbered_corresponds unchanged unchanged (shifted (size d) k) (shifted (size d) (size d - k)) d e grid grid' (unchanged_renumbers (size d))
+        (shift_renumbers (size d) k shift.least shift.most) shift.renumbered
 
 -- neighbours trade places, and where one is of each component their order is of no account
 columns_trade : (c : ℕ) (d e : Diagram) → IsGrid d → IsGrid e → c + 1 < size d → Renumbered (exchanged c) unchanged d e
@@ -162,7 +166,8 @@ growth : (c : ℕ) (kind : Kind) (corner : Corner) (r : ℕ) (d e : Diagram) →
 growth c kind corner r d e grid grid' stab = alike_by_sums d e grid grid' forth (lowered c) corr (record {
   equal = λ i j at_i at_j ne.
       columns_from_crossings e grid' (is_of e (named e forth i)) (is_of e (named e forth j)) (closed e grid' (named e forth j))
-      ∙ (growth_sum kind place c r (r + corner_row corner) d e grid grows (is_of d i) (is_of d j) (is_of e (named e forth i)) (is_of e (named e forth j)) (disjoint d grid i j ne)
+      ∙ (growth_sum kind place c r (r + corner_row corner) d e grid grows (is_of d i) (is_of d j) (is_of e (named e forth i)) (is_of e (named e forth j))
+      (disjoint d grid i j ne)
       (class_moved d e grid grid' forth (lowered c) corr i at_i) (class_moved d e grid grid' forth (lowered c) corr j at_j) (own i at_i) (own j at_j)
       ∙ sym (columns_from_crossings d grid (is_of d i) (is_of d j) (closed d grid j)));
 })
@@ -185,7 +190,8 @@ growth c kind corner r d e grid grid' stab = alike_by_sums d e grid grid' forth 
     corr = growth_corresponds kind place c r (r + corner_row corner) d e grid grid' grows
 
     own : (i : ℕ) → Member i (components d) → is_of e (named e forth i) (fresh kind place) ≡ is_of d i c
-    own i at = ap (λ (k : ℕ). k == named e forth i) (fresh_component kind place c r (r + corner_row corner) d e grid' grows) ∙ class_moved d e grid grid' forth (lowered c) corr i at c stab.marked.inside
+    own i at = ap (λ (k : ℕ). k == named e forth i) (fresh_component kind place c r (r + corner_row corner) d e grid' grows)
+        ∙ class_moved d e grid grid' forth (lowered c) corr i at c stab.marked.inside
 
 -- every move
 pub step_alike : (d e : Diagram) (move : Move) → Step d move e → AreAlike d e

@@ -8,7 +8,7 @@ use Rattle.grid_core.specs.Parts.{column_of, column_span, ends}
 use Rattle.grid_moves.specs.Renumbered.{unchanged}
 use Rattle.grid_moves.specs.Exchange.{exchanged, MayExchange}
 use Rattle.grid_moves.proofs.Exchanged.{exchanged-twice, exchanged-below}
-use Rattle.linking_core.proofs.Sums.{total, where_true}
+use Rattle.linking_core.proofs.Sums.{total, where_true, where_zero}
 use Rattle.linking_core.proofs.Forms.{has_row, columns_meet, by_columns, rows_meet, by_rows}
 use Rattle.linking_core.proofs.Orders.{exchange_order, free_pairs}
 use Rattle.linking_core.proofs.Renumberings.{IsRenumbering, columns_after, rows_after, twice_same}
@@ -22,11 +22,7 @@ exchange_renumbers n i lt = record {
 }
 
 either_zero : (t u : Bool) (z : ℤ) → z ≡ pos 0 → where_true t z ≡ where_true u z
-either_zero t u z e = ap (where_true t) e ∙ (zero t ∙ (sym (zero u) ∙ ap (where_true u) (sym e)))
-  where
-    zero : (v : Bool) → where_true v (pos 0) ≡ pos 0
-    zero true = refl
-    zero false = refl
+either_zero t u z e = ap (where_true t) e ∙ (where_zero t ∙ (sym (where_zero u) ∙ ap (where_true u) (sym e)))
 
 -- two numbers that trade places, where nothing hangs on their order
 traded : (i p q : ℕ) (z : ℤ) → (p ≡ i → q ≡ i + 1 → z ≡ pos 0) → (p ≡ i + 1 → q ≡ i → z ≡ pos 0)

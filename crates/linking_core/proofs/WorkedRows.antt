@@ -3,6 +3,7 @@ use Rattle.std.proofs.Common.{◌≡◌, ◌∷◌, [], refl, pos, negsuc}
 use Rattle.grid_core.specs.Diagram.{Diagram}
 use Rattle.linking_core.specs.Component.{components, numbers_below}
 use Rattle.grid_core.specs.Crossing.{sign}
+use Rattle.grid_core.proofs.WorkedRows.{right_trefoil, left_trefoil}
 use Rattle.linking_core.specs.Linking.{signs, linking}
 
 -- the closure of the braid 2 -1 -1
@@ -16,12 +17,6 @@ hopf_link = record { x = 3 ∷ 2 ∷ 0 ∷ 1 ∷ 4 ∷ 5 ∷ []; o = 5 ∷ 4 ∷
 -- the closure of the braid 2
 abbrev pub two_unknots : Diagram
 two_unknots = record { x = 0 ∷ 1 ∷ 2 ∷ 3 ∷ []; o = 3 ∷ 2 ∷ 1 ∷ 0 ∷ [] }
-
-abbrev pub right_trefoil : Diagram
-right_trefoil = record { x = 4 ∷ 3 ∷ 2 ∷ 1 ∷ 0 ∷ []; o = 2 ∷ 1 ∷ 0 ∷ 4 ∷ 3 ∷ [] }
-
-abbrev pub left_trefoil : Diagram
-left_trefoil = record { x = 0 ∷ 1 ∷ 2 ∷ 3 ∷ 4 ∷ []; o = 2 ∷ 3 ∷ 4 ∷ 0 ∷ 1 ∷ [] }
 
 two_components : components negative_link ≡ 0 ∷ 1 ∷ []
 two_components = refl

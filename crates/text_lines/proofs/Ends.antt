@@ -35,7 +35,8 @@ abbrev pub is_remark : List ℕ → Bool
 is_remark [] = true
 is_remark (b ∷ bs) = b == 35
 
-skipped_by : (b : ℕ) (bs : List ℕ) → is_skipped bs ≡ is_remark (after_blanks bs) → (t : Bool) → is_blank b ≡ t → is_skipped (b ∷ bs) ≡ is_remark (after_blanks (b ∷ bs))
+skipped_by : (b : ℕ) (bs : List ℕ) → is_skipped bs ≡ is_remark (after_blanks bs) → (t : Bool) → is_blank b ≡ t
+    → is_skipped (b ∷ bs) ≡ is_remark (after_blanks (b ∷ bs))
 skipped_by b bs rest true is = rw is rest
 skipped_by b bs rest false is = rw is refl
 

@@ -9,7 +9,8 @@ use Rattle.text_lines.specs.Cut.{after_blanks, first_token, behind_token}
 
 -- ---- blanks in front
 
-tokens_by : (b : ℕ) (bs : List ℕ) → tokens_of (after_blanks bs) ≡ tokens_of bs → (t : Bool) → is_blank b ≡ t → tokens_of (after_blanks (b ∷ bs)) ≡ tokens_of (b ∷ bs)
+tokens_by : (b : ℕ) (bs : List ℕ) → tokens_of (after_blanks bs) ≡ tokens_of bs → (t : Bool) → is_blank b ≡ t
+    → tokens_of (after_blanks (b ∷ bs)) ≡ tokens_of (b ∷ bs)
 tokens_by b bs rest true is =
     let behind : after_blanks (b ∷ bs) ≡ after_blanks bs = rw is refl in
     let same : tokens_of (b ∷ bs) ≡ tokens_of bs = rw is refl in
@@ -39,7 +40,8 @@ behind_more b bs is =
 abbrev cut : List ℕ → List (List ℕ)
 cut bytes = first_token bytes ∷ tokens_of (behind_token bytes)
 
-more : (b c : ℕ) (cs : List ℕ) → is_blank b ≡ false → (is_blank c ≡ false → tokens_of (c ∷ cs) ≡ cut (c ∷ cs)) → (t : Bool) → is_blank c ≡ t → tokens_of (b ∷ c ∷ cs) ≡ cut (b ∷ c ∷ cs)
+more : (b c : ℕ) (cs : List ℕ) → is_blank b ≡ false → (is_blank c ≡ false → tokens_of (c ∷ cs) ≡ cut (c ∷ cs)) → (t : Bool) → is_blank c ≡ t
+    → tokens_of (b ∷ c ∷ cs) ≡ cut (b ∷ c ∷ cs)
 more b c cs here next true is =
     let one : tokens_of (b ∷ c ∷ cs) ≡ (b ∷ []) ∷ tokens_of (c ∷ cs) = rw (here, is) refl in
     let at : position_or_len is_blank (b ∷ c ∷ cs) ≡ 1 = rw (here, is) refl in
@@ -57,7 +59,8 @@ token_cut b (c ∷ cs) here = more b c cs here (λ is. token_cut c cs is) (is_bl
 abbrev cut_of : List ℕ → List (List ℕ)
 cut_of bytes = cut (after_blanks bytes)
 
-cut_by : (b : ℕ) (bs : List ℕ) → (0 < length (after_blanks bs) → tokens_of bs ≡ cut_of bs) → (t : Bool) → is_blank b ≡ t → 0 < length (after_blanks (b ∷ bs)) → tokens_of (b ∷ bs) ≡ cut_of (b ∷ bs)
+cut_by : (b : ℕ) (bs : List ℕ) → (0 < length (after_blanks bs) → tokens_of bs ≡ cut_of bs) → (t : Bool) → is_blank b ≡ t → 0 < length (after_blanks (b ∷ bs))
+    → tokens_of (b ∷ bs) ≡ cut_of (b ∷ bs)
 cut_by b bs rest true is some =
     let same : after_blanks (b ∷ bs) ≡ after_blanks bs = rw is refl in
     let one : tokens_of (b ∷ bs) ≡ tokens_of bs = rw is refl in
@@ -66,7 +69,8 @@ cut_by b bs rest false is some =
     let same : after_blanks (b ∷ bs) ≡ b ∷ bs = rw is refl in
     token_cut b bs is ∙ ap cut (sym same)
 
-pub next_cut : (bytes : List ℕ) → 0 < length (after_blanks bytes) → tokens_of bytes ≡ first_token (after_blanks bytes) ∷ tokens_of (behind_token (after_blanks bytes))
+pub next_cut : (bytes : List ℕ) → 0 < length (after_blanks bytes)
+    → tokens_of bytes ≡ first_token (after_blanks bytes) ∷ tokens_of (behind_token (after_blanks bytes))
 next_cut [] some = absurd (omega (arith, some))
 next_cut (b ∷ bs) some = cut_by b bs (next_cut bs) (is_blank b) refl some
 

@@ -6,7 +6,8 @@ use Rattle.text_lines.specs.Lines.{lines_of, are_whole_lines, kept_lines, text_f
 last_by : (b : ℕ) → (b == 10) ≡ false → lines_of (b ∷ 10 ∷ []) ≡ lines_of (b ∷ [])
 last_by b is = rw is refl
 
-more_by : (b c : ℕ) (bs : List ℕ) → lines_of ((c ∷ bs) ++ 10 ∷ []) ≡ lines_of (c ∷ bs) → (t : Bool) → (b == 10) ≡ t → lines_of ((b ∷ c ∷ bs) ++ 10 ∷ []) ≡ lines_of (b ∷ c ∷ bs)
+more_by : (b c : ℕ) (bs : List ℕ) → lines_of ((c ∷ bs) ++ 10 ∷ []) ≡ lines_of (c ∷ bs) → (t : Bool) → (b == 10) ≡ t
+    → lines_of ((b ∷ c ∷ bs) ++ 10 ∷ []) ≡ lines_of (b ∷ c ∷ bs)
 more_by b c bs rest true is =
     let one : lines_of (b ∷ ((c ∷ bs) ++ 10 ∷ [])) ≡ [] ∷ lines_of ((c ∷ bs) ++ 10 ∷ []) = rw is refl in
     let two : lines_of (b ∷ c ∷ bs) ≡ [] ∷ lines_of (c ∷ bs) = rw is refl in

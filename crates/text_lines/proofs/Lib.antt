@@ -2,7 +2,7 @@ mod FirstLine
 mod FirstToken
 mod Ends
 mod Steps
-mod Digits
+pub mod Digits
 pub mod Parted
 pub mod LastFeed
 pub mod Written

@@ -1,5 +1,5 @@
 -- A number has one spelling, and it is read again.
-use Rattle.std.proofs.Common.{◌≡◌, ◌<◌, ◌≤◌, ◌^◌, ◌⊎◌, inl, inr, ◌==◌, ℕ, zero, suc, Bool, true, false, cond, List, [], ◌∷◌, length, slice_index, Some, None, nat_lt, arith, refl, sym, ap, ◌∙◌}
+use Rattle.std.proofs.Common.{◌≡◌, ◌<◌, ◌≤◌, ◌^◌, ◌⊎◌, inl, inr, ◌==◌, ℕ, zero, suc, Bool, true, false, cond, List, [], ◌∷◌, length, slice_index, Some, nat_lt, arith, refl, sym, ap, ◌∙◌}
 use Rattle.std.specs.Fmt.{decimal}
 use Rattle.std.specs.List.{list_all}
 use Rattle.std.specs.Char.{digit_value}
@@ -10,6 +10,7 @@ use Rattle.std.proofs.lemmas.Fmt.{decimal_is_IsNumeral, decimal-digits_value, de
 use Rattle.std.proofs.lemmas.Int.Digits.{digits_value-lt}
 use Rattle.std.proofs.lemmas.Str.Parse.{IsNumeralModel, digit_from_value}
 use Rattle.std.proofs.Math.Nat.{pow-le-pow_right}
+use Rattle.std.proofs.lemmas.Option.{cond_some}
 use Rattle.text_lines.specs.declared.numbers.TheConstants.{MAX_DIGITS, OVERLONG}
 use Rattle.text_lines.specs.Numbers.{is_digit, is_number, number_of}
 use Rattle.text_lines.proofs.Digits.{number_digits}
@@ -25,7 +26,7 @@ record HasForm (token : List ℕ) : Type 0 where
   zero_alone : slice_index token 0 ≡ 48 → length token ≡ 1
   digits : AllDigits 10 token
 
-zero_by : (d : ℕ) (ds : List ℕ) → is_number (d ∷ ds) ≡ true → d ≡ 48 → length (d ∷ ds) ≡ 1
+pub zero_by : (d : ℕ) (ds : List ℕ) → is_number (d ∷ ds) ≡ true → d ≡ 48 → length (d ∷ ds) ≡ 1
 zero_by d ds is first =
     let alone : (length ds == 0) ≡ true = rw first at is in
     omega (arith, eqb-true (length ds) 0 alone)
@@ -59,14 +60,11 @@ pub decimal_read : (n : ℕ) → n < 1000000000 → number_of (decimal n) ≡ So
 decimal_read n small =
     let is = decimal_is_IsNumeral n (omega arith) in
     let form : is_number (decimal n) ≡ true = number_test (decimal n) (decimal_nonempty n (omega arith)) is.0.1 (zero_decimal n small) in
-    let short : nat_lt MAX_DIGITS (length (decimal n)) ≡ false = le-ltb MAX_DIGITS (length (decimal n)) (length-decimal-le 9 n (omega arith) (omega arith) (omega arith)) in
+    let short : nat_lt MAX_DIGITS (length (decimal n)) ≡ false =
+    le-ltb MAX_DIGITS (length (decimal n)) (length-decimal-le 9 n (omega arith) (omega arith) (omega arith)) in
     rw (form, short) (ap (λ (v : ℕ). Some v) is.1)
 
 -- ---- the one spelling
-
-cond_some : {A : Type 0} (b : Bool) (x y : A) → cond b (Some x) None ≡ Some y → (b ≡ true) × (x ≡ y)
-cond_some true x y e = (refl, cc)
-cond_some false x y e = absurd cc
 
 -- what was read: a short number and its value, or a long one
 abbrev Reads : List ℕ → ℕ → Type 0

@@ -33,7 +33,8 @@ lines_parted [] back whole = refl
 lines_parted (b ∷ []) back whole = last_by b back whole
 lines_parted (b ∷ c ∷ bs) back whole = more_by b c bs back (lines_parted (c ∷ bs) back whole) (b == 10) refl
 
-kept_by : (n : ℕ) (line : List ℕ) (xs ys : List (List ℕ)) → kept_lines (n + 1) (xs ++ ys) ≡ kept_lines (n + 1) xs ++ kept_lines (n + length (line ∷ xs)) ys → (t : Bool) → is_skipped (trimmed line) ≡ t
+kept_by : (n : ℕ) (line : List ℕ) (xs ys : List (List ℕ)) → kept_lines (n + 1) (xs ++ ys) ≡ kept_lines (n + 1) xs ++ kept_lines (n + length (line ∷ xs)) ys
+    → (t : Bool) → is_skipped (trimmed line) ≡ t
     → kept_lines n ((line ∷ xs) ++ ys) ≡ kept_lines n (line ∷ xs) ++ kept_lines (n + length (line ∷ xs)) ys
 kept_by n line xs ys rest true is =
     let one : kept_lines n (line ∷ (xs ++ ys)) ≡ kept_lines (n + 1) (xs ++ ys) = rw is refl in
@@ -42,7 +43,8 @@ kept_by n line xs ys rest true is =
 kept_by n line xs ys rest false is =
     let one : kept_lines n (line ∷ (xs ++ ys)) ≡ record { number = n + 1; tokens = tokens_of (trimmed line) } ∷ kept_lines (n + 1) (xs ++ ys) = rw is refl in
     let two : kept_lines n (line ∷ xs) ≡ record { number = n + 1; tokens = tokens_of (trimmed line) } ∷ kept_lines (n + 1) xs = rw is refl in
-    one ∙ ap (λ (ls : List NumberedLine). record { number = n + 1; tokens = tokens_of (trimmed line) } ∷ ls) rest ∙ sym (ap (λ (ls : List NumberedLine). ls ++ kept_lines (n + length (line ∷ xs)) ys) two)
+    one ∙ ap (λ (ls : List NumberedLine). record { number = n + 1; tokens = tokens_of (trimmed line) } ∷ ls) rest
+    ∙ sym (ap (λ (ls : List NumberedLine). ls ++ kept_lines (n + length (line ∷ xs)) ys) two)
 
 pub kept_parted : (n : ℕ) (xs ys : List (List ℕ)) → kept_lines n (xs ++ ys) ≡ kept_lines n xs ++ kept_lines (n + length xs) ys
 kept_parted n [] ys = let e : n ≡ n + 0 = omega arith in ap (λ (k : ℕ). kept_lines k ys) e

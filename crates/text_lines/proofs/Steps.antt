@@ -8,14 +8,16 @@ use Rattle.text_lines.proofs.FirstLine.{line_cut_some}
 -- the place where the text ends is the same
 pub ending_cut : (n : ℕ) (bytes : List ℕ) → 0 < length bytes → (text_from n bytes).ending ≡ (text_from (n + 1) (behind_line bytes)).ending
 ending_cut n bytes some =
-    let e : length (lines_of bytes) ≡ length (lines_of (behind_line bytes)) + 1 = ap (λ (ls : List (List ℕ)). length ls) (line_cut_some bytes some) ∙ omega arith in
+    let e : length (lines_of bytes) ≡ length (lines_of (behind_line bytes)) + 1 =
+    ap (λ (ls : List (List ℕ)). length ls) (line_cut_some bytes some) ∙ omega arith in
     omega arith
 
 kept_cut : (n : ℕ) (bytes : List ℕ) → 0 < length bytes → kept_lines n (lines_of bytes) ≡ kept_lines n (first_line bytes ∷ lines_of (behind_line bytes))
 kept_cut n bytes some = ap (kept_lines n) (line_cut_some bytes some)
 
 -- a line that is passed over
-pub text_skipped : (n : ℕ) (bytes : List ℕ) → 0 < length bytes → is_skipped (trimmed (first_line bytes)) ≡ true → text_from n bytes ≡ text_from (n + 1) (behind_line bytes)
+pub text_skipped : (n : ℕ) (bytes : List ℕ) → 0 < length bytes → is_skipped (trimmed (first_line bytes)) ≡ true
+    → text_from n bytes ≡ text_from (n + 1) (behind_line bytes)
 text_skipped n bytes some is =
     let kept : kept_lines n (lines_of bytes) ≡ kept_lines (n + 1) (lines_of (behind_line bytes)) = kept_cut n bytes some ∙ rw is refl in
     ap₂ (λ (ls : List NumberedLine) (k : ℕ). record { lines = ls; ending = k }) kept (ending_cut n bytes some)

@@ -62,7 +62,8 @@ trimmed_inline (b ∷ c ∷ bs) is =
 plain_not_blank : (b : ℕ) → is_plain b ≡ true → is_blank b ≡ false
 plain_not_blank b is = not-true (is_blank b) (and_parts (not (is_blank b)) (is_inline b) is).0
 
-word_token : (b : ℕ) (bs rest : List ℕ) → is_plain b ≡ true → list_all is_plain bs ≡ true → is_token_end rest ≡ true → tokens_of (b ∷ (bs ++ rest)) ≡ (b ∷ bs) ∷ tokens_of rest
+word_token : (b : ℕ) (bs rest : List ℕ) → is_plain b ≡ true → list_all is_plain bs ≡ true → is_token_end rest ≡ true
+    → tokens_of (b ∷ (bs ++ rest)) ≡ (b ∷ bs) ∷ tokens_of rest
 word_token b [] rest here all ends =
     let other = plain_not_blank b here in
     rw (other, ends) refl
@@ -73,7 +74,8 @@ word_token b (c ∷ cs) rest here all ends =
     let one : tokens_of (b ∷ (c ∷ (cs ++ rest))) ≡ onto b (tokens_of (c ∷ (cs ++ rest))) = rw (other, goes_on) refl in
     one ∙ ap (onto b) (word_token c cs rest h.0 h.1 ends)
 
-word_then : (token rest : List ℕ) (tokens : List (List ℕ)) → is_word token ≡ true → is_token_end rest ≡ true → tokens_of rest ≡ tokens → tokens_of (token ++ rest) ≡ token ∷ tokens
+word_then : (token rest : List ℕ) (tokens : List (List ℕ)) → is_word token ≡ true → is_token_end rest ≡ true → tokens_of rest ≡ tokens
+    → tokens_of (token ++ rest) ≡ token ∷ tokens
 word_then [] rest tokens is ends same = absurd cc
 word_then (b ∷ bs) rest tokens is ends same =
     let h = and_parts (is_plain b) (list_all is_plain bs) is in
@@ -113,13 +115,15 @@ written ((b ∷ bs) ∷ ts) is =
 line_lines : (tokens : List (List ℕ)) (more : List ℕ) → is_line tokens ≡ true → lines_of (line_text tokens ++ more) ≡ line_bytes tokens ∷ lines_of more
 line_lines tokens more is = ap lines_of (append_assoc (line_bytes tokens) (codes "\n") more) ∙ feed_line (line_bytes tokens) more (written tokens is).inline
 
-line_kept : (n : ℕ) (tokens : List (List ℕ)) (rest : List (List ℕ)) → is_line tokens ≡ true → kept_lines n (line_bytes tokens ∷ rest) ≡ record { number = n + 1; tokens = tokens } ∷ kept_lines (n + 1) rest
+line_kept : (n : ℕ) (tokens : List (List ℕ)) (rest : List (List ℕ)) → is_line tokens ≡ true
+    → kept_lines n (line_bytes tokens ∷ rest) ≡ record { number = n + 1; tokens = tokens } ∷ kept_lines (n + 1) rest
 line_kept n tokens rest is =
     let w = written tokens is in
     let same = trimmed_inline (line_bytes tokens) w.inline in
     let kept : is_skipped (trimmed (line_bytes tokens)) ≡ false = ap is_skipped same ∙ w.kept in
     let cut : tokens_of (trimmed (line_bytes tokens)) ≡ tokens = ap tokens_of same ∙ w.cut in
-    let one : kept_lines n (line_bytes tokens ∷ rest) ≡ record { number = n + 1; tokens = tokens_of (trimmed (line_bytes tokens)) } ∷ kept_lines (n + 1) rest = rw kept refl in
+    let one : kept_lines n (line_bytes tokens ∷ rest) ≡ record { number = n + 1; tokens = tokens_of (trimmed (line_bytes tokens)) } ∷ kept_lines (n + 1) rest =
+    rw kept refl in
     one ∙ ap (λ (ts : List (List ℕ)). record { number = n + 1; tokens = ts } ∷ kept_lines (n + 1) rest) cut
 
 -- ---- lines
@@ -128,22 +132,30 @@ line_kept n tokens rest is =
 abbrev pub lines_then : ℕ → List (List (List ℕ)) → List ℕ → Text
 lines_then n lines more = record { lines = numbered n lines ++ (text_from (n + length lines) more).lines; ending = (text_from (n + length lines) more).ending }
 
-lines_step : (n : ℕ) (tokens : List (List ℕ)) (lines : List (List (List ℕ))) (more : List ℕ) → is_line tokens ≡ true → text_from (n + 1) (lines_text lines ++ more) ≡ lines_then (n + 1) lines more
+lines_step : (n : ℕ) (tokens : List (List ℕ)) (lines : List (List (List ℕ))) (more : List ℕ) → is_line tokens ≡ true
+    → text_from (n + 1) (lines_text lines ++ more) ≡ lines_then (n + 1) lines more
     → text_from n (lines_text (tokens ∷ lines) ++ more) ≡ lines_then n (tokens ∷ lines) more
 lines_step n tokens lines more is rest =
     let after = lines_text lines ++ more in
-    let regrouped : lines_text (tokens ∷ lines) ++ more ≡ line_text tokens ++ after = ap (λ (t : List ℕ). t ++ more) (flat_map-cons line_text tokens lines) ∙ append_assoc (line_text tokens) (lines_text lines) more in
+    let regrouped : lines_text (tokens ∷ lines) ++ more ≡ line_text tokens ++ after =
+    ap (λ (t : List ℕ). t ++ more) (flat_map-cons line_text tokens lines) ∙ append_assoc (line_text tokens) (lines_text lines) more in
     let here = line_lines tokens after is in
-    let kept : (text_from n (line_text tokens ++ after)).lines ≡ record { number = n + 1; tokens = tokens } ∷ (text_from (n + 1) after).lines = ap (kept_lines n) here ∙ line_kept n tokens (lines_of after) is in
+    let kept : (text_from n (line_text tokens ++ after)).lines ≡ record { number = n + 1; tokens = tokens } ∷ (text_from (n + 1) after).lines =
+    ap (kept_lines n) here ∙ line_kept n tokens (lines_of after) is in
     let count = ap (λ (ls : List (List ℕ)). length ls) here in
     let ends : (text_from n (line_text tokens ++ after)).ending ≡ (text_from (n + 1) after).ending = omega (arith, count) in
     let k : n + 1 + length lines ≡ n + length (tokens ∷ lines) = omega arith in
     ap (text_from n) regrouped
     ∙ ap₂ (λ (ls : List NumberedLine) (e : ℕ). record { lines = ls; ending = e }) kept ends
     ∙ ap (λ (t : Text). record { lines = record { number = n + 1; tokens = tokens } ∷ t.lines; ending = t.ending }) rest
-    ∙ ap (λ (j : ℕ). record { lines = record { number = n + 1; tokens = tokens } ∷ (numbered (n + 1) lines ++ (text_from j more).lines); ending = (text_from j more).ending }) k
+    ∙ ap (λ (j : ℕ). record {
+      lines = record { number = n + 1; tokens = tokens } ∷ (numbered
+          (n + 1) lines ++ (text_from j more).lines);
+      ending = (text_from j more).ending;
+    }) k
 
-pub lines_read : (n : ℕ) (lines : List (List (List ℕ))) (more : List ℕ) → list_all is_line lines ≡ true → text_from n (lines_text lines ++ more) ≡ lines_then n lines more
+pub lines_read : (n : ℕ) (lines : List (List (List ℕ))) (more : List ℕ) → list_all is_line lines ≡ true
+    → text_from n (lines_text lines ++ more) ≡ lines_then n lines more
 lines_read n [] more all = let e : n ≡ n + 0 = omega arith in ap (λ (j : ℕ). text_from j more) e
 lines_read n (tokens ∷ lines) more all =
     let h = and_parts (is_line tokens) (list_all is_line lines) all in

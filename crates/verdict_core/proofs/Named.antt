@@ -1,6 +1,7 @@
 -- What a name names.
-use Rattle.std.proofs.Common.{◌≡◌, ◌≢◌, ◌≤◌, ◌&&◌, Bool, true, false, ℕ, Some, None, cond, refl, sym, subst, nat_le}
+use Rattle.std.proofs.Common.{◌≡◌, ◌≢◌, ◌≤◌, ◌&&◌, true, ℕ, Some, refl, sym, subst, nat_le}
 use Rattle.std.proofs.lemmas.Bool.{le-leb, leb-true, and_parts, and_from}
+use Rattle.std.proofs.lemmas.Option.{cond_some}
 use Rattle.quandle_core.specs.declared.quandle.TheConstants.{MAX_ORDER}
 use Rattle.quandle_core.specs.Quandle.{Table, IsQuandle}
 use Rattle.quandle_core.specs.Tables.{trivial, dihedral, alexander, tetrahedral, is_unit}
@@ -27,7 +28,7 @@ order_is n test =
     let both = and_parts (nat_le 1 n) (nat_le n MAX_ORDER) test in
     (leb-true 1 n both.0, leb-true n MAX_ORDER both.1)
 
-is_order_of : (n : ℕ) → IsOrder n → is_order n ≡ true
+pub is_order_of : (n : ℕ) → IsOrder n → is_order n ≡ true
 is_order_of n is = and_from (nat_le 1 n) (nat_le n MAX_ORDER) (le-leb 1 n is.0) (le-leb n MAX_ORDER is.1)
 
 -- ---- the one quandle of a name
@@ -36,22 +37,18 @@ is_order_of n is = and_from (nat_le 1 n) (nat_le n MAX_ORDER) (le-leb 1 n is.0) 
 abbrev pub IsNamedSo : QuandleName → NamedQuandle → Type 0
 IsNamedSo n q = (n ≢ name.Table) × ((q.name ≡ n) × Names n q.table)
 
-pub some_if : {A : Type 0} (b : Bool) (x y : A) → cond b (Some x) None ≡ Some y → (b ≡ true) × (x ≡ y)
-some_if true x y e = (refl, cc)
-some_if false x y e = absurd cc
-
 pub named_so : (n : QuandleName) (q : NamedQuandle) → quandle_named n ≡ Some q → IsNamedSo n q
 named_so (name.Trivial n) q e =
-    let c = some_if (is_order n) (called (name.Trivial n) (trivial n)) q e in
+    let c = cond_some (is_order n) (called (name.Trivial n) (trivial n)) q e in
     subst (IsNamedSo (name.Trivial n)) c.1 ((λ no. cc), (refl, (order_is n c.0, refl)))
 named_so (name.Dihedral n) q e =
-    let c = some_if (is_order n) (called (name.Dihedral n) (dihedral n)) q e in
+    let c = cond_some (is_order n) (called (name.Dihedral n) (dihedral n)) q e in
     subst (IsNamedSo (name.Dihedral n)) c.1 ((λ no. cc), (refl, (order_is n c.0, refl)))
 named_so name.Tetrahedral q e =
-    let c = some_if true (called name.Tetrahedral tetrahedral) q e in
+    let c = cond_some true (called name.Tetrahedral tetrahedral) q e in
     subst (IsNamedSo name.Tetrahedral) c.1 ((λ no. cc), (refl, refl))
 named_so (name.Alexander n a) q e =
-    let c = some_if (is_order n && is_unit n a) (called (name.Alexander n a) (alexander n a)) q e in
+    let c = cond_some (is_order n && is_unit n a) (called (name.Alexander n a) (alexander n a)) q e in
     let both = and_parts (is_order n) (is_unit n a) c.0 in
     subst (IsNamedSo (name.Alexander n a)) c.1 ((λ no. cc), (refl, (order_is n both.0, both.1, refl)))
 named_so name.Table q e = absurd cc

@@ -3,6 +3,7 @@ use crate::diagrams::Diagram;
 use crate::names::{Listed, QuandleName};
 use braid_core::Braid;
 use grid_core::{Grid, Kind};
+use quandle_core::MAX_ORDER;
 use std::test::Fail;
 
 #[test]
@@ -29,20 +30,23 @@ fn a_grid_stands_for_itself(rt: HostRuntime) -> Result<(), Fail> {
     Ok(())
 }
 
+/// The largest order.
+const MOST: u8 = MAX_ORDER as u8;
+
 #[test]
 fn names_have_a_quandle_of_this_order_or_none(rt: HostRuntime) -> Result<(), Fail> {
     let rows: [(QuandleName, Option<u8>); 12] = [
         (QuandleName::Trivial(0), None),
         (QuandleName::Trivial(1), Some(1)),
-        (QuandleName::Trivial(16), Some(16)),
-        (QuandleName::Trivial(17), None),
+        (QuandleName::Trivial(MOST), Some(MOST)),
+        (QuandleName::Trivial(MOST + 1), None),
         (QuandleName::Dihedral(0), None),
         (QuandleName::Dihedral(7), Some(7)),
         (QuandleName::Dihedral(255), None),
         (QuandleName::Tetrahedral, Some(4)),
         (QuandleName::Alexander(4, 2), None),
         (QuandleName::Alexander(4, 3), Some(4)),
-        (QuandleName::Alexander(17, 1), None),
+        (QuandleName::Alexander(MOST + 1, 1), None),
         (QuandleName::Table, None),
     ];
     for (name, order) in rows {

@@ -17,11 +17,14 @@ loop-done-preserved c =
     let column = c.size-size.result - 1 - done in
     elim c.if-not-is_up.branch [
       | then-not-is_up w ↦ (
-        listed_in (passed_back t) p (size d) done column c.args.colours.now c.loop-done.colours c.if-not-is_up.colours (omega arith) (omega arith) (ap not (sym c.is_up.ensures ∙ w.if-not-is_up.true)) c.loop-done.invariant.0 (w.colours-is ∙ w.pass_back.ensures),
-        subst (AreColours (size d) t.order) (sym (w.colours-is ∙ w.pass_back.ensures)) ((passes_undo t c.order-order.ensures.quandle (size d) column (omega arith)).fro c.loop-done.colours c.loop-done.invariant.1),
+        listed_in (passed_back t) p (size d) done column c.args.colours.now c.loop-done.colours c.if-not-is_up.colours (omega arith) (omega arith)
+            (ap not (sym c.is_up.ensures ∙ w.if-not-is_up.true)) c.loop-done.invariant.0 (w.colours-is ∙ w.pass_back.ensures),
+        subst (AreColours (size d) t.order) (sym (w.colours-is ∙ w.pass_back.ensures))
+            ((passes_undo t c.order-order.ensures.quandle (size d) column (omega arith)).fro c.loop-done.colours c.loop-done.invariant.1),
       )
       | else-not-is_up w ↦ (
-        listed_out (passed_back t) p (size d) done column c.args.colours.now c.loop-done.colours c.if-not-is_up.colours (omega arith) (omega arith) (ap not (sym c.is_up.ensures ∙ w.if-not-is_up.false)) c.loop-done.invariant.0 w.colours-is,
+        listed_out (passed_back t) p (size d) done column c.args.colours.now c.loop-done.colours c.if-not-is_up.colours (omega arith) (omega arith)
+            (ap not (sym c.is_up.ensures ∙ w.if-not-is_up.false)) c.loop-done.invariant.0 w.colours-is,
         subst (AreColours (size d) t.order) (sym w.colours-is) c.loop-done.invariant.1,
       )
     ]

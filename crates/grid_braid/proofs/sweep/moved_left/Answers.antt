@@ -16,13 +16,15 @@ loop-done-preserved c =
     let column = right - 1 - done in
     elim c.if-is_strand.branch [
       | then-is_strand w ↦ (
-        returned_in (over t) e p right done column c.args.start c.loop-done.colour c.if-is_strand.colour (omega arith) refl (sym c.is_strand.ensures ∙ w.if-is_strand.true) c.loop-done.invariant.0 (w.colour-is ∙ w.over-colour.ensures),
+        returned_in (over t) e p right done column c.args.start c.loop-done.colour c.if-is_strand.colour (omega arith) refl
+            (sym c.is_strand.ensures ∙ w.if-is_strand.true) c.loop-done.invariant.0 (w.colour-is ∙ w.over-colour.ensures),
         subst (λ (y : ℕ). y < t.order) (sym (w.colour-is ∙ w.over-colour.ensures))
             (c.order-order.ensures.quandle.within c.loop-done.colour (e column) c.loop-done.invariant.1
             (All-get_or (λ y. y < t.order) c.args.colours.now column 0 (omega (arith, c.requires.colours.0, c.ends-left.ensures.within)) c.requires.colours.1)),
       )
       | else-is_strand w ↦ (
-        returned_out (over t) e p right done column c.args.start c.loop-done.colour c.if-is_strand.colour (omega arith) refl (sym c.is_strand.ensures ∙ w.if-is_strand.false) c.loop-done.invariant.0 w.colour-is,
+        returned_out (over t) e p right done column c.args.start c.loop-done.colour c.if-is_strand.colour (omega arith) refl
+            (sym c.is_strand.ensures ∙ w.if-is_strand.false) c.loop-done.invariant.0 w.colour-is,
         subst (λ (y : ℕ). y < t.order) (sym w.colour-is) c.loop-done.invariant.1,
       )
     ]

@@ -15,13 +15,15 @@ loop-column-preserved c =
     let column = c.loop-column.column in
     elim c.if-is_strand.branch [
       | then-is_strand w ↦ (
-        passed_in (back t) e p from column c.args.start c.loop-column.colour c.if-is_strand.colour (omega arith) (sym c.is_strand.ensures ∙ w.if-is_strand.true) c.loop-column.invariant.0 (w.colour-is ∙ w.back-colour.ensures),
+        passed_in (back t) e p from column c.args.start c.loop-column.colour c.if-is_strand.colour (omega arith)
+            (sym c.is_strand.ensures ∙ w.if-is_strand.true) c.loop-column.invariant.0 (w.colour-is ∙ w.back-colour.ensures),
         subst (λ (y : ℕ). y < t.order) (sym (w.colour-is ∙ w.back-colour.ensures))
             (c.order-order.ensures.quandle.back_within c.loop-column.colour (e column) c.loop-column.invariant.1
             (All-get_or (λ y. y < t.order) c.args.colours.now column 0 (omega (arith, c.requires.colours.0, c.ends-left.ensures.within)) c.requires.colours.1)),
       )
       | else-is_strand w ↦ (
-        passed_out (back t) e p from column c.args.start c.loop-column.colour c.if-is_strand.colour (omega arith) (sym c.is_strand.ensures ∙ w.if-is_strand.false) c.loop-column.invariant.0 w.colour-is,
+        passed_out (back t) e p from column c.args.start c.loop-column.colour c.if-is_strand.colour (omega arith)
+            (sym c.is_strand.ensures ∙ w.if-is_strand.false) c.loop-column.invariant.0 w.colour-is,
         subst (λ (y : ℕ). y < t.order) (sym w.colour-is) c.loop-column.invariant.1,
       )
     ]

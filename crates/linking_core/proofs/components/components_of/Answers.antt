@@ -20,7 +20,8 @@ loop-c-preserved c =
             rw w.found-is (omega (arith, w.push.ensures.len)),
           )
       | else-number_of-c w ↦
-          let all = more ∙ ap (λ (b : Bool). before ++ cond b (n ∷ []) []) (ne_eqb (component_number d n) n (λ e. w.if-number_of-c.false (c.number_of.ensures ∙ e))) in (
+          let all = more ∙ ap (λ (b : Bool). before ++ cond b (n ∷ []) [])
+          (ne_eqb (component_number d n) n (λ e. w.if-number_of-c.false (c.number_of.ensures ∙ e))) in (
             rw w.found-is (c.loop-c.invariant.0 ∙ sym (all ∙ append-nil before)),
             rw w.found-is (omega arith),
           )

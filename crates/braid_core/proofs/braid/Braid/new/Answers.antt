@@ -1,11 +1,8 @@
-use Rattle.std.proofs.Common.{◌≡◌, ◌∙◌, ℕ, ℤ, List, Option, Some, None, All, arith, sym, refl, subst}
+use Rattle.std.proofs.Common.{◌∙◌, ℤ, List, All, arith, sym, subst}
+use Rattle.grid_core.proofs.Accepted.{none_left}
 use Rattle.braid_core.specs.Braid.{IsLetter}
 use Rattle.braid_core.proofs.Accepted.{none_letters}
 use Rattle.braid_core.proofs.braid.Braid.new.Goals as goal
-
-none_left : (o : Option ℕ) → ((z : ℕ) → o ≡ Some z → ⊥) → o ≡ None
-none_left None no_some = refl
-none_left (Some z) no_some = absurd (no_some z refl)
 
 pub invariant_of-result : goal.invariant_of-result
 invariant_of-result c =

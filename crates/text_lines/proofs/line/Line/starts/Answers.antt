@@ -17,4 +17,5 @@ returns c =
     let some : 0 < length (after_blanks c.self.inside.rest.now) = subst (λ (xs : List ℕ). 0 < length xs) c.after_blanks-bytes.ensures here in
     let word = c.args.word.now in
     let token = c.cut_token.ensures.token ∙ ap first_token c.after_blanks-bytes.ensures in
-    c.eq.ensures ∙ ap (λ (t : List ℕ). bytes_eq t word) token ∙ sym (starts_cut word c.self.inside.rest.now some) ∙ ap (λ (l : NumberedLine). starts word l.tokens) c.self.view_is
+    c.eq.ensures ∙ ap (λ (t : List ℕ). bytes_eq t word) token ∙ sym (starts_cut word c.self.inside.rest.now some)
+    ∙ ap (λ (l : NumberedLine). starts word l.tokens) c.self.view_is

@@ -23,7 +23,8 @@ returns-then-not-is_skipped-clause-ending c =
     let n = c.loop-self.self-inside.count in
     let bytes = c.loop-self.self-inside.rest.now in
     let some : 0 < length bytes = search rules in
-    ap (λ (xs : List ℕ). (text_from (n + 1) xs).ending) c.cut_line.ensures.rest ∙ sym (ending_cut n bytes some) ∙ ap (λ (t : Text). t.ending) c.loop-self.invariant.left
+    ap (λ (xs : List ℕ). (text_from (n + 1) xs).ending) c.cut_line.ensures.rest ∙ sym (ending_cut n bytes some)
+    ∙ ap (λ (t : Text). t.ending) c.loop-self.invariant.left
 
 pub loop-self-preserved : goal.loop-self-preserved
 loop-self-preserved c =
@@ -35,5 +36,6 @@ loop-self-preserved c =
     let behind = c.cut_line.ensures.rest in
     record {
       left = ap (text_from (n + 1)) behind ∙ sym (text_skipped n bytes some is) ∙ c.loop-self.invariant.left;
-      small = subst (λ (xs : List ℕ). n + 1 + length xs < 9223372036854775808) (sym behind) (omega (arith, behind_line_shorter bytes some, c.loop-self.invariant.small));
+      small = subst (λ (xs : List ℕ). n + 1 + length xs < 9223372036854775808) (sym behind)
+          (omega (arith, behind_line_shorter bytes some, c.loop-self.invariant.small));
     }
