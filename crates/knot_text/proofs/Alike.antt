@@ -61,7 +61,8 @@ pub rest_bind : {A B : Type 0} {R : B → B → Type 0} {r s : Result (A × Numb
     → Alike SameRest r s
     → ((v : A) (ts : List (List ℕ)) (n m : ℕ) → Alike R (f (v, line_of n ts)) (g (v, line_of m ts))) → Alike R (r >>= f) (s >>= g)
 rest_bind {R = R} f g first second = alike_bind SameRest first (λ x y same.
-    subst (λ v. Alike R (f x) (g (v, y.1))) same.0 (subst (λ (ts : List (List ℕ)). Alike R (f x) (g (x.0, line_of y.1.number ts))) same.1 (second x.0 x.1.tokens x.1.number y.1.number)))
+    subst (λ v. Alike R (f x) (g (v, y.1))) same.0 (subst (λ (ts : List (List ℕ)). Alike R (f x) (g (x.0, line_of y.1.number ts))) same.1
+    (second x.0 x.1.tokens x.1.number y.1.number)))
 
 pub text_bind : {A B : Type 0} {R : B → B → Type 0} {r s : Result (A × Text) TextFault} (f g : A × Text → Result B TextFault) → Alike SameLeft r s
     → ((v : A) (t u : Text) → SameText t u → Alike R (f (v, t)) (g (v, u))) → Alike R (r >>= f) (s >>= g)
@@ -86,7 +87,8 @@ unfolding next_line
 next_alike t u same = among_alike t.lines u.lines t.ending u.ending same
 
 pub next_bind : {B : Type 0} {R : B → B → Type 0} (t u : Text) (f g : NumberedLine × Text → Result B TextFault) → SameText t u
-    → ((ts : List (List ℕ)) (n m : ℕ) (v w : Text) → SameText v w → Alike R (f (line_of n ts, v)) (g (line_of m ts, w))) → Alike R (next_line t >>= f) (next_line u >>= g)
+    → ((ts : List (List ℕ)) (n m : ℕ) (v w : Text) → SameText v w → Alike R (f (line_of n ts, v)) (g (line_of m ts, w)))
+    → Alike R (next_line t >>= f) (next_line u >>= g)
 next_bind {R = R} t u f g same second = alike_bind SameNext (next_alike t u same) (λ x y both.
     subst (λ (ts : List (List ℕ)). Alike R (f x) (g (line_of y.0.number ts, y.1))) both.0 (second x.0.tokens x.0.number y.0.number x.1 y.1 both.1))
 

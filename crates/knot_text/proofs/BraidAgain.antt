@@ -17,6 +17,7 @@ use Rattle.text_lines.specs.Numbers.{number_of}
 use Rattle.text_lines.specs.Spelled.{is_word, is_line, numbered}
 use Rattle.text_lines.proofs.NumberTexts.{decimal_read}
 use Rattle.text_lines.proofs.Written.{lines_read}
+use Rattle.knot_text.specs.declared.reading.TheConstants.{MAX_NUMBER}
 use Rattle.knot_text.specs.Reading.{next_line, each_token}
 use Rattle.knot_text.specs.Braids.{letter_of, is_long_letter, exceeds, braid_at, braid_item}
 use Rattle.knot_text.specs.Printed.{letter_token, braid_lines, braid_text}
@@ -36,14 +37,14 @@ unsigned (b ∷ bs) k is = by (b == 45) refl
         absurd cc
     by false other = rw (other, is) refl
 
-letter_again : (m : ℕ) (a : ℤ) → m ≤ MAX_STRANDS → IsLetter m a → letter_of (letter_token a) ≡ Some a
-letter_again m (pos k) most letter = unsigned (decimal k) k (decimal_read k (omega (arith, letter.most, most)))
-letter_again m (negsuc k) most letter = rw (decimal_read (k + 1) (omega (arith, letter.most, most))) (ap (λ (n : ℕ). Some (neg_ℤ (pos n))) (add-one k))
+pub letter_again : (a : ℤ) → unsigned_abs a ≤ MAX_NUMBER → letter_of (letter_token a) ≡ Some a
+letter_again (pos k) few = unsigned (decimal k) k (decimal_read k (omega (arith, few)))
+letter_again (negsuc k) few = rw (decimal_read (k + 1) (omega (arith, few))) (ap (λ (n : ℕ). Some (neg_ℤ (pos n))) (add-one k))
 
 letters_again : (m n : ℕ) (ls : List ℤ) → m ≤ MAX_STRANDS → AllByRecursion (IsLetter m) ls → each_token letter_of n (map letter_token ls) ≡ Ok ls
 unfolding each_token
 letters_again m n [] most all = refl
-letters_again m n (a ∷ ls) most all = rw (letter_again m a most all.0, letters_again m n ls most all.1) refl
+letters_again m n (a ∷ ls) most all = rw (letter_again a (omega (arith, all.0.most, most)), letters_again m n ls most all.1) refl
 
 none_long : (m : ℕ) (ls : List ℤ) → m ≤ MAX_STRANDS → AllByRecursion (IsLetter m) ls → list_any is_long_letter ls ≡ false
 none_long m [] most all = refl
@@ -54,21 +55,30 @@ none_long m (a ∷ ls) most all =
 
 none_exceeded : (b : Word) → IsBraid b → AllByRecursion (IsLetter b.strands) b.letters → exceeds b ≡ false
 none_exceeded b braid all =
-    or_from (nat_lt MAX_STRANDS b.strands) (list_any is_long_letter b.letters || nat_lt MAX_SIZE (length b.letters + 2 * b.strands)) (le-ltb MAX_STRANDS b.strands braid.most)
-    (or_from (list_any is_long_letter b.letters) (nat_lt MAX_SIZE (length b.letters + 2 * b.strands)) (none_long b.strands b.letters braid.most all) (le-ltb MAX_SIZE (length b.letters + 2 * b.strands) braid.room))
+    or_from (nat_lt MAX_STRANDS b.strands) (list_any is_long_letter b.letters || nat_lt MAX_SIZE (length b.letters + 2 * b.strands))
+    (le-ltb MAX_STRANDS b.strands braid.most)
+    (or_from (list_any is_long_letter b.letters) (nat_lt MAX_SIZE (length b.letters + 2 * b.strands)) (none_long b.strands b.letters braid.most all)
+    (le-ltb MAX_SIZE (length b.letters + 2 * b.strands) braid.room))
 
 line_again : (n : ℕ) (b : Word) → IsBraid b → braid_at (line_of n (codes "braid" ∷ decimal b.strands ∷ map letter_token b.letters)) ≡ Ok b
 unfolding braid_at
 line_again n b braid =
     let all = recursion_from_All (IsLetter b.strands) b.letters braid.crossings in
     let content : is_none (first_fault b) ≡ true = ap (λ (f : Option BraidFault). is_none f) (braid_none b braid) in
-    rw (word_again (codes "braid") n (decimal b.strands ∷ map letter_token b.letters), number_again b.strands n (map letter_token b.letters) (omega (arith, braid.most)), letters_again b.strands n b.letters braid.most all, none_exceeded b braid all, content) refl
+    rw (
+      word_again (codes "braid") n (decimal b.strands ∷ map letter_token b.letters),
+      number_again b.strands n (map letter_token b.letters)
+          (omega (arith, braid.most)),
+      letters_again b.strands n b.letters braid.most all,
+      none_exceeded b braid all,
+      content,
+    ) refl
 
 -- ---- words
 
-letter_word : (m : ℕ) (a : ℤ) → m ≤ MAX_STRANDS → IsLetter m a → is_word (letter_token a) ≡ true
-letter_word m (pos k) most letter = decimal_word k (omega (arith, letter.most, most))
-letter_word m (negsuc k) most letter = signed (decimal (k + 1)) (decimal_word (k + 1) (omega (arith, letter.most, most)))
+pub letter_word : (a : ℤ) → unsigned_abs a ≤ MAX_NUMBER → is_word (letter_token a) ≡ true
+letter_word (pos k) few = decimal_word k few
+letter_word (negsuc k) few = signed (decimal (k + 1)) (decimal_word (k + 1) (omega (arith, few)))
   where
     signed : (t : List ℕ) → is_word t ≡ true → is_word (codes "-" ++ t) ≡ true
     signed [] is = absurd cc
@@ -77,7 +87,7 @@ letter_word m (negsuc k) most letter = signed (decimal (k + 1)) (decimal_word (k
 letters_words : (m : ℕ) (ls : List ℤ) → m ≤ MAX_STRANDS → AllByRecursion (IsLetter m) ls → list_all is_word (map letter_token ls) ≡ true
 letters_words m [] most all = refl
 letters_words m (a ∷ ls) most all =
-    and_from (is_word (letter_token a)) (list_all is_word (map letter_token ls)) (letter_word m a most all.0) (letters_words m ls most all.1)
+    and_from (is_word (letter_token a)) (list_all is_word (map letter_token ls)) (letter_word a (omega (arith, all.0.most, most))) (letters_words m ls most all.1)
 
 pub braid_words : (b : Word) → IsBraid b → list_all is_line (braid_lines b) ≡ true
 braid_words b braid =

@@ -10,8 +10,8 @@ use Rattle.knot_text.specs.Braids.{braid_item}
 use Rattle.knot_text.specs.BraidSteps.{step_at, next_step, step_lines, steps_item}
 use Rattle.knot_text.specs.BraidChecks.{braidcheck_in}
 use Rattle.knot_text.specs.FirstBadLine.{FailsFirst}
-use Rattle.knot_text.proofs.Steady.{Anywhere, Steady, line_steady, turns_steady}
-use Rattle.knot_text.proofs.AtLine.{At}
+use Rattle.knot_text.proofs.Steady.{Anywhere, Steady, turns_steady}
+use Rattle.knot_text.proofs.AtLine.{At, line_alone}
 use Rattle.knot_text.proofs.ItemsAtLine.{word_count_at}
 use Rattle.knot_text.proofs.BraidStepLines.{step_at_at}
 use Rattle.knot_text.proofs.ItemsSteady.{braid_steady, line_then_two}
@@ -21,7 +21,7 @@ use Rattle.knot_text.proofs.FirstFault.{anywhere_seen, then_fails, end_fails}
 
 next_step_steady : Steady Anywhere next_step
 unfolding next_step
-next_step_steady = line_steady step_at (λ line fault e. step_at_at line fault e)
+next_step_steady = line_alone step_at step_at_at
 
 step_lines_steady : (count : ℕ) → Steady Anywhere (step_lines count)
 step_lines_steady count = turns_steady next_step count next_step_steady

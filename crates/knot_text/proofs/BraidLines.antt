@@ -1,52 +1,31 @@
 -- The line of a braid, by letters that were cut down to 127.
-use Rattle.std.proofs.Common.{◌≡◌, ℕ, ◌<◌, ◌≤◌, ◌+◌, ◌*◌, ◌&&◌, ◌||◌, not, ℤ, List, [], ◌∷◌, ◌++◌, length, map, Bool, true, false, cond}
+use Rattle.std.proofs.Common.{◌≡◌, ℕ, ◌<◌, ◌≤◌, ◌+◌, ◌*◌, ◌&&◌, ◌||◌, not, ℤ, List, [], ◌∷◌, length, map, Bool, true, false, cond}
 use Rattle.std.proofs.Common.{Option, Some, None, Ok, Err, refl, sym, ap, ap₂, ◌∙◌, inl, inr, ◌⊎◌, arith, nat_lt, nat_le, codes}
 use Rattle.std.proofs.Common.{unsigned_abs}
 use Rattle.std.specs.Prelude.{is_none}
 use Rattle.std.specs.List.{position_or_len, list_any, AllByRecursion}
-use Rattle.std.proofs.lemmas.Bool.{lt-ltb, le-ltb, ltb-true, ltb-false}
+use Rattle.std.proofs.lemmas.Bool.{lt-ltb, ltb-true, ltb-false, or_parts}
 use Rattle.std.proofs.lemmas.Bool.Decides.{nat_tests}
-use Rattle.std.proofs.lemmas.List.{length-map, length-take, length-append, map-append, take_all}
-use Rattle.std.proofs.lemmas.List.Folds.{list_any-append}
+use Rattle.std.proofs.lemmas.List.{length-map, take_all}
 use Rattle.std.proofs.lemmas.List.Elements.{recursion_from_All}
 use Rattle.grid_core.specs.declared.grid.TheConstants.{MAX_SIZE}
+use Rattle.grid_core.specs.Fault.{or_next}
 use Rattle.braid_core.specs.declared.braid.TheConstants.{MAX_STRANDS}
 use Rattle.braid_core.specs.declared.fault.BraidFault.{BraidFault}
 use Rattle.braid_core.specs.declared.fault.BraidFault.TheVariants.{Strands, Letter, Size, OutOfMemory as Memory}
 use Rattle.braid_core.specs.Braid.{Word, IsLetter}
-use Rattle.braid_core.specs.Fault.{is_outside, or_next, first_fault}
+use Rattle.braid_core.specs.Fault.{is_outside, first_fault}
 use Rattle.braid_core.proofs.Accepted.{none_braid}
 use Rattle.text_lines.specs.Lines.{NumberedLine}
 use Rattle.knot_text.specs.declared.fault.TextFault.TheVariants.{Malformed, Limit}
 use Rattle.knot_text.specs.declared.braids.KeptLetters.{KeptLetters}
 use Rattle.knot_text.specs.Reading.{Fails, word, number}
 use Rattle.knot_text.specs.Braids.{letters, is_long_letter, exceeds, braid_of, braid_at}
-use Rattle.knot_text.specs.KeptLetters.{low_letter, TellsLetters, KeepsLetters, kept_exceeds, refused}
-use Rattle.grid_core.proofs.Accepted.{either_false}
+use Rattle.knot_text.specs.Kept.{KeepsRead}
+use Rattle.knot_text.specs.KeptLetters.{low_letter, TellsLetters, kept_exceeds, refused}
 
 abbrev pub word_of : ℕ → List ℤ → Word
 word_of m ls = record { strands = m; letters = ls }
-
--- ---- letters kept one by one
-
-or_false : (b : Bool) → b ≡ (b || false)
-or_false true = refl
-or_false false = refl
-
-pub kept_more : (kept next : KeptLetters) (a b : ℤ) (ls : List ℤ) → TellsLetters kept ls → length kept.first.items < MAX_SIZE → b ≡ low_letter a
-    → next.first.items ≡ kept.first.items ++ b ∷ [] → next.more ≡ kept.more → next.long ≡ (kept.long || is_long_letter a) → TellsLetters next (ls ++ a ∷ [])
-kept_more kept next a b ls tells room low first more long =
-    let all = map low_letter ls in
-    let short : length ls < MAX_SIZE = omega (arith, length-map ls low_letter, length-take MAX_SIZE all, ap (λ (xs : List ℤ). length xs) tells.first, room) in
-    let longer : length (ls ++ a ∷ []) ≡ length ls + 1 = length-append ls (a ∷ []) in
-    let whole : map low_letter (ls ++ a ∷ []) ≡ all ++ low_letter a ∷ [] = map-append low_letter ls (a ∷ []) in
-    record {
-      first = first ∙ ap₂ (λ (xs : List ℤ) (y : ℤ). xs ++ y ∷ []) (tells.first ∙ take_all MAX_SIZE all (omega (arith, length-map ls low_letter, short))) low
-          ∙ sym whole ∙ sym (take_all MAX_SIZE (map low_letter (ls ++ a ∷ [])) (omega (arith, length-map (ls ++ a ∷ []) low_letter, longer, short)));
-      more =
-          more ∙ tells.more ∙ le-ltb MAX_SIZE (length ls) (omega (arith, short)) ∙ sym (le-ltb MAX_SIZE (length (ls ++ a ∷ [])) (omega (arith, longer, short)));
-      long = long ∙ ap₂ (λ (s t : Bool). s || t) tells.long (or_false (is_long_letter a)) ∙ sym (list_any-append is_long_letter ls (a ∷ []));
-    }
 
 -- ---- limits
 
@@ -72,14 +51,14 @@ record WithinLimits (m : ℕ) (ls : List ℤ) : Type 0 where
 
 within : (m : ℕ) (ls : List ℤ) → exceeds (word_of m ls) ≡ false → WithinLimits m ls
 within m ls is =
-    let a = either_false (nat_lt MAX_STRANDS m) (list_any is_long_letter ls || nat_lt MAX_SIZE (length ls + 2 * m)) is in
-    let b = either_false (list_any is_long_letter ls) (nat_lt MAX_SIZE (length ls + 2 * m)) a.1 in
+    let a = or_parts (nat_lt MAX_STRANDS m) (list_any is_long_letter ls || nat_lt MAX_SIZE (length ls + 2 * m)) is in
+    let b = or_parts (list_any is_long_letter ls) (nat_lt MAX_SIZE (length ls + 2 * m)) a.1 in
     record { strands = ltb-false MAX_STRANDS m a.0; size = omega (arith, ltb-false MAX_SIZE (length ls + 2 * m) b.1) }
 
 -- so many strands fit into a byte
 pub strands_fit : (kept : KeptLetters) (m : ℕ) → kept_exceeds m kept ≡ false → m ≤ MAX_STRANDS
 strands_fit kept m is =
-    ltb-false MAX_STRANDS m (either_false (nat_lt MAX_STRANDS m) (kept.long || (kept.more || nat_lt MAX_SIZE (length kept.first.items + 2 * m))) is).0
+    ltb-false MAX_STRANDS m (or_parts (nat_lt MAX_STRANDS m) (kept.long || (kept.more || nat_lt MAX_SIZE (length kept.first.items + 2 * m))) is).0
 
 -- ---- content
 
@@ -118,36 +97,37 @@ pub record IsRead (line : NumberedLine) (m : ℕ) (kept : KeptLetters) : Type 0 
   pub left : NumberedLine
   pub name : word (codes "braid") line ≡ Ok rest
   pub strands : number rest ≡ Ok (m, left)
-  pub letters : KeepsLetters kept (letters left)
+  pub letters : KeepsRead (TellsLetters kept) (letters left)
 
 braid_is : (line : NumberedLine) (m : ℕ) (kept : KeptLetters) (read : IsRead line m kept)
-    → braid_at line ≡ braid_of line.number (word_of m read.letters.letters)
+    → braid_at line ≡ braid_of line.number (word_of m read.letters.values)
 unfolding braid_at
 braid_is line m kept read = rw (read.name, read.strands, read.letters.is) refl
 
 pub braid_over : (line : NumberedLine) (m : ℕ) (kept : KeptLetters) → IsRead line m kept → kept_exceeds m kept ≡ true → braid_at line ≡ Err (Limit line.number)
 braid_over line m kept read over =
-    let test : exceeds (word_of m read.letters.letters) ≡ true = sym (exceeds_same kept read.letters.letters m read.letters.tells) ∙ over in
+    let test : exceeds (word_of m read.letters.values) ≡ true = sym (exceeds_same kept read.letters.values m read.letters.tells) ∙ over in
     braid_is line m kept read ∙ rw test refl
 
 -- the letters of a word that exceeds no limit were all kept
 same_fault : (line : NumberedLine) (m : ℕ) (kept : KeptLetters) (read : IsRead line m kept) → kept_exceeds m kept ≡ false
-    → first_fault (word_of m read.letters.letters) ≡ first_fault (word_of m kept.first.items)
+    → first_fault (word_of m read.letters.values) ≡ first_fault (word_of m kept.first.items)
 same_fault line m kept read fine =
-    let ls = read.letters.letters in
+    let ls = read.letters.values in
     let limits = within m ls (sym (exceeds_same kept ls m read.letters.tells) ∙ fine) in
     sym (ap (λ (xs : List ℤ). first_fault (word_of m xs)) (kept_all kept ls read.letters.tells limits.size) ∙ fault_low m ls (omega (arith, limits.strands)))
 
 braid_bad : (line : NumberedLine) (m : ℕ) (kept : KeptLetters) (fault : BraidFault) → IsRead line m kept → kept_exceeds m kept ≡ false
     → first_fault (word_of m kept.first.items) ≡ Some fault → braid_at line ≡ Err (Malformed line.number)
 braid_bad line m kept fault read fine bad =
-    let test : exceeds (word_of m read.letters.letters) ≡ false = sym (exceeds_same kept read.letters.letters m read.letters.tells) ∙ fine in
-    let content : is_none (first_fault (word_of m read.letters.letters)) ≡ false =
+    let test : exceeds (word_of m read.letters.values) ≡ false = sym (exceeds_same kept read.letters.values m read.letters.tells) ∙ fine in
+    let content : is_none (first_fault (word_of m read.letters.values)) ≡ false =
     ap (λ (f : Option BraidFault). is_none f) (same_fault line m kept read fine ∙ bad) in
     braid_is line m kept read ∙ rw (test, content) refl
 
 pub braid_refused : (line : NumberedLine) (m : ℕ) (kept : KeptLetters) (fault : BraidFault) → IsRead line m kept → kept_exceeds m kept ≡ false
-    → (first_fault (word_of m kept.first.items) ≡ Some fault) ⊎ ((first_fault (word_of m kept.first.items) ≡ None) × (fault ≡ Memory)) → Fails (refused line.number fault) (braid_at line)
+    → (first_fault (word_of m kept.first.items) ≡ Some fault) ⊎ ((first_fault (word_of m kept.first.items) ≡ None) × (fault ≡ Memory))
+    → Fails (refused line.number fault) (braid_at line)
 braid_refused line m kept Memory read fine why = tt
 braid_refused line m kept Strands read fine (inl bad) = braid_bad line m kept Strands read fine bad
 braid_refused line m kept (Letter place) read fine (inl bad) = braid_bad line m kept (Letter place) read fine bad
@@ -159,7 +139,7 @@ braid_refused line m kept Size read fine (inr other) = absurd (let no = other.1 
 pub braid_good : (line : NumberedLine) (m : ℕ) (kept : KeptLetters) → IsRead line m kept → kept_exceeds m kept ≡ false
     → first_fault (word_of m kept.first.items) ≡ None → braid_at line ≡ Ok (word_of m kept.first.items)
 braid_good line m kept read fine none =
-    let ls = read.letters.letters in
+    let ls = read.letters.values in
     let test : exceeds (word_of m ls) ≡ false = sym (exceeds_same kept ls m read.letters.tells) ∙ fine in
     let limits = within m ls test in
     let faultless = same_fault line m kept read fine ∙ none in

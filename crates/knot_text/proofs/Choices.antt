@@ -73,7 +73,8 @@ failed_by w b c q agrees due steady text begin fault is = elim (steady.failed te
         lines = bad.lines;
         names = bad.names;
         good = good_by w b c q agrees due bad.front bad.behind bad.line start bad.good;
-        decided = λ behind e. agrees (lines_then (bad.front ++ bad.line ∷ behind) e) (same_start w bad.front bad.behind behind bad.line ∙ start) ∙ bad.decided behind e;
+        decided = λ behind e. agrees (lines_then (bad.front ++ bad.line ∷ behind) e) (same_start w bad.front bad.behind behind bad.line ∙ start)
+            ∙ bad.decided behind e;
       })
   | inr end ↦ inr (record { names = end.names; due = λ e. agrees (lines_then text.lines e) begin ∙ end.due e })
 ]
@@ -121,7 +122,8 @@ fails_by w b c q agrees none fails text begin fault is = elim (fails text fault 
         first = record {
           names = bad.first.names;
           good = whole_good w b c q agrees none bad.front bad.behind bad.line start bad.first.good;
-          decided = λ behind e. agrees (lines_then (bad.front ++ bad.line ∷ behind) e) (same_start w bad.front bad.behind behind bad.line ∙ start) ∙ bad.first.decided behind e;
+          decided = λ behind e. agrees (lines_then (bad.front ++ bad.line ∷ behind) e) (same_start w bad.front bad.behind behind bad.line ∙ start)
+              ∙ bad.first.decided behind e;
         };
       })
   | inr end ↦ inr (record { names = end.names; due = λ e. agrees (lines_then text.lines e) begin ∙ end.due e })

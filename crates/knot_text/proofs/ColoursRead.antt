@@ -33,7 +33,8 @@ tested width order n cs c false test is = absurd cc
 line_is : (width order : ℕ) (line : NumberedLine) (c : ArrayVec ℕ) → colours_at width order line ≡ Ok c → AreColours width order c.items
 unfolding colours_at
 line_is width order line c is =
-    let b = bind_ok (numbers_behind (codes "colours") line) (λ cs. cond (are_colours width order cs) (Ok (record { items = cs })) (Err (Malformed line.number))) c is in
+    let b = bind_ok (numbers_behind (codes "colours") line) (λ cs. cond (are_colours width order cs) (Ok (record { items = cs }))
+    (Err (Malformed line.number))) c is in
     tested width order line.number b.0 c (are_colours width order b.0) refl b.2
 
 colours_are : (width order : ℕ) (text : Text) (c : ArrayVec ℕ) (rest : Text) → colours_item width order text ≡ Ok (c, rest) → AreColours width order c.items
@@ -51,7 +52,8 @@ some_are width text given rest is =
     let a = bind_ok (quandle_item text) (λ q. colours_item width q.0.table.order q.1 >>= λ c. Ok ((q.0, c.0), c.1)) (given, rest) is in
     let b = bind_ok (colours_item width a.0.0.table.order a.0.1) (λ c. Ok ((a.0.0, c.0), c.1)) (given, rest) a.2 in
     let same = ok_is ((a.0.0, b.0.0), b.0.1) (given, rest) b.2 in
-    subst (λ (y : (NamedQuandle × ArrayVec ℕ) × Text). AreGiven width (Some y.0)) {x = ((a.0.0, b.0.0), b.0.1)} same (colours_are width a.0.0.table.order a.0.1 b.0.0 b.0.1 b.1)
+    subst (λ (y : (NamedQuandle × ArrayVec ℕ) × Text). AreGiven width (Some y.0)) {x = ((a.0.0, b.0.0), b.0.1)} same
+    (colours_are width a.0.0.table.order a.0.1 b.0.0 b.0.1 b.1)
 
 given_are : (width : ℕ) (text : Text) (g : Given) (rest : Text) → coloured width text ≡ Ok (g, rest) → AreGiven width g
 unfolding coloured
@@ -67,12 +69,15 @@ given_are width text g rest is = by (first_starts (codes "quandle") text.lines) 
 replay_given : (text : Text) (r : ReplayText) → replay_in text ≡ Ok r → AreGiven (columns r.diagram) r.colours
 unfolding replay_in
 replay_given text r is =
-    let a = bind_ok (diagram_item text) (λ d. moves_item d.1 >>= λ m. coloured (columns d.0) m.1 >>= λ g. text_end g.1 >>= λ end. Ok (record { diagram = d.0; moves = m.0; colours = g.0 })) r is in
-    let b = bind_ok (moves_item a.0.1) (λ m. coloured (columns a.0.0) m.1 >>= λ g. text_end g.1 >>= λ end. Ok (record { diagram = a.0.0; moves = m.0; colours = g.0 })) r a.2 in
+    let a = bind_ok (diagram_item text) (λ d. moves_item d.1 >>= λ m. coloured (columns d.0) m.1 >>= λ g. text_end g.1
+    >>= λ end. Ok (record { diagram = d.0; moves = m.0; colours = g.0 })) r is in
+    let b = bind_ok (moves_item a.0.1) (λ m. coloured (columns a.0.0) m.1 >>= λ g. text_end g.1
+    >>= λ end. Ok (record { diagram = a.0.0; moves = m.0; colours = g.0 })) r a.2 in
     let c = bind_ok (coloured (columns a.0.0) b.0.1) (λ g. text_end g.1 >>= λ end. Ok (record { diagram = a.0.0; moves = b.0.0; colours = g.0 })) r b.2 in
     let e = bind_ok (text_end c.0.1) (λ end. Ok (record { diagram = a.0.0; moves = b.0.0; colours = c.0.0 })) r c.2 in
     let same = ok_is (record { diagram = a.0.0; moves = b.0.0; colours = c.0.0 }) r e.2 in
-    subst (λ (x : ReplayText). AreGiven (columns x.diagram) x.colours) {x = record { diagram = a.0.0; moves = b.0.0; colours = c.0.0 }} same (given_are (columns a.0.0) b.0.1 c.0.0 c.0.1 c.1)
+    subst (λ (x : ReplayText). AreGiven (columns x.diagram) x.colours) {x = record { diagram = a.0.0; moves = b.0.0; colours = c.0.0 }} same
+    (given_are (columns a.0.0) b.0.1 c.0.0 c.0.1 c.1)
 
 pub replay_colours : (text : Text) (r : ReplayText) (q : NamedQuandle) (c : ArrayVec ℕ) → replay_in text ≡ Ok r → r.colours ≡ Some (q, c)
     → AreColours (columns r.diagram) q.table.order c.items

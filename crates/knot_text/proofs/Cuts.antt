@@ -8,8 +8,9 @@ use Rattle.grid_core.specs.declared.grid.TheConstants.{MAX_SIZE}
 use Rattle.text_lines.specs.Lines.{NumberedLine}
 use Rattle.knot_text.specs.declared.fault.TextFault.TheVariants.{Malformed, Limit}
 use Rattle.knot_text.specs.declared.numbers.Kept.{Kept}
-use Rattle.knot_text.specs.Numbers.{numbers, numbers_below, is_long}
-use Rattle.knot_text.specs.Kept.{low, Tells, KeepsRead, are_kept_below}
+use Rattle.knot_text.specs.Reading.{word}
+use Rattle.knot_text.specs.Numbers.{numbers, numbers_behind, numbers_below, is_long}
+use Rattle.knot_text.specs.Kept.{low, Tells, KeepsRead, CutsRead, are_kept_below}
 
 low_below : (v q : ℕ) → q ≤ 255 → nat_lt (low v) q ≡ nat_lt v q
 low_below v q most = grind (arith, nat_tests)
@@ -51,16 +52,31 @@ below_test : (kept : Kept) (values : List ℕ) (width order : ℕ) → width ≤
     → are_kept_below kept width order ≡ are_below values width order
 below_test kept values width order fits most tells = below_by kept values width order fits most tells kept.more refl
 
+-- ---- numbers behind a word
+
+pub behind_good : (kept : Kept) (expected : List ℕ) (line rest : NumberedLine) → word expected line ≡ Ok rest → KeepsRead (Tells kept) (numbers rest)
+    → kept.more ≡ false → kept.long ≡ false → CutsRead kept.first (numbers_behind expected line)
+unfolding numbers_behind
+behind_good kept expected line rest named read more long =
+    let values = read.values in
+    let few : nat_lt MAX_SIZE (length values) ≡ false = sym read.tells.more ∙ more in
+    let test : list_any is_long values ≡ false = sym read.tells.long ∙ long in
+    record {
+      values = values;
+      is = rw (named, read.is, few, test) refl;
+      cut = first_all kept values read.tells (ltb-false MAX_SIZE (length values) few);
+    }
+
 -- ---- so many numbers below an order
 
-pub below_long : (kept : Kept) (width order : ℕ) (line : NumberedLine) → KeepsRead kept (numbers line) → kept.long ≡ true
+pub below_long : (kept : Kept) (width order : ℕ) (line : NumberedLine) → KeepsRead (Tells kept) (numbers line) → kept.long ≡ true
     → numbers_below width order line ≡ Err (Limit line.number)
 unfolding numbers_below
 below_long kept width order line read long =
     let test : list_any is_long read.values ≡ true = sym read.tells.long ∙ long in
     rw (read.is, test) refl
 
-pub below_bad : (kept : Kept) (width order : ℕ) (line : NumberedLine) → width ≤ MAX_SIZE → order ≤ 255 → KeepsRead kept (numbers line)
+pub below_bad : (kept : Kept) (width order : ℕ) (line : NumberedLine) → width ≤ MAX_SIZE → order ≤ 255 → KeepsRead (Tells kept) (numbers line)
     → kept.long ≡ false → are_kept_below kept width order ≡ false → numbers_below width order line ≡ Err (Malformed line.number)
 unfolding numbers_below
 below_bad kept width order line fits most read long bad =
@@ -72,7 +88,7 @@ record GoodLine (kept : Kept) (width order : ℕ) (line : NumberedLine) : Type 0
   is : numbers_below width order line ≡ Ok kept.first.items
   len : length kept.first.items ≡ width
 
-good_line : (kept : Kept) (width order : ℕ) (line : NumberedLine) → width ≤ MAX_SIZE → order ≤ 255 → KeepsRead kept (numbers line) → kept.long ≡ false
+good_line : (kept : Kept) (width order : ℕ) (line : NumberedLine) → width ≤ MAX_SIZE → order ≤ 255 → KeepsRead (Tells kept) (numbers line) → kept.long ≡ false
     → are_kept_below kept width order ≡ true → GoodLine kept width order line
 unfolding numbers_below
 good_line kept width order line fits most read long good =
@@ -85,7 +101,7 @@ good_line kept width order line fits most read long good =
     let one : numbers_below width order line ≡ Ok values = rw (read.is, test, content) refl in
     record { is = one ∙ ap (λ (vs : List ℕ). Ok vs) (sym same); len = ap (λ (vs : List ℕ). length vs) same ∙ len }
 
-pub below_good : (kept : Kept) (width order : ℕ) (line : NumberedLine) → width ≤ MAX_SIZE → order ≤ 255 → KeepsRead kept (numbers line)
+pub below_good : (kept : Kept) (width order : ℕ) (line : NumberedLine) → width ≤ MAX_SIZE → order ≤ 255 → KeepsRead (Tells kept) (numbers line)
     → kept.long ≡ false → are_kept_below kept width order ≡ true → numbers_below width order line ≡ Ok kept.first.items
 below_good kept width order line fits most read long good = (good_line kept width order line fits most read long good).is
 

@@ -73,14 +73,16 @@ then_fails {A} {B} Stops r k seen first second text fault is = elim (bind_err (r
               first = record {
                 names = bad.first.names;
                 good = λ ending.
-                    let same = then_ok r k (lines_then (t.used ++ bad.front) ending) a (lines_then bad.front ending) (k a (lines_then bad.front ending)) (t.again bad.front ending (seen.front bad.front (bad.line ∷ bad.behind) stop)) refl in
+                    let same = then_ok r k (lines_then (t.used ++ bad.front) ending) a (lines_then bad.front ending) (k a (lines_then bad.front ending))
+                    (t.again bad.front ending (seen.front bad.front (bad.line ∷ bad.behind) stop)) refl in
                     elim (bad.first.good ending) [
                       | inl ok ↦ inl (ok_again (k a (lines_then bad.front ending)) (then_read r k (lines_then (t.used ++ bad.front) ending)) same ok)
                       | inr due ↦ inr (same ∙ due)
                     ];
                 decided = λ behind ending.
                     ap (then_read r k) (regroup t.used bad.front (bad.line ∷ behind) ending)
-                    ∙ then_ok r k (lines_then (t.used ++ (bad.front ++ bad.line ∷ behind)) ending) a (lines_then (bad.front ++ bad.line ∷ behind) ending) (Err fault)
+                    ∙ then_ok r k (lines_then (t.used ++ (bad.front ++ bad.line ∷ behind)) ending) a (lines_then (bad.front ++ bad.line ∷ behind) ending)
+                    (Err fault)
                     (t.again (bad.front ++ bad.line ∷ behind) ending (seen.same bad.front bad.behind behind bad.line stop)) (bad.first.decided behind ending);
               };
             })
@@ -88,7 +90,8 @@ then_fails {A} {B} Stops r k seen first second text fault is = elim (bind_err (r
           names = end.names ∙ ap (λ (n : ℕ). Malformed n) t.ending;
           due = λ ending.
               ap (λ (ls : List NumberedLine). then_read r k (lines_then ls ending)) t.lines
-              ∙ then_ok r k (lines_then (t.used ++ mid.lines) ending) a (lines_then mid.lines ending) (Err (Malformed ending)) (t.again mid.lines ending t.stops) (end.due ending);
+              ∙ then_ok r k (lines_then (t.used ++ mid.lines) ending) a (lines_then mid.lines ending) (Err (Malformed ending))
+              (t.again mid.lines ending t.stops) (end.due ending);
         })
       ]
 ]

@@ -39,7 +39,8 @@ rows_are rows least each =
     let once : list_any (λ c. is_repeated rows c) (range_with_len 0 (length rows)) ≡ false = no_repeat rows (λ k lt. not_repeated rows k apart lt) in
     let below : list_all (λ r. nat_lt r (length rows)) rows ≡ true = all_below (length rows) rows (rows_below (length rows) rows each) in
     and_from (nat_le 2 (length rows)) (is_one_each rows) (le-leb 2 (length rows) least)
-    (and_from (list_all (λ r. nat_lt r (length rows)) rows) (not (list_any (λ c. is_repeated rows c) (range_with_len 0 (length rows)))) below (not_from_false (list_any (λ c. is_repeated rows c) (range_with_len 0 (length rows))) once))
+    (and_from (list_all (λ r. nat_lt r (length rows)) rows) (not (list_any (λ c. is_repeated rows c) (range_with_len 0 (length rows)))) below
+    (not_from_false (list_any (λ c. is_repeated rows c) (range_with_len 0 (length rows))) once))
 
 rows_again : (letter rows : List ℕ) (n : ℕ) → length rows ≤ MAX_SIZE → AllByRecursion IsShort rows
     → numbers_behind letter (line_of n (rows_tokens letter rows)) ≡ Ok rows

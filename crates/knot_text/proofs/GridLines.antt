@@ -31,7 +31,8 @@ pub repeat_at : (rows : List ℕ) (c : ℕ) → c < length rows → is_repeated 
     → list_any (λ c. is_repeated rows c) (range_with_len 0 (length rows)) ≡ true
 repeat_at rows c lt is =
     let at : get_or (range_with_len 0 (length rows)) c 0 ≡ c = get_or-range_with_len 0 (length rows) c 0 lt ∙ zero-add c in
-    list_any_at (λ c. is_repeated rows c) (range_with_len 0 (length rows)) c 0 (omega (arith, length-range_with_len 0 (length rows), lt)) (ap (λ (k : ℕ). is_repeated rows k) at ∙ is)
+    list_any_at (λ c. is_repeated rows c) (range_with_len 0 (length rows)) c 0 (omega (arith, length-range_with_len 0 (length rows), lt))
+    (ap (λ (k : ℕ). is_repeated rows k) at ∙ is)
 
 pub no_repeat : (rows : List ℕ) → ((k : ℕ) → k < length rows → is_repeated rows k ≡ false)
     → list_any (λ c. is_repeated rows c) (range_with_len 0 (length rows)) ≡ false
@@ -47,7 +48,8 @@ one_each_by values short false is =
     let len = length-map values low in
     let first : list_all (λ v. nat_lt v (length (map low values))) (map low values) ≡ false =
     ap (λ (n : ℕ). list_all (λ v. nat_lt v n) (map low values)) len ∙ all_low (length values) values short ∙ is in
-    and_right (nat_le 2 (length (map low values))) (is_one_each (map low values)) (and_left (list_all (λ v. nat_lt v (length (map low values))) (map low values)) (not (has_repeat (map low values))) first)
+    and_right (nat_le 2 (length (map low values))) (is_one_each (map low values))
+    (and_left (list_all (λ v. nat_lt v (length (map low values))) (map low values)) (not (has_repeat (map low values))) first)
     ∙ sym (and_right (nat_le 2 (length values)) (is_one_each values) (and_left (list_all (λ v. nat_lt v (length values)) values) (not (has_repeat values)) is))
 
 rows_test : (rows values : List ℕ) → rows ≡ map low values → length rows ≤ MAX_SIZE → are_rows rows ≡ are_rows values

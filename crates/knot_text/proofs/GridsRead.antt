@@ -32,7 +32,8 @@ tested x rows n d None is e = subst IsGrid (ok_is (record { x = x; o = rows }) d
 o_is : (x : List ℕ) (line : NumberedLine) (d : Marks) → o_at x line ≡ Ok d → IsGrid d
 unfolding o_at
 o_is x line d is =
-    let b = bind_ok (numbers_behind (codes "o") line) (λ rows. cond (is_none (first_fault x rows)) (Ok (record { x = x; o = rows })) (Err (Malformed line.number))) d is in
+    let b = bind_ok (numbers_behind (codes "o") line) (λ rows. cond (is_none (first_fault x rows)) (Ok (record { x = x; o = rows }))
+    (Err (Malformed line.number))) d is in
     tested x b.0 line.number d (first_fault x b.0) refl b.2
 
 pub grid_is : (text : Text) (d : Marks) (rest : Text) → grid_item text ≡ Ok (d, rest) → IsGrid d
@@ -92,8 +93,10 @@ diagram_is text d rest is = by (first_starts (codes "braid") text.lines) is
 pub problem_grids : (text : Text) (p : ProblemText) (rest : Text) → problem_item text ≡ Ok (p, rest) → IsGrid (grid_of p.first) × IsGrid (grid_of p.second)
 unfolding problem_item
 problem_grids text p rest is =
-    let a = bind_ok (diagram_item text) (λ first. diagram_item first.1 >>= λ second. quandle_list second.1 >>= λ listed. Ok (record { first = first.0; second = second.0; quandles = listed.0 }, listed.1)) (p, rest) is in
-    let b = bind_ok (diagram_item a.0.1) (λ second. quandle_list second.1 >>= λ listed. Ok (record { first = a.0.0; second = second.0; quandles = listed.0 }, listed.1)) (p, rest) a.2 in
+    let a = bind_ok (diagram_item text) (λ first. diagram_item first.1 >>= λ second. quandle_list second.1
+    >>= λ listed. Ok (record { first = first.0; second = second.0; quandles = listed.0 }, listed.1)) (p, rest) is in
+    let b = bind_ok (diagram_item a.0.1) (λ second. quandle_list second.1
+    >>= λ listed. Ok (record { first = a.0.0; second = second.0; quandles = listed.0 }, listed.1)) (p, rest) a.2 in
     let c = bind_ok (quandle_list b.0.1) (λ listed. Ok (record { first = a.0.0; second = b.0.0; quandles = listed.0 }, listed.1)) (p, rest) b.2 in
     let same = ok_is (record { first = a.0.0; second = b.0.0; quandles = c.0.0 }, c.0.1) (p, rest) c.2 in
     subst (λ (y : ProblemText × Text). IsGrid (grid_of y.0.first) × IsGrid (grid_of y.0.second)) {x = (record { first = a.0.0; second = b.0.0; quandles = c.0.0 }, c.0.1)} same (diagram_is text a.0.0 a.0.1 a.1, diagram_is a.0.1 b.0.0 b.0.1 b.1)

@@ -9,6 +9,7 @@ use Rattle.grid_core.specs.declared.grid.TheConstants.{MAX_SIZE}
 use Rattle.grid_core.specs.Fault.{first_fault}
 use Rattle.braid_core.specs.Braid.{Word}
 use Rattle.braid_core.specs.Fault.{first_fault as word_fault}
+use Rattle.grid_moves.specs.declared.step.Move.{Move}
 use Rattle.grid_moves.specs.declared.step.Move.TheVariants.{ShiftColumns, ShiftRows, ExchangeColumns, ExchangeRows, SlideColumns, SlideRows}
 use Rattle.quandle_core.specs.Fault.{first_fault as table_fault}
 use Rattle.text_lines.specs.Lines.{Text}
@@ -22,7 +23,7 @@ use Rattle.knot_text.specs.Reading.{◌>>=◌, next_token, line_end, word, or_ma
 use Rattle.knot_text.specs.Numbers.{is_long, numbers_behind, numbers_below}
 use Rattle.knot_text.specs.Grids.{are_rows, x_at, o_at, grid_item}
 use Rattle.knot_text.specs.Braids.{letter_of, exceeds, braid_of, braid_at, braid_item}
-use Rattle.knot_text.specs.Moves.{last_place, one_place, shift, exchange, slide, kind_at, corner_at, stabilise, destabilise, move_at, next_move, moves_item}
+use Rattle.knot_text.specs.Moves.{last_place, one_place, shift, exchange, slide, kind_at, corner_at, stabilise, destabilise, move_at, next_move, moves_item, on_axis}
 use Rattle.knot_text.specs.Quandles.{with_order, alexander_at, tetrahedral_at, written_at, is_over, meant, table_row, table_rows}
 use Rattle.knot_text.specs.Quandles.{table_item, quandle_of, quandle_at, quandle_item, surplus_quandle, quandles, quandle_list}
 use Rattle.knot_text.specs.Colours.{colours_at, colours_item, coloured_item, coloured}
@@ -73,12 +74,14 @@ each_alike read (t ∷ ts) n m = same_bind (some_alike (read t) n m) (λ v. same
 
 behind_alike : (w : List ℕ) (ts : List (List ℕ)) (n m : ℕ) → Alike Same (numbers_behind w (line_of n ts)) (numbers_behind w (line_of m ts))
 unfolding numbers_behind
-behind_alike w ts n m = line_bind _ _ (word_alike w ts n m) (λ us i j. same_bind (each_alike number_of us i j) (λ vs. alike_if (nat_lt MAX_SIZE (length vs) || list_any is_long vs) alike_err (alike_ok refl)))
+behind_alike w ts n m = line_bind _ _ (word_alike w ts n m) (λ us i j. same_bind (each_alike number_of us i j)
+    (λ vs. alike_if (nat_lt MAX_SIZE (length vs) || list_any is_long vs) alike_err (alike_ok refl)))
 
 pub below_alike : (width order : ℕ) (ts : List (List ℕ)) (n m : ℕ)
     → Alike Same (numbers_below width order (line_of n ts)) (numbers_below width order (line_of m ts))
 unfolding numbers_below
-below_alike width order ts n m = same_bind (each_alike number_of ts n m) (λ vs. alike_if (list_any is_long vs) alike_err (alike_if ((length vs == width) && list_all (λ v. nat_lt v order) vs) (alike_ok refl) alike_err))
+below_alike width order ts n m = same_bind (each_alike number_of ts n m)
+    (λ vs. alike_if (list_any is_long vs) alike_err (alike_if ((length vs == width) && list_all (λ v. nat_lt v order) vs) (alike_ok refl) alike_err))
 
 -- ---- grids, braids and colours
 
@@ -92,14 +95,17 @@ o_alike x ts n m = same_bind (behind_alike (codes "o") ts n m) (λ rows. alike_i
 
 pub grid_alike : (t u : Text) → SameText t u → Alike SameLeft (grid_item t) (grid_item u)
 unfolding grid_item
-grid_alike t u same = next_bind _ _ _ _ same (λ ts n m v w behind. same_bind (x_alike ts n m) (λ x. next_bind _ _ _ _ behind (λ us i j p q left. same_bind (o_alike x us i j) (λ d. alike_ok (refl, left)))))
+grid_alike t u same = next_bind _ _ _ _ same (λ ts n m v w behind. same_bind (x_alike ts n m)
+    (λ x. next_bind _ _ _ _ behind (λ us i j p q left. same_bind (o_alike x us i j) (λ d. alike_ok (refl, left)))))
 
 braid_of_alike : (b : Word) (n m : ℕ) → Alike Same (braid_of n b) (braid_of m b)
 braid_of_alike b n m = alike_if (exceeds b) alike_err (alike_if (is_none (word_fault b)) (alike_ok refl) alike_err)
 
 braid_at_alike : (ts : List (List ℕ)) (n m : ℕ) → Alike Same (braid_at (line_of n ts)) (braid_at (line_of m ts))
 unfolding braid_at
-braid_at_alike ts n m = line_bind _ _ (word_alike (codes "braid") ts n m) (λ us i j. rest_bind _ _ (number_alike us i j) (λ s vs k l. same_bind (each_alike letter_of vs k l) (λ ls. braid_of_alike (record { strands = s; letters = ls }) n m)))
+braid_at_alike ts n m = line_bind _ _ (word_alike (codes "braid") ts n m)
+    (λ us i j. rest_bind _ _ (number_alike us i j) (λ s vs k l. same_bind (each_alike letter_of vs k l)
+    (λ ls. braid_of_alike (record { strands = s; letters = ls }) n m)))
 
 pub braid_alike : (t u : Text) → SameText t u → Alike SameLeft (braid_item t) (braid_item u)
 unfolding braid_item
@@ -123,21 +129,27 @@ place_alike ts n m = rest_bind _ _ (last_alike ts n m) (λ v us i j. most_alike 
 pub one_alike : {A : Type 0} (make : ℕ → A) (ts : List (List ℕ)) (n m : ℕ) → Alike Same (one_place make (line_of n ts)) (one_place make (line_of m ts))
 one_alike make ts n m = same_bind (place_alike ts n m) (λ k. alike_ok refl)
 
+axis_alike : (columns rows : ℕ → Move) (ts : List (List ℕ)) (n m : ℕ)
+    → Alike Same (on_axis columns rows (line_of n ts)) (on_axis columns rows (line_of m ts))
+axis_alike columns rows ts n m = rest_bind _ _ (token_alike ts n m) (λ t us i j.
+    alike_if (bytes_eq t (codes "columns")) (one_alike columns us i j) (alike_if (bytes_eq t (codes "rows")) (one_alike rows us i j) alike_err))
+
 shift_alike : (ts : List (List ℕ)) (n m : ℕ) → Alike Same (shift (line_of n ts)) (shift (line_of m ts))
 unfolding shift
-shift_alike ts n m = rest_bind _ _ (token_alike ts n m) (λ t us i j. alike_if (bytes_eq t (codes "columns")) (one_alike (λ k. ShiftColumns k) us i j) (alike_if (bytes_eq t (codes "rows")) (one_alike (λ k. ShiftRows k) us i j) alike_err))
+shift_alike ts n m = axis_alike (λ k. ShiftColumns k) (λ k. ShiftRows k) ts n m
 
 exchange_alike : (ts : List (List ℕ)) (n m : ℕ) → Alike Same (exchange (line_of n ts)) (exchange (line_of m ts))
 unfolding exchange
-exchange_alike ts n m = rest_bind _ _ (token_alike ts n m) (λ t us i j. alike_if (bytes_eq t (codes "columns")) (one_alike (λ c. ExchangeColumns c) us i j) (alike_if (bytes_eq t (codes "rows")) (one_alike (λ r. ExchangeRows r) us i j) alike_err))
+exchange_alike ts n m = axis_alike (λ c. ExchangeColumns c) (λ r. ExchangeRows r) ts n m
 
 slide_alike : (ts : List (List ℕ)) (n m : ℕ) → Alike Same (slide (line_of n ts)) (slide (line_of m ts))
 unfolding slide
-slide_alike ts n m = rest_bind _ _ (token_alike ts n m) (λ t us i j. alike_if (bytes_eq t (codes "columns")) (one_alike (λ c. SlideColumns c) us i j) (alike_if (bytes_eq t (codes "rows")) (one_alike (λ r. SlideRows r) us i j) alike_err))
+slide_alike ts n m = axis_alike (λ c. SlideColumns c) (λ r. SlideRows r) ts n m
 
 kind_alike : (ts : List (List ℕ)) (n m : ℕ) → Alike SameRest (kind_at (line_of n ts)) (kind_at (line_of m ts))
 unfolding kind_at
-kind_alike ts n m = rest_bind _ _ (token_alike ts n m) (λ t us i j. alike_if (bytes_eq t (codes "x")) (alike_ok (refl, refl)) (alike_if (bytes_eq t (codes "o")) (alike_ok (refl, refl)) alike_err))
+kind_alike ts n m = rest_bind _ _ (token_alike ts n m) (λ t us i j. alike_if (bytes_eq t (codes "x")) (alike_ok (refl, refl))
+    (alike_if (bytes_eq t (codes "o")) (alike_ok (refl, refl)) alike_err))
 
 corner_alike : (ts : List (List ℕ)) (n m : ℕ) → Alike SameRest (corner_at (line_of n ts)) (corner_at (line_of m ts))
 unfolding corner_at
@@ -153,7 +165,9 @@ stabilise_alike ts n m =
 
 destabilise_alike : (ts : List (List ℕ)) (n m : ℕ) → Alike Same (destabilise (line_of n ts)) (destabilise (line_of m ts))
 unfolding destabilise
-destabilise_alike ts n m = rest_bind _ _ (number_alike ts n m) (λ c us i j. rest_bind _ _ (last_alike us i j) (λ r vs k l. same_bind (most_alike MAX_PLACE c k l) (λ left. same_bind (most_alike MAX_PLACE r k l) (λ low. alike_ok refl))))
+destabilise_alike ts n m = rest_bind _ _ (number_alike ts n m)
+    (λ c us i j. rest_bind _ _ (last_alike us i j) (λ r vs k l. same_bind (most_alike MAX_PLACE c k l)
+    (λ left. same_bind (most_alike MAX_PLACE r k l) (λ low. alike_ok refl))))
 
 move_alike : (ts : List (List ℕ)) (n m : ℕ) → Alike Same (move_at (line_of n ts)) (move_at (line_of m ts))
 unfolding move_at
@@ -175,7 +189,8 @@ turns_alike item each (suc count) t u same =
 
 pub moves_alike : (t u : Text) → SameText t u → Alike SameLeft (moves_item t) (moves_item u)
 unfolding moves_item
-moves_alike t u same = next_bind _ _ _ _ same (λ ts n m v w behind. line_bind _ _ (word_alike (codes "moves") ts n m) (λ us i j. same_bind (count_alike us i j) (λ count. turns_alike next_move next_move_alike count v w behind)))
+moves_alike t u same = next_bind _ _ _ _ same (λ ts n m v w behind. line_bind _ _ (word_alike (codes "moves") ts n m)
+    (λ us i j. same_bind (count_alike us i j) (λ count. turns_alike next_move next_move_alike count v w behind)))
 
 -- ---- quandles
 
@@ -193,7 +208,8 @@ tetrahedral_alike ts n m = line_bind _ _ (end_alike ts n m) (λ us i j. alike_ok
 written_alike : (ts : List (List ℕ)) (n m : ℕ) → Alike SameRest (written_at (line_of n ts)) (written_at (line_of m ts))
 unfolding written_at
 written_alike ts n m = rest_bind _ _ (token_alike ts n m) (λ t us i j.
-    alike_if (bytes_eq t (codes "trivial")) (order_alike (λ k. written.Trivial k) us i j) (alike_if (bytes_eq t (codes "dihedral")) (order_alike (λ k. written.Dihedral k) us i j)
+    alike_if (bytes_eq t (codes "trivial")) (order_alike (λ k. written.Trivial k) us i j)
+    (alike_if (bytes_eq t (codes "dihedral")) (order_alike (λ k. written.Dihedral k) us i j)
     (alike_if (bytes_eq t (codes "tetrahedral")) (tetrahedral_alike us i j) (alike_if (bytes_eq t (codes "alexander")) (alexander_alike us i j)
     (alike_if (bytes_eq t (codes "table")) (order_alike (λ k. written.Table k) us i j) alike_err)))))
 
@@ -210,7 +226,8 @@ rows_alike order bound (suc count) t u same = text_bind _ _ (row_alike order bou
 
 table_alike : (order : ℕ) (t u : Text) → SameText t u → Alike SameLeft (table_item order t) (table_item order u)
 unfolding table_item
-table_alike order t u same = text_bind _ _ (rows_alike order order (order - 1) t u same) (λ front v w behind. next_bind _ _ _ _ behind (λ ts n m p q left. same_bind (below_alike order order ts n m) (λ row.
+table_alike order t u same = text_bind _ _ (rows_alike order order (order - 1) t u same)
+    (λ front v w behind. next_bind _ _ _ _ behind (λ ts n m p q left. same_bind (below_alike order order ts n m) (λ row.
     alike_if (is_none (table_fault (record { order = order; entries = front ++ row }))) (alike_ok (refl, left)) alike_err)))
 
 untabled_alike : (w : Written) (n m : ℕ) (t u : Text) → SameText t u
@@ -235,13 +252,15 @@ quandle_alike t u same =
 
 surplus_alike : (t u : Text) → SameText t u → Alike SameLeft (surplus_quandle t) (surplus_quandle u)
 unfolding surplus_quandle
-surplus_alike t u same = next_bind _ _ _ _ same (λ ts n m v w behind. line_bind _ _ (word_alike (codes "quandle") ts n m) (λ us i j. rest_bind _ _ (written_alike us i j) (λ w vs k l. alike_err)))
+surplus_alike t u same = next_bind _ _ _ _ same (λ ts n m v w behind. line_bind _ _ (word_alike (codes "quandle") ts n m)
+    (λ us i j. rest_bind _ _ (written_alike us i j) (λ w vs k l. alike_err)))
 
 quandles_alike : (room : ℕ) (t u : Text) → SameText t u → Alike SameLeft (quandles room t) (quandles room u)
 unfolding quandles
 quandles_alike zero t u same = begins_alike (codes "quandle") t u same (surplus_alike t u same) (alike_ok (refl, same))
 quandles_alike (suc room) t u same = begins_alike (codes "quandle") t u same
-    (text_bind _ _ (quandle_alike t u same) (λ first v w behind. text_bind _ _ (quandles_alike room v w behind) (λ others p q left. alike_ok (refl, left)))) (alike_ok (refl, same))
+    (text_bind _ _ (quandle_alike t u same) (λ first v w behind. text_bind _ _ (quandles_alike room v w behind) (λ others p q left. alike_ok (refl, left))))
+    (alike_ok (refl, same))
 
 pub list_alike : (t u : Text) → SameText t u → Alike SameLeft (quandle_list t) (quandle_list u)
 unfolding quandle_list
@@ -250,7 +269,8 @@ list_alike t u same = text_bind _ _ (quandles_alike MAX_QUANDLES t u same) (λ l
 pub coloured_alike : (width : ℕ) (t u : Text) → SameText t u → Alike SameLeft (coloured width t) (coloured width u)
 unfolding coloured coloured_item
 coloured_alike width t u same = begins_alike (codes "quandle") t u same
-    (text_bind _ _ (text_bind _ _ (quandle_alike t u same) (λ q v w behind. text_bind _ _ (colours_alike width q.table.order v w behind) (λ c p s left. alike_ok (refl, left)))) (λ given v w behind. alike_ok (refl, behind))) (alike_ok (refl, same))
+    (text_bind _ _ (text_bind _ _ (quandle_alike t u same) (λ q v w behind. text_bind _ _ (colours_alike width q.table.order v w behind)
+    (λ c p s left. alike_ok (refl, left)))) (λ given v w behind. alike_ok (refl, behind))) (alike_ok (refl, same))
 
 -- ---- verdicts
 
@@ -273,13 +293,17 @@ equal_alike ts n m t u same =
 different_alike : (one two : ℕ) (ts : List (List ℕ)) (n m : ℕ) (t u : Text) → SameText t u
     → Alike SameLeft (different_at one two (line_of n ts) t) (different_at one two (line_of m ts) u)
 unfolding different_at
-different_alike one two ts n m t u same = text_bind _ _ (quandle_at_alike ts n m t u same) (λ q v w behind. text_bind _ _ (lists_alike one q.table.order v w behind) (λ first p s left. text_bind _ _ (lists_alike two q.table.order p s left) (λ second x y rest. alike_ok (refl, rest))))
+different_alike one two ts n m t u same = text_bind _ _ (quandle_at_alike ts n m t u same)
+    (λ q v w behind. text_bind _ _ (lists_alike one q.table.order v w behind)
+    (λ first p s left. text_bind _ _ (lists_alike two q.table.order p s left) (λ second x y rest. alike_ok (refl, rest))))
 
 unknown_alike : (ts : List (List ℕ)) (n m : ℕ) → Alike Same (unknown_at (line_of n ts)) (unknown_at (line_of m ts))
 unfolding unknown_at budget_at exhausted_at
 unknown_alike ts n m = rest_bind _ _ (token_alike ts n m) (λ t us i j.
     alike_if (bytes_eq t (codes "budget")) (same_bind (count_alike us i j) (λ budget. alike_ok refl))
-    (alike_if (bytes_eq t (codes "exhausted")) (rest_bind _ _ (number_alike us i j) (λ cap vs k l. rest_bind _ _ (last_alike vs k l) (λ admitted ws p q. same_bind (most_alike MAX_NUMBER cap p q) (λ most. same_bind (most_alike MAX_NUMBER admitted p q) (λ entries. alike_ok refl))))) alike_err))
+    (alike_if (bytes_eq t (codes "exhausted")) (rest_bind _ _ (number_alike us i j)
+    (λ cap vs k l. rest_bind _ _ (last_alike vs k l) (λ admitted ws p q. same_bind (most_alike MAX_NUMBER cap p q)
+    (λ most. same_bind (most_alike MAX_NUMBER admitted p q) (λ entries. alike_ok refl))))) alike_err))
 
 unknown_item_alike : (ts : List (List ℕ)) (n m : ℕ) (t u : Text) → SameText t u → Alike SameLeft (unknown_item (line_of n ts) t) (unknown_item (line_of m ts) u)
 unfolding unknown_item
@@ -288,5 +312,6 @@ unknown_item_alike ts n m t u same = same_bind (unknown_alike ts n m) (λ v. ali
 pub verdict_alike : (one two : ℕ) (t u : Text) → SameText t u → Alike SameLeft (verdict_item one two t) (verdict_item one two u)
 unfolding verdict_item
 verdict_alike one two t u same = next_bind _ _ _ _ same (λ ts n m v w behind. rest_bind _ _ (token_alike ts n m) (λ kind us i j.
-    alike_if (bytes_eq kind (codes "equal")) (equal_alike us i j v w behind) (alike_if (bytes_eq kind (codes "different")) (different_alike one two us i j v w behind)
+    alike_if (bytes_eq kind (codes "equal")) (equal_alike us i j v w behind)
+    (alike_if (bytes_eq kind (codes "different")) (different_alike one two us i j v w behind)
     (alike_if (bytes_eq kind (codes "unknown")) (unknown_item_alike us i j v w behind) alike_err))))

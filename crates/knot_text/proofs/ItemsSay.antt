@@ -7,7 +7,7 @@ use Rattle.std.specs.Option.{option_map}
 use Rattle.std.specs.List.{AllByRecursion, list_any}
 use Rattle.std.specs.Str.{bytes_eq}
 use Rattle.std.specs.Fmt.{decimal}
-use Rattle.std.proofs.lemmas.Bool.{eqb-true, ltb-false}
+use Rattle.std.proofs.lemmas.Bool.{eqb-true, ltb-false, or_parts}
 use Rattle.std.proofs.lemmas.List.Elements.{recursion_from_All}
 use Rattle.arrayvec.specs.ArrayVec.{ArrayVec}
 use Rattle.grid_core.specs.declared.mark.Kind.{Kind}
@@ -18,7 +18,7 @@ use Rattle.grid_core.specs.declared.grid.TheConstants.{MAX_SIZE}
 use Rattle.grid_core.specs.declared.fault.GridFault.{GridFault}
 use Rattle.grid_core.specs.Diagram.{Diagram as Marks, IsGrid}
 use Rattle.grid_core.specs.Fault.{first_fault}
-use Rattle.grid_core.proofs.Accepted.{accepted_lists, either_false}
+use Rattle.grid_core.proofs.Accepted.{accepted_lists}
 use Rattle.braid_core.specs.declared.braid.TheConstants.{MAX_STRANDS}
 use Rattle.braid_core.specs.declared.fault.BraidFault.{BraidFault}
 use Rattle.braid_core.specs.Braid.{Word, IsLetter, IsBraid}
@@ -37,7 +37,7 @@ use Rattle.knot_text.specs.declared.reading.TheConstants.{MAX_NUMBER, MAX_PLACE}
 use Rattle.knot_text.specs.Reading.{◌>>=◌, next_line, in_turn, each_token}
 use Rattle.knot_text.specs.Grids.{x_at, o_at, grid_item, are_rows}
 use Rattle.knot_text.specs.Braids.{letter_of, is_long_letter, exceeds, braid_of, braid_at, braid_item}
-use Rattle.knot_text.specs.Moves.{last_place, one_place, shift, exchange, slide, kind_at, corner_at, stabilise, destabilise, move_at}
+use Rattle.knot_text.specs.Moves.{last_place, one_place, shift, exchange, slide, kind_at, corner_at, stabilise, destabilise, move_at, on_axis}
 use Rattle.knot_text.specs.Moves.{next_move, move_lines, moves_item}
 use Rattle.knot_text.specs.Colours.{colours_at, colours_item}
 use Rattle.knot_text.specs.Printed.{rows_tokens, grid_lines, kind_word, corner_word, move_tokens, moves_lines, HasMoveText, HaveText}
@@ -124,7 +124,7 @@ negative_by bs (Some (suc k)) is a e few some =
     let low : suc k ≤ MAX_NUMBER = subst (λ (z : ℤ). unsigned_abs z ≤ MAX_NUMBER) (sym same) few in
     ap (λ (ds : List ℕ). 45 ∷ ds) (spelled bs (suc k) is low ∙ ap decimal (sym (add-one k))) ∙ ap letter_token same
 
-positive_by : (t : List ℕ) (o : Option ℕ) → number_of t ≡ o → (a : ℤ) → option_map (λ k. pos k) o ≡ Some a → unsigned_abs a ≤ MAX_NUMBER → t ≡ letter_token a
+pub positive_by : (t : List ℕ) (o : Option ℕ) → number_of t ≡ o → (a : ℤ) → option_map (λ k. pos k) o ≡ Some a → unsigned_abs a ≤ MAX_NUMBER → t ≡ letter_token a
 positive_by t None is a e few = absurd cc
 positive_by t (Some k) is a e few =
     let same : pos k ≡ a = cc in
@@ -137,7 +137,7 @@ letter_by : (b : ℕ) (bs : List ℕ) (t : Bool) → (b == 45) ≡ t → (a : �
 letter_by b bs true sign a e few some = ap (λ (c : ℕ). c ∷ bs) (eqb-true b 45 sign) ∙ negative_by bs (number_of bs) refl a e few some
 letter_by b bs false sign a e few some = positive_by (b ∷ bs) (number_of (b ∷ bs)) refl a e few
 
-letter_spelled : (t : List ℕ) (a : ℤ) → letter_of t ≡ Some a → unsigned_abs a ≤ MAX_NUMBER → 1 ≤ unsigned_abs a → t ≡ letter_token a
+pub letter_spelled : (t : List ℕ) (a : ℤ) → letter_of t ≡ Some a → unsigned_abs a ≤ MAX_NUMBER → 1 ≤ unsigned_abs a → t ≡ letter_token a
 letter_spelled [] a e few some = absurd cc
 letter_spelled (b ∷ bs) a e few some = letter_by b bs (b == 45) refl a e few some
 
@@ -151,7 +151,7 @@ each_letter_says n [] = says_ok [] (λ few some. refl)
 each_letter_says n (t ∷ ts) = says_bind (λ (a : ℤ). letter_of t ≡ Some a) (or_malformed_says n (letter_of t)) (λ a reads.
     says_bind (AreSpelled ts) (each_letter_says n ts) (λ ls is.
     says_ok (a ∷ ls) (λ few some.
-    let both = either_false (is_long_letter a) (list_any is_long_letter ls) few in
+    let both = or_parts (is_long_letter a) (list_any is_long_letter ls) few in
     ap₂ (λ (s : List ℕ) (ss : List (List ℕ)). s ∷ ss) (letter_spelled t a reads (ltb-false MAX_NUMBER (unsigned_abs a) both.0) some.0) (is both.1 some.1))))
 
 not_zero : (m : ℕ) (ls : List ℤ) → AllByRecursion (IsLetter m) ls → AllByRecursion (λ (a : ℤ). 1 ≤ unsigned_abs a) ls
@@ -171,9 +171,13 @@ braid_by : (line : NumberedLine) (b : Word) (n : ℕ) (f : Option BraidFault) �
 braid_by line b n (Some fault) is there within e = says_err
 braid_by line b n None is there within e =
     let braid = none_braid b is in
-    let a = either_false (nat_lt MAX_STRANDS b.strands) (list_any is_long_letter b.letters || nat_lt MAX_SIZE (closure_size b)) within in
-    let c = either_false (list_any is_long_letter b.letters) (nat_lt MAX_SIZE (closure_size b)) a.1 in
-    says_ok b (braid, there.strands (omega (arith, braid.most)) c.0 (not_zero b.strands b.letters (recursion_from_All (IsLetter b.strands) b.letters braid.crossings)))
+    let a = or_parts (nat_lt MAX_STRANDS b.strands) (list_any is_long_letter b.letters || nat_lt MAX_SIZE (closure_size b)) within in
+    let c = or_parts (list_any is_long_letter b.letters) (nat_lt MAX_SIZE (closure_size b)) a.1 in
+    says_ok b (
+      braid,
+      there.strands (omega (arith, braid.most)) c.0
+          (not_zero b.strands b.letters (recursion_from_All (IsLetter b.strands) b.letters braid.crossings)),
+    )
 
 braid_of_says : (line : NumberedLine) (b : Word) → IsBraidLine line b → Says (braid_of line.number b) (IsLine IsBraid braid_tokens line)
 braid_of_says line b there = says_if (exceeds b) (λ over. says_err) (λ within. braid_by line b line.number (word_fault b) refl there within _)
@@ -194,7 +198,7 @@ braid_says text = line_says IsBraid braid_tokens braid_at braid_at_says text
 
 -- ---- moves
 
-place_says : (line : NumberedLine) → Says (last_place line) (λ k. (k ≤ MAX_PLACE) × (line.tokens ≡ decimal k ∷ []))
+pub place_says : (line : NumberedLine) → Says (last_place line) (λ k. (k ≤ MAX_PLACE) × (line.tokens ≡ decimal k ∷ []))
 unfolding last_place
 place_says line = says_bind (IsNumberAlone line.tokens) (last_number_says line) (λ v is.
     says_more (λ k few. (few.1, is (omega (arith, few.0, few.1)) ∙ ap (λ (j : ℕ). decimal j ∷ []) few.0)) (at_most_says MAX_PLACE v.1.number v.0))
@@ -211,29 +215,37 @@ record MovesAlong (name axis : List ℕ) (make : ℕ → Move) : Type 0 where
 one_says : (name axis : List ℕ) (make : ℕ → Move) → MovesAlong name axis make → (tokens : List (List ℕ)) (t : List ℕ × NumberedLine)
     → IsFirst tokens t → t.0 ≡ axis → Says (one_place make t.1) (IsMoveBehind (name ∷ []) tokens)
 one_says name axis make along tokens t is same = says_bind (λ (k : ℕ). (k ≤ MAX_PLACE) × (t.1.tokens ≡ decimal k ∷ [])) (place_says t.1) (λ k place.
-    says_ok (make k) (along.fits k place.0, ap (λ (ts : List (List ℕ)). name ∷ ts) (is ∙ ap₂ (λ (s : List ℕ) (ts : List (List ℕ)). s ∷ ts) same place.1) ∙ along.tokens k))
+    says_ok (make k) (
+      along.fits k place.0,
+      ap (λ (ts : List (List ℕ)). name ∷ ts) (is ∙ ap₂ (λ (s : List ℕ) (ts : List (List ℕ)). s ∷ ts) same place.1)
+          ∙ along.tokens k,
+    ))
 
-along_say : (name : List ℕ) (columns rows : ℕ → Move) → MovesAlong name (codes "columns") columns → MovesAlong name (codes "rows") rows
-    → (tokens : List (List ℕ)) (e : TextFault) (t : List ℕ × NumberedLine) → IsFirst tokens t
-    → Says (cond (bytes_eq t.0 (codes "columns")) (one_place columns t.1) (cond (bytes_eq t.0 (codes "rows")) (one_place rows t.1) (Err e))) (IsMoveBehind (name ∷ []) tokens)
-along_say name columns rows first second tokens e t is =
-    says_if (bytes_eq t.0 (codes "columns")) (λ same. one_says name (codes "columns") columns first tokens t is (is_word t.0 (codes "columns") same)) (λ other.
-    says_if (bytes_eq t.0 (codes "rows")) (λ same. one_says name (codes "rows") rows second tokens t is (is_word t.0 (codes "rows") same)) (λ none. says_err))
+along_says : (name : List ℕ) (columns rows : ℕ → Move) → MovesAlong name (codes "columns") columns → MovesAlong name (codes "rows") rows
+    → (line : NumberedLine) → Says (on_axis columns rows line) (IsMoveBehind (name ∷ []) line.tokens)
+along_says name columns rows first second line = says_bind (IsFirst line.tokens) (next_token_says line) (λ t is.
+    says_if (bytes_eq t.0 (codes "columns"))
+    (λ same. one_says name (codes "columns") columns first line.tokens t is (is_word t.0 (codes "columns") same)) (λ other.
+    says_if (bytes_eq t.0 (codes "rows"))
+    (λ same. one_says name (codes "rows") rows second line.tokens t is (is_word t.0 (codes "rows") same)) (λ none. says_err)))
 
 shift_says : (line : NumberedLine) → Says (shift line) (IsMoveBehind (codes "shift" ∷ []) line.tokens)
 unfolding shift
-shift_says line = says_bind (IsFirst line.tokens) (next_token_says line) (λ t is.
-    along_say (codes "shift") (λ k. ShiftColumns k) (λ k. ShiftRows k) (record { fits = λ k few. few; tokens = λ k. refl }) (record { fits = λ k few. few; tokens = λ k. refl }) line.tokens _ t is)
+shift_says line =
+    along_says (codes "shift") (λ k. ShiftColumns k) (λ k. ShiftRows k) (record { fits = λ k few. few; tokens = λ k. refl })
+    (record { fits = λ k few. few; tokens = λ k. refl }) line
 
 exchange_says : (line : NumberedLine) → Says (exchange line) (IsMoveBehind (codes "exchange" ∷ []) line.tokens)
 unfolding exchange
-exchange_says line = says_bind (IsFirst line.tokens) (next_token_says line) (λ t is.
-    along_say (codes "exchange") (λ c. ExchangeColumns c) (λ r. ExchangeRows r) (record { fits = λ k few. few; tokens = λ k. refl }) (record { fits = λ k few. few; tokens = λ k. refl }) line.tokens _ t is)
+exchange_says line =
+    along_says (codes "exchange") (λ c. ExchangeColumns c) (λ r. ExchangeRows r) (record { fits = λ k few. few; tokens = λ k. refl })
+    (record { fits = λ k few. few; tokens = λ k. refl }) line
 
 slide_says : (line : NumberedLine) → Says (slide line) (IsMoveBehind (codes "slide" ∷ []) line.tokens)
 unfolding slide
-slide_says line = says_bind (IsFirst line.tokens) (next_token_says line) (λ t is.
-    along_say (codes "slide") (λ c. SlideColumns c) (λ r. SlideRows r) (record { fits = λ k few. few; tokens = λ k. refl }) (record { fits = λ k few. few; tokens = λ k. refl }) line.tokens _ t is)
+slide_says line =
+    along_says (codes "slide") (λ c. SlideColumns c) (λ r. SlideRows r) (record { fits = λ k few. few; tokens = λ k. refl })
+    (record { fits = λ k few. few; tokens = λ k. refl }) line
 
 abbrev IsKindFirst : List (List ℕ) → Kind × NumberedLine → Type 0
 IsKindFirst tokens k = tokens ≡ kind_word k.0 ∷ k.1.tokens

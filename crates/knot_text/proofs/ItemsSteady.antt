@@ -24,8 +24,8 @@ use Rattle.knot_text.specs.Colours.{colours_at, colours_item, coloured_item}
 use Rattle.knot_text.specs.Moves.{move_at, next_move, move_lines, moves_item}
 use Rattle.knot_text.specs.Quandles.{written_at, is_over, meant, table_row, table_rows, table_item, quandle_of, quandle_at, quandle_item}
 use Rattle.knot_text.specs.Verdicts.{equal_at, colour_line, list_item, different_at, unknown_at, unknown_item, verdict_item}
-use Rattle.knot_text.proofs.Steady.{Steady, Anywhere, then_read, line_steady, pure_steady, same_steady, then_steady, turns_steady}
-use Rattle.knot_text.proofs.AtLine.{At, at_ok, at_malformed, at_limit, at_bind, at_cond, at_same, word_at, word_keeps, last_count_at, numbers_below_at}
+use Rattle.knot_text.proofs.Steady.{Steady, Anywhere, then_read, pure_steady, same_steady, then_steady, turns_steady}
+use Rattle.knot_text.proofs.AtLine.{At, at_ok, at_malformed, at_limit, at_bind, at_cond, at_same, word_at, word_keeps, last_count_at, numbers_below_at, line_alone}
 use Rattle.knot_text.proofs.ItemsAtLine.{x_at_at, o_at_at, braid_at_at, colours_at_at, move_at_at, chosen_at, word_count_at, written_at_at}
 use Rattle.knot_text.proofs.ItemsAtLine.{written_keeps, unknown_at_at}
 
@@ -54,7 +54,7 @@ pub line_then : {A B : Type 0} (g : NumberedLine → Result A TextFault) (k : A 
 line_then g k names steady =
     let first = λ (text : Text). of_line (next_line text) g in
     same_steady Anywhere (then_read first k) (λ text. next_line text >>= λ line. g line.0 >>= λ x. k x line.1) (λ text. flat (next_line text) g k)
-    (then_steady Anywhere first k (line_steady g (λ line fault e. names line fault e)) steady)
+    (then_steady Anywhere first k (line_alone g names) steady)
 
 -- two steps in the line
 flat_steps : {X A B : Type 0} (s : Result X TextFault) (h : X → Result A TextFault) (text : Text) (k : A → Text → Result B TextFault)
@@ -62,7 +62,8 @@ flat_steps : {X A B : Type 0} (s : Result X TextFault) (h : X → Result A TextF
 flat_steps (Ok x) h text k = refl
 flat_steps (Err e) h text k = refl
 
-flat_two : {X A B : Type 0} (r : Result (NumberedLine × Text) TextFault) (g : NumberedLine → Result X TextFault) (h : X → Result A TextFault) (k : A → Text → Result B TextFault)
+flat_two : {X A B : Type 0} (r : Result (NumberedLine × Text) TextFault) (g : NumberedLine → Result X TextFault) (h : X → Result A TextFault)
+    (k : A → Text → Result B TextFault)
     → (r >>= λ line. g line.0 >>= λ x. h x >>= λ a. k a line.1) ≡ (r >>= λ line. (g line.0 >>= h) >>= λ a. k a line.1)
 flat_two (Ok line) g h k = flat_steps (g line.0) h line.1 k
 flat_two (Err e) g h k = refl
@@ -71,26 +72,27 @@ pub line_then_two : {X A B : Type 0} (g : NumberedLine → Result X TextFault) (
     → ((line : NumberedLine) → At line.number (g line >>= h)) → ((a : A) → Steady Anywhere (k a))
     → Steady Anywhere (λ text. next_line text >>= λ line. g line.0 >>= λ x. h x >>= λ a. k a line.1)
 line_then_two g h k names steady =
-    same_steady Anywhere (λ text. next_line text >>= λ line. (g line.0 >>= h) >>= λ a. k a line.1) (λ text. next_line text >>= λ line. g line.0 >>= λ x. h x >>= λ a. k a line.1) (λ text. flat_two (next_line text) g h k)
+    same_steady Anywhere (λ text. next_line text >>= λ line. (g line.0 >>= h) >>= λ a. k a line.1)
+    (λ text. next_line text >>= λ line. g line.0 >>= λ x. h x >>= λ a. k a line.1) (λ text. flat_two (next_line text) g h k)
     (line_then (λ line. g line >>= h) k names steady)
 
 -- ---- grids
 
 pub grid_steady : Steady Anywhere grid_item
 unfolding grid_item
-grid_steady = line_then x_at (λ x text. next_line text >>= λ line. o_at x line.0 >>= λ d. Ok (d, line.1)) x_at_at (λ x. line_steady (o_at x) (λ line fault e. o_at_at x line fault e))
+grid_steady = line_then x_at (λ x text. next_line text >>= λ line. o_at x line.0 >>= λ d. Ok (d, line.1)) x_at_at (λ x. line_alone (o_at x) (o_at_at x))
 
 -- ---- braids
 
 pub braid_steady : Steady Anywhere braid_item
 unfolding braid_item
-braid_steady = line_steady braid_at (λ line fault e. braid_at_at line fault e)
+braid_steady = line_alone braid_at braid_at_at
 
 -- ---- moves
 
 next_move_steady : Steady Anywhere next_move
 unfolding next_move
-next_move_steady = line_steady move_at (λ line fault e. move_at_at line fault e)
+next_move_steady = line_alone move_at move_at_at
 
 pub move_lines_steady : (count : ℕ) → Steady Anywhere (move_lines count)
 move_lines_steady count = turns_steady next_move count next_move_steady
@@ -107,7 +109,7 @@ moves_steady = line_then_two (word (codes "moves")) last_count (λ count text. m
 
 row_steady : (order bound : ℕ) → Steady Anywhere (table_row order bound)
 unfolding table_row
-row_steady order bound = line_steady (numbers_below order bound) (λ line fault e. numbers_below_at order bound line fault e)
+row_steady order bound = line_alone (numbers_below order bound) (numbers_below_at order bound)
 
 pub rows_steady : (order bound count : ℕ) → Steady Anywhere (table_rows order bound count)
 unfolding table_rows
@@ -126,9 +128,7 @@ last_row_at : {A : Type 0} (test : List ℕ → Bool) (make : List ℕ → A) (o
     → At line.number (last_row test make order bound front line)
 unfolding last_row
 last_row_at test make order bound front line =
-    let n = line.number in
-    at_bind n (numbers_below order bound line) (λ row. cond (test (front ++ row)) (Ok (make (front ++ row))) (Err (Malformed n))) (numbers_below_at order bound line)
-    (λ row e. at_cond n (test (front ++ row)) (Ok (make (front ++ row))) (Err (Malformed n)) (at_ok n (make (front ++ row))) (at_malformed n))
+    at_bind (numbers_below_at order bound line) (λ row e. at_cond (test (front ++ row)) at_ok at_malformed)
 
 flat_test : {A : Type 0} (b : Bool) (x : A) (d : TextFault) (text : Text) → cond b (Ok (x, text)) (Err d) ≡ with_rest (cond b (Ok x) (Err d)) text
 flat_test true x d text = refl
@@ -142,7 +142,8 @@ flat_row test make n front (Err e) text = refl
 
 abbrev pub last_read : {A : Type 0} → (List ℕ → Bool) → (List ℕ → A) → ℕ → ℕ → List ℕ → Text → Result (A × Text) TextFault
 last_read test make order bound front text =
-    next_line text >>= λ line. numbers_below order bound line.0 >>= λ row. cond (test (front ++ row)) (Ok (make (front ++ row), line.1)) (Err (Malformed line.0.number))
+    next_line text >>= λ line. numbers_below order bound line.0
+    >>= λ row. cond (test (front ++ row)) (Ok (make (front ++ row), line.1)) (Err (Malformed line.0.number))
 
 flat_last : {A : Type 0} (test : List ℕ → Bool) (make : List ℕ → A) (order bound : ℕ) (front : List ℕ) (r : Result (NumberedLine × Text) TextFault)
     → (r >>= λ line. numbers_below order bound line.0 >>= λ row. cond (test (front ++ row)) (Ok (make (front ++ row), line.1)) (Err (Malformed line.0.number)))
@@ -157,7 +158,7 @@ last_steady test make order bound front =
     let last = last_row test make order bound front in
     same_steady Anywhere (λ text. of_line (next_line text) last) (last_read test make order bound front)
     (λ text. flat_last test make order bound front (next_line text))
-    (line_steady last (λ line fault e. last_row_at test make order bound front line fault e))
+    (line_alone last (last_row_at test make order bound front))
 
 abbrev is_table : ℕ → List ℕ → Bool
 is_table order entries = is_none (first_fault (record { order = order; entries = entries }))
@@ -169,7 +170,8 @@ pub table_steady : (order : ℕ) → Steady Anywhere (table_item order)
 unfolding table_item
 table_steady order =
     let last = last_read (is_table order) (of_entries order) order order in
-    then_steady Anywhere (table_rows order order (order - 1)) last (rows_steady order order (order - 1)) (last_steady (is_table order) (of_entries order) order order)
+    then_steady Anywhere (table_rows order order (order - 1)) last (rows_steady order order (order - 1))
+    (last_steady (is_table order) (of_entries order) order order)
 
 -- ---- quandles
 
@@ -196,11 +198,11 @@ plan_of n written.Tetrahedral = ready (meant written.Tetrahedral) n
 plan_of n (written.Alexander k a) = ready (meant (written.Alexander k a)) n
 
 ready_at : (o : Option NamedQuandle) (n : ℕ) → At n (ready o n)
-ready_at None n = at_malformed n
-ready_at (Some q) n = at_ok n (inl q)
+ready_at None n = at_malformed
+ready_at (Some q) n = at_ok
 
 plan_of_at : (n : ℕ) (w : Written) → At n (plan_of n w)
-plan_of_at n (written.Table order) = at_cond n (nat_le 1 order) (Ok (inr order)) (Err (Malformed n)) (at_ok n (inr order)) (at_malformed n)
+plan_of_at n (written.Table order) = at_cond (nat_le 1 order) at_ok at_malformed
 plan_of_at n (written.Trivial k) = ready_at (meant (written.Trivial k)) n
 plan_of_at n (written.Dihedral k) = ready_at (meant (written.Dihedral k)) n
 plan_of_at n written.Tetrahedral = ready_at (meant written.Tetrahedral) n
@@ -214,9 +216,8 @@ plan line = plan_by (written_at line)
 
 plan_at : (line : NumberedLine) → At line.number (plan line)
 unfolding plan
-plan_at line = at_bind line.number (written_at line) (λ w. cond (is_over w.0) (Err (Limit w.1.number)) (plan_of w.1.number w.0)) (written_at_at line)
-    (λ w e. at_same line.number w.1.number (cond (is_over w.0) (Err (Limit w.1.number)) (plan_of w.1.number w.0)) (written_keeps line w e)
-    (at_cond w.1.number (is_over w.0) (Err (Limit w.1.number)) (plan_of w.1.number w.0) (at_limit w.1.number) (plan_of_at w.1.number w.0)))
+plan_at line =
+    at_bind (written_at_at line) (λ w e. at_same ((written_keeps line).of w e) (at_cond (is_over w.0) at_limit (plan_of_at w.1.number w.0)))
 
 flat_ready : (o : Option NamedQuandle) (n : ℕ) (text : Text) → (or_malformed n o >>= λ q. Ok (q, text)) ≡ (ready o n >>= λ p. go p text)
 flat_ready None n text = refl
@@ -248,7 +249,8 @@ flat_quandle : (line : NumberedLine) (text : Text) → quandle_at line text ≡ 
 unfolding quandle_at plan
 flat_quandle line text = flat_written (written_at line) text
 
-flat_item : (r : Result (NumberedLine × Text) TextFault) → (r >>= λ line. word (codes "quandle") line.0 >>= λ rest. quandle_at rest line.1) ≡ (r >>= λ line. word (codes "quandle") line.0 >>= λ rest. plan rest >>= λ p. go p line.1)
+flat_item : (r : Result (NumberedLine × Text) TextFault) → (r >>= λ line. word (codes "quandle") line.0 >>= λ rest. quandle_at rest line.1)
+    ≡ (r >>= λ line. word (codes "quandle") line.0 >>= λ rest. plan rest >>= λ p. go p line.1)
 flat_item (Ok line) = flat_word (word (codes "quandle") line.0) line.1
   where
     flat_word : (s : Result NumberedLine TextFault) (text : Text) → (s >>= λ rest. quandle_at rest text) ≡ (s >>= λ rest. plan rest >>= λ p. go p text)
@@ -257,38 +259,42 @@ flat_item (Ok line) = flat_word (word (codes "quandle") line.0) line.1
 flat_item (Err e) = refl
 
 quandle_line_at : (line : NumberedLine) → At line.number (word (codes "quandle") line >>= plan)
-quandle_line_at line = at_bind line.number (word (codes "quandle") line) plan (word_at (codes "quandle") line) (λ rest e. at_same line.number rest.number (plan rest) (word_keeps (codes "quandle") line rest e) (plan_at rest))
+quandle_line_at line = at_bind (word_at (codes "quandle") line) (λ rest e. at_same ((word_keeps (codes "quandle") line).of rest e) (plan_at rest))
 
 pub quandle_steady : Steady Anywhere quandle_item
 unfolding quandle_item
 quandle_steady =
-    same_steady Anywhere (λ text. next_line text >>= λ line. word (codes "quandle") line.0 >>= λ rest. plan rest >>= λ p. go p line.1) quandle_item (λ text. flat_item (next_line text))
+    same_steady Anywhere (λ text. next_line text >>= λ line. word (codes "quandle") line.0 >>= λ rest. plan rest >>= λ p. go p line.1) quandle_item
+    (λ text. flat_item (next_line text))
     (line_then_two (word (codes "quandle")) plan go quandle_line_at go_steady)
 
 -- ---- the colours of a replay
 
 pub colours_steady : (width order : ℕ) → Steady Anywhere (colours_item width order)
 unfolding colours_item
-colours_steady width order = line_steady (colours_at width order) (λ line fault e. colours_at_at width order line fault e)
+colours_steady width order = line_alone (colours_at width order) (colours_at_at width order)
 
 pub coloured_steady : (width : ℕ) → Steady Anywhere (coloured_item width)
 unfolding coloured_item
 coloured_steady width =
     then_steady Anywhere quandle_item (λ q text. colours_item width q.table.order text >>= λ cs. Ok ((q, cs.0), cs.1)) quandle_steady
-    (λ q. then_steady Anywhere (colours_item width q.table.order) (λ cs text. Ok ((q, cs), text)) (colours_steady width q.table.order) (λ cs. pure_steady (q, cs)))
+    (λ q. then_steady Anywhere (colours_item width q.table.order) (λ cs text. Ok ((q, cs), text)) (colours_steady width q.table.order)
+    (λ cs. pure_steady (q, cs)))
 
 -- ---- verdicts
 
 colour_steady : (width order : ℕ) → Steady Anywhere (colour_line width order)
 unfolding colour_line
 colour_steady width order =
-    line_then (numbers_below width order) (λ colours text. Ok (record { items = colours }, text)) (numbers_below_at width order) (λ colours. pure_steady (record { items = colours }))
+    line_then (numbers_below width order) (λ colours text. Ok (record { items = colours }, text)) (numbers_below_at width order)
+    (λ colours. pure_steady (record { items = colours }))
 
 abbrev few_lists : NumberedLine → Result ℕ TextFault
 few_lists rest = last_number rest >>= λ count. at_most MAX_COLOURINGS count.1.number count.0
 
 flat_few : {B : Type 0} (s : Result (ℕ × NumberedLine) TextFault) (text : Text) (k : ℕ → Text → Result B TextFault)
-    → (s >>= λ count. at_most MAX_COLOURINGS count.1.number count.0 >>= λ few. k few text) ≡ ((s >>= λ count. at_most MAX_COLOURINGS count.1.number count.0) >>= λ few. k few text)
+    → (s >>= λ count. at_most MAX_COLOURINGS count.1.number count.0 >>= λ few. k few text)
+    ≡ ((s >>= λ count. at_most MAX_COLOURINGS count.1.number count.0) >>= λ few. k few text)
 flat_few (Ok count) text k = refl
 flat_few (Err e) text k = refl
 
@@ -296,12 +302,14 @@ abbrev lists : ℕ → ℕ → ℕ → Text → Result (List (ArrayVec ℕ) × T
 lists width order few text = in_turn (colour_line width order) few text
 
 flat_list : (width order : ℕ) (r : Result (NumberedLine × Text) TextFault)
-    → (r >>= λ line. word (codes "list") line.0 >>= λ rest. last_number rest >>= λ count. at_most MAX_COLOURINGS count.1.number count.0 >>= λ few. lists width order few line.1)
+    → (r >>= λ line. word (codes "list") line.0 >>= λ rest. last_number rest >>= λ count. at_most MAX_COLOURINGS count.1.number count.0
+    >>= λ few. lists width order few line.1)
     ≡ (r >>= λ line. word (codes "list") line.0 >>= λ rest. few_lists rest >>= λ few. lists width order few line.1)
 flat_list width order (Ok line) = flat_word (word (codes "list") line.0) line.1
   where
     flat_word : (s : Result NumberedLine TextFault) (text : Text)
-        → (s >>= λ rest. last_number rest >>= λ count. at_most MAX_COLOURINGS count.1.number count.0 >>= λ few. lists width order few text) ≡ (s >>= λ rest. few_lists rest >>= λ few. lists width order few text)
+        → (s >>= λ rest. last_number rest >>= λ count. at_most MAX_COLOURINGS count.1.number count.0 >>= λ few. lists width order few text)
+        ≡ (s >>= λ rest. few_lists rest >>= λ few. lists width order few text)
     flat_word (Ok rest) text = flat_few (last_number rest) text (lists width order)
     flat_word (Err e) text = refl
 flat_list width order (Err e) = refl
@@ -309,8 +317,10 @@ flat_list width order (Err e) = refl
 list_steady : (width order : ℕ) → Steady Anywhere (list_item width order)
 unfolding list_item
 list_steady width order =
-    same_steady Anywhere (λ text. next_line text >>= λ line. word (codes "list") line.0 >>= λ rest. few_lists rest >>= λ few. lists width order few line.1) (list_item width order) (λ text. flat_list width order (next_line text))
-    (line_then_two (word (codes "list")) few_lists (lists width order) (word_count_at (codes "list") MAX_COLOURINGS) (λ few. turns_steady (colour_line width order) few (colour_steady width order)))
+    same_steady Anywhere (λ text. next_line text >>= λ line. word (codes "list") line.0 >>= λ rest. few_lists rest >>= λ few. lists width order few line.1)
+    (list_item width order) (λ text. flat_list width order (next_line text))
+    (line_then_two (word (codes "list")) few_lists (lists width order) (word_count_at (codes "list") MAX_COLOURINGS)
+    (λ few. turns_steady (colour_line width order) few (colour_steady width order)))
 
 -- what the first line of a verdict leads to: a number of moves, a quandle, or a whole verdict
 abbrev Course : Type 0
@@ -329,8 +339,10 @@ course_steady one two (inl count) =
     then_steady Anywhere (move_lines count) (λ m text. Ok (Equal m, text)) (move_lines_steady count) (λ m. pure_steady (Equal m))
 course_steady one two (inr (inl p)) =
     then_steady Anywhere (go p) (λ q text. two_lists one two q text) (go_steady p)
-    (λ q. then_steady Anywhere (list_item one q.table.order) (λ a text. list_item two q.table.order text >>= λ b. Ok (Different q a b.0, b.1)) (list_steady one q.table.order)
-    (λ a. then_steady Anywhere (list_item two q.table.order) (λ b text. Ok (Different q a b, text)) (list_steady two q.table.order) (λ b. pure_steady (Different q a b))))
+    (λ q. then_steady Anywhere (list_item one q.table.order) (λ a text. list_item two q.table.order text >>= λ b. Ok (Different q a b.0, b.1))
+    (list_steady one q.table.order)
+    (λ a. then_steady Anywhere (list_item two q.table.order) (λ b text. Ok (Different q a b, text)) (list_steady two q.table.order)
+    (λ b. pure_steady (Different q a b))))
 course_steady one two (inr (inr v)) = pure_steady v
 
 abbrev other_courses : List ℕ → NumberedLine → Result Course TextFault
@@ -346,10 +358,9 @@ course line = next_token line >>= λ kind. courses kind.0 kind.1
 
 course_at : (line : NumberedLine) → At line.number (course line)
 course_at line = chosen_at courses line (λ t rest.
-    let m = rest.number in
-    at_cond m (bytes_eq t (codes "equal")) (last_count rest >>= λ c. Ok (inl c)) (cond (bytes_eq t (codes "different")) (plan rest >>= λ p. Ok (inr (inl p))) (other_courses t rest)) (at_bind m (last_count rest) (λ c. Ok (inl c)) (last_count_at rest) (λ c e. at_ok m (inl c)))
-    (at_cond m (bytes_eq t (codes "different")) (plan rest >>= λ p. Ok (inr (inl p))) (other_courses t rest) (at_bind m (plan rest) (λ p. Ok (inr (inl p))) (plan_at rest) (λ p e. at_ok m (inr (inl p))))
-    (at_cond m (bytes_eq t (codes "unknown")) (unknown_at rest >>= λ v. Ok (inr (inr v))) (Err (Malformed m)) (at_bind m (unknown_at rest) (λ v. Ok (inr (inr v))) (unknown_at_at rest) (λ v e. at_ok m (inr (inr v)))) (at_malformed m))))
+    at_cond (bytes_eq t (codes "equal")) (at_bind (last_count_at rest) (λ c e. at_ok))
+    (at_cond (bytes_eq t (codes "different")) (at_bind (plan_at rest) (λ p e. at_ok))
+    (at_cond (bytes_eq t (codes "unknown")) (at_bind (unknown_at_at rest) (λ v e. at_ok)) at_malformed)))
 
 flat_counted : (one two : ℕ) (s : Result ℕ TextFault) (text : Text)
     → (s >>= λ count. move_lines count text >>= λ m. Ok (Equal m.0, m.1)) ≡ ((s >>= λ c. Ok (inl c)) >>= λ c. take_course one two c text)
@@ -388,22 +399,34 @@ flat_choice true x y u v f first second = first
 flat_choice false x y u v f first second = second
 
 flat_courses : (one two : ℕ) (t : List ℕ) (rest : NumberedLine) (text : Text)
-    → cond (bytes_eq t (codes "equal")) (equal_at rest text) (cond (bytes_eq t (codes "different")) (different_at one two rest text) (cond (bytes_eq t (codes "unknown")) (unknown_item rest text) (Err (Malformed rest.number))))
+    → cond (bytes_eq t (codes "equal")) (equal_at rest text)
+    (cond (bytes_eq t (codes "different")) (different_at one two rest text)
+    (cond (bytes_eq t (codes "unknown")) (unknown_item rest text) (Err (Malformed rest.number))))
     ≡ (courses t rest >>= λ c. take_course one two c text)
 flat_courses one two t rest text =
     let f = λ (c : Course). take_course one two c text in
-    flat_choice (bytes_eq t (codes "equal")) (equal_at rest text) (cond (bytes_eq t (codes "different")) (different_at one two rest text) (cond (bytes_eq t (codes "unknown")) (unknown_item rest text) (Err (Malformed rest.number)))) (last_count rest >>= λ c. Ok (inl c)) (cond (bytes_eq t (codes "different")) (plan rest >>= λ p. Ok (inr (inl p))) (other_courses t rest)) f (flat_equal one two rest text)
-    (flat_choice (bytes_eq t (codes "different")) (different_at one two rest text) (cond (bytes_eq t (codes "unknown")) (unknown_item rest text) (Err (Malformed rest.number))) (plan rest >>= λ p. Ok (inr (inl p))) (other_courses t rest) f (flat_different one two rest text)
-    (flat_choice (bytes_eq t (codes "unknown")) (unknown_item rest text) (Err (Malformed rest.number)) (unknown_at rest >>= λ v. Ok (inr (inr v))) (Err (Malformed rest.number)) f (flat_unknown one two rest text) refl))
+    flat_choice (bytes_eq t (codes "equal")) (equal_at rest text)
+    (cond (bytes_eq t (codes "different")) (different_at one two rest text)
+    (cond (bytes_eq t (codes "unknown")) (unknown_item rest text) (Err (Malformed rest.number)))) (last_count rest >>= λ c. Ok (inl c))
+    (cond (bytes_eq t (codes "different")) (plan rest >>= λ p. Ok (inr (inl p))) (other_courses t rest)) f (flat_equal one two rest text)
+    (flat_choice (bytes_eq t (codes "different")) (different_at one two rest text)
+    (cond (bytes_eq t (codes "unknown")) (unknown_item rest text) (Err (Malformed rest.number))) (plan rest >>= λ p. Ok (inr (inl p))) (other_courses t rest) f
+    (flat_different one two rest text)
+    (flat_choice (bytes_eq t (codes "unknown")) (unknown_item rest text) (Err (Malformed rest.number)) (unknown_at rest >>= λ v. Ok (inr (inr v)))
+    (Err (Malformed rest.number)) f (flat_unknown one two rest text) refl))
 
 flat_kind : (one two : ℕ) (s : Result (List ℕ × NumberedLine) TextFault) (text : Text)
-    → (s >>= λ kind. cond (bytes_eq kind.0 (codes "equal")) (equal_at kind.1 text) (cond (bytes_eq kind.0 (codes "different")) (different_at one two kind.1 text) (cond (bytes_eq kind.0 (codes "unknown")) (unknown_item kind.1 text) (Err (Malformed kind.1.number)))))
+    → (s >>= λ kind. cond (bytes_eq kind.0 (codes "equal")) (equal_at kind.1 text)
+    (cond (bytes_eq kind.0 (codes "different")) (different_at one two kind.1 text)
+    (cond (bytes_eq kind.0 (codes "unknown")) (unknown_item kind.1 text) (Err (Malformed kind.1.number)))))
     ≡ ((s >>= λ kind. courses kind.0 kind.1) >>= λ c. take_course one two c text)
 flat_kind one two (Ok kind) text = flat_courses one two kind.0 kind.1 text
 flat_kind one two (Err e) text = refl
 
 flat_verdict : (one two : ℕ) (r : Result (NumberedLine × Text) TextFault)
-    → (r >>= λ line. next_token line.0 >>= λ kind. cond (bytes_eq kind.0 (codes "equal")) (equal_at kind.1 line.1) (cond (bytes_eq kind.0 (codes "different")) (different_at one two kind.1 line.1) (cond (bytes_eq kind.0 (codes "unknown")) (unknown_item kind.1 line.1) (Err (Malformed kind.1.number)))))
+    → (r >>= λ line. next_token line.0 >>= λ kind. cond (bytes_eq kind.0 (codes "equal")) (equal_at kind.1 line.1)
+    (cond (bytes_eq kind.0 (codes "different")) (different_at one two kind.1 line.1)
+    (cond (bytes_eq kind.0 (codes "unknown")) (unknown_item kind.1 line.1) (Err (Malformed kind.1.number)))))
     ≡ (r >>= λ line. course line.0 >>= λ c. take_course one two c line.1)
 flat_verdict one two (Ok line) = flat_kind one two (next_token line.0) line.1
 flat_verdict one two (Err e) = refl
@@ -411,5 +434,6 @@ flat_verdict one two (Err e) = refl
 pub verdict_steady : (one two : ℕ) → Steady Anywhere (verdict_item one two)
 unfolding verdict_item
 verdict_steady one two =
-    same_steady Anywhere (λ text. next_line text >>= λ line. course line.0 >>= λ c. take_course one two c line.1) (verdict_item one two) (λ text. flat_verdict one two (next_line text))
+    same_steady Anywhere (λ text. next_line text >>= λ line. course line.0 >>= λ c. take_course one two c line.1) (verdict_item one two)
+    (λ text. flat_verdict one two (next_line text))
     (line_then course (take_course one two) course_at (course_steady one two))

@@ -1,6 +1,7 @@
 pub mod Turns
 pub mod Values
 pub mod Cuts
+mod Keeping
 pub mod GridLines
 pub mod BraidLines
 pub mod ColoursLines
@@ -25,7 +26,7 @@ pub mod QuandlesSteady
 pub mod ShapesFail
 pub mod BraidStepLines
 pub mod BraidChecksFail
-pub mod BraidChecksAlike
+pub mod StepsAlike
 pub mod WeightsFail
 pub mod GridsRead
 pub mod ColoursRead
@@ -44,6 +45,8 @@ pub mod ItemsAlike
 pub mod ColoursAgain
 pub mod WrittenAgain
 pub mod ShapesAgain
+pub mod StepsSay
+pub mod StepsWritten
 pub mod WeightsAgain
 pub mod PrintedTexts
 pub mod Readings
@@ -51,5 +54,11 @@ mod WorkedRows
 mod WorkedSteps
 mod WrittenRows
 mod SpelledNumbers
+mod Worths
 mod LineFaults
 mod StepFaults
+mod MoveFaults
+mod BraidFaults
+mod HeadFaults
+mod NameFaults
+mod SurplusFaults

@@ -4,7 +4,7 @@ use Rattle.std.proofs.Common.{Result, Ok, Err, is_none, nat_lt, refl, ap₂, ari
 use Rattle.std.specs.List.{list_all, list_any}
 use Rattle.std.specs.Str.{bytes_eq}
 use Rattle.std.specs.Str.Parse.{digits_value}
-use Rattle.std.proofs.lemmas.Bool.{ltb-false, le-ltb}
+use Rattle.std.proofs.lemmas.Bool.{ltb-false, le-ltb, or_parts}
 use Rattle.std.proofs.lemmas.List.{length-map}
 use Rattle.grid_core.specs.declared.grid.TheConstants.{MAX_SIZE}
 use Rattle.grid_core.specs.Fault.{first_fault}
@@ -21,6 +21,7 @@ use Rattle.knot_text.specs.Numbers.{is_long, numbers_behind, numbers_below}
 use Rattle.knot_text.specs.Grids.{are_rows, x_at, o_at}
 use Rattle.knot_text.specs.Colours.{colours_at}
 use Rattle.knot_text.specs.LineKinds.{read_fault, fault_by, FailsByKind, is_overlong, worth, is_row, numbers_of, is_row_over}
+use Rattle.knot_text.proofs.Worths.{kept, short_kept}
 use Rattle.knot_text.specs.LineKinds.{x_kind, o_kind, colours_kind, below_kind}
 
 -- ---- numbers of too many digits
@@ -32,36 +33,36 @@ short_by k t (inr long) few = absurd (omega (arith, few, long.1))
 short_long : (t : List ℕ) → number_of t ≡ Some (digits_value 10 t) → length t ≤ MAX_DIGITS → is_long (digits_value 10 t) ≡ false
 short_long t reads few = short_by (digits_value 10 t) t (number_range t (digits_value 10 t) reads) few
 
-long_by : (t : List ℕ) (b : Bool) → is_number t ≡ true → is_overlong t ≡ b → is_long (worth t) ≡ b
+pub long_by : (t : List ℕ) (b : Bool) → is_number t ≡ true → is_overlong t ≡ b → is_long (kept t) ≡ b
 long_by t true number is = rw is refl
 long_by t false number is =
     let reads : number_of t ≡ Some (digits_value 10 t) = rw (number, is) refl in
     rw is (short_long t reads (ltb-false MAX_DIGITS (length t) is))
 
 any_by : (t : List ℕ) (ts : List (List ℕ)) (b : Bool) → is_number t ≡ b → b && list_all is_number ts ≡ true
-    → (list_all is_number ts ≡ true → list_any is_long (map worth ts) ≡ list_any is_overlong ts)
-    → list_any is_long (map worth (t ∷ ts)) ≡ list_any is_overlong (t ∷ ts)
+    → (list_all is_number ts ≡ true → list_any is_long (map kept ts) ≡ list_any is_overlong ts)
+    → list_any is_long (map kept (t ∷ ts)) ≡ list_any is_overlong (t ∷ ts)
 any_by t ts true is all more = ap₂ (λ (a b : Bool). a || b) (long_by t (is_overlong t) is refl) (more all)
 any_by t ts false is all more = absurd cc
 
-any_long : (ts : List (List ℕ)) → list_all is_number ts ≡ true → list_any is_long (map worth ts) ≡ list_any is_overlong ts
+any_long : (ts : List (List ℕ)) → list_all is_number ts ≡ true → list_any is_long (map kept ts) ≡ list_any is_overlong ts
 any_long [] all = refl
 any_long (t ∷ ts) all = any_by t ts (is_number t) refl all (any_long ts)
 
 -- ---- the tokens of a line as numbers
 
-one_more : {A : Type 0} (b : Bool) (x : A) (xs : List A) (e : TextFault)
+pub one_more : {A : Type 0} (b : Bool) (x : A) (xs : List A) (e : TextFault)
     → (cond b (Ok xs) (Err e) >>= λ others. Ok (x ∷ others)) ≡ cond b (Ok (x ∷ xs)) (Err e)
 one_more true x xs e = refl
 one_more false x xs e = refl
 
 abbrev all_read : ℕ → List (List ℕ) → Result (List ℕ) TextFault
-all_read n ts = cond (list_all is_number ts) (Ok (map worth ts)) (Err (Malformed n))
+all_read n ts = cond (list_all is_number ts) (Ok (map kept ts)) (Err (Malformed n))
 
 each_by : (n : ℕ) (t : List ℕ) (ts : List (List ℕ)) (b : Bool) → is_number t ≡ b → each_token number_of n ts ≡ all_read n ts
     → each_token number_of n (t ∷ ts) ≡ all_read n (t ∷ ts)
 unfolding each_token
-each_by n t ts true is others = rw (is, others) (one_more (list_all is_number ts) (worth t) (map worth ts) (Malformed n))
+each_by n t ts true is others = rw (is, others) (one_more (list_all is_number ts) (kept t) (map kept ts) (Malformed n))
 each_by n t ts false is others = rw is refl
 
 each_read : (n : ℕ) (ts : List (List ℕ)) → each_token number_of n ts ≡ all_read n ts
@@ -71,14 +72,23 @@ each_read n (t ∷ ts) = each_by n t ts (is_number t) refl (each_read n ts)
 
 -- ---- lines of a word and numbers
 
+abbrev kept_of : List (List ℕ) → List ℕ
+kept_of [] = []
+kept_of (t ∷ ts) = map kept ts
+
+all_kept : (ts : List (List ℕ)) → is_row_over ts ≡ false → kept_of ts ≡ numbers_of ts
+all_kept [] within = refl
+all_kept (t ∷ ts) within = short_kept ts (or_parts (nat_lt MAX_SIZE (length ts)) (list_any is_overlong ts) within).1
+
 abbrev row_read : List ℕ → NumberedLine → Result (List ℕ) TextFault
 row_read w line =
-    cond (is_row w line.tokens) (cond (is_row_over line.tokens) (Err (Limit line.number)) (Ok (numbers_of line.tokens))) (Err (Malformed line.number))
+    cond (is_row w line.tokens) (cond (is_row_over line.tokens) (Err (Limit line.number)) (Ok (kept_of line.tokens))) (Err (Malformed line.number))
 
 limited : (n : ℕ) (ts : List (List ℕ)) (b : Bool) → list_all is_number ts ≡ b
-    → (cond b (Ok (map worth ts)) (Err (Malformed n)) >>= λ values. cond (nat_lt MAX_SIZE (length values) || list_any is_long values) (Err (Limit n)) (Ok values))
-    ≡ cond b (cond (nat_lt MAX_SIZE (length ts) || list_any is_overlong ts) (Err (Limit n)) (Ok (map worth ts))) (Err (Malformed n))
-limited n ts true all = rw (length-map ts worth, any_long ts all) refl
+    → (cond b (Ok (map kept ts)) (Err (Malformed n)) >>= λ values.
+    cond (nat_lt MAX_SIZE (length values) || list_any is_long values) (Err (Limit n)) (Ok values))
+    ≡ cond b (cond (nat_lt MAX_SIZE (length ts) || list_any is_overlong ts) (Err (Limit n)) (Ok (map kept ts))) (Err (Malformed n))
+limited n ts true all = rw (length-map ts kept, any_long ts all) refl
 limited n ts false all = refl
 
 behind_by : (w : List ℕ) (n : ℕ) (t : List ℕ) (ts : List (List ℕ)) (b : Bool) → bytes_eq t w ≡ b
@@ -93,43 +103,45 @@ row_by w n [] = refl
 row_by w n (t ∷ ts) = behind_by w n t ts (bytes_eq t w) refl
 
 -- what a test of the numbers then says
-judged : {A : Type 0} (n : ℕ) (form over : Bool) (values : List ℕ) (test : List ℕ → Bool) (make : List ℕ → A) (good : Bool) → test values ≡ good
+judged : {A : Type 0} (n : ℕ) (form over : Bool) (values numbers : List ℕ) (test : List ℕ → Bool) (make : List ℕ → A) (good : Bool)
+    → (over ≡ false → values ≡ numbers) → test numbers ≡ good
     → read_fault (cond form (cond over (Err (Limit n)) (Ok values)) (Err (Malformed n)) >>= λ vs. cond (test vs) (Ok (make vs)) (Err (Malformed n)))
     ≡ fault_by form over good n
-judged n true true values test make good is = refl
-judged n true false values test make true is = rw is refl
-judged n true false values test make false is = rw is refl
-judged n false over values test make good is = refl
+judged n true true values numbers test make good same is = refl
+judged n true false values numbers test make true same is = rw (same refl, is) refl
+judged n true false values numbers test make false same is = rw (same refl, is) refl
+judged n false over values numbers test make good same is = refl
 
 pub x_fails : FailsByKind x_kind x_at
 unfolding x_at
 x_fails line =
     rw (row_by (codes "x") line.number line.tokens)
-    (judged line.number (is_row (codes "x") line.tokens) (is_row_over line.tokens) (numbers_of line.tokens) (λ rows. are_rows rows) (λ rows. rows) _ refl)
+    (judged line.number (is_row (codes "x") line.tokens) (is_row_over line.tokens) (kept_of line.tokens) (numbers_of line.tokens)
+    (λ rows. are_rows rows) (λ rows. rows) _ (all_kept line.tokens) refl)
 
 pub o_fails : (x : List ℕ) → FailsByKind (o_kind x) (o_at x)
 unfolding o_at
 o_fails x line =
     rw (row_by (codes "o") line.number line.tokens)
-    (judged line.number (is_row (codes "o") line.tokens) (is_row_over line.tokens) (numbers_of line.tokens)
-    (λ rows. is_none (first_fault x rows)) (λ rows. record { x = x; o = rows }) _ refl)
+    (judged line.number (is_row (codes "o") line.tokens) (is_row_over line.tokens) (kept_of line.tokens) (numbers_of line.tokens)
+    (λ rows. is_none (first_fault x rows)) (λ rows. record { x = x; o = rows }) _ (all_kept line.tokens) refl)
 
 pub colours_fail : (width order : ℕ) → FailsByKind (colours_kind width order) (colours_at width order)
 unfolding colours_at
 colours_fail width order line =
     rw (row_by (codes "colours") line.number line.tokens)
-    (judged line.number (is_row (codes "colours") line.tokens) (is_row_over line.tokens) (numbers_of line.tokens)
-    (λ colours. are_colours width order colours) (λ colours. record { items = colours }) _ refl)
+    (judged line.number (is_row (codes "colours") line.tokens) (is_row_over line.tokens) (kept_of line.tokens) (numbers_of line.tokens)
+    (λ colours. are_colours width order colours) (λ colours. record { items = colours }) _ (all_kept line.tokens) refl)
 
 -- ---- lines of numbers alone
 
 below_by : (n width order : ℕ) (ts : List (List ℕ)) (form over good : Bool) → list_all is_number ts ≡ form → list_any is_overlong ts ≡ over
     → are_colours width order (map worth ts) ≡ good
-    → read_fault (cond form (Ok (map worth ts)) (Err (Malformed n)) >>= λ values.
+    → read_fault (cond form (Ok (map kept ts)) (Err (Malformed n)) >>= λ values.
     cond (list_any is_long values) (Err (Limit n)) (cond (are_colours width order values) (Ok values) (Err (Malformed n)))) ≡ fault_by form over good n
 below_by n width order ts true true good all is fits = rw (any_long ts all, is) refl
-below_by n width order ts true false true all is fits = rw (any_long ts all, is, fits) refl
-below_by n width order ts true false false all is fits = rw (any_long ts all, is, fits) refl
+below_by n width order ts true false true all is fits = rw (any_long ts all, is, short_kept ts is, fits) refl
+below_by n width order ts true false false all is fits = rw (any_long ts all, is, short_kept ts is, fits) refl
 below_by n width order ts false over good all is fits = refl
 
 pub below_fails : (width order : ℕ) → FailsByKind (below_kind width order) (numbers_below width order)

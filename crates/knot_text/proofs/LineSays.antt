@@ -3,7 +3,7 @@ use Rattle.std.proofs.Common.{◌≡◌, ℕ, ◌≤◌, ◌||◌, List, [], ◌
 use Rattle.std.specs.List.{list_any}
 use Rattle.std.specs.Str.{bytes_eq}
 use Rattle.std.specs.Fmt.{decimal}
-use Rattle.std.proofs.lemmas.Bool.{leb-true, ltb-false}
+use Rattle.std.proofs.lemmas.Bool.{leb-true, ltb-false, or_parts}
 use Rattle.std.proofs.lemmas.Slice.Eq.{bytes_eq-Decides}
 use Rattle.grid_core.specs.declared.grid.TheConstants.{MAX_SIZE}
 use Rattle.colour_rows.specs.Colouring.{AreColours, are_colours}
@@ -15,7 +15,6 @@ use Rattle.knot_text.specs.declared.reading.TheConstants.{MAX_NUMBER}
 use Rattle.knot_text.specs.Reading.{token_among, next_token, no_token_among, line_end, word, or_malformed, number, last_number, at_most, last_count, each_token}
 use Rattle.knot_text.specs.Numbers.{is_long, numbers_behind, numbers_below}
 use Rattle.knot_text.proofs.Says.{Says, says_ok, says_err, says_bind, says_if, says_more}
-use Rattle.grid_core.proofs.Accepted.{either_false}
 
 -- ---- tokens
 
@@ -96,7 +95,7 @@ each_says n [] = says_ok [] (λ few. refl)
 each_says n (t ∷ ts) = says_bind (λ (k : ℕ). number_of t ≡ Some k) (or_malformed_says n (number_of t)) (λ k reads.
     says_bind (λ (vs : List ℕ). list_any is_long vs ≡ false → ts ≡ map decimal vs) (each_says n ts) (λ vs is.
     says_ok (k ∷ vs) (λ few.
-    let both = either_false (is_long k) (list_any is_long vs) few in
+    let both = or_parts (is_long k) (list_any is_long vs) few in
     ap₂ (λ (s : List ℕ) (ss : List (List ℕ)). s ∷ ss) (spelled t k reads (ltb-false MAX_NUMBER k both.0)) (is both.1))))
 
 -- the word, and at most MAX_SIZE numbers
@@ -109,7 +108,7 @@ unfolding numbers_behind
 numbers_behind_says w line = says_bind (λ (rest : NumberedLine). line.tokens ≡ w ∷ rest.tokens) (word_says w line) (λ rest is.
     says_bind (λ (vs : List ℕ). list_any is_long vs ≡ false → rest.tokens ≡ map decimal vs) (each_says rest.number rest.tokens) (λ vs written.
     says_if (nat_lt MAX_SIZE (length vs) || list_any is_long vs) (λ over. says_err) (λ within.
-    let both = either_false (nat_lt MAX_SIZE (length vs)) (list_any is_long vs) within in
+    let both = or_parts (nat_lt MAX_SIZE (length vs)) (list_any is_long vs) within in
     says_ok vs (record { tokens = is ∙ ap (λ (ts : List (List ℕ)). w ∷ ts) (written both.1); few = ltb-false MAX_SIZE (length vs) both.0 }))))
 
 -- so many numbers below the order, and nothing else
@@ -122,4 +121,5 @@ unfolding numbers_below
 numbers_below_says width order line =
     says_bind (λ (vs : List ℕ). list_any is_long vs ≡ false → line.tokens ≡ map decimal vs) (each_says line.number line.tokens) (λ vs written.
     says_if (list_any is_long vs) (λ over. says_err) (λ short.
-    says_if (are_colours width order vs) (λ fits. says_ok vs (record { tokens = written short; colours = colours_from width order vs fits })) (λ other. says_err)))
+    says_if (are_colours width order vs) (λ fits. says_ok vs (record { tokens = written short; colours = colours_from width order vs fits }))
+    (λ other. says_err)))

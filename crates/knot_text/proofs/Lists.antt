@@ -9,7 +9,8 @@ use Rattle.knot_text.specs.Reading.{◌>>=◌, Fails, next_line, word}
 use Rattle.knot_text.specs.Quandles.{written_at, quandle_item, surplus_quandle, quandles}
 use Rattle.knot_text.proofs.Turns.{with_front, regroup}
 
-pub quandle_more : (front : List NamedQuandle) (most i : ℕ) (text : Text) (q : NamedQuandle) (after : Text) (total : Result (List NamedQuandle × Text) TextFault) → i < most → begins (codes "quandle") text ≡ true → quandle_item text ≡ Ok (q, after)
+pub quandle_more : (front : List NamedQuandle) (most i : ℕ) (text : Text) (q : NamedQuandle) (after : Text)
+    (total : Result (List NamedQuandle × Text) TextFault) → i < most → begins (codes "quandle") text ≡ true → quandle_item text ≡ Ok (q, after)
     → with_front front (quandles (most - i) text) ≡ total → with_front (front ++ q ∷ []) (quandles (most - (i + 1)) after) ≡ total
 unfolding quandles
 quandle_more front most i text q after total lt more h so_far =

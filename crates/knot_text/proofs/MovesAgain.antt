@@ -17,7 +17,7 @@ use Rattle.knot_text.specs.Moves.{last_place, shift, exchange, slide, kind_at, c
 use Rattle.knot_text.specs.Printed.{kind_word, corner_word, move_tokens, moves_lines, HasMoveText, HaveText}
 use Rattle.knot_text.proofs.StepsAgain.{line_of, lines_before, word_again, number_again, last_again, most_again, count_again, turns_again}
 
-place_again : (k n : ℕ) → k ≤ MAX_PLACE → last_place (line_of n (decimal k ∷ [])) ≡ Ok k
+pub place_again : (k n : ℕ) → k ≤ MAX_PLACE → last_place (line_of n (decimal k ∷ [])) ≡ Ok k
 unfolding last_place
 place_again k n few = rw (last_again k n (omega arith), most_again MAX_PLACE n k few) refl
 
@@ -37,7 +37,13 @@ stabilise_again : (c n : ℕ) (kind : Kind) (corner : Corner) → c ≤ MAX_PLAC
     → stabilise (line_of n (decimal c ∷ kind_word kind ∷ corner_word corner ∷ [])) ≡ Ok (Stabilise c kind corner)
 unfolding stabilise line_end
 stabilise_again c n kind corner few =
-    rw (number_again c n (kind_word kind ∷ corner_word corner ∷ []) (omega arith), kind_again kind n (corner_word corner ∷ []), corner_again corner n [], most_again MAX_PLACE n c few) refl
+    rw (
+      number_again c n (kind_word kind ∷ corner_word corner ∷ []) (omega arith),
+      kind_again kind n
+          (corner_word corner ∷ []),
+      corner_again corner n [],
+      most_again MAX_PLACE n c few,
+    ) refl
 
 destabilise_again : (c r n : ℕ) → c ≤ MAX_PLACE → r ≤ MAX_PLACE → destabilise (line_of n (decimal c ∷ decimal r ∷ [])) ≡ Ok (Destabilise c r)
 unfolding destabilise

@@ -84,7 +84,8 @@ problem_words listed p has =
 
 pub printed_says : (lines : List (List (List ℕ))) → list_all is_line lines ≡ true → said_by (lines_text lines) ≡ lines
 printed_says lines all =
-    ap said_by (sym (append-nil (lines_text lines))) ∙ ap (λ t. tokens_by_line t.lines) (lines_read 0 lines [] all) ∙ ap tokens_by_line (append-nil (numbered 0 lines)) ∙ numbered_tokens 0 lines
+    ap said_by (sym (append-nil (lines_text lines))) ∙ ap (λ t. tokens_by_line t.lines) (lines_read 0 lines [] all)
+    ∙ ap tokens_by_line (append-nil (numbered 0 lines)) ∙ numbered_tokens 0 lines
 
 pub problem_printed : (listed : List NamedQuandle) (p : ProblemText) → HasProblemText listed p → problem_of (lines_text (problem_lines listed p)) ≡ Ok p
 problem_printed listed p has =
@@ -95,13 +96,16 @@ pub check_printed : (listed : List NamedQuandle) (p : ProblemText) (v : Verdict)
 check_printed listed p v has fits =
     let some : 1 ≤ columns p.first = omega (arith, (diagram_grid p.first has.first).least) in
     let also : 1 ≤ columns p.second = omega (arith, (diagram_grid p.second has.second).least) in
-    let words = both_lines (problem_lines listed p) (verdict_lines v) (problem_words listed p has) (verdict_words (columns p.first) (columns p.second) v some also fits) in
-    check_in_written (text_of (lines_text (problem_lines listed p ++ verdict_lines v))) p v (listed, has, fits, printed_says (problem_lines listed p ++ verdict_lines v) words)
+    let words = both_lines (problem_lines listed p) (verdict_lines v) (problem_words listed p has)
+    (verdict_words (columns p.first) (columns p.second) v some also fits) in
+    check_in_written (text_of (lines_text (problem_lines listed p ++ verdict_lines v))) p v
+    (listed, has, fits, printed_says (problem_lines listed p ++ verdict_lines v) words)
 
 pub replay_printed : (r : ReplayText) → HasReplayText r → replay_of (lines_text (replay_lines r)) ≡ Ok r
 replay_printed r has =
     let words = both_lines (diagram_lines r.diagram) (moves_lines (codes "moves") r.moves ++ given_lines r.colours) (diagram_words r.diagram has.diagram)
-    (both_lines (moves_lines (codes "moves") r.moves) (given_lines r.colours) (moves_words r.moves has.moves) (given_words (columns r.diagram) r.colours has.colours)) in
+    (both_lines (moves_lines (codes "moves") r.moves) (given_lines r.colours) (moves_words r.moves has.moves)
+    (given_words (columns r.diagram) r.colours has.colours)) in
     replay_in_written (text_of (lines_text (replay_lines r))) r has (printed_says (replay_lines r) words)
 
 -- ---- replays of a grid
@@ -121,7 +125,8 @@ moves_replay d moves grid fits =
 
 pub coloured_replay : (d : Marks) (moves : List Move) (q : NamedQuandle) (c : ArrayVec ℕ) → IsGrid d → HaveText moves → HasQuandleText q
     → AreColours (size d) q.table.order c.items
-    → replay_of (grid_text d ++ (moves_text moves ++ (quandle_text q ++ colours_text c))) ≡ Ok (record { diagram = Grid d; moves = moves; colours = Some (q, c) })
+    → replay_of (grid_text d ++ (moves_text moves ++ (quandle_text q ++ colours_text c)))
+    ≡ Ok (record { diagram = Grid d; moves = moves; colours = Some (q, c) })
 coloured_replay d moves q c grid fits has are =
     let r : ReplayText = record { diagram = Grid d; moves = moves; colours = Some (q, c) } in
     let lines = moves_lines (codes "moves") moves in

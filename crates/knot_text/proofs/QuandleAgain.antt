@@ -20,6 +20,7 @@ use Rattle.knot_text.specs.declared.reading.TheConstants.{MAX_NUMBER}
 use Rattle.verdict_core.specs.declared.names.QuandleName.{QuandleName}
 use Rattle.verdict_core.specs.declared.names.QuandleName.TheVariants as name
 use Rattle.verdict_core.specs.Names.{NamedQuandle, IsOrder, Names, is_order, called}
+use Rattle.verdict_core.proofs.Named.{is_order_of}
 use Rattle.knot_text.specs.Reading.{next_line, next_token, line_end}
 use Rattle.knot_text.specs.Numbers.{numbers_below, is_long}
 use Rattle.knot_text.specs.Quandles.{written_at, alexander_at, tetrahedral_at, table_row, table_rows, table_item, quandle_at}
@@ -27,9 +28,6 @@ use Rattle.knot_text.specs.Printed.{name_tokens, row_tokens, table_lines, HasFac
 use Rattle.knot_text.proofs.LineTexts.{map_decimals}
 use Rattle.knot_text.proofs.StepsAgain.{line_of, lines_before, number_again, last_again, below_again}
 use Rattle.knot_text.proofs.Tables.{row, IsWithin, row_below, rows_last}
-
-order_test : (n : ℕ) → IsOrder n → is_order n ≡ true
-order_test n is = and_from (nat_le 1 n) (nat_le n MAX_ORDER) (le-leb 1 n is.0) (le-leb n MAX_ORDER is.1)
 
 order_few : (n : ℕ) → IsOrder n → n ≤ MAX_NUMBER
 order_few n is = omega (arith, is.1)
@@ -42,12 +40,12 @@ within_limit n is = le-ltb MAX_ORDER n is.1
 trivial_again : (n k : ℕ) (text : Text) → IsOrder k
     → quandle_at (line_of n (name_tokens (name.Trivial k) 0)) text ≡ Ok (called (name.Trivial k) (trivial k), text)
 unfolding quandle_at written_at next_token
-trivial_again n k text is = rw (last_again k n (order_few k is), within_limit k is, order_test k is) refl
+trivial_again n k text is = rw (last_again k n (order_few k is), within_limit k is, is_order_of k is) refl
 
 dihedral_again : (n k : ℕ) (text : Text) → IsOrder k
     → quandle_at (line_of n (name_tokens (name.Dihedral k) 0)) text ≡ Ok (called (name.Dihedral k) (dihedral k), text)
 unfolding quandle_at written_at next_token
-dihedral_again n k text is = rw (last_again k n (order_few k is), within_limit k is, order_test k is) refl
+dihedral_again n k text is = rw (last_again k n (order_few k is), within_limit k is, is_order_of k is) refl
 
 tetrahedral_again : (n : ℕ) (text : Text) → quandle_at (line_of n (name_tokens name.Tetrahedral 0)) text ≡ Ok (called name.Tetrahedral tetrahedral, text)
 unfolding quandle_at written_at tetrahedral_at next_token line_end
@@ -60,7 +58,7 @@ alexander_again n k a text is unit low =
     let few = order_few k is in
     let short : is_long a ≡ false = le-ltb MAX_NUMBER a (omega (arith, few, low)) in
     let below : nat_lt a k ≡ true = lt-ltb a k low in
-    let known : (is_order k && is_unit k a) ≡ true = and_from (is_order k) (is_unit k a) (order_test k is) unit in
+    let known : (is_order k && is_unit k a) ≡ true = and_from (is_order k) (is_unit k a) (is_order_of k is) unit in
     rw (number_again k n (decimal a ∷ []) few, last_again a n (omega (arith, few, low)), within_limit k is, short, below, known) refl
 
 -- ---- tables
@@ -97,7 +95,8 @@ rows_again t bound n a (suc count) text most within lt =
 
 -- what the laws say of some entries
 abbrev tested : ℕ → List ℕ → ℕ → Text → Result (NamedQuandle × Text) TextFault
-tested order entries n text = cond (is_none (first_fault (record { order = order; entries = entries }))) (Ok (called name.Table (record { order = order; entries = entries }), text)) (Err (Malformed n))
+tested order entries n text = cond (is_none (first_fault (record { order = order; entries = entries })))
+    (Ok (called name.Table (record { order = order; entries = entries }), text)) (Err (Malformed n))
 
 table_by : (t : Table) (n k : ℕ) (text : Text) → IsQuandle t → t.order ≡ suc k
     → table_item t.order (lines_before (numbered n (table_lines name.Table t)) text) ≡ Ok (called name.Table t, text)
@@ -115,7 +114,8 @@ table_by t n k text is size =
     let none : is_none (first_fault t) ≡ true = ap (λ f. is_none f) (none_from_quandle t is) in
     let read : table_item order (lines_before lines text) ≡ tested order (front ++ row t (0 + k)) (n + k + 1) text = rw (fewer, rows, end) refl in
     let passes : tested order t.entries (n + k + 1) text ≡ Ok (called name.Table t, text) = rw none refl in
-    ap (λ (j : ℕ). table_item order (lines_before (numbered n (map (row_tokens t) (range_with_len 0 j))) text)) size ∙ read ∙ ap (λ (es : List ℕ). tested order es (n + k + 1) text) whole ∙ passes
+    ap (λ (j : ℕ). table_item order (lines_before (numbered n (map (row_tokens t) (range_with_len 0 j))) text)) size ∙ read
+    ∙ ap (λ (es : List ℕ). tested order es (n + k + 1) text) whole ∙ passes
 
 table_again : (n : ℕ) (t : Table) (text : Text) → IsQuandle t
     → quandle_at (line_of n (name_tokens name.Table t.order)) (lines_before (numbered n (table_lines name.Table t)) text) ≡ Ok (called name.Table t, text)

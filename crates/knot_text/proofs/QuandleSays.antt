@@ -6,9 +6,10 @@ use Rattle.std.specs.Prelude.{is_none}
 use Rattle.std.specs.List.{AllByRecursion, range_with_len}
 use Rattle.std.specs.Str.{bytes_eq}
 use Rattle.std.specs.Fmt.{decimal}
-use Rattle.std.proofs.lemmas.Bool.{ltb-true, ltb-false, and_parts}
+use Rattle.std.proofs.lemmas.Bool.{ltb-true, ltb-false, and_parts, or_parts}
 use Rattle.std.proofs.lemmas.List.{append-nil, map-append, get_or_append_left, get_or-append-add}
 use Rattle.std.proofs.lemmas.List.FromFn.{fill_by_all}
+use Rattle.std.proofs.lemmas.Option.{cond_some}
 use Rattle.colour_rows.specs.Colouring.{AreColours}
 use Rattle.quandle_core.specs.declared.quandle.TheConstants.{MAX_ORDER}
 use Rattle.quandle_core.specs.declared.fault.QuandleFault.{QuandleFault}
@@ -23,7 +24,7 @@ use Rattle.verdict_core.specs.declared.names.QuandleName.{QuandleName}
 use Rattle.verdict_core.specs.declared.names.QuandleName.TheVariants as name
 use Rattle.knot_text.specs.declared.quandles.Written.{Written}
 use Rattle.knot_text.specs.declared.quandles.Written.TheVariants as written
-use Rattle.verdict_core.proofs.Named.{some_if, order_is}
+use Rattle.verdict_core.proofs.Named.{order_is}
 use Rattle.verdict_core.specs.Names.{NamedQuandle, is_order, called}
 use Rattle.knot_text.specs.Reading.{◌>>=◌, or_malformed}
 use Rattle.knot_text.specs.Numbers.{numbers_below, is_long}
@@ -37,7 +38,6 @@ use Rattle.knot_text.proofs.Says.{Says, says_ok, says_err, says_bind, says_if, s
 use Rattle.knot_text.proofs.LineSays.{IsFirst, next_token_says, HasNone, line_end_says, is_word, word_says, or_malformed_says}
 use Rattle.knot_text.proofs.LineSays.{IsNumberFirst, number_says, IsNumberAlone, last_number_says, AreColoursAlone, numbers_below_says}
 use Rattle.knot_text.proofs.ItemsSay.{IsWritten, line_says}
-use Rattle.grid_core.proofs.Accepted.{either_false}
 
 -- ---- the rows of a table
 
@@ -123,7 +123,8 @@ rows_printed t text front line r some is are there tokens len =
     let entries : t.entries ≡ joined all = is ∙ ap (λ (es : List ℕ). es ++ r) are.entries ∙ sym (joined_last are.rows r) in
     let number : length all ≡ t.order = omega (arith, length-append are.rows (r ∷ []), are.number, some) in
     let none : length {A = ℕ} [] ≡ 0 * t.order = omega arith in
-    let lines : map (row_tokens t) (range_with_len 0 (length all)) ≡ map row_line all = rows_are t 0 [] all entries none (each_last t.order are.rows r are.each len) in
+    let lines : map (row_tokens t) (range_with_len 0 (length all)) ≡ map row_line all =
+    rows_are t 0 [] all entries none (each_last t.order are.rows r are.each len) in
     let printed : map row_line are.rows ++ line.0.tokens ∷ [] ≡ map (row_tokens t) (range_with_len 0 t.order) =
     ap (λ (ts : List (List ℕ)). map row_line are.rows ++ ts ∷ []) tokens ∙ sym (map-append row_line are.rows (r ∷ [])) ∙ sym lines
     ∙ ap (λ (j : ℕ). map (row_tokens t) (range_with_len 0 j)) number in
@@ -142,7 +143,8 @@ table_by : (order : ℕ) (text : Text) (front : List ℕ × Text) (line : Number
     → Says (cond (is_none f) (Ok (called name.Table (record { order = order; entries = front.0 ++ r }), line.1)) (Err e)) (IsTable order text)
 table_by order text front line r are there last (Some fault) is e = says_err
 table_by order text front line r are there last None is e =
-    says_ok (called name.Table (record { order = order; entries = front.0 ++ r }), line.1) (table_is order text front line r are there last (quandle_from_none (record { order = order; entries = front.0 ++ r }) is))
+    says_ok (called name.Table (record { order = order; entries = front.0 ++ r }), line.1)
+    (table_is order text front line r are there last (quandle_from_none (record { order = order; entries = front.0 ++ r }) is))
 
 table_says : (order : ℕ) (text : Text) → Says (table_item order text) (IsTable order text)
 unfolding table_item
@@ -176,7 +178,8 @@ order_says : (family : List ℕ) (make : ℕ → Written) → NamesOrder family 
     → bytes_eq t.0 family ≡ true → Says (with_order make t.1) (IsName tokens)
 order_says family make names tokens t is same = says_bind (IsNumberAlone t.1.tokens) (last_number_says t.1) (λ n there.
     says_ok (make n.0, n.1) (λ within.
-    is ∙ ap₂ (λ (s : List ℕ) (ts : List (List ℕ)). s ∷ ts) (is_word t.0 family same) (there (few_order n.0 (sym (names.over n.0) ∙ within))) ∙ names.tokens n.0))
+    is ∙ ap₂ (λ (s : List ℕ) (ts : List (List ℕ)). s ∷ ts) (is_word t.0 family same) (there (few_order n.0 (sym (names.over n.0) ∙ within)))
+    ∙ names.tokens n.0))
 
 alexander_says : (tokens : List (List ℕ)) (t : List ℕ × NumberedLine) → IsFirst tokens t → bytes_eq t.0 (codes "alexander") ≡ true
     → Says (alexander_at t.1) (IsName tokens)
@@ -184,7 +187,7 @@ unfolding alexander_at
 alexander_says tokens t is same = says_bind (IsNumberFirst t.1.tokens) (number_says t.1) (λ n first.
     says_bind (IsNumberAlone n.1.tokens) (last_number_says n.1) (λ a second.
     says_ok (written.Alexander n.0 a.0, a.1) (λ within.
-    let both = either_false (nat_lt MAX_ORDER n.0) (is_long a.0) within in
+    let both = or_parts (nat_lt MAX_ORDER n.0) (is_long a.0) within in
     is ∙ ap₂ (λ (s : List ℕ) (ts : List (List ℕ)). s ∷ ts) (is_word t.0 (codes "alexander") same)
     (first (few_order n.0 both.0) ∙ ap (λ (ts : List (List ℕ)). decimal n.0 ∷ ts) (second (ltb-false MAX_NUMBER a.0 both.1))))))
 
@@ -197,11 +200,14 @@ tetrahedral_says tokens t is same = says_bind (HasNone t.1.tokens) (line_end_say
 written_says : (line : NumberedLine) → Says (written_at line) (IsName line.tokens)
 unfolding written_at
 written_says line = says_bind (IsFirst line.tokens) (next_token_says line) (λ t is.
-    says_if (bytes_eq t.0 (codes "trivial")) (λ same. order_says (codes "trivial") (λ n. written.Trivial n) (record { over = λ n. refl; tokens = λ n. refl }) line.tokens t is same) (λ a.
-    says_if (bytes_eq t.0 (codes "dihedral")) (λ same. order_says (codes "dihedral") (λ n. written.Dihedral n) (record { over = λ n. refl; tokens = λ n. refl }) line.tokens t is same) (λ b.
+    says_if (bytes_eq t.0 (codes "trivial")) (λ same. order_says (codes "trivial") (λ n. written.Trivial n)
+    (record { over = λ n. refl; tokens = λ n. refl }) line.tokens t is same) (λ a.
+    says_if (bytes_eq t.0 (codes "dihedral")) (λ same. order_says (codes "dihedral") (λ n. written.Dihedral n)
+    (record { over = λ n. refl; tokens = λ n. refl }) line.tokens t is same) (λ b.
     says_if (bytes_eq t.0 (codes "tetrahedral")) (λ same. tetrahedral_says line.tokens t is same) (λ c.
     says_if (bytes_eq t.0 (codes "alexander")) (λ same. alexander_says line.tokens t is same) (λ d.
-    says_if (bytes_eq t.0 (codes "table")) (λ same. order_says (codes "table") (λ n. written.Table n) (record { over = λ n. refl; tokens = λ n. refl }) line.tokens t is same) (λ e. says_err))))))
+    says_if (bytes_eq t.0 (codes "table")) (λ same. order_says (codes "table") (λ n. written.Table n)
+    (record { over = λ n. refl; tokens = λ n. refl }) line.tokens t is same) (λ e. says_err))))))
 
 -- ---- what a name means
 
@@ -217,19 +223,20 @@ record IsNamed (w : Written) (q : NamedQuandle) : Type 0 where
 
 meant_named : (w : Written) (q : NamedQuandle) → meant w ≡ Some q → IsNamed w q
 meant_named (written.Trivial n) q e =
-    let c = some_if (is_order n) (called (name.Trivial n) (trivial n)) q e in
+    let c = cond_some (is_order n) (called (name.Trivial n) (trivial n)) q e in
     subst (IsNamed (written.Trivial n)) c.1 (record { text = record { names = (order_is n c.0, refl); factor = tt }; tokens = refl; lines = refl })
 meant_named (written.Dihedral n) q e =
-    let c = some_if (is_order n) (called (name.Dihedral n) (dihedral n)) q e in
+    let c = cond_some (is_order n) (called (name.Dihedral n) (dihedral n)) q e in
     subst (IsNamed (written.Dihedral n)) c.1 (record { text = record { names = (order_is n c.0, refl); factor = tt }; tokens = refl; lines = refl })
 meant_named written.Tetrahedral q e =
-    let c = some_if true (called name.Tetrahedral tetrahedral) q e in
+    let c = cond_some true (called name.Tetrahedral tetrahedral) q e in
     subst (IsNamed written.Tetrahedral) c.1 (record { text = record { names = refl; factor = tt }; tokens = refl; lines = refl })
 meant_named (written.Alexander n a) q e =
     let low = test_if (nat_lt a n) (cond (is_order n && is_unit n a) (Some (called (name.Alexander n a) (alexander n a))) None) q e in
-    let c = some_if (is_order n && is_unit n a) (called (name.Alexander n a) (alexander n a)) q low.1 in
+    let c = cond_some (is_order n && is_unit n a) (called (name.Alexander n a) (alexander n a)) q low.1 in
     let both = and_parts (is_order n) (is_unit n a) c.0 in
-    subst (IsNamed (written.Alexander n a)) c.1 (record { text = record { names = (order_is n both.0, both.1, refl); factor = ltb-true a n low.0 }; tokens = refl; lines = refl })
+    subst (IsNamed (written.Alexander n a)) c.1
+    (record { text = record { names = (order_is n both.0, both.1, refl); factor = ltb-true a n low.0 }; tokens = refl; lines = refl })
 meant_named (written.Table n) q e = absurd cc
 
 -- a quandle, by a name that a line ends with and the lines of a table behind it
@@ -261,7 +268,8 @@ of_says n (written.Dihedral k) tokens lines is = untabled_says (written.Dihedral
 of_says n written.Tetrahedral tokens lines is = untabled_says written.Tetrahedral tokens n lines is
 of_says n (written.Alexander k a) tokens lines is = untabled_says (written.Alexander k a) tokens n lines is
 of_says n (written.Table order) tokens lines is =
-    says_if (nat_le 1 order) (λ some. says_more (λ q table. tabled order tokens lines q.0.name q.0.table q.1 is table) (table_says order lines)) (λ none. says_err)
+    says_if (nat_le 1 order) (λ some. says_more (λ q table. tabled order tokens lines q.0.name q.0.table q.1 is table) (table_says order lines))
+    (λ none. says_err)
 
 pub quandle_at_says : (line : NumberedLine) (text : Text) → Says (quandle_at line text) (IsQuandleAt line.tokens text)
 unfolding quandle_at
@@ -274,7 +282,11 @@ pub quandle_says : (text : Text) → Says (quandle_item text) (IsWritten HasQuan
 unfolding quandle_item
 quandle_says text = says_bind (IsNext text) (next_says text) (λ line there.
     says_bind (λ (rest : NumberedLine). line.0.tokens ≡ codes "quandle" ∷ rest.tokens) (word_says (codes "quandle") line.0) (λ rest named.
-    says_more (λ q is. (is.text, in_front_of (in_front_is (ap (λ (ts : List (List ℕ)). ts ∷ []) (named ∙ ap (λ (ts : List (List ℕ)). codes "quandle" ∷ ts) is.tokens)) there) is.there)) (quandle_at_says rest line.1)))
+    says_more (λ q is. (
+      is.text,
+      in_front_of (in_front_is (ap (λ (ts : List (List ℕ)). ts ∷ [])
+          (named ∙ ap (λ (ts : List (List ℕ)). codes "quandle" ∷ ts) is.tokens)) there) is.there,
+    )) (quandle_at_says rest line.1)))
 
 -- at most so many, one behind the other
 pub record AreItems (room : ℕ) (text : Text) (x : List NamedQuandle × Text) : Type 0 where

@@ -90,9 +90,9 @@ surplus_line line = word (codes "quandle") line >>= λ rest. written_at rest >>=
 
 surplus_at : (line : NumberedLine) → At line.number (surplus_line line)
 surplus_at line =
-    at_bind line.number (word (codes "quandle") line) (λ rest. written_at rest >>= λ name. Err (Limit name.1.number)) (word_at (codes "quandle") line)
-    (λ rest e. at_bind line.number (written_at rest) (λ name. Err (Limit name.1.number)) (at_same line.number rest.number (written_at rest) (word_keeps (codes "quandle") line rest e) (written_at_at rest))
-    (λ name g. at_same line.number name.1.number (Err (Limit name.1.number)) (written_keeps rest name g ∙ word_keeps (codes "quandle") line rest e) (at_limit name.1.number)))
+    at_bind (word_at (codes "quandle") line) (λ rest e.
+    let same = (word_keeps (codes "quandle") line).of rest e in
+    at_bind (at_same same (written_at_at rest)) (λ name g. at_same ((written_keeps rest).of name g ∙ same) at_limit))
 
 surplus_not_read : (line : NumberedLine) (x : List NamedQuandle × Text) → surplus_line line ≡ Ok x → ⊥
 surplus_not_read line x is =
@@ -143,7 +143,7 @@ zero_failed (line ∷ lines) ending true begin fault is =
       line = line;
       behind = lines;
       lines = refl;
-      names = surplus_at line fault bad;
+      names = (surplus_at line).of fault bad;
       good = λ e. inl ([], ends_here zero [] e refl);
       decided = λ behind e. over_is line behind e begin ∙ bad;
     })
@@ -202,7 +202,8 @@ suc_failed room steady text true begin fault is = elim (steady.failed text fault
         lines = bad.lines;
         names = bad.names;
         good = suc_good room bad.front bad.behind bad.line start bad.good;
-        decided = λ behind e. some_is room (lines_then (bad.front ++ bad.line ∷ behind) e) (begins_same bad.front bad.behind behind bad.line start) ∙ bad.decided behind e;
+        decided = λ behind e. some_is room (lines_then (bad.front ++ bad.line ∷ behind) e) (begins_same bad.front bad.behind behind bad.line start)
+            ∙ bad.decided behind e;
       })
   | inr end ↦ inr (record { names = end.names; due = λ e. some_is room (lines_then text.lines e) begin ∙ end.due e })
 ]
@@ -211,7 +212,8 @@ pub quandles_steady : (room : ℕ) → Steady AtOther (quandles room)
 quandles_steady zero = zero_steady
 quandles_steady (suc room) =
     let some : Steady AtOther (some_items room) =
-    then_steady AtOther quandle_item (λ first. then_read (quandles room) (λ others text. Ok (first ∷ others, text))) quandle_steady (λ first. map_steady AtOther (quandles room) (λ others. first ∷ others) (quandles_steady room)) in
+    then_steady AtOther quandle_item (λ first. then_read (quandles room) (λ others text. Ok (first ∷ others, text))) quandle_steady
+    (λ first. map_steady AtOther (quandles room) (λ others. first ∷ others) (quandles_steady room)) in
     record {
       took = λ text value rest is. suc_took room some text (first_starts (codes "quandle") text.lines) refl value rest is;
       failed = λ text fault is. suc_failed room some text (first_starts (codes "quandle") text.lines) refl fault is;

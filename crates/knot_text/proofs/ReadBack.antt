@@ -47,7 +47,8 @@ moves_read n moves more fits =
 pub verdict_read : (n one two : ℕ) (v : Verdict) (more : List ℕ) → 1 ≤ one → 1 ≤ two → HasVerdictText one two v
     → verdict_item one two (text_from n (verdict_text v ++ more)) ≡ Ok (v, text_from (n + length (verdict_lines v)) more)
 verdict_read n one two v more some also fits =
-    ap (verdict_item one two) (lines_read n (verdict_lines v) more (verdict_words one two v some also fits)) ∙ verdict_again one two n v (text_from (n + length (verdict_lines v)) more) fits
+    ap (verdict_item one two) (lines_read n (verdict_lines v) more (verdict_words one two v some also fits))
+    ∙ verdict_again one two n v (text_from (n + length (verdict_lines v)) more) fits
 
 -- ---- a verdict behind its problem
 
@@ -112,7 +113,8 @@ verdict_behind bytes p v whole is fits =
     ap₂ lines_then (text_lines_parted 0 bytes (verdict_text v) whole) (text_ending_parted 0 bytes (verdict_text v) whole) in
     let behind : put_behind rest tail.lines tail.ending ≡ tail = ap (λ (ls : List NumberedLine). lines_then (ls ++ tail.lines) tail.ending) none in
     let item : problem_item (text_of (bytes ++ verdict_text v)) ≡ Ok (p, tail) =
-    ap problem_item text ∙ problem_stable (text_of bytes) q.0.0 rest q.1 tail.lines tail.ending other ∙ ap₂ (λ (x : ProblemText) (t : Text). Ok (x, t)) same behind in
+    ap problem_item text ∙ problem_stable (text_of bytes) q.0.0 rest q.1 tail.lines tail.ending other
+    ∙ ap₂ (λ (x : ProblemText) (t : Text). Ok (x, t)) same behind in
     ap (λ r. r >>= λ x. behind_problem (columns x.0.first) (columns x.0.second) x.0 x.1) item
     ∙ verdict_ends m (columns p.first) (columns p.second) p v some also fits
 

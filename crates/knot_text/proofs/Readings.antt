@@ -66,4 +66,5 @@ moves_once a b one two same = once moves_item (moves_text a) (moves_text b) a b 
 
 pub verdict_once : (one two : ℕ) (v w : Verdict) → 1 ≤ one → 1 ≤ two → HasVerdictText one two v → HasVerdictText one two w
     → verdict_text v ≡ verdict_text w → v ≡ w
-verdict_once one two v w some also first second same = once (verdict_item one two) (verdict_text v) (verdict_text w) v w _ _ (verdict_read 0 one two v [] some also first) (verdict_read 0 one two w [] some also second) same
+verdict_once one two v w some also first second same = once (verdict_item one two) (verdict_text v) (verdict_text w) v w _ _
+    (verdict_read 0 one two v [] some also first) (verdict_read 0 one two w [] some also second) same

@@ -71,7 +71,13 @@ cut a b text rest there =
     let p = parted a b there.front there.tokens in
     record {
       mid = record { lines = p.two ++ rest.lines; ending = text.ending };
-      first = record { front = p.one; lines = there.lines ∙ ap (λ (ls : List NumberedLine). ls ++ rest.lines) p.parts ∙ append_assoc p.one p.two rest.lines; tokens = p.first; ending = refl };
+      first = record {
+        front = p.one;
+        lines = there.lines ∙ ap (λ (ls : List NumberedLine). ls ++ rest.lines) p.parts
+            ∙ append_assoc p.one p.two rest.lines;
+        tokens = p.first;
+        ending = refl;
+      };
       second = record { front = p.two; lines = refl; tokens = p.second; ending = there.ending };
     }
 
@@ -145,7 +151,8 @@ given_written d (Some given) text rest has fits there other =
     let c = cut (quandle_lines (codes "quandle") given.0) (colours_lines given.1) text rest there in
     let same : begins (codes "quandle") text ≡ true = begins_with (codes "quandle") _ _ text c.mid c.first in
     let item = quandle_written text given.0 c.mid fits.0 c.first in
-    let colours = colours_written (columns d) given.0.table.order c.mid given.1 rest (diagram_grid d has).most (names_order given.0.name given.0.table fits.0.names) fits.1 c.second in
+    let colours = colours_written (columns d) given.0.table.order c.mid given.1 rest (diagram_grid d has).most
+    (names_order given.0.name given.0.table fits.0.names) fits.1 c.second in
     rw (same, item, colours) refl
 
 -- ---- whole texts

@@ -36,15 +36,18 @@ grid_due ending = refl
 
 pub diagram_steady : Steady Anywhere diagram_item
 unfolding diagram_item
-diagram_steady = choice_steady (codes "braid") braid_diagram grid_diagram braid_due grid_due (map_steady Anywhere braid_item (λ b. Braid b) braid_steady) (map_steady Anywhere grid_item (λ d. Grid d) grid_steady)
+diagram_steady = choice_steady (codes "braid") braid_diagram grid_diagram braid_due grid_due (map_steady Anywhere braid_item (λ b. Braid b) braid_steady)
+    (map_steady Anywhere grid_item (λ d. Grid d) grid_steady)
 
 -- ---- problems and checks
 
 pub problem_steady : Steady AtOther problem_item
 unfolding problem_item
 problem_steady =
-    then_steady AtOther diagram_item (λ first. then_read diagram_item (λ second. then_read quandle_list (λ listed text. Ok (record { first = first; second = second; quandles = listed }, text)))) diagram_steady
-    (λ first. then_steady AtOther diagram_item (λ second. then_read quandle_list (λ listed text. Ok (record { first = first; second = second; quandles = listed }, text))) diagram_steady
+    then_steady AtOther diagram_item (λ first. then_read diagram_item
+    (λ second. then_read quandle_list (λ listed text. Ok (record { first = first; second = second; quandles = listed }, text)))) diagram_steady
+    (λ first. then_steady AtOther diagram_item (λ second. then_read quandle_list
+    (λ listed text. Ok (record { first = first; second = second; quandles = listed }, text))) diagram_steady
     (λ second. map_steady AtOther quandle_list (λ listed. record { first = first; second = second; quandles = listed }) list_steady))
 
 pub problem_fails : FailsFirst problem_in
@@ -54,8 +57,10 @@ problem_fails = then_fails AtOther problem_item (λ p text. text_end text >>= λ
 pub check_fails : FailsFirst check_in
 unfolding check_in
 check_fails =
-    then_fails AtOther problem_item (λ p text. verdict_item (columns p.first) (columns p.second) text >>= λ v. text_end v.1 >>= λ end. Ok (p, v.0)) other_seen problem_steady
-    (λ p. then_fails Anywhere (verdict_item (columns p.first) (columns p.second)) (λ v text. text_end text >>= λ end. Ok (p, v)) anywhere_seen (verdict_steady (columns p.first) (columns p.second)) (λ v. end_fails (p, v)))
+    then_fails AtOther problem_item (λ p text. verdict_item (columns p.first) (columns p.second) text >>= λ v. text_end v.1
+    >>= λ end. Ok (p, v.0)) other_seen problem_steady
+    (λ p. then_fails Anywhere (verdict_item (columns p.first) (columns p.second)) (λ v text. text_end text >>= λ end. Ok (p, v)) anywhere_seen
+    (verdict_steady (columns p.first) (columns p.second)) (λ v. end_fails (p, v)))
 
 -- ---- replays
 
@@ -88,16 +93,20 @@ coloured_fails : {B : Type 0} (width : ℕ) (make : Given → B) → FailsFirst 
 unfolding coloured
 coloured_fails width make =
     let some = λ (text : Text). some_then_end make (coloured_item width text) in
-    same_fails (choice (codes "quandle") some (none_then_end make)) (λ text. then_end make (coloured width text)) (λ text. flat_given (coloured_item width text) text make (first_starts (codes "quandle") text.lines))
+    same_fails (choice (codes "quandle") some (none_then_end make)) (λ text. then_end make (coloured width text))
+    (λ text. flat_given (coloured_item width text) text make (first_starts (codes "quandle") text.lines))
     (choice_fails (codes "quandle") some (none_then_end make)
-    (then_fails Anywhere (coloured_item width) (λ q text. text_end text >>= λ end. Ok (make (Some q))) anywhere_seen (coloured_steady width) (λ q. end_fails (make (Some q))))
+    (then_fails Anywhere (coloured_item width) (λ q text. text_end text >>= λ end. Ok (make (Some q))) anywhere_seen (coloured_steady width)
+    (λ q. end_fails (make (Some q))))
     (end_fails (make None)))
 
 pub replay_fails : FailsFirst replay_in
 unfolding replay_in
 replay_fails =
-    then_fails Anywhere diagram_item (λ d text. moves_item text >>= λ m. coloured (columns d) m.1 >>= λ g. text_end g.1 >>= λ end. Ok (record { diagram = d; moves = m.0; colours = g.0 })) anywhere_seen diagram_steady
-    (λ d. then_fails Anywhere moves_item (λ m text. coloured (columns d) text >>= λ g. text_end g.1 >>= λ end. Ok (record { diagram = d; moves = m; colours = g.0 })) anywhere_seen moves_steady
+    then_fails Anywhere diagram_item (λ d text. moves_item text >>= λ m. coloured (columns d) m.1 >>= λ g. text_end g.1
+    >>= λ end. Ok (record { diagram = d; moves = m.0; colours = g.0 })) anywhere_seen diagram_steady
+    (λ d. then_fails Anywhere moves_item (λ m text. coloured (columns d) text >>= λ g. text_end g.1
+    >>= λ end. Ok (record { diagram = d; moves = m; colours = g.0 })) anywhere_seen moves_steady
     (λ m. coloured_fails (columns d) (λ g. record { diagram = d; moves = m; colours = g })))
 
 -- ---- listings, closures and lone diagrams
@@ -105,14 +114,18 @@ replay_fails =
 pub colour_fails : FailsFirst colour_in
 unfolding colour_in
 colour_fails =
-    then_fails Anywhere diagram_item (λ d text. quandle_list text >>= λ q. text_end q.1 >>= λ end. Ok (record { diagram = d; quandles = q.0 })) anywhere_seen diagram_steady
-    (λ d. then_fails AtOther quandle_list (λ q text. text_end text >>= λ end. Ok (record { diagram = d; quandles = q })) other_seen list_steady (λ q. end_fails (record { diagram = d; quandles = q })))
+    then_fails Anywhere diagram_item (λ d text. quandle_list text >>= λ q. text_end q.1
+    >>= λ end. Ok (record { diagram = d; quandles = q.0 })) anywhere_seen diagram_steady
+    (λ d. then_fails AtOther quandle_list (λ q text. text_end text >>= λ end. Ok (record { diagram = d; quandles = q })) other_seen list_steady
+    (λ q. end_fails (record { diagram = d; quandles = q })))
 
 pub close_fails : FailsFirst close_in
 unfolding close_in
 close_fails =
-    then_fails Anywhere braid_item (λ b text. quandle_list text >>= λ q. text_end q.1 >>= λ end. Ok (record { braid = b; quandles = q.0 })) anywhere_seen braid_steady
-    (λ b. then_fails AtOther quandle_list (λ q text. text_end text >>= λ end. Ok (record { braid = b; quandles = q })) other_seen list_steady (λ q. end_fails (record { braid = b; quandles = q })))
+    then_fails Anywhere braid_item (λ b text. quandle_list text >>= λ q. text_end q.1
+    >>= λ end. Ok (record { braid = b; quandles = q.0 })) anywhere_seen braid_steady
+    (λ b. then_fails AtOther quandle_list (λ q text. text_end text >>= λ end. Ok (record { braid = b; quandles = q })) other_seen list_steady
+    (λ q. end_fails (record { braid = b; quandles = q })))
 
 pub lone_diagram_fails : FailsFirst lone_diagram_in
 unfolding lone_diagram_in

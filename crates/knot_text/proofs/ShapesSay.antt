@@ -97,7 +97,8 @@ problem_in_says text = says_bind (IsProblem text) (problem_says text) (λ p is.
 pub check_in_says : (text : Text) → Says (check_in text) (λ c. IsCheckText (tokens_by_line text.lines) c.0 c.1)
 unfolding check_in
 check_in_says text = says_bind (IsProblem text) (problem_says text) (λ p is.
-    says_bind (IsWritten (HasVerdictText (columns p.0.first) (columns p.0.second)) verdict_lines p.1) (verdict_says (columns p.0.first) (columns p.0.second) p.1) (λ v judged.
+    says_bind (IsWritten (HasVerdictText (columns p.0.first) (columns p.0.second)) verdict_lines p.1)
+    (verdict_says (columns p.0.first) (columns p.0.second) p.1) (λ v judged.
     says_bind (λ (end : Unit {0}). v.1.lines ≡ []) (end_says v.1) (λ end none.
     says_ok (p.0, v.0) (is.listed, is.has, judged.0, all_lines (in_front_of is.there judged.1) none))))
 

@@ -26,7 +26,8 @@ pub record Took {A : Type 0} (Stops : Stop) (read : Text → Result (A × Text) 
 
 -- the lines before a bad line are good: nothing is left of them, or more is due
 abbrev pub AreTaken : {A : Type 0} → (Text → Result (A × Text) TextFault) → List NumberedLine → Type 0
-AreTaken {A} read lines = (ending : ℕ) → ((value : A) × (read (lines_then lines ending) ≡ Ok (value, lines_then [] ending))) ⊎ (read (lines_then lines ending) ≡ Err (Malformed ending))
+AreTaken {A} read lines =
+    (ending : ℕ) → ((value : A) × (read (lines_then lines ending) ≡ Ok (value, lines_then [] ending))) ⊎ (read (lines_then lines ending) ≡ Err (Malformed ending))
 
 pub record BadLine {A : Type 0} (read : Text → Result (A × Text) TextFault) (text : Text) (fault : TextFault) : Type 0 where
   pub front : List NumberedLine
@@ -56,7 +57,8 @@ bind_err (Err c) f d e = let same : c ≡ d = cc in inl (ap (λ (x : TextFault).
 abbrev pub then_read : {A B : Type 0} → (Text → Result (A × Text) TextFault) → (A → Text → Result B TextFault) → Text → Result B TextFault
 then_read r k text = r text >>= λ x. k x.0 x.1
 
-pub then_ok : {A B : Type 0} (r : Text → Result (A × Text) TextFault) (k : A → Text → Result B TextFault) (text : Text) (a : A) (mid : Text) (y : Result B TextFault) → r text ≡ Ok (a, mid) → k a mid ≡ y → then_read r k text ≡ y
+pub then_ok : {A B : Type 0} (r : Text → Result (A × Text) TextFault) (k : A → Text → Result B TextFault) (text : Text) (a : A) (mid : Text)
+    (y : Result B TextFault) → r text ≡ Ok (a, mid) → k a mid ≡ y → then_read r k text ≡ y
 then_ok r k text a mid y first second = ap (λ s. s >>= λ x. k x.0 x.1) first ∙ second
 
 pub then_err : {A B : Type 0} (r : Text → Result (A × Text) TextFault) (k : A → Text → Result B TextFault) (text : Text) (d : TextFault)
@@ -165,7 +167,14 @@ pub same_steady : {A : Type 0} (Stops : Stop) (r s : Text → Result (A × Text)
 same_steady Stops r s same steady = record {
   took = λ text v rest is.
       let t = steady.took text v rest (sym (same text) ∙ is) in
-      record { used = t.used; lines = t.lines; ending = t.ending; stops = t.stops; again = λ more e stop. same (lines_then (t.used ++ more) e) ∙ t.again more e stop };
+      record {
+        used = t.used;
+        lines = t.lines;
+        ending = t.ending;
+        stops = t.stops;
+        again = λ more e stop. same (lines_then (t.used ++ more) e)
+            ∙ t.again more e stop;
+      };
   failed = λ text fault is.
       elim (steady.failed text fault (sym (same text) ∙ is)) [
         | inl bad ↦ inl (record {
@@ -204,7 +213,8 @@ then_steady {A} {B} Stops r k first second = record { took = took_both; failed =
           stops = u.stops;
           again = λ more e stop.
               ap (then_read r k) (regroup t.used u.used more e)
-              ∙ then_ok r k (lines_then (t.used ++ (u.used ++ more)) e) a (lines_then (u.used ++ more) e) (Ok (value, lines_then more e)) (t.again (u.used ++ more) e tt) (u.again more e stop);
+              ∙ then_ok r k (lines_then (t.used ++ (u.used ++ more)) e) a (lines_then (u.used ++ more) e) (Ok (value, lines_then more e))
+              (t.again (u.used ++ more) e tt) (u.again more e stop);
         }
 
     failed_both : (text : Text) (fault : TextFault) → then_read r k text ≡ Err fault
@@ -219,7 +229,11 @@ then_steady {A} {B} Stops r k first second = record { took = took_both; failed =
           names = bad.names;
           good = λ ending. elim (bad.good ending) [
             | inl taken ↦ elim (on_nothing Stops (k taken.0) (second taken.0) ending) [
-              | inl more ↦ inl (more.0, then_ok r k (lines_then bad.front ending) taken.0 (lines_then [] ending) (Ok (more.0, lines_then [] ending)) taken.1 more.1)
+              | inl more ↦ inl (
+                more.0,
+                then_ok r k (lines_then bad.front ending) taken.0 (lines_then [] ending)
+                    (Ok (more.0, lines_then [] ending)) taken.1 more.1,
+              )
               | inr due ↦ inr (then_ok r k (lines_then bad.front ending) taken.0 (lines_then [] ending) (Err (Malformed ending)) taken.1 due)
             ]
             | inr due ↦ inr (then_err r k (lines_then bad.front ending) (Malformed ending) due)
@@ -240,18 +254,25 @@ then_steady {A} {B} Stops r k first second = record { took = took_both; failed =
               lines = t.lines ∙ ap (λ (ls : List NumberedLine). t.used ++ ls) bad.lines ∙ sym (append_assoc t.used bad.front (bad.line ∷ bad.behind));
               names = bad.names;
               good = λ ending. elim (bad.good ending) [
-                | inl taken ↦ inl (taken.0, then_ok r k (lines_then (t.used ++ bad.front) ending) a (lines_then bad.front ending) (Ok (taken.0, lines_then [] ending)) (t.again bad.front ending tt) taken.1)
-                | inr due ↦ inr (then_ok r k (lines_then (t.used ++ bad.front) ending) a (lines_then bad.front ending) (Err (Malformed ending)) (t.again bad.front ending tt) due)
+                | inl taken ↦ inl (
+                  taken.0,
+                  then_ok r k (lines_then (t.used ++ bad.front) ending) a (lines_then bad.front ending)
+                      (Ok (taken.0, lines_then [] ending)) (t.again bad.front ending tt) taken.1,
+                )
+                | inr due ↦ inr (then_ok r k (lines_then (t.used ++ bad.front) ending) a (lines_then bad.front ending) (Err (Malformed ending))
+                    (t.again bad.front ending tt) due)
               ];
               decided = λ behind ending.
                   ap (then_read r k) (regroup t.used bad.front (bad.line ∷ behind) ending)
-                  ∙ then_ok r k (lines_then (t.used ++ (bad.front ++ bad.line ∷ behind)) ending) a (lines_then (bad.front ++ bad.line ∷ behind) ending) (Err fault) (t.again (bad.front ++ bad.line ∷ behind) ending tt) (bad.decided behind ending);
+                  ∙ then_ok r k (lines_then (t.used ++ (bad.front ++ bad.line ∷ behind)) ending) a (lines_then (bad.front ++ bad.line ∷ behind) ending)
+                  (Err fault) (t.again (bad.front ++ bad.line ∷ behind) ending tt) (bad.decided behind ending);
             })
             | inr end ↦ inr (record {
               names = end.names ∙ ap (λ (n : ℕ). Malformed n) t.ending;
               due = λ ending.
                   ap (λ (ls : List NumberedLine). then_read r k (lines_then ls ending)) t.lines
-                  ∙ then_ok r k (lines_then (t.used ++ mid.lines) ending) a (lines_then mid.lines ending) (Err (Malformed ending)) (t.again mid.lines ending tt) (end.due ending);
+                  ∙ then_ok r k (lines_then (t.used ++ mid.lines) ending) a (lines_then mid.lines ending) (Err (Malformed ending)) (t.again mid.lines ending tt)
+                  (end.due ending);
             })
           ]
     ]
@@ -263,7 +284,8 @@ unfolding in_turn
 turns_steady item zero steady = pure_steady []
 turns_steady item (suc count) steady =
     then_steady Anywhere item (λ first text. in_turn item count text >>= λ others. Ok (first ∷ others.0, others.1)) steady
-    (λ first. then_steady Anywhere (in_turn item count) (λ others text. Ok (first ∷ others, text)) (turns_steady item count steady) (λ others. pure_steady (first ∷ others)))
+    (λ first. then_steady Anywhere (in_turn item count) (λ others text. Ok (first ∷ others, text)) (turns_steady item count steady)
+    (λ others. pure_steady (first ∷ others)))
 
 -- ---- what follows
 

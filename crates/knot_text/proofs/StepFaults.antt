@@ -1,6 +1,6 @@
 -- The reader of step lines refuses them by their kind.
 use Rattle.std.proofs.Common.{◌≡◌, inl, inr, ℕ, suc, zero, ℤ, pos, ◌==◌, ◌||◌, Bool, true, false, not, cond, List, [], ◌∷◌, codes, Option, Some, None}
-use Rattle.std.proofs.Common.{Result, Ok, Err, nat_lt, nat_le, refl, sym, subst}
+use Rattle.std.proofs.Common.{Result, Ok, Err, nat_lt, nat_le, refl, sym, subst, arith}
 use Rattle.std.specs.Prelude.{neg_ℤ, unsigned_abs}
 use Rattle.std.specs.Option.{option_map}
 use Rattle.std.specs.Str.{bytes_eq}
@@ -17,13 +17,14 @@ use Rattle.knot_text.specs.Reading.{◌>>=◌, next_token, line_end, number, las
 use Rattle.knot_text.specs.Braids.{letter_of}
 use Rattle.knot_text.specs.Moves.{last_place, one_place}
 use Rattle.knot_text.specs.BraidSteps.{last_letter, bounded_letter, insert, grow, shrink, step_at}
-use Rattle.knot_text.specs.LineKinds.{read_fault, fault_by, kind_fault, FailsByKind, worth, without_sign, is_letter, is_placed, step_kind}
+use Rattle.knot_text.specs.LineKinds.{read_fault, fault_by, kind_fault, FailsByKind, without_sign, is_letter, is_placed, step_kind}
 use Rattle.knot_text.proofs.StepsAgain.{line_of}
 use Rattle.knot_text.proofs.BraidStepLines.{from_triple, from_cancel, from_insert, from_turn, from_grow, from_shrink}
+use Rattle.knot_text.proofs.Worths.{kept, above_kept}
 
 -- ---- limits
 
-most_by : (most v : ℕ) → nat_le v most ≡ not (nat_lt most v)
+pub most_by : (most v : ℕ) → nat_le v most ≡ not (nat_lt most v)
 most_by most v = elim (leb_tells v most) [
   | inl at ↦ rw (at.0, le-ltb most v at.1) refl
   | inr over ↦ rw (over.0, lt-ltb most v over.1) refl
@@ -31,9 +32,9 @@ most_by most v = elim (leb_tells v most) [
 
 -- ---- letters
 
-abbrev letter_value : List ℕ → ℤ
+abbrev pub letter_value : List ℕ → ℤ
 letter_value [] = pos 0
-letter_value (b ∷ bs) = cond (b == 45) (neg_ℤ (pos (worth bs))) (pos (worth (b ∷ bs)))
+letter_value (b ∷ bs) = cond (b == 45) (neg_ℤ (pos (kept bs))) (pos (kept (b ∷ bs)))
 
 mapped : {A B : Type 0} (f : A → B) (t : Bool) (x : A) → option_map f (cond t (Some x) None) ≡ cond t (Some (f x)) None
 mapped f true x = refl
@@ -43,25 +44,25 @@ negative_abs : (k : ℕ) → unsigned_abs (neg_ℤ (pos k)) ≡ k
 negative_abs zero = refl
 negative_abs (suc k) = refl
 
-letter_read : (u : List ℕ) → letter_of u ≡ cond (is_letter u) (Some (letter_value u)) None
+pub letter_read : (u : List ℕ) → letter_of u ≡ cond (is_letter u) (Some (letter_value u)) None
 letter_read [] = refl
 letter_read (b ∷ bs) = by (b == 45) refl
   where
     by : (t : Bool) → (b == 45) ≡ t → letter_of (b ∷ bs) ≡ cond (is_letter (b ∷ bs)) (Some (letter_value (b ∷ bs))) None
-    by true is = rw is (mapped (λ (k : ℕ). neg_ℤ (pos k)) (is_number bs) (worth bs))
-    by false is = rw is (mapped (λ (k : ℕ). pos k) (is_number (b ∷ bs)) (worth (b ∷ bs)))
+    by true is = rw is (mapped (λ (k : ℕ). neg_ℤ (pos k)) (is_number bs) (kept bs))
+    by false is = rw is (mapped (λ (k : ℕ). pos k) (is_number (b ∷ bs)) (kept (b ∷ bs)))
 
-letter_abs : (u : List ℕ) → unsigned_abs (letter_value u) ≡ worth (without_sign u)
+pub letter_abs : (u : List ℕ) → unsigned_abs (letter_value u) ≡ kept (without_sign u)
 letter_abs [] = refl
 letter_abs (b ∷ bs) = by (b == 45) refl
   where
-    by : (t : Bool) → (b == 45) ≡ t → unsigned_abs (letter_value (b ∷ bs)) ≡ worth (without_sign (b ∷ bs))
-    by true is = rw is (negative_abs (worth bs))
+    by : (t : Bool) → (b == 45) ≡ t → unsigned_abs (letter_value (b ∷ bs)) ≡ kept (without_sign (b ∷ bs))
+    by true is = rw is (negative_abs (kept bs))
     by false is = rw is refl
 
 -- ---- steps that are told by one place
 
-place_by : (make : ℕ → BraidMove) (n value : ℕ) (over : Bool) → nat_lt MAX_PLACE value ≡ over
+pub place_by : {A : Type 0} (make : ℕ → A) (n value : ℕ) (over : Bool) → nat_lt MAX_PLACE value ≡ over
     → read_fault (at_most MAX_PLACE n value >>= λ place. Ok (make place)) ≡ fault_by true over true n
 place_by make n value true is = rw (most_by MAX_PLACE value, is) refl
 place_by make n value false is = rw (most_by MAX_PLACE value, is) refl
@@ -74,7 +75,7 @@ placed make name n [] one grows inserts shrinks = rw shrinks refl
 placed make name n (t ∷ []) one grows inserts shrinks = by (is_number t) refl
   where
     by : (b : Bool) → is_number t ≡ b → read_fault (one_place make (line_of n (t ∷ []))) ≡ kind_fault step_kind (line_of n (name ∷ t ∷ []))
-    by true is = rw (is, one) (place_by make n (worth t) _ refl)
+    by true is = rw (is, one) (place_by make n (kept t) _ (above_kept MAX_PLACE t (omega arith) is))
     by false is = rw (is, one, grows) refl
 placed make name n (t ∷ u ∷ []) one grows inserts shrinks = by (is_number t) refl
   where
@@ -108,7 +109,8 @@ insert_fails n (t ∷ u ∷ []) = by (is_number t) (is_letter u) refl refl
   where
     by : (b c : Bool) → is_number t ≡ b → is_letter u ≡ c
         → read_fault (insert (line_of n (t ∷ u ∷ []))) ≡ kind_fault step_kind (line_of n (codes "insert" ∷ t ∷ u ∷ []))
-    by true true is letter = rw (is, letter_read u, letter) (insert_by n (worth t) (letter_value u) (worth (without_sign u)) _ _ (letter_abs u) refl refl)
+    by true true is letter = rw (is, letter_read u, letter) (insert_by n (kept t) (letter_value u) (kept (without_sign u)) _ _ (letter_abs u)
+        (above_kept MAX_PLACE t (omega arith) is) (above_kept MAX_LETTER (without_sign u) (omega arith) letter))
     by true false is letter = rw (is, letter_read u, letter) refl
     by false c is letter = rw is refl
 insert_fails n (t ∷ u ∷ v ∷ more) = by (is_number t) (is_letter u) refl refl
@@ -143,10 +145,10 @@ shrink_fails n (t ∷ u ∷ v ∷ more) = refl
 
 -- ---- any step line
 
-chosen : (w name : List ℕ) (P : List ℕ → Type 0) → bytes_eq name w ≡ true → P w → P name
+pub chosen : (w name : List ℕ) (P : List ℕ → Type 0) → bytes_eq name w ≡ true → P w → P name
 chosen w name P is at = subst P (sym ((bytes_eq-Decides name w).0 is)) at
 
-either : {A : Type 0} (b : Bool) (x y : Result A TextFault) (fault : Option TextFault)
+pub either : {A : Type 0} (b : Bool) (x y : Result A TextFault) (fault : Option TextFault)
     → (b ≡ true → read_fault x ≡ fault) → (b ≡ false → read_fault y ≡ fault) → read_fault (cond b x y) ≡ fault
 either true x y fault first second = first refl
 either false x y fault first second = second refl

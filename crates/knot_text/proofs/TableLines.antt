@@ -2,6 +2,7 @@
 use Rattle.std.proofs.Common.{◌≡◌, ℕ, suc, ◌-◌, ◌+◌, ◌*◌, ◌≤◌, ◌<◌, List, ◌++◌, Result, Ok, Err, refl, sym, ap, ◌∙◌, append_assoc, arith}
 use Rattle.std.proofs.lemmas.List.{append-nil}
 use Rattle.std.proofs.lemmas.Nat.{mul-le}
+use Rattle.quandle_core.specs.declared.quandle.TheConstants.{MAX_ORDER, MAX_TABLE}
 use Rattle.text_lines.specs.Lines.{Text}
 use Rattle.knot_text.specs.declared.fault.TextFault.{TextFault}
 use Rattle.knot_text.specs.declared.fault.TextFault.TheVariants as fault
@@ -51,8 +52,8 @@ row_counts : (k order : ℕ) → k * order + order ≡ (k + 1) * order
 row_counts k order = omega arith
 
 -- it has room
-pub row_fits : (order k : ℕ) → order ≤ 16 → k < order → k * order + order ≤ 256
-row_fits order k most lt = omega (arith, mul-le (k + 1) order 16 16 (omega arith) most, row_counts k order)
+pub row_fits : (order k : ℕ) → order ≤ MAX_ORDER → k < order → k * order + order ≤ MAX_TABLE
+row_fits order k most lt = omega (arith, mul-le (k + 1) order MAX_ORDER MAX_ORDER (omega arith) most, row_counts k order)
 
 pub row_adds : (order i : ℕ) → 1 ≤ i → (i - 1) * order + order ≡ (i + 1 - 1) * order
 row_adds order i some =

@@ -53,7 +53,8 @@ pub rows_all : (t : Table) → length t.entries ≡ t.order * t.order → flat_m
 rows_all t square =
     let all : (0 + t.order) * t.order ≤ length t.entries = omega (arith, square) in
     let start : 0 * t.order ≡ 0 = omega arith in
-    rows_slice t 0 t.order all ∙ ap (λ (j : ℕ). take (t.order * t.order) (drop j t.entries)) start ∙ take_all (t.order * t.order) t.entries (omega (arith, square))
+    rows_slice t 0 t.order all ∙ ap (λ (j : ℕ). take (t.order * t.order) (drop j t.entries)) start
+    ∙ take_all (t.order * t.order) t.entries (omega (arith, square))
 
 -- the entries are the rows but the last, and the last
 pub rows_last : (t : Table) (k : ℕ) → length t.entries ≡ t.order * t.order → t.order ≡ suc k

@@ -15,7 +15,8 @@ pub regroup : {A : Type 0} (front : List A) (n : A) (read : Result (List A × Te
 regroup front n (Ok x) = ap (λ ns. Ok (ns, x.1)) (simp append_assoc)
 regroup front n (Err e) = refl
 
-pub turn_more : {A : Type 0} (item : Text → Result (A × Text) TextFault) (front : List A) (count i : ℕ) (text : Text) (n : A) (after : Text) (total : Result (List A × Text) TextFault) → i < count → item text ≡ Ok (n, after)
+pub turn_more : {A : Type 0} (item : Text → Result (A × Text) TextFault) (front : List A) (count i : ℕ) (text : Text) (n : A) (after : Text)
+    (total : Result (List A × Text) TextFault) → i < count → item text ≡ Ok (n, after)
     → with_front front (in_turn item (count - i) text) ≡ total → with_front (front ++ n ∷ []) (in_turn item (count - (i + 1)) after) ≡ total
 unfolding in_turn
 turn_more item front count i text n after total lt h so_far =
@@ -24,7 +25,8 @@ turn_more item front count i text n after total lt h so_far =
     rw (k, h) (regroup front n (in_turn item (count - (i + 1)) after)) in
     sym one ∙ so_far
 
-pub turn_fails : {A : Type 0} (item : Text → Result (A × Text) TextFault) (e : TextFault) (front : List A) (count i : ℕ) (text : Text) (total : Result (List A × Text) TextFault) → i < count → Fails e (item text)
+pub turn_fails : {A : Type 0} (item : Text → Result (A × Text) TextFault) (e : TextFault) (front : List A) (count i : ℕ) (text : Text)
+    (total : Result (List A × Text) TextFault) → i < count → Fails e (item text)
     → with_front front (in_turn item (count - i) text) ≡ total → Fails e total
 unfolding in_turn
 turn_fails item fault.OutOfMemory front count i text total lt h so_far = tt
@@ -37,7 +39,8 @@ turn_fails item (fault.Limit n) front count i text total lt h so_far =
     let one : with_front front (in_turn item (count - i) text) ≡ Err (fault.Limit n) = rw (k, h) refl in
     sym so_far ∙ one
 
-pub turns_done : {A : Type 0} (item : Text → Result (A × Text) TextFault) (front : List A) (count i : ℕ) (text : Text) (total : Result (List A × Text) TextFault) → count ≤ i → with_front front (in_turn item (count - i) text) ≡ total
+pub turns_done : {A : Type 0} (item : Text → Result (A × Text) TextFault) (front : List A) (count i : ℕ) (text : Text)
+    (total : Result (List A × Text) TextFault) → count ≤ i → with_front front (in_turn item (count - i) text) ≡ total
     → total ≡ Ok (front, text)
 unfolding in_turn
 turns_done item front count i text total le so_far =

@@ -21,7 +21,8 @@ regroup_values front v (Ok vs) = ap (λ ns. Ok ns) (simp append_assoc)
 regroup_values front v (Err e) = refl
 
 -- one token more
-pub value_more : {A : Type 0} (value : List ℕ → Option A) (Kept Next : List A → Type 0) (token : List ℕ) (tokens rest : List (List ℕ)) (v : A) (n : ℕ) (total : Result (List A) TextFault) → tokens ≡ token ∷ rest → value token ≡ Some v
+pub value_more : {A : Type 0} (value : List ℕ → Option A) (Kept Next : List A → Type 0) (token : List ℕ) (tokens rest : List (List ℕ)) (v : A) (n : ℕ)
+    (total : Result (List A) TextFault) → tokens ≡ token ∷ rest → value token ≡ Some v
     → ((values : List A) → Kept values → Next (values ++ v ∷ [])) → GoesOn value Kept tokens total n → GoesOn value Next rest total n
 unfolding each_token
 value_more value Kept Next token tokens rest v n total is number step so_far =
@@ -33,7 +34,8 @@ value_more value Kept Next token tokens rest v n total is number step so_far =
     }
 
 -- a token of another form
-pub value_fails : {A : Type 0} (value : List ℕ → Option A) (Kept : List A → Type 0) (token : List ℕ) (tokens rest : List (List ℕ)) (n : ℕ) (total : Result (List A) TextFault) → tokens ≡ token ∷ rest → value token ≡ None
+pub value_fails : {A : Type 0} (value : List ℕ → Option A) (Kept : List A → Type 0) (token : List ℕ) (tokens rest : List (List ℕ)) (n : ℕ)
+    (total : Result (List A) TextFault) → tokens ≡ token ∷ rest → value token ≡ None
     → GoesOn value Kept tokens total n → total ≡ Err (Malformed n)
 unfolding each_token
 value_fails value Kept token tokens rest n total is number so_far =

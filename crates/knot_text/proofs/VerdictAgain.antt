@@ -50,13 +50,15 @@ list_again width order n lists text most fits =
     let w = word_again (codes "list") (n + 1) (decimal (length lists) ∷ []) in
     let count = last_again (length lists) (n + 1) (omega (arith, fits.count)) in
     let few = most_again MAX_COLOURINGS (n + 1) (length lists) fits.count in
-    let all = turns_again (colour_line width order) (λ (c : ArrayVec ℕ). map decimal c.items) (λ (c : ArrayVec ℕ). AreColours width order c.items) (n + 1) lists text (colours_again width order most) fits.each in
+    let all = turns_again (colour_line width order) (λ (c : ArrayVec ℕ). map decimal c.items) (λ (c : ArrayVec ℕ). AreColours width order c.items)
+    (n + 1) lists text (colours_again width order most) fits.each in
     rw (w, count, few, all) refl
 
 -- ---- the verdicts
 
 different_again : (one two n : ℕ) (q : NamedQuandle) (first second : List (ArrayVec ℕ)) (text : Text) → HasVerdictText one two (Different q first second)
-    → different_at one two (line_of (n + 1) (name_tokens q.name q.table.order)) (lines_before (numbered (n + 1) (table_lines q.name q.table ++ (list_lines first ++ list_lines second))) text) ≡ Ok (Different q first second, text)
+    → different_at one two (line_of (n + 1) (name_tokens q.name q.table.order))
+    (lines_before (numbered (n + 1) (table_lines q.name q.table ++ (list_lines first ++ list_lines second))) text) ≡ Ok (Different q first second, text)
 unfolding different_at
 different_again one two n q first second text fits =
     let order = q.table.order in
@@ -66,11 +68,13 @@ different_again one two n q first second text fits =
     let k = m + length (list_lines first) in
     let behind = lines_before (numbered k (list_lines second)) text in
     let both = lines_before (numbered m (list_lines first)) behind in
-    let text_is = parted (n + 1) table (list_lines first ++ list_lines second) text ∙ ap (lines_before (numbered (n + 1) table)) (parted m (list_lines first) (list_lines second) text) in
+    let text_is = parted (n + 1) table (list_lines first ++ list_lines second) text
+    ∙ ap (lines_before (numbered (n + 1) table)) (parted m (list_lines first) (list_lines second) text) in
     let named = quandle_again (n + 1) q.name q.table both fits.0.names fits.0.factor in
     let one_is = list_again one order m first behind most fits.1 in
     let two_is = list_again two order k second text most fits.2 in
-    let read : different_at one two (line_of (n + 1) (name_tokens q.name order)) (lines_before (numbered (n + 1) table) both) ≡ Ok (Different q first second, text) = rw (named, one_is, two_is) refl in
+    let read : different_at one two (line_of (n + 1) (name_tokens q.name order)) (lines_before (numbered (n + 1) table) both)
+    ≡ Ok (Different q first second, text) = rw (named, one_is, two_is) refl in
     ap (different_at one two (line_of (n + 1) (name_tokens q.name order))) text_is ∙ read
 
 equal_again : (n : ℕ) (moves : List Move) (text : Text) → HaveText moves

@@ -37,8 +37,11 @@ list_says width order text = says_bind (IsNext text) (next_says text) (λ line t
     says_bind (λ (k : ℕ). (count.0 ≡ k) × (k ≤ MAX_COLOURINGS)) (at_most_says MAX_COLOURINGS count.1.number count.0) (λ few low.
     says_more (λ lists are.
     let tokens : line.0.tokens ≡ codes "list" ∷ decimal (length lists.0) ∷ [] =
-    named ∙ ap (λ (ts : List (List ℕ)). codes "list" ∷ ts) (is (omega (arith, low.0, low.1)) ∙ ap (λ (k : ℕ). decimal k ∷ []) (low.0 ∙ sym are.count)) in
-    (record { count = omega (arith, are.count, low.1); each = are.each }, in_front_of (in_front_is (ap (λ (ts : List (List ℕ)). ts ∷ []) tokens) there) are.there))
+    named ∙ ap (λ (ts : List (List ℕ)). codes "list" ∷ ts) (is (omega (arith, low.0, low.1)) ∙ ap (λ (k : ℕ). decimal k ∷ []) (low.0 ∙ sym are.count)) in (
+      record { count = omega (arith, are.count, low.1); each = are.each },
+      in_front_of
+          (in_front_is (ap (λ (ts : List (List ℕ)). ts ∷ []) tokens) there) are.there,
+    ))
     (turns_say (λ c. AreColours width order c.items) colours_tokens (colour_line width order) (colour_line_says width order) few line.1)))))
 
 -- ---- verdicts, by what stands behind their first word
@@ -50,7 +53,9 @@ equal_says : (one two : ℕ) (text : Text) (line : NumberedLine × Text) (t : Li
     → bytes_eq t.0 (codes "equal") ≡ true → Says (equal_at t.1 line.1) (IsVerdict one two text)
 unfolding equal_at
 equal_says one two text line t there is same = says_bind (λ (k : ℕ). (k ≤ MAX_NUMBER) × (t.1.tokens ≡ decimal k ∷ [])) (last_count_says t.1) (λ count alone.
-    says_bind (IsWritten HaveText (moves_lines (codes "equal")) text) (counted_moves_say (codes "equal") line text count there alone.0 (is ∙ ap₂ (λ (s : List ℕ) (ts : List (List ℕ)). s ∷ ts) (is_word t.0 (codes "equal") same) alone.1)) (λ moves are.
+    says_bind (IsWritten HaveText (moves_lines (codes "equal")) text)
+    (counted_moves_say (codes "equal") line text count there alone.0
+    (is ∙ ap₂ (λ (s : List ℕ) (ts : List (List ℕ)). s ∷ ts) (is_word t.0 (codes "equal") same) alone.1)) (λ moves are.
     says_ok (Equal moves.0, moves.1) are))
 
 different_says : (one two : ℕ) (text : Text) (line : NumberedLine × Text) (t : List ℕ × NumberedLine) → IsNext text line → IsFirst line.0.tokens t
@@ -85,13 +90,18 @@ unknown_says one two line = says_bind (IsFirst line.tokens) (next_token_says lin
     let behind : cap.1.tokens ≡ decimal entries ∷ [] = second (omega (arith, small.0, small.1)) ∙ ap (λ (k : ℕ). decimal k ∷ []) small.0 in
     let all : t.1.tokens ≡ decimal most ∷ decimal entries ∷ [] =
     first (omega (arith, few.0, few.1)) ∙ ap₂ (λ (k : ℕ) (ts : List (List ℕ)). decimal k ∷ ts) few.0 behind in
-    says_ok (UnknownExhausted most entries) ((few.1, small.1), cause (codes "exhausted") same (decimal most ∷ decimal entries ∷ []) all)))))) (λ none. says_err)))
+    says_ok (UnknownExhausted most entries) ((few.1, small.1), cause (codes "exhausted") same (decimal most ∷ decimal entries ∷ []) all))))))
+    (λ none. says_err)))
 
 unknown_item_says : (one two : ℕ) (text : Text) (line : NumberedLine × Text) (t : List ℕ × NumberedLine) → IsNext text line → IsFirst line.0.tokens t
     → bytes_eq t.0 (codes "unknown") ≡ true → Says (unknown_item t.1 line.1) (IsVerdict one two text)
 unfolding unknown_item
 unknown_item_says one two text line t there is same = says_bind (IsUnknown one two t.1.tokens) (unknown_says one two t.1) (λ v known.
-    says_ok (v, line.1) (known.0, in_front_is (ap (λ (ts : List (List ℕ)). ts ∷ []) (is ∙ ap (λ (s : List ℕ). s ∷ t.1.tokens) (is_word t.0 (codes "unknown") same)) ∙ known.1) there))
+    says_ok (v, line.1) (
+      known.0,
+      in_front_is (ap (λ (ts : List (List ℕ)). ts ∷ [])
+          (is ∙ ap (λ (s : List ℕ). s ∷ t.1.tokens) (is_word t.0 (codes "unknown") same)) ∙ known.1) there,
+    ))
 
 pub verdict_says : (one two : ℕ) (text : Text) → Says (verdict_item one two text) (IsWritten (HasVerdictText one two) verdict_lines text)
 unfolding verdict_item

@@ -50,7 +50,13 @@ cocycle_alike q t u same =
 
 modulus_again : (k n : ℕ) → 2 ≤ k → k ≤ MAX_MODULUS → modulus_at (line_of n (codes "weight" ∷ decimal k ∷ [])) ≡ Ok k
 unfolding modulus_at
-modulus_again k n some few = rw (word_again (codes "weight") n (decimal k ∷ []), last_again k n (omega (arith, few)), most_again MAX_MODULUS n k few, le-leb 2 k some) refl
+modulus_again k n some few = rw (
+  word_again (codes "weight") n (decimal k ∷ []),
+  last_again k n
+      (omega (arith, few)),
+  most_again MAX_MODULUS n k few,
+  le-leb 2 k some,
+) refl
 
 -- what the laws say of some entries
 abbrev tested : Table → ℕ → List ℕ → ℕ → Text → Result (Cochain × Text) TextFault

@@ -6,7 +6,7 @@ use Rattle.colour_weights.specs.Fault.{first_fault}
 use Rattle.text_lines.specs.Lines.{NumberedLine}
 use Rattle.knot_text.specs.declared.fault.TextFault.TheVariants.{Malformed}
 use Rattle.knot_text.specs.declared.weights.TheConstants.{MAX_MODULUS}
-use Rattle.knot_text.specs.Reading.{◌>>=◌, word, last_number, at_most, text_end}
+use Rattle.knot_text.specs.Reading.{◌>>=◌, at_most, text_end}
 use Rattle.knot_text.specs.Quandles.{table_rows, quandle_item}
 use Rattle.knot_text.specs.Shapes.{diagram_item}
 use Rattle.knot_text.specs.Weights.{modulus_at, cochain, cochain_item, cocycle_item, weight_in}
@@ -22,17 +22,13 @@ use Rattle.knot_text.proofs.ShapesFail.{diagram_steady}
 
 -- a number of line n that is to lie between 2 and the greatest modulus
 content_at : (n value : ℕ) → At n (at_most MAX_MODULUS n value >>= λ modulus. cond (nat_le 2 modulus) (Ok modulus) (Err (Malformed n)))
-content_at n value = at_bind n (at_most MAX_MODULUS n value) (λ modulus. cond (nat_le 2 modulus) (Ok modulus) (Err (Malformed n))) (at_most_at MAX_MODULUS n value)
-    (λ modulus e. at_cond n (nat_le 2 modulus) (Ok modulus) (Err (Malformed n)) (at_ok n modulus) (at_malformed n))
+content_at n value = at_bind (at_most_at MAX_MODULUS n value) (λ modulus e. at_cond (nat_le 2 modulus) at_ok at_malformed)
 
 modulus_at_at : (line : NumberedLine) → At line.number (modulus_at line)
 unfolding modulus_at
 modulus_at_at line =
-    let content = λ (v : ℕ × NumberedLine). at_most MAX_MODULUS v.1.number v.0 >>= λ modulus. cond (nat_le 2 modulus) (Ok modulus) (Err (Malformed v.1.number)) in
-    at_bind line.number (word (codes "weight") line) (λ rest. last_number rest >>= content) (word_at (codes "weight") line)
-    (λ rest e. at_same line.number rest.number (last_number rest >>= content) (word_keeps (codes "weight") line rest e)
-    (at_bind rest.number (last_number rest) content (last_number_at rest)
-    (λ v f. at_same rest.number v.1.number (content v) (last_number_keeps rest v f) (content_at v.1.number v.0))))
+    at_bind (word_at (codes "weight") line) (λ rest e. at_same ((word_keeps (codes "weight") line).of rest e)
+    (at_bind (last_number_at rest) (λ v f. at_same ((last_number_keeps rest).of v f) (content_at v.1.number v.0))))
 
 -- ---- a cocycle
 
@@ -55,8 +51,12 @@ cocycle_steady quandle = line_then modulus_at (λ modulus text. cochain_item qua
 pub weight_fails : FailsFirst weight_in
 unfolding weight_in
 weight_fails =
-    then_fails Anywhere diagram_item (λ d text. diagram_item text >>= λ e. quandle_item e.1 >>= λ q. cocycle_item q.0.table q.1 >>= λ w. text_end w.1 >>= λ end. Ok (record { first = d; second = e.0; listed = q.0; cocycle = w.0 })) anywhere_seen diagram_steady
-    (λ d. then_fails Anywhere diagram_item (λ e text. quandle_item text >>= λ q. cocycle_item q.0.table q.1 >>= λ w. text_end w.1 >>= λ end. Ok (record { first = d; second = e; listed = q.0; cocycle = w.0 })) anywhere_seen diagram_steady
-    (λ e. then_fails Anywhere quandle_item (λ q text. cocycle_item q.table text >>= λ w. text_end w.1 >>= λ end. Ok (record { first = d; second = e; listed = q; cocycle = w.0 })) anywhere_seen quandle_steady
-    (λ q. then_fails Anywhere (cocycle_item q.table) (λ w text. text_end text >>= λ end. Ok (record { first = d; second = e; listed = q; cocycle = w })) anywhere_seen (cocycle_steady q.table)
+    then_fails Anywhere diagram_item (λ d text. diagram_item text >>= λ e. quandle_item e.1 >>= λ q. cocycle_item q.0.table q.1 >>= λ w. text_end w.1
+    >>= λ end. Ok (record { first = d; second = e.0; listed = q.0; cocycle = w.0 })) anywhere_seen diagram_steady
+    (λ d. then_fails Anywhere diagram_item (λ e text. quandle_item text >>= λ q. cocycle_item q.0.table q.1 >>= λ w. text_end w.1
+    >>= λ end. Ok (record { first = d; second = e; listed = q.0; cocycle = w.0 })) anywhere_seen diagram_steady
+    (λ e. then_fails Anywhere quandle_item (λ q text. cocycle_item q.table text >>= λ w. text_end w.1
+    >>= λ end. Ok (record { first = d; second = e; listed = q; cocycle = w.0 })) anywhere_seen quandle_steady
+    (λ q. then_fails Anywhere (cocycle_item q.table) (λ w text. text_end text
+    >>= λ end. Ok (record { first = d; second = e; listed = q; cocycle = w })) anywhere_seen (cocycle_steady q.table)
     (λ w. end_fails (record { first = d; second = e; listed = q; cocycle = w })))))

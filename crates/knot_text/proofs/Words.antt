@@ -60,12 +60,14 @@ digits_line [] tokens some all words = absurd (omega (arith, some))
 digits_line (d ∷ ds) tokens some all words =
     let r = digit_from_value d all.0 in
     let sharp : not (d == 35) ≡ true = grind (arith, nat_tests) in
-    and_from (not (d == 35)) (is_word (d ∷ ds) && list_all is_word tokens) sharp (and_from (is_word (d ∷ ds)) (list_all is_word tokens) (digits_word (d ∷ ds) some all) words)
+    and_from (not (d == 35)) (is_word (d ∷ ds) && list_all is_word tokens) sharp
+    (and_from (is_word (d ∷ ds)) (list_all is_word tokens) (digits_word (d ∷ ds) some all) words)
 
 numbers_line : (ks : List ℕ) → 0 < length ks → AllByRecursion IsShort ks → is_line (map decimal ks) ≡ true
 numbers_line [] some few = absurd (omega (arith, some))
 numbers_line (k ∷ ks) some few =
-    digits_line (decimal k) (map decimal ks) (decimal_nonempty k (omega (arith, few.0))) (decimal_is_IsNumeral k (omega (arith, few.0))).0.1 (numbers_words ks few.1)
+    digits_line (decimal k) (map decimal ks) (decimal_nonempty k (omega (arith, few.0))) (decimal_is_IsNumeral k (omega (arith, few.0))).0.1
+    (numbers_words ks few.1)
 
 -- ---- grids
 
@@ -131,7 +133,8 @@ range_short : (t : Table) (x a n : ℕ) → ((y : ℕ) → a ≤ y → y < a + n
     → list_all is_word (map (λ y. decimal (over t x y)) (range_with_len a n)) ≡ true
 range_short t x a zero each = refl
 range_short t x a (suc n) each =
-    and_from (is_word (decimal (over t x a))) (list_all is_word (map (λ y. decimal (over t x y)) (range_with_len (a + 1) n))) (decimal_word (over t x a) (each a (omega arith) (omega arith))) (range_short t x (a + 1) n (λ y low high. each y (omega arith) (omega arith)))
+    and_from (is_word (decimal (over t x a))) (list_all is_word (map (λ y. decimal (over t x y)) (range_with_len (a + 1) n)))
+    (decimal_word (over t x a) (each a (omega arith) (omega arith))) (range_short t x (a + 1) n (λ y low high. each y (omega arith) (omega arith)))
 
 row_words : (t : Table) (x k : ℕ) → IsQuandle t → x < t.order → t.order ≡ suc k → is_line (row_tokens t x) ≡ true
 row_words t x k is lt size =
@@ -139,13 +142,15 @@ row_words t x k is lt size =
     let first : over t x 0 ≤ MAX_NUMBER = small 0 (omega (arith, size)) in
     let rest = range_short t x (0 + 1) k (λ y low high. small y (omega (arith, size, high))) in
     let line : is_line (map (λ y. decimal (over t x y)) (range_with_len 0 (suc k))) ≡ true =
-    digits_line (decimal (over t x 0)) (map (λ y. decimal (over t x y)) (range_with_len (0 + 1) k)) (decimal_nonempty (over t x 0) (omega (arith, first))) (decimal_is_IsNumeral (over t x 0) (omega (arith, first))).0.1 rest in
+    digits_line (decimal (over t x 0)) (map (λ y. decimal (over t x y)) (range_with_len (0 + 1) k)) (decimal_nonempty (over t x 0) (omega (arith, first)))
+    (decimal_is_IsNumeral (over t x 0) (omega (arith, first))).0.1 rest in
     ap (λ (n : ℕ). is_line (map (λ y. decimal (over t x y)) (range_with_len 0 n))) size ∙ line
 
 rows_words : (t : Table) (a n k : ℕ) → IsQuandle t → a + n ≤ t.order → t.order ≡ suc k → list_all is_line (map (row_tokens t) (range_with_len a n)) ≡ true
 rows_words t a zero k is fits size = refl
 rows_words t a (suc n) k is fits size =
-    and_from (is_line (row_tokens t a)) (list_all is_line (map (row_tokens t) (range_with_len (a + 1) n))) (row_words t a k is (omega arith) size) (rows_words t (a + 1) n k is (omega arith) size)
+    and_from (is_line (row_tokens t a)) (list_all is_line (map (row_tokens t) (range_with_len (a + 1) n))) (row_words t a k is (omega arith) size)
+    (rows_words t (a + 1) n k is (omega arith) size)
 
 table_words : (called_so : QuandleName) (t : Table) → Names called_so t → list_all is_line (table_lines called_so t) ≡ true
 table_words (name.Trivial n) t names = refl
@@ -165,7 +170,8 @@ colours_line width order some most c fits =
 list_words : (width order : ℕ) (lists : List (ArrayVec ℕ)) → 1 ≤ width → order ≤ 255 → HasListText width order lists
     → list_all is_line (list_lines lists) ≡ true
 list_words width order lists some most fits =
-    let lines = all_lines (λ (c : ArrayVec ℕ). map decimal c.items) (λ (c : ArrayVec ℕ). AreColours width order c.items) lists (colours_line width order some most) fits.each in
+    let lines = all_lines (λ (c : ArrayVec ℕ). map decimal c.items) (λ (c : ArrayVec ℕ). AreColours width order c.items) lists
+    (colours_line width order some most) fits.each in
     rw (decimal_word (length lists) (omega (arith, fits.count)), lines) refl
 
 pub verdict_words : (one two : ℕ) (v : Verdict) → 1 ≤ one → 1 ≤ two → HasVerdictText one two v → list_all is_line (verdict_lines v) ≡ true
@@ -173,7 +179,9 @@ verdict_words one two (Equal moves) some more fits = rw (decimal_word (length mo
 verdict_words one two (Different q first second) some more fits =
     let order = q.table.order in
     let most : order ≤ 255 = omega (arith, names_order q.name q.table fits.0.names) in
-    let table : list_all is_line (quandle_lines (codes "different") q) ≡ true = and_from (is_line (codes "different" ∷ name_tokens q.name order)) (list_all is_line (table_lines q.name q.table)) (name_words q.name q.table fits.0.names fits.0.factor) (table_words q.name q.table fits.0.names) in
+    let table : list_all is_line (quandle_lines (codes "different") q)
+    ≡ true = and_from (is_line (codes "different" ∷ name_tokens q.name order)) (list_all is_line (table_lines q.name q.table))
+    (name_words q.name q.table fits.0.names fits.0.factor) (table_words q.name q.table fits.0.names) in
     all_both is_line (quandle_lines (codes "different") q) (list_lines first ++ list_lines second) table
     (all_both is_line (list_lines first) (list_lines second) (list_words one order first some most fits.1) (list_words two order second more most fits.2))
 verdict_words one two (UnknownBudget budget) some more fits = rw (decimal_word budget fits) refl

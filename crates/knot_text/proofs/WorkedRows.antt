@@ -1,5 +1,6 @@
 -- Texts that were read by hand.
-use Rattle.std.proofs.Common.{◌≡◌, pos, negsuc, [], ◌∷◌, codes, refl, Ok, Err, Some, None}
+use Rattle.std.proofs.Common.{◌≡◌, ℕ, zero, suc, ◌+◌, pos, negsuc, List, [], ◌∷◌, ◌++◌, codes, refl, Ok, Err, Some, None}
+use Rattle.grid_core.specs.declared.grid.TheConstants.{MAX_SIZE}
 use Rattle.grid_core.specs.declared.mark.Kind.TheVariants.{Cross}
 use Rattle.grid_core.specs.declared.mark.Corner.TheVariants.{LowLeft}
 use Rattle.grid_moves.specs.declared.step.Move.TheVariants.{Stabilise, Destabilise}
@@ -86,18 +87,31 @@ letter_of_the_strands : close_of (codes "braid 2 1 -2\n") ≡ Err (Malformed 1)
 unfolding close_in braid_item braid_at each_token word number next_token next_line
 letter_of_the_strands = refl
 
-no_strands : close_of (codes "braid 0 1 1 1 1 1 1 1 1 1 1 1 1 1 1 1 1 1 1 1 1 1 1 1 1\n") ≡ Err (Malformed 1)
+-- so many letters that each say 1
+abbrev ones : ℕ → List ℕ
+ones zero = []
+ones (suc n) = codes " 1" ++ ones n
+
+no_strands : close_of (codes "braid 0" ++ ones MAX_SIZE ++ codes "\n") ≡ Err (Malformed 1)
 unfolding close_in braid_item braid_at each_token word number next_token next_line
 no_strands = refl
 
-no_strands_and_no_room : close_of (codes "braid 0 1 1 1 1 1 1 1 1 1 1 1 1 1 1 1 1 1 1 1 1 1 1 1 1 1\n") ≡ Err (Limit 1)
+no_strands_and_no_room : close_of (codes "braid 0" ++ ones (MAX_SIZE + 1) ++ codes "\n") ≡ Err (Limit 1)
 unfolding close_in braid_item braid_at each_token word number next_token next_line
 no_strands_and_no_room = refl
 
 -- ---- colours behind their quandle, for as many columns as the closure of the braid has
 
 coloured_read : replay_of (codes "braid 1 \nmoves 0\nquandle trivial 2\ncolours 0 1\n")
-    ≡ Ok (record { diagram = Braid (record { strands = 1; letters = [] }); moves = []; colours = Some (called (name.Trivial 2) (trivial 2), record { items = 0 ∷ 1 ∷ [] }) })
+    ≡ Ok (record {
+      diagram = Braid (record { strands = 1; letters = [] });
+      moves = [];
+      colours = Some (
+        called (name.Trivial 2)
+            (trivial 2),
+        record { items = 0 ∷ 1 ∷ [] },
+      );
+    })
 unfolding replay_in diagram_item braid_item braid_at each_token word number next_token next_line moves_item last_count last_number line_end in_turn coloured coloured_item quandle_item quandle_at written_at colours_item colours_at numbers_behind text_end
 coloured_read = refl
 
@@ -137,6 +151,14 @@ short_and_long = refl
 -- ---- verdicts
 
 exhausted : check_of (codes "x 0 1\no 1 0\nx 0 1\no 1 0\nunknown exhausted 5 2\n")
-    ≡ Ok (record { first = Grid (record { x = 0 ∷ 1 ∷ []; o = 1 ∷ 0 ∷ [] }); second = Grid (record { x = 0 ∷ 1 ∷ []; o = 1 ∷ 0 ∷ [] }); quandles = built_in }, UnknownExhausted 5 2)
+    ≡ Ok (
+      record {
+        first = Grid (record { x = 0 ∷ 1 ∷ []; o = 1 ∷ 0 ∷ [] });
+        second = Grid
+            (record { x = 0 ∷ 1 ∷ []; o = 1 ∷ 0 ∷ [] });
+        quandles = built_in;
+      },
+      UnknownExhausted 5 2,
+    )
 unfolding check_in problem_item diagram_item grid_item x_at o_at numbers_behind each_token word next_token next_line last_number number line_end quandle_list quandles verdict_item unknown_item unknown_at exhausted_at text_end
 exhausted = refl

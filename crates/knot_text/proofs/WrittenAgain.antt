@@ -31,7 +31,7 @@ use Rattle.knot_text.proofs.QuandleAgain.{quandle_again}
 use Rattle.knot_text.proofs.VerdictAgain.{verdict_again}
 use Rattle.knot_text.proofs.BraidAgain.{braid_again}
 use Rattle.knot_text.proofs.ColoursAgain.{colours_again}
-use Rattle.knot_text.proofs.Says.{Says, in_front_is}
+use Rattle.knot_text.proofs.Says.{Says}
 use Rattle.knot_text.proofs.ItemsSay.{IsWritten, grid_says, braid_says, moves_say, colours_say}
 use Rattle.knot_text.proofs.QuandleSays.{quandle_says}
 use Rattle.knot_text.proofs.VerdictSays.{verdict_says}
@@ -61,24 +61,37 @@ left_lines : {printed : List (List (List ℕ))} {text rest : Text} → StandInFr
 left_lines {text = text} {rest = rest} there =
     sym (ap (λ (n : ℕ). drop n text.lines) (sym (front_length there)) ∙ ap (drop (length there.front)) there.lines ∙ drop-append_seam there.front rest.lines)
 
--- what is left is determined
+-- what is left is determined by how many lines are in front
+pub rest_behind : {a b : List (List (List ℕ))} {text one two : Text} → StandInFront a text one → StandInFront b text two
+    → length a ≡ length b → one ≡ two
+rest_behind {text = text} {one = one} {two = two} first second many =
+    let lines : one.lines ≡ two.lines = left_lines first ∙ ap (λ (n : ℕ). drop n text.lines) many ∙ sym (left_lines second) in
+    ap₂ (λ (ls : List NumberedLine) (e : ℕ). record { lines = ls; ending = e }) lines (first.ending ∙ sym second.ending)
+
 pub one_rest : {printed : List (List (List ℕ))} {text one two : Text} → StandInFront printed text one → StandInFront printed text two → one ≡ two
-one_rest first second =
-    ap₂ (λ (ls : List NumberedLine) (e : ℕ). record { lines = ls; ending = e }) (left_lines first ∙ sym (left_lines second)) (first.ending ∙ sym second.ending)
+one_rest first second = rest_behind first second refl
 
 -- ---- an item
 
--- one that is read behind no lines is read from each text with its tokens
-pub read_again : {A : Type 0} (Has : A → Type 0) (lines : A → List (List (List ℕ))) (item : Text → Result (A × Text) TextFault)
-    → ((t u : Text) → SameText t u → Alike SameLeft (item t) (item u)) → ((t : Text) → Says (item t) (IsWritten Has lines t))
-    → (value : A) (text rest : Text) → item (lines_before (numbered 0 (lines value)) rest) ≡ Ok (value, rest) → StandInFront (lines value) text rest → item text ≡ Ok (value, rest)
-read_again Has lines item alike says value text rest again there =
-    let t = lines_before (numbered 0 (lines value)) rest in
-    let same : SameText t text = tokens_parted (numbered 0 (lines value)) rest.lines ∙ ap (λ (ls : List (List (List ℕ))). ls ++ tokens_by_line rest.lines) (numbered_tokens 0 (lines value)) ∙ sym (front_tokens there) in
+-- one that is read behind no lines is read from each text with its tokens, if its reading there leaves this rest
+pub read_from : {A : Type 0} (item : Text → Result (A × Text) TextFault) → ((t u : Text) → SameText t u → Alike SameLeft (item t) (item u))
+    → (printed : List (List (List ℕ))) (value : A) (text rest : Text) → item (lines_before (numbered 0 printed) rest) ≡ Ok (value, rest)
+    → StandInFront printed text rest → ((left : Text) → item text ≡ Ok (value, left) → left ≡ rest) → item text ≡ Ok (value, rest)
+read_from {A = A} item alike printed value text rest again there one =
+    let t = lines_before (numbered 0 printed) rest in
+    let same : SameText t text = tokens_parted (numbered 0 printed) rest.lines ∙ ap (λ (ls : List (List (List ℕ))). ls ++ tokens_by_line rest.lines) (numbered_tokens 0 printed) ∙ sym (front_tokens there) in
     let found = (alike t text same).of (value, rest) again in
     let x = found.0 in
-    let left : StandInFront (lines value) text x.1 = in_front_is (ap lines (sym found.2.0)) ((says text).of x found.1).1 in
-    found.1 ∙ ap₂ (λ v (s : Text). Ok (v, s)) (sym found.2.0) (one_rest left there)
+    let here : item text ≡ Ok (value, x.1) = found.1 ∙ ap (λ (v : A). Ok (v, x.1)) (sym found.2.0) in
+    here ∙ ap (λ (s : Text). Ok (value, s)) (one x.1 here)
+
+-- its reading leaves what stands behind its lines
+pub read_again : {A : Type 0} (Has : A → Type 0) (lines : A → List (List (List ℕ))) (item : Text → Result (A × Text) TextFault)
+    → ((t u : Text) → SameText t u → Alike SameLeft (item t) (item u)) → ((t : Text) → Says (item t) (IsWritten Has lines t))
+    → (value : A) (text rest : Text) → item (lines_before (numbered 0 (lines value)) rest) ≡ Ok (value, rest) → StandInFront (lines value) text rest
+    → item text ≡ Ok (value, rest)
+read_again Has lines item alike says value text rest again there =
+    read_from item alike (lines value) value text rest again there (λ left is. one_rest ((says text).of (value, left) is).1 there)
 
 pub grid_written : (text : Text) (d : Marks) (rest : Text) → IsGrid d → StandInFront (grid_lines d) text rest → grid_item text ≡ Ok (d, rest)
 grid_written text d rest grid there = read_again IsGrid grid_lines grid_item grid_alike grid_says d text rest (grid_again 0 d rest grid) there
@@ -104,9 +117,11 @@ quandle_written text q rest fits there =
 pub colours_written : (width order : ℕ) (text : Text) (c : ArrayVec ℕ) (rest : Text) → width ≤ MAX_SIZE → order ≤ MAX_ORDER
     → AreColours width order c.items → StandInFront (colours_lines c) text rest → colours_item width order text ≡ Ok (c, rest)
 colours_written width order text c rest fits most are there =
-    read_again (λ c. AreColours width order c.items) colours_lines (colours_item width order) (colours_alike width order) (colours_say width order) c text rest (colours_again width order 0 c rest fits most are) there
+    read_again (λ c. AreColours width order c.items) colours_lines (colours_item width order) (colours_alike width order) (colours_say width order) c text rest
+    (colours_again width order 0 c rest fits most are) there
 
 pub verdict_written : (one two : ℕ) (text : Text) (v : Verdict) (rest : Text) → HasVerdictText one two v → StandInFront (verdict_lines v) text rest
     → verdict_item one two text ≡ Ok (v, rest)
 verdict_written one two text v rest fits there =
-    read_again (HasVerdictText one two) verdict_lines (verdict_item one two) (verdict_alike one two) (verdict_says one two) v text rest (verdict_again one two 0 v rest fits) there
+    read_again (HasVerdictText one two) verdict_lines (verdict_item one two) (verdict_alike one two) (verdict_says one two) v text rest
+    (verdict_again one two 0 v rest fits) there

@@ -1,8 +1,9 @@
 -- Printed lines and texts that were compared by hand.
-use Rattle.std.proofs.Common.{◌≡◌, pos, negsuc, [], ◌∷◌, codes, refl, Err, arith}
+use Rattle.std.proofs.Common.{◌≡◌, pos, negsuc, [], ◌∷◌, codes, refl, Err, arith, true, false}
 use Rattle.std.specs.Fmt.{decimal}
 use Rattle.std.proofs.lemmas.Fmt.{decimal_digit}
 use Rattle.quandle_core.specs.Tables.{trivial}
+use Rattle.braid_moves.specs.declared.step.BraidMove.TheVariants.{Far, Triple, Cancel, Insert, Turn, Grow, Shrink}
 use Rattle.text_lines.specs.Spelled.{lines_text}
 use Rattle.knot_text.specs.declared.fault.TextFault.TheVariants.{Malformed}
 use Rattle.verdict_core.specs.declared.names.QuandleName.TheVariants as name
@@ -12,7 +13,7 @@ use Rattle.knot_text.specs.Numbers.{numbers_behind}
 use Rattle.knot_text.specs.Grids.{x_at, o_at, grid_item}
 use Rattle.knot_text.specs.Moves.{kind_at, corner_at, stabilise, exchange, move_at, next_move, moves_item}
 use Rattle.knot_text.specs.Shapes.{diagram_item, replay_in, replay_of}
-use Rattle.knot_text.specs.Printed.{grid_lines, braid_lines, quandle_text, colours_text}
+use Rattle.knot_text.specs.Printed.{grid_lines, braid_lines, steps_text, quandle_text, colours_text}
 use Rattle.knot_text.specs.WrittenThere.{said_by}
 
 zero_is : decimal 0 ≡ codes "0"
@@ -42,6 +43,15 @@ coloured = rw two_is refl
 
 colours : colours_text (record { items = 0 ∷ 1 ∷ [] }) ≡ codes "colours 0 1\n"
 colours = rw (zero_is, one_is) refl
+
+some_steps : steps_text (Far 2 ∷ Triple 0 ∷ Cancel 1 ∷ []) ≡ codes "steps 3\nfar 2\ntriple 0\ncancel 1\n"
+some_steps = rw (three_is, two_is, zero_is, one_is) refl
+
+further_steps : steps_text (Insert 2 (negsuc 0) ∷ Turn 2 ∷ Grow true ∷ []) ≡ codes "steps 3\ninsert 2 -1\nturn 2\ngrow plus\n"
+further_steps = rw (three_is, two_is, one_is) refl
+
+last_steps : steps_text (Grow false ∷ Shrink ∷ []) ≡ codes "steps 2\ngrow minus\nshrink\n"
+last_steps = rw two_is refl
 
 -- a word behind the move
 one_word_more : replay_of (codes "x 0 1\no 1 0\nmoves 1\nstabilise 0 x lowleft please\n") ≡ Err (Malformed 4)

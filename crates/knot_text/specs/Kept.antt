@@ -1,4 +1,4 @@
--- What is kept of the numbers of a line, for private clauses alone.
+-- What is kept of the numbers, or of the letters, of a line, for private clauses alone.
 use Rattle.std.specs.Prelude.{◌≡◌, ℕ, ◌==◌, ◌&&◌, Bool, not, List, length, take, map, Result, Ok, Err, nat_lt, if◌then◌else◌}
 use Rattle.std.specs.List.{list_all, list_any}
 use Rattle.arrayvec.specs.ArrayVec.{ArrayVec}
@@ -8,32 +8,36 @@ use Rattle.knot_text.specs.declared.numbers.Kept.{Kept}
 use Rattle.knot_text.specs.Reading.{Fails}
 use Rattle.knot_text.specs.Numbers.{is_long}
 
+-- the first MAX_SIZE of these values, cut down; whether there are more; and whether one has too many digits
+pub record TellsOf {A B : Type 0} (cut : A → B) (has_many_digits : A → Bool) (kept : List B) (has_more has_long : Bool) (values : List A) : Type 0 where
+  pub first : kept ≡ take MAX_SIZE (map cut values)
+  pub more : has_more ≡ nat_lt MAX_SIZE (length values)
+  pub long : has_long ≡ list_any has_many_digits values
+
+-- what was kept tells of the values that were read
+pub record KeepsRead {A : Type 0} (Told : List A → Type 0) (read : Result (List A) TextFault) : Type 0 where
+  pub values : List A
+  pub is : read ≡ Ok values
+  pub tells : Told values
+
+-- the same of a call that may have failed
+abbrev pub KeepsOrFails : {K A : Type 0} → (K → List A → Type 0) → Result K TextFault → Result (List A) TextFault → Type 0
+KeepsOrFails Told (Ok kept) read = KeepsRead (Told kept) read
+KeepsOrFails Told (Err e) read = Fails e read
+
 -- the number, or 255 where it is larger
 abbrev pub low : ℕ → ℕ
 low value = if nat_lt value 255 then value else 255
 
--- the first MAX_SIZE of these numbers, cut down; whether there are more; and whether one has too many digits
-pub record Tells (kept : Kept) (values : List ℕ) : Type 0 where
-  pub first : kept.first.items ≡ take MAX_SIZE (map low values)
-  pub more : kept.more ≡ nat_lt MAX_SIZE (length values)
-  pub long : kept.long ≡ list_any is_long values
-
--- what was kept tells of the numbers that were read
-pub record KeepsRead (kept : Kept) (read : Result (List ℕ) TextFault) : Type 0 where
-  pub values : List ℕ
-  pub is : read ≡ Ok values
-  pub tells : Tells kept values
+-- what is kept of numbers
+abbrev pub Tells : Kept → List ℕ → Type 0
+Tells kept values = TellsOf low is_long kept.first.items kept.more kept.long values
 
 -- what was kept is the numbers that were read, cut down
 pub record CutsRead (rows : ArrayVec ℕ) (read : Result (List ℕ) TextFault) : Type 0 where
   pub values : List ℕ
   pub is : read ≡ Ok values
   pub cut : rows.items ≡ map low values
-
--- the same of a call that may have failed
-abbrev pub KeepsOrFails : Result Kept TextFault → Result (List ℕ) TextFault → Type 0
-KeepsOrFails (Ok kept) read = KeepsRead kept read
-KeepsOrFails (Err e) read = Fails e read
 
 abbrev pub CutsOrFails : Result (ArrayVec ℕ) TextFault → Result (List ℕ) TextFault → Type 0
 CutsOrFails (Ok rows) read = CutsRead rows read

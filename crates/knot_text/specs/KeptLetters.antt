@@ -1,6 +1,5 @@
 -- What is kept of the letters of a line, for private clauses alone.
-use Rattle.std.specs.Prelude.{◌≡◌, ℕ, ℤ, pos, unsigned_abs, ◌+◌, ◌*◌, ◌||◌, Bool, List, length, take, map, Result, Ok, Err, nat_lt, if◌then◌else◌}
-use Rattle.std.specs.List.{list_any}
+use Rattle.std.specs.Prelude.{ℕ, ℤ, pos, unsigned_abs, ◌+◌, ◌*◌, ◌||◌, Bool, List, length, nat_lt, if◌then◌else◌}
 use Rattle.grid_core.specs.declared.grid.TheConstants.{MAX_SIZE}
 use Rattle.braid_core.specs.declared.braid.TheConstants.{MAX_STRANDS}
 use Rattle.braid_core.specs.declared.fault.BraidFault.{BraidFault}
@@ -8,29 +7,16 @@ use Rattle.braid_core.specs.declared.fault.BraidFault.TheVariants as braid
 use Rattle.knot_text.specs.declared.fault.TextFault.{TextFault}
 use Rattle.knot_text.specs.declared.fault.TextFault.TheVariants.{Malformed, OutOfMemory}
 use Rattle.knot_text.specs.declared.braids.KeptLetters.{KeptLetters}
-use Rattle.knot_text.specs.Reading.{Fails}
 use Rattle.knot_text.specs.Braids.{is_long_letter}
+use Rattle.knot_text.specs.Kept.{TellsOf}
 
 -- the letter, or 127 where its absolute value is larger
 abbrev pub low_letter : ℤ → ℤ
 low_letter a = if nat_lt (unsigned_abs a) 127 then a else pos 127
 
--- the first MAX_SIZE of these letters, cut down; whether there are more; and whether one has too many digits
-pub record TellsLetters (kept : KeptLetters) (letters : List ℤ) : Type 0 where
-  pub first : kept.first.items ≡ take MAX_SIZE (map low_letter letters)
-  pub more : kept.more ≡ nat_lt MAX_SIZE (length letters)
-  pub long : kept.long ≡ list_any is_long_letter letters
-
--- what was kept tells of the letters that were read
-pub record KeepsLetters (kept : KeptLetters) (read : Result (List ℤ) TextFault) : Type 0 where
-  pub letters : List ℤ
-  pub is : read ≡ Ok letters
-  pub tells : TellsLetters kept letters
-
--- the same of a call that may have failed
-abbrev pub KeepsLettersOrFails : Result KeptLetters TextFault → Result (List ℤ) TextFault → Type 0
-KeepsLettersOrFails (Ok kept) read = KeepsLetters kept read
-KeepsLettersOrFails (Err e) read = Fails e read
+-- what is kept of letters
+abbrev pub TellsLetters : KeptLetters → List ℤ → Type 0
+TellsLetters kept letters = TellsOf low_letter is_long_letter kept.first.items kept.more kept.long letters
 
 -- what was kept exceeds a limit, with so many strands
 abbrev pub kept_exceeds : ℕ → KeptLetters → Bool

@@ -17,6 +17,7 @@ pub mod Printed
 pub mod WrittenThere
 pub mod FirstBadLine
 pub mod LineKinds
+pub mod FirstLines
 pub use Rattle.text_lines.specs.Lines
 pub use Rattle.text_lines.specs.Tokens
 pub use Rattle.text_lines.specs.Spelled

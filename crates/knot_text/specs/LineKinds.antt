@@ -1,15 +1,18 @@
 -- What a line has to be, by its kind, apart from reading: its form, its limits and its content. The first of them that fails decides.
-use Rattle.std.specs.Prelude.{◌≡◌, ℕ, ◌==◌, ◌&&◌, ◌||◌, Bool, true, false, List, [], ◌∷◌, codes, length, map, Option, Some, None, Result, Ok, Err}
-use Rattle.std.specs.Prelude.{is_none, nat_lt, if◌then◌else◌}
+use Rattle.std.specs.Prelude.{◌≡◌, ◌+◌, ◌*◌, ℕ, ◌==◌, ◌&&◌, ◌||◌, Bool, true, false, List, [], ◌∷◌, codes, length, map, Option, Some, None, Result, Ok, Err}
+use Rattle.std.specs.Prelude.{is_none, nat_le, nat_lt, if◌then◌else◌}
 use Rattle.std.specs.List.{list_all, list_any}
 use Rattle.std.specs.Str.{bytes_eq}
 use Rattle.std.specs.Str.Parse.{digits_value}
 use Rattle.grid_core.specs.declared.grid.TheConstants.{MAX_SIZE}
 use Rattle.grid_core.specs.Fault.{first_fault}
+use Rattle.quandle_core.specs.declared.quandle.TheConstants.{MAX_ORDER}
+use Rattle.quandle_core.specs.Tables.{is_unit}
 use Rattle.colour_rows.specs.Colouring.{are_colours}
-use Rattle.text_lines.specs.declared.numbers.TheConstants.{MAX_DIGITS, OVERLONG}
-use Rattle.knot_text.specs.declared.reading.TheConstants.{MAX_PLACE, MAX_LETTER}
-use Rattle.text_lines.specs.Lines.{NumberedLine}
+use Rattle.braid_core.specs.declared.braid.TheConstants.{MAX_STRANDS}
+use Rattle.text_lines.specs.declared.numbers.TheConstants.{MAX_DIGITS}
+use Rattle.knot_text.specs.declared.reading.TheConstants.{MAX_NUMBER, MAX_PLACE, MAX_LETTER}
+use Rattle.text_lines.specs.Lines.{NumberedLine, starts}
 use Rattle.text_lines.specs.Numbers.{is_number}
 use Rattle.knot_text.specs.declared.fault.TextFault.{TextFault}
 use Rattle.knot_text.specs.declared.fault.TextFault.TheVariants.{Malformed, Limit}
@@ -43,9 +46,9 @@ FailsByKind kind read = (line : NumberedLine) → read_fault (read line) ≡ kin
 abbrev pub is_overlong : List ℕ → Bool
 is_overlong token = nat_lt MAX_DIGITS (length token)
 
--- the number that a token writes, for which OVERLONG stands where it has too many digits
+-- the number that a token writes
 abbrev pub worth : List ℕ → ℕ
-worth token = if is_overlong token then OVERLONG else digits_value 10 token
+worth token = digits_value 10 token
 
 -- a word and numbers
 abbrev pub is_row : List ℕ → List (List ℕ) → Bool
@@ -86,6 +89,57 @@ below_kind width order = record {
   over = λ tokens. list_any is_overlong tokens;
   content = λ tokens. are_colours width order (map worth tokens);
 }
+
+-- ---- lines of words and numbers
+
+-- what each token of a line has to be, in order
+abbrev pub Form : Type 0
+Form = List (List ℕ → Bool)
+
+abbrev pub fits : Form → List (List ℕ) → Bool
+fits [] [] = true
+fits (test ∷ tests) (token ∷ tokens) = test token && fits tests tokens
+fits tests tokens = false
+
+-- one of these words
+abbrev pub one_of : List (List ℕ) → List ℕ → Bool
+one_of words token = list_any (λ word. bytes_eq token word) words
+
+-- a number that is larger than that
+abbrev pub is_above : ℕ → List ℕ → Bool
+is_above most token = is_number token && nat_lt most (worth token)
+
+-- a line of one of these forms, no number of which may be larger than that; it has no content
+abbrev pub worded_kind : List Form → ℕ → LineKind
+worded_kind forms most = record {
+  form = λ tokens. list_any (λ form. fits form tokens) forms;
+  over = λ tokens. list_any (λ token. is_above most token) tokens;
+  content = λ tokens. true;
+}
+
+-- ---- move lines
+
+abbrev pub is_move : List ℕ → Bool
+is_move = one_of (codes "shift" ∷ codes "exchange" ∷ codes "slide" ∷ [])
+
+abbrev pub is_axis : List ℕ → Bool
+is_axis = one_of (codes "columns" ∷ codes "rows" ∷ [])
+
+abbrev pub is_kind : List ℕ → Bool
+is_kind = one_of (codes "x" ∷ codes "o" ∷ [])
+
+abbrev pub is_corner : List ℕ → Bool
+is_corner = one_of (codes "lowleft" ∷ codes "lowright" ∷ codes "highleft" ∷ codes "highright" ∷ [])
+
+abbrev pub move_forms : List Form
+move_forms =
+    (is_move ∷ is_axis ∷ is_number ∷ []) ∷
+    (one_of (codes "stabilise" ∷ []) ∷ is_number ∷ is_kind ∷ is_corner ∷ []) ∷
+    (one_of (codes "destabilise" ∷ []) ∷ is_number ∷ is_number ∷ []) ∷ []
+
+-- whether a move is legal is no part of the text
+abbrev pub move_kind : LineKind
+move_kind = worded_kind move_forms MAX_PLACE
 
 -- ---- step lines
 
@@ -131,3 +185,99 @@ step_kind = record {
   over = λ tokens. is_step_over tokens;
   content = λ tokens. true;
 }
+
+-- ---- the line of a braid
+
+-- the word, the number of strands, and letters
+abbrev pub is_braid : List (List ℕ) → Bool
+is_braid (word ∷ strands ∷ letters) = bytes_eq word (codes "braid") && (is_number strands && list_all is_letter letters)
+is_braid tokens = false
+
+-- too many strands, a letter of too many digits, or a closure that is larger than a grid
+abbrev pub is_braid_over : List (List ℕ) → Bool
+is_braid_over (word ∷ strands ∷ letters) =
+    nat_lt MAX_STRANDS (worth strands)
+    || (list_any (λ letter. is_overlong (without_sign letter)) letters || nat_lt MAX_SIZE (length letters + 2 * worth strands))
+is_braid_over tokens = false
+
+-- a letter from 1 to m - 1, or its negative
+abbrev pub is_letter_of : ℕ → List ℕ → Bool
+is_letter_of m letter = nat_le 1 (worth (without_sign letter)) && nat_lt (worth (without_sign letter)) m
+
+-- one strand or more, and letters of its strands
+abbrev pub says_braid : List (List ℕ) → Bool
+says_braid (word ∷ strands ∷ letters) = nat_le 1 (worth strands) && list_all (is_letter_of (worth strands)) letters
+says_braid tokens = false
+
+abbrev pub braid_kind : LineKind
+braid_kind = record {
+  form = λ tokens. is_braid tokens;
+  over = λ tokens. is_braid_over tokens;
+  content = λ tokens. says_braid tokens;
+}
+
+-- ---- names of quandles
+
+abbrev pub name_forms : List Form
+name_forms =
+    (one_of (codes "trivial" ∷ codes "dihedral" ∷ codes "table" ∷ []) ∷ is_number ∷ []) ∷
+    (one_of (codes "tetrahedral" ∷ []) ∷ []) ∷
+    (one_of (codes "alexander" ∷ []) ∷ is_number ∷ is_number ∷ []) ∷ []
+
+abbrev pub is_name : List (List ℕ) → Bool
+is_name tokens = list_any (λ form. fits form tokens) name_forms
+
+-- an order above the greatest, or a second number of too many digits
+abbrev pub is_name_over : List (List ℕ) → Bool
+is_name_over (family ∷ order ∷ []) = nat_lt MAX_ORDER (worth order)
+is_name_over (family ∷ order ∷ factor ∷ []) = nat_lt MAX_ORDER (worth order) || is_overlong factor
+is_name_over tokens = false
+
+-- an order of at least 1, and a factor below it that has an inverse
+abbrev pub says_quandle : List (List ℕ) → Bool
+says_quandle (family ∷ order ∷ []) = nat_le 1 (worth order)
+says_quandle (family ∷ order ∷ factor ∷ []) = nat_le 1 (worth order) && (nat_lt (worth factor) (worth order) && is_unit (worth order) (worth factor))
+says_quandle tokens = true
+
+abbrev pub name_kind : LineKind
+name_kind = record {
+  form = λ tokens. is_name tokens;
+  over = λ tokens. is_name_over tokens;
+  content = λ tokens. says_quandle tokens;
+}
+
+-- the tokens behind the first
+abbrev pub others : List (List ℕ) → List (List ℕ)
+others [] = []
+others (token ∷ tokens) = tokens
+
+-- this word, and what is of that kind
+abbrev pub behind_word : List ℕ → LineKind → LineKind
+behind_word word kind = record {
+  form = λ tokens. starts word tokens && kind.form (others tokens);
+  over = λ tokens. kind.over (others tokens);
+  content = λ tokens. kind.content (others tokens);
+}
+
+-- one quandle more than a text may have: a line of the form exceeds a limit, whatever it says
+abbrev pub surplus_kind : LineKind
+surplus_kind = behind_word (codes "quandle") (record {
+  form = λ tokens. is_name tokens;
+  over = λ tokens. true;
+  content = λ tokens. true;
+})
+
+-- ---- lines that begin an item
+
+-- a word and a number, of which there is a most
+abbrev pub counted_kind : List ℕ → ℕ → LineKind
+counted_kind word most = worded_kind ((one_of (word ∷ []) ∷ is_number ∷ []) ∷ []) most
+
+-- `unknown budget` and a number, or `unknown exhausted` and two
+abbrev pub unknown_forms : List Form
+unknown_forms =
+    (one_of (codes "unknown" ∷ []) ∷ one_of (codes "budget" ∷ []) ∷ is_number ∷ []) ∷
+    (one_of (codes "unknown" ∷ []) ∷ one_of (codes "exhausted" ∷ []) ∷ is_number ∷ is_number ∷ []) ∷ []
+
+abbrev pub unknown_kind : LineKind
+unknown_kind = worded_kind unknown_forms MAX_NUMBER

@@ -26,29 +26,23 @@ one_place make line = do
   place ← last_place line
   Ok (make place)
 
--- columns or rows, behind `shift`
+-- columns or rows, and a place: the first move of columns, the second of rows
+abbrev pub on_axis : (ℕ → Move) → (ℕ → Move) → NumberedLine → Result Move TextFault
+on_axis columns rows line = do
+  axis ← next_token line
+  if bytes_eq axis.0 (codes "columns") then one_place columns axis.1
+      else if bytes_eq axis.0 (codes "rows") then one_place rows axis.1
+      else Err (Malformed axis.1.number)
+
+-- what stands behind these words
 unfoldable pub shift : NumberedLine → Result Move TextFault
-shift line = do
-  axis ← next_token line
-  if bytes_eq axis.0 (codes "columns") then one_place (λ k. ShiftColumns k) axis.1
-      else if bytes_eq axis.0 (codes "rows") then one_place (λ k. ShiftRows k) axis.1
-      else Err (Malformed axis.1.number)
+shift line = on_axis (λ k. ShiftColumns k) (λ k. ShiftRows k) line
 
--- columns or rows, behind `exchange`
 unfoldable pub exchange : NumberedLine → Result Move TextFault
-exchange line = do
-  axis ← next_token line
-  if bytes_eq axis.0 (codes "columns") then one_place (λ c. ExchangeColumns c) axis.1
-      else if bytes_eq axis.0 (codes "rows") then one_place (λ r. ExchangeRows r) axis.1
-      else Err (Malformed axis.1.number)
+exchange line = on_axis (λ c. ExchangeColumns c) (λ r. ExchangeRows r) line
 
--- columns or rows, behind `slide`
 unfoldable pub slide : NumberedLine → Result Move TextFault
-slide line = do
-  axis ← next_token line
-  if bytes_eq axis.0 (codes "columns") then one_place (λ c. SlideColumns c) axis.1
-      else if bytes_eq axis.0 (codes "rows") then one_place (λ r. SlideRows r) axis.1
-      else Err (Malformed axis.1.number)
+slide line = on_axis (λ c. SlideColumns c) (λ r. SlideRows r) line
 
 unfoldable pub kind_at : NumberedLine → Result (Kind × NumberedLine) TextFault
 kind_at line = do

@@ -1,5 +1,5 @@
--- The text of a grid, of a braid, of moves and of a verdict, apart from reading: lines of tokens with one space between them.
-use Rattle.std.specs.Prelude.{◌<◌, ◌≤◌, ◌+◌, ℕ, ℤ, pos, negsuc, List, [], ◌∷◌, ◌++◌, codes, length, map}
+-- The text of a grid, of a braid, of moves, of steps and of a verdict, apart from reading: lines of tokens with one space between them.
+use Rattle.std.specs.Prelude.{◌<◌, ◌≤◌, ◌+◌, ℕ, ℤ, pos, negsuc, unsigned_abs, Bool, true, false, List, [], ◌∷◌, ◌++◌, codes, length, map}
 use Rattle.std.specs.List.{AllByRecursion, range_with_len}
 use Rattle.std.specs.Fmt.{decimal}
 use Rattle.arrayvec.specs.ArrayVec.{ArrayVec}
@@ -9,6 +9,8 @@ use Rattle.grid_core.specs.declared.mark.Corner.{Corner}
 use Rattle.grid_core.specs.declared.mark.Corner.TheVariants.{LowLeft, LowRight, HighLeft, HighRight}
 use Rattle.grid_core.specs.Diagram.{Diagram as Marks, IsGrid}
 use Rattle.braid_core.specs.Braid.{Word, IsBraid}
+use Rattle.braid_moves.specs.declared.step.BraidMove.{BraidMove}
+use Rattle.braid_moves.specs.declared.step.BraidMove.TheVariants.{Far, Triple, Cancel, Insert, Turn, Grow, Shrink}
 use Rattle.grid_moves.specs.declared.step.Move.{Move}
 use Rattle.grid_moves.specs.declared.step.Move.TheVariants.{ShiftColumns, ShiftRows, ExchangeColumns, ExchangeRows, SlideColumns, SlideRows}
 use Rattle.grid_moves.specs.declared.step.Move.TheVariants.{Stabilise, Destabilise}
@@ -16,7 +18,7 @@ use Rattle.quandle_core.specs.Quandle.{Table, over}
 use Rattle.colour_list.specs.declared.limits.TheConstants.{MAX_COLOURINGS}
 use Rattle.colour_rows.specs.Colouring.{AreColours}
 use Rattle.text_lines.specs.Spelled.{lines_text}
-use Rattle.knot_text.specs.declared.reading.TheConstants.{MAX_NUMBER, MAX_PLACE}
+use Rattle.knot_text.specs.declared.reading.TheConstants.{MAX_NUMBER, MAX_PLACE, MAX_LETTER}
 use Rattle.verdict_core.specs.declared.names.QuandleName.{QuandleName}
 use Rattle.verdict_core.specs.declared.names.QuandleName.TheVariants as name
 use Rattle.verdict_core.specs.declared.diagrams.Diagram.{Diagram}
@@ -93,6 +95,48 @@ HasMoveText (Destabilise c r) = (c ≤ MAX_PLACE) × (r ≤ MAX_PLACE)
 pub record HaveText (moves : List Move) : Type 0 where
   pub count : length moves ≤ MAX_NUMBER
   pub each : AllByRecursion HasMoveText moves
+
+-- ---- steps between braids
+
+-- the sign of a new crossing
+abbrev pub sign_word : Bool → List ℕ
+sign_word true = codes "plus"
+sign_word false = codes "minus"
+
+abbrev pub step_tokens : BraidMove → List (List ℕ)
+step_tokens (Far p) = codes "far" ∷ decimal p ∷ []
+step_tokens (Triple p) = codes "triple" ∷ decimal p ∷ []
+step_tokens (Cancel p) = codes "cancel" ∷ decimal p ∷ []
+step_tokens (Insert p a) = codes "insert" ∷ decimal p ∷ letter_token a ∷ []
+step_tokens (Turn k) = codes "turn" ∷ decimal k ∷ []
+step_tokens (Grow positive) = codes "grow" ∷ sign_word positive ∷ []
+step_tokens Shrink = codes "shrink" ∷ []
+
+-- the line that says how many steps there are
+abbrev pub steps_head : List BraidMove → List (List ℕ)
+steps_head steps = codes "steps" ∷ decimal (length steps) ∷ []
+
+-- and a line for each
+abbrev pub steps_lines : List BraidMove → List (List (List ℕ))
+steps_lines steps = steps_head steps ∷ map step_tokens steps
+
+abbrev pub steps_text : List BraidMove → List ℕ
+steps_text steps = lines_text (steps_lines steps)
+
+-- the place and the letter of a step are small enough
+abbrev pub HasStepText : BraidMove → Type 0
+HasStepText (Far p) = p ≤ MAX_PLACE
+HasStepText (Triple p) = p ≤ MAX_PLACE
+HasStepText (Cancel p) = p ≤ MAX_PLACE
+HasStepText (Insert p a) = (p ≤ MAX_PLACE) × (unsigned_abs a ≤ MAX_LETTER)
+HasStepText (Turn k) = k ≤ MAX_PLACE
+HasStepText (Grow positive) = Unit {0}
+HasStepText Shrink = Unit {0}
+
+-- and there are few enough steps
+pub record HaveStepsText (steps : List BraidMove) : Type 0 where
+  pub count : length steps ≤ MAX_NUMBER
+  pub each : AllByRecursion HasStepText steps
 
 -- ---- quandles
 

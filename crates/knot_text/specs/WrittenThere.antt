@@ -1,9 +1,11 @@
 -- What it means that a value is written in a text, where it is read: the printed lines of the value stand there, token for token.
-use Rattle.std.specs.Prelude.{◌≡◌, ◌≤◌, ℕ, List, [], ◌∷◌, ◌++◌, codes, length, map, Option, Some, None}
+use Rattle.std.specs.Prelude.{◌≡◌, ◌≤◌, ◌⊎◌, ℕ, pos, List, [], ◌∷◌, ◌++◌, codes, length, map, Option, Some, None}
 use Rattle.std.specs.List.{AllByRecursion, flat_map, range_with_len}
 use Rattle.std.specs.Fmt.{decimal}
 use Rattle.arrayvec.specs.ArrayVec.{ArrayVec}
 use Rattle.braid_core.specs.Braid.{IsBraid}
+use Rattle.braid_moves.specs.declared.step.BraidMove.{BraidMove}
+use Rattle.braid_moves.specs.declared.step.BraidMove.TheVariants.{Insert}
 use Rattle.colour_rows.specs.Colouring.{AreColours}
 use Rattle.colour_weights.specs.Cocycle.{Cochain, IsCocycle, value}
 use Rattle.quandle_core.specs.Quandle.{Table}
@@ -15,12 +17,13 @@ use Rattle.verdict_core.specs.declared.problem.ProblemText.{ProblemText}
 use Rattle.knot_text.specs.declared.shapes.ReplayText.{ReplayText}
 use Rattle.knot_text.specs.declared.shapes.ColourText.{ColourText}
 use Rattle.knot_text.specs.declared.shapes.CloseText.{CloseText}
+use Rattle.knot_text.specs.declared.braid_checks.BraidCheckText.{BraidCheckText}
 use Rattle.knot_text.specs.declared.weights.TheConstants.{MAX_MODULUS}
 use Rattle.knot_text.specs.declared.weights.WeightText.{WeightText}
 use Rattle.verdict_core.specs.Names.{NamedQuandle}
 use Rattle.knot_text.specs.Quandles.{or_built_in}
 use Rattle.knot_text.specs.Printed.{moves_lines, HaveText, quandle_lines, HasQuandleText, verdict_lines, HasVerdictText, braid_lines}
-use Rattle.knot_text.specs.Printed.{diagram_lines, HasDiagramText, colours_lines}
+use Rattle.knot_text.specs.Printed.{diagram_lines, HasDiagramText, colours_lines, step_tokens, steps_head, HaveStepsText}
 use Rattle.verdict_core.specs.Diagrams.{columns}
 
 -- the tokens of each line
@@ -33,6 +36,35 @@ pub record StandInFront (printed : List (List (List ℕ))) (text rest : Text) : 
   pub lines : text.lines ≡ front ++ rest.lines
   pub tokens : tokens_by_line front ≡ printed
   pub ending : rest.ending ≡ text.ending
+
+-- ---- steps, of which one has two spellings
+
+-- the letter 0 is inserted, and written with a `-`
+pub record InsertsMinusZero (tokens : List (List ℕ)) (step : BraidMove) : Type 0 where
+  pub place : ℕ
+  pub inserts : step ≡ Insert place (pos 0)
+  pub minus : tokens ≡ codes "insert" ∷ decimal place ∷ codes "-0" ∷ []
+
+-- the tokens of a line say this step
+abbrev pub SaysStep : List (List ℕ) → BraidMove → Type 0
+SaysStep tokens step = (tokens ≡ step_tokens step) ⊎ InsertsMinusZero tokens step
+
+-- each line says its step, in order, and there are as many
+abbrev pub SaySteps : List (List (List ℕ)) → List BraidMove → Type 0
+SaySteps [] [] = Unit {0}
+SaySteps (tokens ∷ lines) (step ∷ steps) = SaysStep tokens step × SaySteps lines steps
+SaySteps lines steps = ⊥
+
+-- the lines are how many steps there are, and these steps
+abbrev pub AreStepsLines : List (List (List ℕ)) → List BraidMove → Type 0
+AreStepsLines [] steps = ⊥
+AreStepsLines (head ∷ lines) steps = (head ≡ steps_head steps) × SaySteps lines steps
+
+-- the front of the text is lines of these steps, and the rest is all that stands behind them
+pub record StepsInFront (steps : List BraidMove) (text rest : Text) : Type 0 where
+  pub lines : List (List (List ℕ))
+  pub say : AreStepsLines lines steps
+  pub there : StandInFront lines text rest
 
 -- ---- whole texts: the lines of their items in order, and no others
 
@@ -98,6 +130,17 @@ IsCloseText lines c =
 -- two diagrams
 abbrev pub IsPairText : List (List (List ℕ)) → Diagram × Diagram → Type 0
 IsPairText lines p = HasDiagramText p.0 × HasDiagramText p.1 × (lines ≡ diagram_lines p.0 ++ diagram_lines p.1)
+
+-- two braids, and steps
+pub record HasBraidCheckText (i : BraidCheckText) : Type 0 where
+  pub first : IsBraid i.first
+  pub second : IsBraid i.second
+  pub steps : HaveStepsText i.steps
+
+abbrev pub IsBraidCheckText : List (List (List ℕ)) → BraidCheckText → Type 0
+IsBraidCheckText lines i =
+    (said : List (List (List ℕ))) × HasBraidCheckText i × AreStepsLines said i.steps
+    × (lines ≡ braid_lines i.first ++ (braid_lines i.second ++ said))
 
 -- row x of the table of a cocycle: the numbers φ(x, 0) to φ(x, q-1)
 abbrev pub value_tokens : Cochain → ℕ → List (List ℕ)

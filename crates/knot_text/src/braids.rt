@@ -2,7 +2,8 @@
 ghost use Rattle.std.specs.Prelude.{◌≡◌, ◌++◌, [], ◌∷◌, ℤ, List};
 ghost use Rattle.knot_text.specs.Reading.{Gives};
 ghost use Rattle.knot_text.specs.Braids.{letter_of, letters, is_long_letter, braid_at, braid_item};
-ghost use Rattle.knot_text.specs.KeptLetters.{low_letter, TellsLetters, KeepsLettersOrFails, kept_exceeds, refused};
+ghost use Rattle.knot_text.specs.Kept.{KeepsOrFails};
+ghost use Rattle.knot_text.specs.KeptLetters.{low_letter, TellsLetters, kept_exceeds, refused};
 
 use crate::fault::TextFault;
 use crate::reading::{MAX_NUMBER, next_line, number, word};
@@ -42,7 +43,7 @@ pub(crate) fn letter(token: &[u8]) -> Option<i64>
 
 /// All tokens that are left of a line, as letters.
 fn letters(line: &mut Line) -> Result<KeptLetters, TextFault>
-    ensures { KeepsLettersOrFails result (letters line.old) }
+    ensures { KeepsOrFails TellsLetters result (letters line.old) }
 {
     let at = line.number();
     let mut kept = KeptLetters {

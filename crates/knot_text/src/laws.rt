@@ -1,9 +1,12 @@
 //! Laws of texts, over the definitions alone.
-ghost use Rattle.std.specs.Prelude.{◌≡◌, ◌≤◌, ◌+◌, ◌↔◌, ℕ, List, ◌++◌, length, Some, None, Ok, codes, false, true};
+ghost use Rattle.std.specs.Prelude.{◌≡◌, ◌≤◌, ◌+◌, ◌↔◌, ℕ, List, [], ◌∷◌, ◌++◌, length, Some, None, Ok, codes, false, true};
 ghost use Rattle.grid_core.specs.Diagram.{Diagram as Marks, IsGrid, size};
 ghost use Rattle.grid_core.specs.declared.grid.TheConstants.{MAX_SIZE};
 ghost use Rattle.quandle_core.specs.declared.quandle.TheConstants.{MAX_ORDER};
 ghost use Rattle.arrayvec.specs.ArrayVec.{ArrayVec};
+ghost use Rattle.colour_list.specs.declared.limits.TheConstants.{MAX_COLOURINGS};
+ghost use Rattle.knot_text.specs.declared.reading.TheConstants.{MAX_NUMBER};
+ghost use Rattle.knot_text.specs.Reading.{in_turn};
 ghost use Rattle.colour_rows.specs.Colouring.{AreColours};
 ghost use Rattle.braid_core.specs.Braid.{Word, IsBraid};
 ghost use Rattle.braid_closure.specs.Closure.{closure_size};
@@ -14,27 +17,30 @@ ghost use Rattle.verdict_core.specs.Names.{NamedQuandle};
 ghost use Rattle.knot_text.specs.Quandles.{built_in};
 ghost use Rattle.knot_text.specs.Numbers.{numbers_below};
 ghost use Rattle.knot_text.specs.Grids.{x_at, o_at, grid_item};
-ghost use Rattle.knot_text.specs.Braids.{braid_item};
-ghost use Rattle.knot_text.specs.Moves.{moves_item};
-ghost use Rattle.knot_text.specs.Quandles.{quandle_item};
+ghost use Rattle.knot_text.specs.Braids.{braid_at, braid_item};
+ghost use Rattle.knot_text.specs.Moves.{move_at, move_lines, moves_item};
+ghost use Rattle.knot_text.specs.Quandles.{quandle_item, surplus_quandle};
 ghost use Rattle.knot_text.specs.Colours.{colours_at, colours_item};
-ghost use Rattle.knot_text.specs.Verdicts.{verdict_item};
+ghost use Rattle.knot_text.specs.Verdicts.{colour_line, list_item, verdict_item};
 ghost use Rattle.verdict_core.specs.Diagrams.{grid_of, columns};
 ghost use Rattle.knot_text.specs.Shapes.{diagram_item, problem_item, problem_in, check_in, replay_in, colour_in, close_in, lone_diagram_in, problem_of, check_of, replay_of, colour_of, close_of, lone_diagram_of};
 ghost use Rattle.knot_text.specs.Pairs.{pair_in, pair_of};
-ghost use Rattle.knot_text.specs.BraidSteps.{step_at, steps_item};
+ghost use Rattle.knot_text.specs.BraidSteps.{step_at, step_lines, steps_item};
 ghost use Rattle.knot_text.specs.BraidChecks.{braidcheck_in, braidcheck_of};
 ghost use Rattle.knot_text.specs.Weights.{weight_in, weight_of};
 ghost use Rattle.knot_text.specs.Printed.{grid_text, braid_text, moves_text, verdict_lines, verdict_text, HaveText, HasVerdictText};
 ghost use Rattle.knot_text.specs.Printed.{grid_lines, moves_lines, quandle_lines, quandle_text, braid_lines, diagram_lines, colours_lines, colours_text, HasQuandleText, HasDiagramText};
+ghost use Rattle.knot_text.specs.Printed.{steps_text, HaveStepsText};
 ghost use Rattle.knot_text.specs.WrittenThere.{StandInFront, said_by, HasProblemText, problem_lines, IsProblemText, IsCheckText, HasReplayText, replay_lines, IsColourText, IsCloseText, IsPairText};
-ghost use Rattle.knot_text.specs.WrittenThere.{HasWeightText, weight_lines};
-ghost use Rattle.knot_text.specs.LineKinds.{FailsByKind, x_kind, o_kind, colours_kind, below_kind, step_kind};
+ghost use Rattle.knot_text.specs.WrittenThere.{StepsInFront, IsBraidCheckText, HasWeightText, weight_lines};
+ghost use Rattle.knot_text.specs.LineKinds.{FailsByKind, x_kind, o_kind, colours_kind, below_kind, braid_kind, move_kind, step_kind, read_fault, counted_kind, unknown_kind, name_kind, others, behind_word, surplus_kind};
+ghost use Rattle.knot_text.specs.FirstLines.{count, table_fault, BeginsBy, BeginsWith, FailsWith, FailsElse};
 ghost use Rattle.knot_text.specs.FirstBadLine.{put_behind, IsStable, FailsFirst};
 
 use crate::braid_checks::BraidCheckText;
 use crate::shapes::{CloseText, ColourText, ReplayText};
 use crate::weights::WeightText;
+use braid_moves::BraidMove;
 use grid_moves::Move;
 use verdict_core::{Diagram, ProblemText, Verdict};
 
@@ -55,6 +61,13 @@ pub fn a_written_braid_is_read()
 pub fn printed_moves_are_read()
     ensures { (n : ℕ) (moves : List Move) (more : List ℕ) → HaveText moves
         → moves_item (text_from n (moves_text moves ++ more)) ≡ Ok (moves, text_from (n + (length moves + 1)) more) }
+{}
+
+/// Steps between braids have a text, if there are few enough with small enough places and letters. It is read as these
+/// steps, whatever stands behind it.
+pub fn written_steps_are_read()
+    ensures { (n : ℕ) (steps : List BraidMove) (more : List ℕ) → HaveStepsText steps
+        → steps_item (text_from n (steps_text steps ++ more)) ≡ Ok (steps, text_from (n + (length steps + 1)) more) }
 {}
 
 /// A printed verdict is read back, whatever stands behind it, if it has a text behind two diagrams of these sizes.
@@ -123,7 +136,25 @@ pub fn a_line_fails_by_its_form_then_its_limits_then_its_content()
     ensures o { (x : List ℕ) → FailsByKind (o_kind x) (o_at x) }
     ensures colours { (width order : ℕ) → FailsByKind (colours_kind width order) (colours_at width order) }
     ensures below { (width order : ℕ) → FailsByKind (below_kind width order) (numbers_below width order) }
+    ensures braid_line { FailsByKind braid_kind braid_at }
+    ensures move_line { FailsByKind move_kind move_at }
     ensures step { FailsByKind step_kind step_at }
+{}
+
+/// An item fails by its first line, where that is no line of its kind, else by what this line asks for behind it: so many
+/// moves, steps or lines of colours. Its form and limits are those of `LineKinds`.
+pub fn an_item_fails_by_its_first_line_first()
+    ensures moves { BeginsBy (counted_kind (codes "moves") MAX_NUMBER) (λ tokens text. read_fault (move_lines (count tokens) text)) moves_item }
+    ensures steps { BeginsBy (counted_kind (codes "steps") MAX_NUMBER) (λ tokens text. read_fault (step_lines (count tokens) text)) steps_item }
+    ensures quandle { BeginsBy (behind_word (codes "quandle") name_kind) (λ tokens text. table_fault (others tokens) text) quandle_item }
+    ensures surplus { BeginsBy surplus_kind (λ tokens text. None) surplus_quandle }
+    ensures list { (width order : ℕ) → BeginsBy (counted_kind (codes "list") MAX_COLOURINGS)
+        (λ tokens text. read_fault (in_turn (colour_line width order) (count tokens) text)) (list_item width order) }
+    ensures equal { (one two : ℕ) → BeginsWith (codes "equal") (counted_kind (codes "equal") MAX_NUMBER)
+        (λ tokens text. read_fault (move_lines (count tokens) text)) (verdict_item one two) }
+    ensures unknown { (one two : ℕ) → BeginsWith (codes "unknown") unknown_kind (λ tokens text. None) (verdict_item one two) }
+    ensures different { (one two : ℕ) → FailsWith (codes "different") (behind_word (codes "different") name_kind) (verdict_item one two) }
+    ensures other { (one two : ℕ) → FailsElse (codes "equal" ∷ codes "different" ∷ codes "unknown" ∷ []) (verdict_item one two) }
 {}
 
 /// An item is read from the front of a text in the same way whatever whole lines are put behind the text.
@@ -160,7 +191,8 @@ pub fn the_colours_of_a_replay_are_colours()
 {}
 
 /// An item is read as a value exactly where the value has a text and the lines of this text stand in front of what is
-/// left, token for token. So whatever else a line says is refused, and all else is read.
+/// left, token for token; an inserted letter 0 alone may be written in two ways, `0` and `-0`. So whatever else a line says
+/// is refused, and all else is read.
 pub fn what_is_read_is_written_there()
     ensures grid { (text : Text) (d : Marks) (rest : Text)
         → grid_item text ≡ Ok (d, rest) ↔ (IsGrid d × StandInFront (grid_lines d) text rest) }
@@ -170,6 +202,8 @@ pub fn what_is_read_is_written_there()
         → diagram_item text ≡ Ok (d, rest) ↔ (HasDiagramText d × StandInFront (diagram_lines d) text rest) }
     ensures moves { (text : Text) (moves : List Move) (rest : Text)
         → moves_item text ≡ Ok (moves, rest) ↔ (HaveText moves × StandInFront (moves_lines (codes "moves") moves) text rest) }
+    ensures steps { (text : Text) (steps : List BraidMove) (rest : Text)
+        → steps_item text ≡ Ok (steps, rest) ↔ (HaveStepsText steps × StepsInFront steps text rest) }
     ensures quandle { (text : Text) (q : NamedQuandle) (rest : Text)
         → quandle_item text ≡ Ok (q, rest) ↔ (HasQuandleText q × StandInFront (quandle_lines (codes "quandle") q) text rest) }
     ensures colours { (width order : ℕ) (text : Text) (c : ArrayVec ℕ) (rest : Text) → width ≤ MAX_SIZE → order ≤ MAX_ORDER
@@ -180,7 +214,7 @@ pub fn what_is_read_is_written_there()
 
 /// A text is read as a value exactly where the value has a text and the lines that say something are the lines of this
 /// text, token for token: those of its items in order, and no others. Of the quandles of a problem these are the lines of
-/// those that are listed; where there are none, the built-in list stands for them.
+/// those that are listed; where there are none, the built-in list stands for them. An inserted letter 0 may be written `-0`.
 pub fn a_text_is_read_as_what_it_says()
     ensures problem { (bytes : List ℕ) (p : ProblemText) → problem_of bytes ≡ Ok p ↔ IsProblemText (said_by bytes) p }
     ensures check { (bytes : List ℕ) (p : ProblemText) (v : Verdict) → check_of bytes ≡ Ok (p, v) ↔ IsCheckText (said_by bytes) p v }
@@ -190,6 +224,7 @@ pub fn a_text_is_read_as_what_it_says()
     ensures diagram { (bytes : List ℕ) (d : Diagram)
         → lone_diagram_of bytes ≡ Ok d ↔ (HasDiagramText d × (said_by bytes ≡ diagram_lines d)) }
     ensures pair { (bytes : List ℕ) (d e : Diagram) → pair_of bytes ≡ Ok (d, e) ↔ IsPairText (said_by bytes) (d, e) }
+    ensures braidcheck { (bytes : List ℕ) (i : BraidCheckText) → braidcheck_of bytes ≡ Ok i ↔ IsBraidCheckText (said_by bytes) i }
     ensures weights { (bytes : List ℕ) (w : WeightText) → weight_of bytes ≡ Ok w ↔ (HasWeightText w × (said_by bytes ≡ weight_lines w)) }
 {}
 

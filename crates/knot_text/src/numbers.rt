@@ -25,7 +25,7 @@ pub struct Kept {
 
 /// All tokens that are left of a line, as numbers.
 fn numbers(line: &mut Line) -> Result<Kept, TextFault>
-    ensures { KeepsOrFails result (numbers line.old) }
+    ensures { KeepsOrFails Tells result (numbers line.old) }
 {
     let at = line.number();
     let mut kept = Kept {

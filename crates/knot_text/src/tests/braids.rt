@@ -1,7 +1,8 @@
 //! Braids, by texts of closures and of lone diagrams.
 use crate::fault::TextFault;
 use crate::shapes::{read_close, read_diagram};
-use crate::tests::{limit, malformed};
+use crate::tests::{limit, malformed, repeated};
+use grid_core::MAX_SIZE;
 use std::alloc::Global;
 use std::test::Fail;
 
@@ -16,7 +17,7 @@ fn diagram_fault(alloc: Global, text: &[u8]) -> Option<TextFault> {
 }
 
 /// Lines that are no braid: another form, a letter that is 0 or not below the number of strands, no strand.
-const MALFORMED: [&[u8]; 26] = [
+const MALFORMED: [&[u8]; 25] = [
     b"",
     b"bra",
     b"braids 2 1\n",
@@ -41,28 +42,22 @@ const MALFORMED: [&[u8]; 26] = [
     b"braid 2 257\n",
     b"braid 2 -999999999\n",
     b"braid 0\n",
-    b"braid 0 1 1 1 1 1 1 1 1 1 1 1 1 1 1 1 1 1 1 1 1 1 1 1 1\n",
     b"x 0 1\no 1 0\n",
 ];
 
 /// Lines of the form of a braid that exceed a limit.
-const OVER: [&[u8]; 7] = [
+const OVER: [&[u8]; 4] = [
     b"braid 9\n",
     b"braid 1000000000\n",
     b"braid 2 1000000000\n",
     b"braid 2 -1000000000\n",
-    b"braid 2 1 1 1 1 1 1 1 1 1 1 1 1 1 1 1 1 1 1 1 1 1\n",
-    b"braid 8 1 1 1 1 1 1 1 1 1\n",
-    b"braid 0 1 1 1 1 1 1 1 1 1 1 1 1 1 1 1 1 1 1 1 1 1 1 1 1 1\n",
 ];
 
 /// Texts of closures.
-const GOOD: [&[u8]; 6] = [
+const GOOD: [&[u8]; 4] = [
     b"braid 1",
     b"\tbraid\t3  2\t-2 \r\n\n#\n",
     b"braid 8 7 -7\n",
-    b"braid 8 1 1 1 1 1 1 1 1\n",
-    b"braid 2 1 1 1 1 1 1 1 1 1 1 1 1 1 1 1 1 1 1 1 1\n",
     b"braid 2 1\nquandle trivial 2\nquandle tetrahedral\n",
 ];
 
@@ -81,6 +76,24 @@ fn a_closure_is_of_one_braid(rt: HostRuntime) -> Result<(), Fail> {
         close_fault(rt.alloc(), b"braid 2\nbraid 2\n"),
         malformed(2)
     );
+    Ok(())
+}
+
+/// Letters and twice the strands are at most the largest size, and this is asked before the content.
+#[test]
+fn letters_and_strands_have_room(rt: HostRuntime) -> Result<(), Fail> {
+    let rows: [(&[u8], usize, Option<TextFault>); 6] = [
+        (b"braid 0", MAX_SIZE, malformed(1)),
+        (b"braid 0", MAX_SIZE + 1, limit(1)),
+        (b"braid 2", MAX_SIZE - 4, None),
+        (b"braid 2", MAX_SIZE - 3, limit(1)),
+        (b"braid 8", MAX_SIZE - 16, None),
+        (b"braid 8", MAX_SIZE - 15, limit(1)),
+    ];
+    for (front, letters, fault) in rows {
+        let text = repeated(rt.alloc(), front, b" 1", letters)?;
+        assert_eq!(rt; close_fault(rt.alloc(), text.as_slice()), fault);
+    }
     Ok(())
 }
 

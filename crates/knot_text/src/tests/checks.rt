@@ -1,7 +1,8 @@
 //! Verdicts, behind two unknots.
 use crate::fault::TextFault;
 use crate::shapes::read_check;
-use crate::tests::{limit, malformed};
+use crate::tests::{limit, malformed, numbered};
+use quandle_core::MAX_ORDER;
 use std::alloc::Global;
 use std::test::Fail;
 
@@ -51,7 +52,7 @@ fn unknown_verdicts_have_their_numbers(rt: HostRuntime) -> Result<(), Fail> {
 
 #[test]
 fn lists_have_the_width_of_their_diagram(rt: HostRuntime) -> Result<(), Fail> {
-    let rows: [(&[u8], Option<TextFault>); 10] = [
+    let rows: [(&[u8], Option<TextFault>); 9] = [
         (b"different trivial 2\nlist 1\n0 1\nlist 0\n", None),
         (b"different trivial 2\nlist 1\n0\nlist 0\n", malformed(7)),
         (
@@ -65,13 +66,19 @@ fn lists_have_the_width_of_their_diagram(rt: HostRuntime) -> Result<(), Fail> {
         ),
         (b"different trivial 2\nlist 2\n0 1\nlist 0\n", malformed(8)),
         (b"different trivial 2\nlist 0\n", malformed(7)),
-        (b"different trivial 17\nlist 0\nlist 0\n", limit(5)),
         (b"different trivial\nlist 0\nlist 0\n", malformed(5)),
         (b"different table 1\n0\nlist 0\nlist 0\n", None),
     ];
     for (tail, fault) in rows {
         assert_eq!(rt; fault_behind(rt.alloc(), tail)?, fault);
     }
+    let over = numbered(
+        rt.alloc(),
+        b"different trivial ",
+        MAX_ORDER + 1,
+        b"\nlist 0\nlist 0\n",
+    )?;
+    assert_eq!(rt; fault_behind(rt.alloc(), over.as_slice())?, limit(5));
     Ok(())
 }
 

@@ -2,6 +2,7 @@
 use crate::fault::TextFault;
 use crate::shapes::{read_colour, read_problem};
 use crate::tests::{limit, malformed};
+use grid_core::MAX_SIZE;
 use std::alloc::Global;
 use std::process::Abort;
 use std::test::Fail;
@@ -71,11 +72,11 @@ fn long_line(alloc: Global, count: u8) -> Result<Vec<u8>, Fail> {
 }
 
 #[test]
-fn a_line_has_at_most_24_rows_of_nine_digits(rt: HostRuntime) -> Result<(), Fail> {
+fn a_line_has_at_most_as_many_rows_as_the_largest_size(rt: HostRuntime) -> Result<(), Fail> {
     let alloc = rt.alloc();
-    let long = long_line(alloc, 25)?;
+    let long = long_line(alloc, MAX_SIZE as u8 + 1)?;
     assert_eq!(rt; problem_fault(alloc, long.as_slice()), limit(1));
-    let full = long_line(alloc, 24)?;
+    let full = long_line(alloc, MAX_SIZE as u8)?;
     assert_eq!(rt; problem_fault(alloc, full.as_slice()), malformed(2));
     assert_eq!(rt; problem_fault(alloc, b"x 0 999999999\n"), malformed(1));
     assert_eq!(rt; problem_fault(alloc, b"x 0 1000000000\n"), limit(1));

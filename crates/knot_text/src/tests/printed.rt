@@ -4,6 +4,7 @@ use crate::shapes::read_check;
 use grid_core::{Corner, Grid, Kind};
 use grid_moves::Move;
 use memory_core::OutOfMemory;
+use quandle_core::MAX_ORDER;
 use std::alloc::Global;
 use std::test::Fail;
 use verdict_core::{Listed, QuandleName, Verdict};
@@ -57,7 +58,7 @@ fn verdicts_are_printed_as_they_were_read(rt: HostRuntime) -> Result<(), Fail> {
         b"unknown exhausted 5 2\n",
         b"different tetrahedral\nlist 2\n0 0\n3 1\nlist 1\n0 1 2\n",
         b"different alexander 5 2\nlist 0\nlist 1\n4 4 4\n",
-        b"different dihedral 16\nlist 1\n15 10\nlist 0\n",
+        b"different dihedral 12\nlist 1\n11 10\nlist 0\n",
         b"different table 2\n0 0\n1 1\nlist 1\n0 1\nlist 0\n",
     ];
     for verdict in rows {
@@ -71,8 +72,8 @@ fn names_that_name_no_quandle_have_none(rt: HostRuntime) -> Result<(), Fail> {
     let rows: [(QuandleName, bool); 8] = [
         (QuandleName::Trivial(1), true),
         (QuandleName::Trivial(0), false),
-        (QuandleName::Dihedral(16), true),
-        (QuandleName::Dihedral(17), false),
+        (QuandleName::Dihedral(MAX_ORDER as u8), true),
+        (QuandleName::Dihedral(MAX_ORDER as u8 + 1), false),
         (QuandleName::Tetrahedral, true),
         (QuandleName::Alexander(4, 7), true),
         (QuandleName::Alexander(4, 2), false),

@@ -1,7 +1,8 @@
 //! Quandle items, behind the unknot.
 use crate::fault::TextFault;
 use crate::shapes::{read_colour, read_problem};
-use crate::tests::{limit, malformed};
+use crate::tests::{limit, malformed, numbered};
+use quandle_core::MAX_ORDER;
 use std::alloc::Global;
 use std::test::Fail;
 use verdict_core::QuandleName;
@@ -24,7 +25,7 @@ fn fault_behind(alloc: Global, tail: &[u8]) -> Result<Option<TextFault>, Fail> {
 #[test]
 fn names_have_a_form(rt: HostRuntime) -> Result<(), Fail> {
     let rows: [(&[u8], Option<TextFault>); 10] = [
-        (b"quandle trivial 1\nquandle dihedral 16", None),
+        (b"quandle trivial 1\nquandle dihedral 9", None),
         (b"quandle tetrahedral\nquandle alexander 4 3\n", None),
         (b"quandle\n", malformed(3)),
         (b"quandle trivial\n", malformed(3)),
@@ -43,19 +44,31 @@ fn names_have_a_form(rt: HostRuntime) -> Result<(), Fail> {
 
 #[test]
 fn orders_and_factors_have_bounds(rt: HostRuntime) -> Result<(), Fail> {
-    let rows: [(&[u8], Option<TextFault>); 9] = [
+    let rows: [(&[u8], Option<TextFault>); 6] = [
         (b"quandle trivial 0\n", malformed(3)),
-        (b"quandle dihedral 17\n", limit(3)),
-        (b"quandle dihedral 17 x\n", malformed(3)),
         (b"quandle alexander 4 2\n", malformed(3)),
         (b"quandle alexander 3 3\n", malformed(3)),
         (b"quandle alexander 3 4\n", malformed(3)),
         (b"quandle alexander 3 1000000000\n", limit(3)),
         (b"quandle table 0\n", malformed(3)),
-        (b"quandle table 17\n", limit(3)),
     ];
     for (tail, fault) in rows {
         assert_eq!(rt; fault_behind(rt.alloc(), tail)?, fault);
+    }
+    Ok(())
+}
+
+#[test]
+fn orders_end_at_the_largest(rt: HostRuntime) -> Result<(), Fail> {
+    let rows: [(&[u8], usize, &[u8], Option<TextFault>); 4] = [
+        (b"quandle dihedral ", MAX_ORDER, b"\n", None),
+        (b"quandle dihedral ", MAX_ORDER + 1, b"\n", limit(3)),
+        (b"quandle dihedral ", MAX_ORDER + 1, b" x\n", malformed(3)),
+        (b"quandle table ", MAX_ORDER + 1, b"\n", limit(3)),
+    ];
+    for (front, order, behind, fault) in rows {
+        let text = numbered(rt.alloc(), front, order, behind)?;
+        assert_eq!(rt; fault_behind(rt.alloc(), text.as_slice())?, fault);
     }
     Ok(())
 }

@@ -1,8 +1,8 @@
 //! Moves, behind the unknot.
 use crate::fault::TextFault;
 use crate::shapes::read_replay;
-use crate::tests::{limit, malformed};
-use grid_core::{Corner, Kind};
+use crate::tests::{limit, malformed, repeated};
+use grid_core::{Corner, Kind, MAX_SIZE};
 use grid_moves::Move;
 use std::alloc::Global;
 use std::test::Fail;
@@ -44,7 +44,7 @@ fn colours_fault(alloc: Global, line: &[u8]) -> Result<Option<TextFault>, Fail> 
 
 #[test]
 fn colours_stand_behind_their_quandle(rt: HostRuntime) -> Result<(), Fail> {
-    let rows: [(&[u8], Option<TextFault>); 18] = [
+    let rows: [(&[u8], Option<TextFault>); 16] = [
         (b"colours 0 1\n", None),
         (b"\tcolours\t1  0 \r\n\n#", None),
         (b"", malformed(5)),
@@ -61,18 +61,14 @@ fn colours_stand_behind_their_quandle(rt: HostRuntime) -> Result<(), Fail> {
         (b"colours 0 999999999\n", malformed(5)),
         (b"colours 0 1000000000\n", limit(5)),
         (b"colours 1000000000 a\n", malformed(5)),
-        (
-            b"colours 0 0 0 0 0 0 0 0 0 0 0 0 0 0 0 0 0 0 0 0 0 0 0 0\n",
-            malformed(5),
-        ),
-        (
-            b"colours 0 0 0 0 0 0 0 0 0 0 0 0 0 0 0 0 0 0 0 0 0 0 0 0 0\n",
-            limit(5),
-        ),
     ];
     for (line, fault) in rows {
         assert_eq!(rt; colours_fault(rt.alloc(), line)?, fault);
     }
+    let full = repeated(rt.alloc(), b"colours", b" 0", MAX_SIZE)?;
+    assert_eq!(rt; colours_fault(rt.alloc(), full.as_slice())?, malformed(5));
+    let over = repeated(rt.alloc(), b"colours", b" 0", MAX_SIZE + 1)?;
+    assert_eq!(rt; colours_fault(rt.alloc(), over.as_slice())?, limit(5));
     assert_eq!(rt;
         fault_behind(rt.alloc(), b"moves 0\ncolours 0 1\n")?,
         malformed(4)

@@ -9,7 +9,8 @@ returns-then-not-are_colours c =
     let colours = c.in_ok-colours.colours in
     let test : are_colours c.args.width c.args.order colours.items ≡ false =
     sym (c.are_colours.ensures ∙ ap (are_colours c.args.width c.args.order) c.as_slice.ensures.value) ∙ c.if-not-are_colours.true in
-    colours_bad colours c.args.width c.args.order c.args.line.now (omega arith) c.in_ok-colours.ensures test ∙ ap (λ n. Err (Malformed n)) (sym c.number-at.ensures)
+    colours_bad colours c.args.width c.args.order c.args.line.now (omega arith) c.in_ok-colours.ensures test
+    ∙ ap (λ n. Err (Malformed n)) (sym c.number-at.ensures)
 
 pub returns : goal.returns
 returns c =

@@ -13,7 +13,8 @@ returns-then-not-all_below c =
     let x = c.args.x.now.items in
     let fits : length x ≤ MAX_SIZE = subst (λ (n : ℕ). n ≤ MAX_SIZE) c.len.ensures.value c.len.ensures.fits in
     let test : list_all (λ v. nat_lt v (length x)) rows.items ≡ false =
-    sym (c.all_below.ensures ∙ ap₂ (λ (vs : List ℕ) (n : ℕ). list_all (λ v. nat_lt v n) vs) c.as_slice.ensures.value c.len.ensures.value) ∙ c.if-not-all_below.true in
+    sym (c.all_below.ensures ∙ ap₂ (λ (vs : List ℕ) (n : ℕ). list_all (λ v. nat_lt v n) vs) c.as_slice.ensures.value c.len.ensures.value)
+    ∙ c.if-not-all_below.true in
     o_outside rows x c.args.line.now fits c.in_ok-rows.ensures test ∙ ap (λ n. Err (Malformed n)) (sym c.number-at.ensures)
 
 pub returns-in-Ok : goal.returns-in-Ok
@@ -22,7 +23,8 @@ returns-in-Ok c =
     let x = c.args.x.now.items in
     let fits : length x ≤ MAX_SIZE = subst (λ (n : ℕ). n ≤ MAX_SIZE) c.len.ensures.value c.len.ensures.fits in
     let test : list_all (λ v. nat_lt v (length x)) rows.items ≡ true =
-    sym (c.all_below.ensures ∙ ap₂ (λ (vs : List ℕ) (n : ℕ). list_all (λ v. nat_lt v n) vs) c.as_slice.ensures.value c.len.ensures.value) ∙ c.if-not-all_below.false in
+    sym (c.all_below.ensures ∙ ap₂ (λ (vs : List ℕ) (n : ℕ). list_all (λ v. nat_lt v n) vs) c.as_slice.ensures.value c.len.ensures.value)
+    ∙ c.if-not-all_below.false in
     let none : first_fault x rows.items ≡ None =
     ap₂ first_fault (sym c.as_slice-2.ensures.value) (sym c.as_slice-3.ensures.value) ∙ sym c.in-Ok.ensures.fault in
     let grid : c.in-Ok.grid ≡ record { x = x; o = rows.items } =
@@ -35,7 +37,8 @@ returns-in-Err c =
     let x = c.args.x.now.items in
     let fits : length x ≤ MAX_SIZE = subst (λ (n : ℕ). n ≤ MAX_SIZE) c.len.ensures.value c.len.ensures.fits in
     let test : list_all (λ v. nat_lt v (length x)) rows.items ≡ true =
-    sym (c.all_below.ensures ∙ ap₂ (λ (vs : List ℕ) (n : ℕ). list_all (λ v. nat_lt v n) vs) c.as_slice.ensures.value c.len.ensures.value) ∙ c.if-not-all_below.false in
+    sym (c.all_below.ensures ∙ ap₂ (λ (vs : List ℕ) (n : ℕ). list_all (λ v. nat_lt v n) vs) c.as_slice.ensures.value c.len.ensures.value)
+    ∙ c.if-not-all_below.false in
     let some : first_fault x rows.items ≡ Some c.in-Err.field-0 =
     ap₂ first_fault (sym c.as_slice-2.ensures.value) (sym c.as_slice-3.ensures.value) ∙ sym c.in-Err.ensures.fault in
     o_bad rows x c.args.line.now c.in-Err.field-0 fits c.in_ok-rows.ensures test some ∙ ap (λ n. Err (Malformed n)) (sym c.number-at.ensures)

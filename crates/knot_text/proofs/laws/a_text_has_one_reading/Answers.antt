@@ -1,5 +1,5 @@
 use Rattle.knot_text.proofs.Readings.{problem_again, check_again, replay_again, colour_again, close_again, diagram_again, pair_again}
-use Rattle.knot_text.proofs.BraidChecksAlike.{braidcheck_again}
+use Rattle.knot_text.proofs.StepsWritten.{braidcheck_again}
 use Rattle.knot_text.proofs.WeightsAgain.{weight_again}
 use Rattle.knot_text.proofs.laws.a_text_has_one_reading.Goals as goal
 

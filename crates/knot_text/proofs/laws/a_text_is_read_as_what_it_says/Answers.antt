@@ -2,6 +2,8 @@ use Rattle.text_lines.specs.Lines.{text_of}
 use Rattle.knot_text.proofs.ShapesSay.{problem_in_says, check_in_says, replay_in_says, colour_in_says, close_in_says, lone_diagram_in_says, pair_in_says}
 use Rattle.knot_text.proofs.ShapesAgain.{problem_in_written, check_in_written, replay_in_written, colour_in_written, close_in_written}
 use Rattle.knot_text.proofs.ShapesAgain.{lone_diagram_in_written, pair_in_written}
+use Rattle.knot_text.proofs.StepsSay.{braidcheck_in_says}
+use Rattle.knot_text.proofs.StepsWritten.{braidcheck_in_written}
 use Rattle.knot_text.proofs.WeightsSay.{weight_in_says}
 use Rattle.knot_text.proofs.WeightsAgain.{weight_in_written}
 use Rattle.knot_text.proofs.laws.a_text_is_read_as_what_it_says.Goals as goal
@@ -26,6 +28,9 @@ returns-clause-diagram c = λ bytes d. ((lone_diagram_in_says (text_of bytes)).o
 
 pub returns-clause-pair : goal.returns-clause-pair
 returns-clause-pair c = λ bytes d e. ((pair_in_says (text_of bytes)).of (d, e), pair_in_written (text_of bytes) d e)
+
+pub returns-clause-braidcheck : goal.returns-clause-braidcheck
+returns-clause-braidcheck c = λ bytes i. ((braidcheck_in_says (text_of bytes)).of i, braidcheck_in_written (text_of bytes) i)
 
 pub returns-clause-weights : goal.returns-clause-weights
 returns-clause-weights c = λ bytes w. ((weight_in_says (text_of bytes)).of w, λ x. weight_in_written (text_of bytes) w x.0 x.1)

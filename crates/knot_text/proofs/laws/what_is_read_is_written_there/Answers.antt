@@ -1,4 +1,6 @@
 use Rattle.knot_text.proofs.ItemsSay.{grid_says, braid_says, moves_say, colours_say}
+use Rattle.knot_text.proofs.StepsSay.{steps_say}
+use Rattle.knot_text.proofs.StepsWritten.{steps_written}
 use Rattle.knot_text.proofs.QuandleSays.{quandle_says}
 use Rattle.knot_text.proofs.VerdictSays.{verdict_says}
 use Rattle.knot_text.proofs.ShapesSay.{diagram_says}
@@ -18,11 +20,15 @@ returns-clause-diagram c = λ text d rest. ((diagram_says text).of (d, rest), λ
 pub returns-clause-moves : goal.returns-clause-moves
 returns-clause-moves c = λ text moves rest. ((moves_say text).of (moves, rest), λ w. moves_written text moves rest w.0 w.1)
 
+pub returns-clause-steps : goal.returns-clause-steps
+returns-clause-steps c = λ text steps rest. ((steps_say text).of (steps, rest), λ w. steps_written text steps rest w.0 w.1)
+
 pub returns-clause-quandle : goal.returns-clause-quandle
 returns-clause-quandle c = λ text q rest. ((quandle_says text).of (q, rest), λ w. quandle_written text q rest w.0 w.1)
 
 pub returns-clause-colours : goal.returns-clause-colours
-returns-clause-colours c = λ width order text colours rest fits most. ((colours_say width order text).of (colours, rest), λ w. colours_written width order text colours rest fits most w.0 w.1)
+returns-clause-colours c = λ width order text colours rest fits most.
+    ((colours_say width order text).of (colours, rest), λ w. colours_written width order text colours rest fits most w.0 w.1)
 
 pub returns-clause-verdict : goal.returns-clause-verdict
 returns-clause-verdict c = λ one two text v rest. ((verdict_says one two text).of (v, rest), λ w. verdict_written one two text v rest w.0 w.1)

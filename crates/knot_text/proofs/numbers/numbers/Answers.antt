@@ -12,7 +12,8 @@ returns-in_default-number c =
     let line = c.args.line.now in
     let is = ap (λ (l : NumberedLine). l.tokens) c.in-Some.ensures.token in
     let number : number_of c.in-Some.token.now ≡ None = sym c.in_default-number.ensures in
-    value_fails number_of (Tells c.loop-token.kept) c.in-Some.token.now c.loop-token.line.tokens c.next_token.new.self.tokens line.number (numbers line) is number c.loop-token.invariant
+    value_fails number_of (Tells c.loop-token.kept) c.in-Some.token.now c.loop-token.line.tokens c.next_token.new.self.tokens line.number
+    (numbers line) is number c.loop-token.invariant
     ∙ ap (λ n. Err (Malformed n)) (sym c.number-at.ensures)
 
 pub loop-token-preserved : goal.loop-token-preserved
@@ -20,7 +21,9 @@ loop-token-preserved c =
     let line = c.args.line.now in
     let is = ap (λ (l : NumberedLine). l.tokens) c.in-Some.ensures.token in
     let number : number_of c.in-Some.token.now ≡ Some c.in-Some-number.value = sym c.in-Some-number.ensures in
-    value_more number_of (Tells c.loop-token.kept) (Tells c.keep.new.kept) c.in-Some.token.now c.loop-token.line.tokens c.next_token.new.self.tokens c.in-Some-number.value line.number (numbers line) is number c.keep.ensures c.loop-token.invariant
+    value_more number_of (Tells c.loop-token.kept)
+    (Tells c.keep.new.kept) c.in-Some.token.now c.loop-token.line.tokens c.next_token.new.self.tokens c.in-Some-number.value line.number
+    (numbers line) is number c.keep.ensures c.loop-token.invariant
 
 pub returns : goal.returns
 returns c =

@@ -8,7 +8,8 @@ pub returns-in_err-colour_line : goal.returns-in_err-colour_line
 returns-in_err-colour_line c =
     let item = colour_line c.args.width c.args.order in
     let p = err_from_is_err_and c.from_residual.result c.from_residual.ensures.1 in
-    rw (p.1, p.2) (turn_fails item c.in_err-colour_line.field-0.0 c.loop.colourings.items c.args.count c.loop.counter c.loop.lines (in_turn item c.args.count c.args.lines.now) c.loop-test.true c.in_err-colour_line.ensures c.loop.invariant)
+    rw (p.1, p.2) (turn_fails item c.in_err-colour_line.field-0.0 c.loop.colourings.items c.args.count c.loop.counter c.loop.lines
+    (in_turn item c.args.count c.args.lines.now) c.loop-test.true c.in_err-colour_line.ensures c.loop.invariant)
 
 pub loop-preserved : goal.loop-preserved
 loop-preserved c =
@@ -18,4 +19,5 @@ loop-preserved c =
 pub returns : goal.returns
 returns c =
     let item = colour_line c.args.width c.args.order in
-    turns_done item c.loop.colourings.items c.args.count c.loop.counter c.loop.lines (in_turn item c.args.count c.args.lines.now) c.loop-test.false c.loop.invariant
+    turns_done item c.loop.colourings.items c.args.count c.loop.counter c.loop.lines
+    (in_turn item c.args.count c.args.lines.now) c.loop-test.false c.loop.invariant

@@ -5,4 +5,5 @@ use Rattle.knot_text.proofs.Turns.{with_front}
 use Rattle.knot_text.proofs.verdicts.colour_lines.Given as goal
 
 abbrev pub invariant-loop : goal.invariant-loop
-invariant-loop l = with_front l.colourings.items (in_turn (colour_line l.width l.order) (l.count - l.counter) l.lines) ≡ in_turn (colour_line l.width l.order) l.count l.fn.lines
+invariant-loop l = with_front l.colourings.items (in_turn (colour_line l.width l.order) (l.count - l.counter) l.lines)
+    ≡ in_turn (colour_line l.width l.order) l.count l.fn.lines

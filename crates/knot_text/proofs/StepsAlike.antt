@@ -1,21 +1,17 @@
--- Two braids and the steps between them are read in the same way from texts of the same tokens.
-use Rattle.std.proofs.Common.{◌≡◌, ◌∙◌, ℕ, ℤ, List, [], ◌∷◌, Ok, refl, sym, ap, codes, nat_le}
+-- Steps between braids are read in the same way from texts of the same tokens.
+use Rattle.std.proofs.Common.{ℕ, ℤ, List, refl, codes, nat_le}
 use Rattle.std.specs.Prelude.{unsigned_abs}
 use Rattle.std.specs.Str.{bytes_eq}
 use Rattle.braid_moves.specs.declared.step.BraidMove.TheVariants.{Far, Triple, Cancel, Turn}
-use Rattle.text_lines.specs.Lines.{NumberedLine, Text, text_of}
+use Rattle.text_lines.specs.Lines.{Text}
 use Rattle.knot_text.specs.declared.reading.TheConstants.{MAX_PLACE, MAX_LETTER}
-use Rattle.knot_text.specs.declared.braid_checks.BraidCheckText.{BraidCheckText}
-use Rattle.knot_text.specs.Reading.{no_line_among, text_end}
 use Rattle.knot_text.specs.Braids.{letter_of}
 use Rattle.knot_text.specs.BraidSteps.{last_letter, bounded_letter, insert, grow, shrink, step_at, next_step, steps_item}
-use Rattle.knot_text.specs.BraidChecks.{braidcheck_in, braidcheck_of}
-use Rattle.knot_text.specs.WrittenThere.{tokens_by_line, said_by}
 use Rattle.knot_text.proofs.StepsAgain.{line_of}
 use Rattle.knot_text.proofs.Alike.{Alike, alike_ok, alike_err, alike_if, Same, SameRest, SameText, SameLeft, same_bind, line_bind, rest_bind}
-use Rattle.knot_text.proofs.Alike.{text_bind, next_bind}
+use Rattle.knot_text.proofs.Alike.{next_bind}
 use Rattle.knot_text.proofs.ItemsAlike.{token_alike, end_alike, word_alike, some_alike, number_alike, most_alike, count_alike, one_alike}
-use Rattle.knot_text.proofs.ItemsAlike.{turns_alike, braid_alike}
+use Rattle.knot_text.proofs.ItemsAlike.{turns_alike}
 
 -- ---- a step line
 
@@ -54,30 +50,14 @@ step_alike ts n m = rest_bind _ _ (token_alike ts n m) (λ t us i j.
     (alike_if (bytes_eq t (codes "turn")) (one_alike (λ k. Turn k) us i j)
     (alike_if (bytes_eq t (codes "grow")) (grow_alike us i j) (alike_if (bytes_eq t (codes "shrink")) (shrink_alike us i j) alike_err)))))))
 
--- ---- the steps, and the whole text
+-- ---- the steps
 
 next_step_alike : (t u : Text) → SameText t u → Alike SameLeft (next_step t) (next_step u)
 unfolding next_step
 next_step_alike t u same = next_bind _ _ _ _ same (λ ts n m v w behind. same_bind (step_alike ts n m) (λ step. alike_ok (refl, behind)))
 
-steps_alike : (t u : Text) → SameText t u → Alike SameLeft (steps_item t) (steps_item u)
+pub steps_alike : (t u : Text) → SameText t u → Alike SameLeft (steps_item t) (steps_item u)
 unfolding steps_item
 steps_alike t u same =
     next_bind _ _ _ _ same (λ ts n m v w behind. line_bind _ _ (word_alike (codes "steps") ts n m)
     (λ us i j. same_bind (count_alike us i j) (λ count. turns_alike next_step next_step_alike count v w behind)))
-
-no_line_alike : (xs ys : List NumberedLine) → tokens_by_line xs ≡ tokens_by_line ys → Alike Same (no_line_among xs) (no_line_among ys)
-no_line_alike [] [] same = alike_ok refl
-no_line_alike [] (y ∷ ys) same = absurd cc
-no_line_alike (x ∷ xs) ys same = alike_err
-
-braidcheck_alike : (t u : Text) → SameText t u → Alike Same (braidcheck_in t) (braidcheck_in u)
-unfolding braidcheck_in text_end
-braidcheck_alike t u same =
-    text_bind _ _ (braid_alike t u same) (λ v p q next. text_bind _ _ (braid_alike p q next)
-    (λ w r s after. text_bind _ _ (steps_alike r s after) (λ steps x y left. same_bind (no_line_alike x.lines y.lines left) (λ end. alike_ok refl))))
-
-pub braidcheck_again : (a b : List ℕ) (i : BraidCheckText) → said_by a ≡ said_by b → braidcheck_of a ≡ Ok i → braidcheck_of b ≡ Ok i
-braidcheck_again a b i same is =
-    let again = (braidcheck_alike (text_of a) (text_of b) same).of i is in
-    again.1 ∙ ap (λ (x : BraidCheckText). Ok x) (sym again.2)

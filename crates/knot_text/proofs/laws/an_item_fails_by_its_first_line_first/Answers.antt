@@ -1,0 +1,17 @@
+use Rattle.knot_text.proofs.HeadFaults.{moves_begin, steps_begin, list_begins, equal_begins, unknown_begins}
+use Rattle.knot_text.proofs.NameFaults.{quandle_begins, different_fails, others_fail}
+use Rattle.knot_text.proofs.SurplusFaults.{surplus_begins}
+use Rattle.knot_text.proofs.laws.an_item_fails_by_its_first_line_first.Goals as goal
+
+pub returns : goal.returns
+returns c = record {
+  moves = moves_begin;
+  steps = steps_begin;
+  quandle = quandle_begins;
+  surplus = surplus_begins;
+  list = list_begins;
+  equal = equal_begins;
+  unknown = unknown_begins;
+  different = different_fails;
+  other = others_fail;
+}
