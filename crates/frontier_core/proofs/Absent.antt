@@ -17,7 +17,8 @@ pub absent : (held : Held) (id : ℕ) → is_absent held id ≡ true → IsHeld 
 absent held id none at = elim (cases_lt at.0 (length held.by_size)) [
   | inl lt ↦
       let found : not (get_or (ids_of held at.0) at.1.0 id == id) ≡ false = ap not (eq-eqb (get_or (ids_of held at.0) at.1.0 id) id at.1.2) in
-      let one : list_all (λ other. not (other == id)) (ids_of held at.0) ≡ false = list_all_at (λ other. not (other == id)) (ids_of held at.0) at.1.0 id at.1.1 found in
+      let one : list_all (λ other. not (other == id)) (ids_of held at.0) ≡ false =
+      list_all_at (λ other. not (other == id)) (ids_of held at.0) at.1.0 id at.1.1 found in
       let all : is_absent held id ≡ false = list_all_at (λ ids. list_all (λ other. not (other == id)) ids) held.by_size at.0 [] lt one in
       cc
   | inr ge ↦ omega (arith, at.1.1, ap length (get_or_past held.by_size at.0 [] ge))

@@ -10,7 +10,7 @@ use Rattle.frontier_core.specs.Held.{ids_of}
 use Rattle.frontier_core.specs.Chain.{held_by, ids_in, queue_at, bit_of, StandsAt, IsLinked}
 use Rattle.frontier_core.proofs.Chains.{ids_of_queue}
 
-abbrev nothing : Queue
+abbrev pub nothing : Queue
 nothing = record { first = 0; last = 0; count = 0 }
 
 abbrev all_empty : List Queue

@@ -14,7 +14,8 @@ of_size-append s ps qs =
     ap (map (λ (p : SizedId). p.id)) (filter-append test ps qs) ∙ map-append (λ (p : SizedId). p.id) (filter test ps) (filter test qs)
 
 pub of_size_here : (s : ℕ) (p : SizedId) (ps : List SizedId) → p.size ≡ s → of_size s (p ∷ ps) ≡ p.id ∷ of_size s ps
-of_size_here s p ps same = ap (λ t. map (λ (r : SizedId). r.id) (cond t (p ∷ filter (λ (r : SizedId). r.size == s) ps) (filter (λ (r : SizedId). r.size == s) ps))) (eq-eqb p.size s same)
+of_size_here s p ps same = ap (λ t. map (λ (r : SizedId). r.id)
+    (cond t (p ∷ filter (λ (r : SizedId). r.size == s) ps) (filter (λ (r : SizedId). r.size == s) ps))) (eq-eqb p.size s same)
 
 pub of_size_other : (s : ℕ) (p : SizedId) (ps : List SizedId) → p.size ≢ s → of_size s (p ∷ ps) ≡ of_size s ps
 of_size_other s p ps other = elim (eqb_tells p.size s) [
@@ -23,13 +24,17 @@ of_size_other s p ps other = elim (eqb_tells p.size s) [
 ]
 
 -- a push on the ids of each size
-pub ids_of_pushed : (held : Held) (id size s : ℕ) → size < length held.by_size → ids_of (pushed held id size) s ≡ ids_of held s ++ of_size s (sized id size ∷ [])
+pub ids_of_pushed : (held : Held) (id size s : ℕ) → size < length held.by_size
+    → ids_of (pushed held id size) s ≡ ids_of held s ++ of_size s (sized id size ∷ [])
 ids_of_pushed held id size s within = elim (eqb_tells size s) [
-  | inl same ↦ ap (ids_of (pushed held id size)) (sym same.1) ∙ get_or-set_same held.by_size size (ids_of held size ++ id ∷ []) [] within ∙ ap₂ (λ xs ys. xs ++ ys) (ap (ids_of held) same.1) (sym (of_size_here s (sized id size) [] same.1))
-  | inr other ↦ get_or-set_other held.by_size size s (ids_of held size ++ id ∷ []) [] (λ e. other.1 (sym e)) ∙ sym (append-nil (ids_of held s)) ∙ ap (λ xs. ids_of held s ++ xs) (sym (of_size_other s (sized id size) [] other.1))
+  | inl same ↦ ap (ids_of (pushed held id size)) (sym same.1) ∙ get_or-set_same held.by_size size (ids_of held size ++ id ∷ []) [] within
+      ∙ ap₂ (λ xs ys. xs ++ ys) (ap (ids_of held) same.1) (sym (of_size_here s (sized id size) [] same.1))
+  | inr other ↦ get_or-set_other held.by_size size s (ids_of held size ++ id ∷ []) [] (λ e. other.1 (sym e)) ∙ sym (append-nil (ids_of held s))
+      ∙ ap (λ xs. ids_of held s ++ xs) (sym (of_size_other s (sized id size) [] other.1))
 ]
 
-pub order_pushed : (order : List SizedId) (held : Held) (id size : ℕ) → size < length held.by_size → IsOrderOf order held → IsOrderOf (order ++ sized id size ∷ []) (pushed held id size)
+pub order_pushed : (order : List SizedId) (held : Held) (id size : ℕ) → size < length held.by_size → IsOrderOf order held
+    → IsOrderOf (order ++ sized id size ∷ []) (pushed held id size)
 order_pushed order held id size within is s =
     ids_of_pushed held id size s within ∙ ap (λ xs. xs ++ of_size s (sized id size ∷ [])) (is s) ∙ sym (of_size-append s order (sized id size ∷ []))
 
@@ -81,12 +86,17 @@ found_where ([] ∷ greater) = elim (found_where greater) [
     none_at found (suc t) lt = found.none_before t (omega (arith, lt))
 
 -- a pop on the ids of each size
-pub ids_of_popped : (held : Held) (found : FoundAt held.by_size) (s : ℕ) → ids_of held s ≡ of_size s (sized found.id (first_place held.by_size) ∷ []) ++ ids_of (without_first_of_least held) s
+pub ids_of_popped : (held : Held) (found : FoundAt held.by_size) (s : ℕ)
+    → ids_of held s ≡ of_size s (sized found.id (first_place held.by_size) ∷ []) ++ ids_of (without_first_of_least held) s
 ids_of_popped held found s =
     let place = first_place held.by_size in
     elim (eqb_tells place s) [
-      | inl same ↦ ap (ids_of held) (sym same.1) ∙ found.here ∙ ap₂ (λ xs ys. xs ++ ys) (sym (of_size_here s (sized found.id place) [] same.1)) (sym (ap (λ xss. get_or xss s []) found.rest ∙ ap (λ k. get_or (set held.by_size place found.ids) k []) (sym same.1) ∙ get_or-set_same held.by_size place found.ids [] found.within))
-      | inr other ↦ sym (ap (λ xs. xs ++ ids_of (without_first_of_least held) s) (of_size_other s (sized found.id place) [] other.1) ∙ ap (λ xss. get_or xss s []) found.rest ∙ get_or-set_other held.by_size place s found.ids [] (λ e. other.1 (sym e)))
+      | inl same ↦ ap (ids_of held) (sym same.1) ∙ found.here
+          ∙ ap₂ (λ xs ys. xs ++ ys) (sym (of_size_here s (sized found.id place) [] same.1))
+          (sym (ap (λ xss. get_or xss s []) found.rest ∙ ap (λ k. get_or (set held.by_size place found.ids) k []) (sym same.1)
+          ∙ get_or-set_same held.by_size place found.ids [] found.within))
+      | inr other ↦ sym (ap (λ xs. xs ++ ids_of (without_first_of_least held) s) (of_size_other s (sized found.id place) [] other.1)
+          ∙ ap (λ xss. get_or xss s []) found.rest ∙ get_or-set_other held.by_size place s found.ids [] (λ e. other.1 (sym e)))
     ]
 
 -- with no id of a lesser size, all are of that size at least
@@ -94,7 +104,8 @@ none_less : (s : ℕ) (ps : List SizedId) → ((t : ℕ) → t < s → of_size t
 none_less s [] none = λ k d lt. absurd (omega (arith, lt))
 none_less s (p ∷ ps) none = elim (cases_lt p.size s) [
   | inl lt ↦ absurd (impossible (sym (of_size_here p.size p ps refl) ∙ none p.size lt))
-  | inr ge ↦ All-cons (λ (r : SizedId). s ≤ r.size) p ps ge (none_less s ps (λ t lt. sym (of_size_other t p ps (λ e. absurd (omega (arith, e, ge, lt)))) ∙ none t lt))
+  | inr ge ↦ All-cons (λ (r : SizedId). s ≤ r.size) p ps ge (none_less s ps
+      (λ t lt. sym (of_size_other t p ps (λ e. absurd (omega (arith, e, ge, lt)))) ∙ none t lt))
 ]
   where
     impossible : p.id ∷ of_size p.size ps ≡ [] → ⊥
@@ -149,7 +160,8 @@ split s id ids (p ∷ ps) is none = elim (eqb_tells p.size s) [
 -- a pop on a list of pairs
 pub order_popped : (order : List SizedId) (held : Held) → IsOrderOf order held → PopsLeast order (first_of_least held) (without_first_of_least held)
 order_popped order held is = elim (found_where held.by_size) [
-  | inl none ↦ subst (λ o. PopsLeast order o (without_first_of_least held)) (sym none.none) (no_pairs order (λ t. sym (is t) ∙ none.empty t), λ t. ap (λ xss. get_or xss t []) none.same ∙ none.empty t)
+  | inl none ↦ subst (λ o. PopsLeast order o (without_first_of_least held)) (sym none.none)
+      (no_pairs order (λ t. sym (is t) ∙ none.empty t), λ t. ap (λ xss. get_or xss t []) none.same ∙ none.empty t)
   | inr found ↦ subst (λ o. PopsLeast order o (without_first_of_least held)) (sym found.first) (taken found)
 ]
   where
@@ -160,7 +172,8 @@ order_popped order held is = elim (found_where held.by_size) [
     taken : (found : FoundAt held.by_size) → TakesFirstOfLeast order found.id (without_first_of_least held)
     taken found =
         let s = first_place held.by_size in
-        let parts : Split s found.id found.ids order = split s found.id found.ids order (sym (is s) ∙ found.here) (λ t lt. sym (is t) ∙ found.none_before t lt) in
+        let parts : Split s found.id found.ids order =
+        split s found.id found.ids order (sym (is s) ∙ found.here) (λ t lt. sym (is t) ∙ found.none_before t lt) in
         record {
           before = parts.before;
           size = s;
@@ -171,13 +184,17 @@ order_popped order held is = elim (found_where held.by_size) [
           others_left = left found parts;
         }
       where
-        left : (found : FoundAt held.by_size) (parts : Split (first_place held.by_size) found.id found.ids order) → IsOrderOf (parts.before ++ parts.after) (without_first_of_least held)
+        left : (found : FoundAt held.by_size) (parts : Split (first_place held.by_size) found.id found.ids order)
+            → IsOrderOf (parts.before ++ parts.after) (without_first_of_least held)
         left found parts t = elim (eqb_tells (first_place held.by_size) t) [
           | inl same ↦
-              ap (λ xss. get_or xss t []) found.rest ∙ ap (λ k. get_or (set held.by_size (first_place held.by_size) found.ids) k []) (sym same.1) ∙ get_or-set_same held.by_size (first_place held.by_size) found.ids [] found.within
-              ∙ sym (ap₂ (λ xs ys. xs ++ ys) parts.none parts.rest) ∙ sym (of_size-append (first_place held.by_size) parts.before parts.after) ∙ ap (λ k. of_size k (parts.before ++ parts.after)) same.1
+              ap (λ xss. get_or xss t []) found.rest ∙ ap (λ k. get_or (set held.by_size (first_place held.by_size) found.ids) k []) (sym same.1)
+              ∙ get_or-set_same held.by_size (first_place held.by_size) found.ids [] found.within
+              ∙ sym (ap₂ (λ xs ys. xs ++ ys) parts.none parts.rest) ∙ sym (of_size-append (first_place held.by_size) parts.before parts.after)
+              ∙ ap (λ k. of_size k (parts.before ++ parts.after)) same.1
           | inr other ↦
               ap (λ xss. get_or xss t []) found.rest ∙ get_or-set_other held.by_size (first_place held.by_size) t found.ids [] (λ e. other.1 (sym e))
               ∙ is t ∙ ap (of_size t) parts.stood ∙ of_size-append t parts.before (sized found.id (first_place held.by_size) ∷ parts.after)
-              ∙ ap (λ xs. of_size t parts.before ++ xs) (of_size_other t (sized found.id (first_place held.by_size)) parts.after other.1) ∙ sym (of_size-append t parts.before parts.after)
+              ∙ ap (λ xs. of_size t parts.before ++ xs) (of_size_other t (sized found.id (first_place held.by_size)) parts.after other.1)
+              ∙ sym (of_size-append t parts.before parts.after)
         ]

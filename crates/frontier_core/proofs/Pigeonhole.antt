@@ -23,7 +23,8 @@ distinct (x ∷ xs) once = (
 )
 
 -- no number twice, and each below n
-pub length-le : (xs : List ℕ) (n : ℕ) → ((i j : ℕ) → i < length xs → j < length xs → get_or xs i 0 ≡ get_or xs j 0 → i ≡ j) → ((i : ℕ) → i < length xs → get_or xs i 0 < n) → length xs ≤ n
+pub length-le : (xs : List ℕ) (n : ℕ) → ((i j : ℕ) → i < length xs → j < length xs → get_or xs i 0 ≡ get_or xs j 0 → i ≡ j)
+    → ((i : ℕ) → i < length xs → get_or xs i 0 < n) → length xs ≤ n
 length-le xs n once below = length-le_from_distinct_below xs n (distinct xs once) (λ q found. of_any q (Any-from_list_any (eqb q) xs found))
   where
     of_any : (q : ℕ) → Any (λ x. eqb q x ≡ true) xs → q < n

@@ -12,9 +12,7 @@ use Rattle.frontier_core.specs.Held.{Held, ids_of, first_of_least, without_first
 use Rattle.frontier_core.specs.Chain.{chain, ids_in, held_by, queue_at, shorter, bit_of, StandsAt, IsLinked}
 use Rattle.frontier_core.proofs.Chains.{ids_of_queue, stands_as, stands_from}
 use Rattle.frontier_core.proofs.Lists.{map-set, first_found, none_found}
-
-abbrev nothing : Queue
-nothing = record { first = 0; last = 0; count = 0 }
+use Rattle.frontier_core.proofs.Empty.{nothing}
 
 -- a queue whose bit is not set has no id
 no_ids : (next : List ℕ) (q : Queue) → bit_of q ≡ 0 → ids_in next q ≡ []
@@ -43,9 +41,13 @@ module _ (next : List ℕ) (queues : List Queue) (mask : ℕ) (linked : IsLinked
   -- with no bit set nothing is held
   pub none_held : mask ≡ 0 → (first_of_least held ≡ None) × (without_first_of_least held ≡ held)
   none_held is =
-      let empty : ((t : ℕ) → t < length (held_by next queues).by_size → ids_of (held_by next queues) t ≡ []) = λ t lt. empty_at t (omega (arith, lt, length-map queues (ids_in next), linked.sizes)) (ap (λ m. bit_at m t) is ∙ bit_at-zero t) in
-      let found = none_found (held_by next queues).by_size empty in
-      (ap first_of_least (sym view) ∙ found.0, ap without_first_of_least (sym view) ∙ ap (λ (b : List (List ℕ)). record { capacity = length next; by_size = b }) found.1 ∙ view)
+      let empty : ((t : ℕ) → t < length (held_by next queues).by_size → ids_of (held_by next queues) t ≡ []) =
+      λ t lt. empty_at t (omega (arith, lt, length-map queues (ids_in next), linked.sizes)) (ap (λ m. bit_at m t) is ∙ bit_at-zero t) in
+      let found = none_found (held_by next queues).by_size empty in (
+        ap first_of_least (sym view) ∙ found.0,
+        ap without_first_of_least (sym view)
+            ∙ ap (λ (b : List (List ℕ)). record { capacity = length next; by_size = b }) found.1 ∙ view,
+      )
 
   module _ (size : ℕ) (within : size < 128) (set_bit : bit_at mask size ≡ 1) (least : (s : ℕ) → s < size → bit_at mask s ≡ 0) where
     abbrev q : Queue
@@ -85,8 +87,10 @@ module _ (next : List ℕ) (queues : List Queue) (mask : ℕ) (linked : IsLinked
     -- what stands in the queues behind the pop
     popped_at : (t i x : ℕ) → StandsAt next queues' t i x → ((t ≡ size) × StandsAt next queues t (suc i) x) ⊎ ((t ≢ size) × StandsAt next queues t i x)
     popped_at t i x stands = elim (eqb_tells t size) [
-      | inl same ↦ let now = stands_as t i x rest (ids_in next rest) stands (ap (queue_at queues') same.1 ∙ this_queue) refl in inl (same.1, stands_from t (suc i) x q (q.first ∷ ids_in next rest) (omega (arith, now.0)) now.1 (ap (queue_at queues) same.1) uncons)
-      | inr other ↦ let old = stands_as t i x (queue_at queues t) (ids_in next (queue_at queues t)) stands (other_queue t other.1) refl in inr (other.1, record { within = old.0; is = old.1 })
+      | inl same ↦ let now = stands_as t i x rest (ids_in next rest) stands (ap (queue_at queues') same.1 ∙ this_queue) refl in
+          inl (same.1, stands_from t (suc i) x q (q.first ∷ ids_in next rest) (omega (arith, now.0)) now.1 (ap (queue_at queues) same.1) uncons)
+      | inr other ↦ let old = stands_as t i x (queue_at queues t) (ids_in next (queue_at queues t)) stands (other_queue t other.1) refl in
+          inr (other.1, record { within = old.0; is = old.1 })
     ]
 
     stays_at : (t i x : ℕ) → t ≢ size → StandsAt next queues t i x → StandsAt next queues' t i x
@@ -104,7 +108,8 @@ module _ (next : List ℕ) (queues : List Queue) (mask : ℕ) (linked : IsLinked
     pub first_below : q.first < length next
     first_below = linked.below size 0 q.first first_stands
 
-    pub still_linked : (mask' : ℕ) (stays : Bool) → stays ≡ nat_lt 1 q.count → bit_at mask' size ≡ cond stays 1 0 → ((s : ℕ) → s < 128 → s ≢ size → bit_at mask' s ≡ bit_at mask s) → IsLinked next queues' mask'
+    pub still_linked : (mask' : ℕ) (stays : Bool) → stays ≡ nat_lt 1 q.count → bit_at mask' size ≡ cond stays 1 0
+        → ((s : ℕ) → s < 128 → s ≢ size → bit_at mask' s ≡ bit_at mask s) → IsLinked next queues' mask'
     still_linked mask' stays is this_bit other_bits = record {
       room = linked.room;
       sizes = length-set queues size rest ∙ linked.sizes;
@@ -112,10 +117,12 @@ module _ (next : List ℕ) (queues : List Queue) (mask : ℕ) (linked : IsLinked
       once = λ s t i j x one other. both s t i j x (popped_at s i x one) (popped_at t j x other);
       ends = λ s i last. elim (eqb_tells s size) [
         | inl same ↦ end_here s i same.1 last
-        | inr other ↦ subst (λ (r : Queue). StandsAt next queues' s i r.last) (sym (other_queue s other.1)) (stays_at s i (queue_at queues s).last other.1 (linked.ends s i (last ∙ ap (λ (r : Queue). r.count) (other_queue s other.1))))
+        | inr other ↦ subst (λ (r : Queue). StandsAt next queues' s i r.last) (sym (other_queue s other.1))
+            (stays_at s i (queue_at queues s).last other.1 (linked.ends s i (last ∙ ap (λ (r : Queue). r.count) (other_queue s other.1))))
       ];
       bits = λ s lt. elim (eqb_tells s size) [
-        | inl same ↦ ap (bit_at mask') same.1 ∙ this_bit ∙ ap (λ b. cond b 1 0) (is ∙ one_less q.count) ∙ ap bit_of (sym (ap (queue_at queues') same.1 ∙ this_queue))
+        | inl same ↦ ap (bit_at mask') same.1 ∙ this_bit ∙ ap (λ b. cond b 1 0) (is ∙ one_less q.count)
+            ∙ ap bit_of (sym (ap (queue_at queues') same.1 ∙ this_queue))
         | inr other ↦ other_bits s lt other.1 ∙ linked.bits s lt ∙ ap bit_of (sym (other_queue s other.1))
       ];
     }
@@ -123,7 +130,8 @@ module _ (next : List ℕ) (queues : List Queue) (mask : ℕ) (linked : IsLinked
         one_less : (n : ℕ) → nat_lt 1 n ≡ nat_lt 0 (n - 1)
         one_less n = grind (arith, nat_tests)
 
-        both : (s t i j x : ℕ) → ((s ≡ size) × StandsAt next queues s (suc i) x) ⊎ ((s ≢ size) × StandsAt next queues s i x) → ((t ≡ size) × StandsAt next queues t (suc j) x) ⊎ ((t ≢ size) × StandsAt next queues t j x) → (s ≡ t) × (i ≡ j)
+        both : (s t i j x : ℕ) → ((s ≡ size) × StandsAt next queues s (suc i) x) ⊎ ((s ≢ size) × StandsAt next queues s i x)
+            → ((t ≡ size) × StandsAt next queues t (suc j) x) ⊎ ((t ≢ size) × StandsAt next queues t j x) → (s ≡ t) × (i ≡ j)
         both s t i j x (inl one) (inl other) = let same = linked.once s t (suc i) (suc j) x one.1 other.1 in (same.0, omega (arith, same.1))
         both s t i j x (inl one) (inr other) = absurd (other.0 (sym (linked.once s t (suc i) j x one.1 other.1).0 ∙ one.0))
         both s t i j x (inr one) (inl other) = absurd (one.0 ((linked.once s t i (suc j) x one.1 other.1).0 ∙ other.0))
@@ -133,10 +141,13 @@ module _ (next : List ℕ) (queues : List Queue) (mask : ℕ) (linked : IsLinked
         end_here s i same last =
             let queue : queue_at queues' s ≡ rest = ap (queue_at queues') same ∙ this_queue in
             let count : i + 1 ≡ q.count - 1 = last ∙ ap (λ (r : Queue). r.count) queue in
-            subst (λ (r : Queue). StandsAt next queues' s i r.last) (sym queue) (subst (λ k. StandsAt next queues' k i q.last) (sym same) (moves_up i q.last (linked.ends size (suc i) (omega (arith, count, some_here)))))
+            subst (λ (r : Queue). StandsAt next queues' s i r.last) (sym queue)
+            (subst (λ k. StandsAt next queues' k i q.last) (sym same) (moves_up i q.last (linked.ends size (suc i) (omega (arith, count, some_here)))))
 
-    popped : (first_id (held_by next queues).by_size ≡ Some q.first) × (without_first_id (held_by next queues).by_size ≡ set (held_by next queues).by_size size (ids_in next rest))
-    popped = first_found (held_by next queues).by_size size q.first (ids_in next rest) (ids_of_queue next queues size ∙ uncons) (λ t lt. empty_at t (omega arith) (least t lt))
+    popped : (first_id (held_by next queues).by_size ≡ Some q.first) × (without_first_id (held_by next queues).by_size
+        ≡ set (held_by next queues).by_size size (ids_in next rest))
+    popped = first_found (held_by next queues).by_size size q.first (ids_in next rest) (ids_of_queue next queues size ∙ uncons)
+        (λ t lt. empty_at t (omega arith) (least t lt))
 
     -- the id that comes out, and the lists behind the pop
     pub first_out : Some q.first ≡ first_of_least held
@@ -144,5 +155,6 @@ module _ (next : List ℕ) (queues : List Queue) (mask : ℕ) (linked : IsLinked
 
     pub held_after : held_by next queues' ≡ without_first_of_least held
     held_after =
-        ap (λ (b : List (List ℕ)). record { capacity = length next; by_size = b }) (map-set (ids_in next) (ids_in next) nothing queues size rest (ids_in next rest) refl (λ t lt other. refl) ∙ sym popped.1)
+        ap (λ (b : List (List ℕ)). record { capacity = length next; by_size = b })
+        (map-set (ids_in next) (ids_in next) nothing queues size rest (ids_in next rest) refl (λ t lt other. refl) ∙ sym popped.1)
         ∙ ap without_first_of_least view

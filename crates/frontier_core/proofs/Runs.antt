@@ -16,24 +16,29 @@ pub record Kept (r : Run) : Type 0 where
   pub in_order : (size : ℕ) → of_size size r.went_in ≡ of_size size r.came_out ++ ids_of r.held size
 
 -- a push adds one pair
-listed_pushed : (from : ℕ) (lists : List (List ℕ)) (s id : ℕ) → s < length lists → IsPermutation (sized id (from + s) ∷ listed_from from lists) (listed_from from (set lists s (get_or lists s [] ++ id ∷ [])))
+listed_pushed : (from : ℕ) (lists : List (List ℕ)) (s id : ℕ) → s < length lists
+    → IsPermutation (sized id (from + s) ∷ listed_from from lists) (listed_from from (set lists s (get_or lists s [] ++ id ∷ [])))
 listed_pushed from [] s id within = absurd (omega (arith, within))
 listed_pushed from (ids ∷ greater) zero id within =
     let front = map (λ i. sized i from) ids in
     let behind = listed_from (suc from) greater in
     let place : from + 0 ≡ from = omega arith in
     let same : front ++ sized id (from + 0) ∷ behind ≡ map (λ i. sized i from) (ids ++ id ∷ []) ++ behind =
-    ap (λ k. front ++ sized id k ∷ behind) place ∙ sym (append_assoc front (sized id from ∷ []) behind) ∙ ap (λ ps. ps ++ behind) (sym (map-append (λ i. sized i from) ids (id ∷ []))) in
+    ap (λ k. front ++ sized id k ∷ behind) place ∙ sym (append_assoc front (sized id from ∷ []) behind)
+    ∙ ap (λ ps. ps ++ behind) (sym (map-append (λ i. sized i from) ids (id ∷ []))) in
     subst (IsPermutation (sized id (from + 0) ∷ (front ++ behind))) same (IsPermutation-sym _ _ (IsPermutation-middle front (sized id (from + 0)) behind))
 listed_pushed from (ids ∷ greater) (suc s) id within =
     let front = map (λ i. sized i from) ids in
     let place : suc from + s ≡ from + suc s = omega arith in
     let more = listed_pushed (suc from) greater s id (omega arith) in
-    let moved = IsPermutation-trans _ _ _ (IsPermutation-sym _ _ (IsPermutation-middle front (sized id (suc from + s)) (listed_from (suc from) greater))) (IsPermutation-append_right front _ _ more) in
-    subst (λ k. IsPermutation (sized id k ∷ (front ++ listed_from (suc from) greater)) (front ++ listed_from (suc from) (set greater s (get_or greater s [] ++ id ∷ [])))) place moved
+    let moved = IsPermutation-trans _ _ _ (IsPermutation-sym _ _ (IsPermutation-middle front (sized id (suc from + s)) (listed_from (suc from) greater)))
+    (IsPermutation-append_right front _ _ more) in
+    subst (λ k. IsPermutation (sized id k ∷ (front ++ listed_from (suc from) greater))
+    (front ++ listed_from (suc from) (set greater s (get_or greater s [] ++ id ∷ [])))) place moved
 
 -- a pop takes the first pair
-listed_popped : (from : ℕ) (lists : List (List ℕ)) (id : ℕ) → first_id lists ≡ Some id → listed_from from lists ≡ sized id (from + first_place lists) ∷ listed_from from (without_first_id lists)
+listed_popped : (from : ℕ) (lists : List (List ℕ)) (id : ℕ) → first_id lists ≡ Some id
+    → listed_from from lists ≡ sized id (from + first_place lists) ∷ listed_from from (without_first_id lists)
 listed_popped from [] id is = cc
 listed_popped from ((x ∷ xs) ∷ greater) id is =
     let same : x ≡ id = cc in
@@ -53,11 +58,16 @@ kept_push r id size fits kept =
     let within : size < length r.held.by_size = omega (arith, kept.sizes, fits) in
     let pair = sized id size in
     let from_0 : 0 + size ≡ size = omega arith in
-    let one_more : IsPermutation (pair ∷ all_held r.held) (all_held (pushed r.held id size)) = subst (λ k. IsPermutation (sized id k ∷ all_held r.held) (all_held (pushed r.held id size))) from_0 (listed_pushed 0 r.held.by_size size id within) in
+    let one_more : IsPermutation (pair ∷ all_held r.held) (all_held (pushed r.held id size)) =
+    subst (λ k. IsPermutation (sized id k ∷ all_held r.held) (all_held (pushed r.held id size))) from_0 (listed_pushed 0 r.held.by_size size id within) in
     record {
       sizes = length-set r.held.by_size size (ids_of r.held size ++ id ∷ []) ∙ kept.sizes;
-      together = IsPermutation-push_more r.went_in (r.came_out ++ all_held r.held) (r.came_out ++ all_held (pushed r.held id size)) pair kept.together (IsPermutation-trans _ _ _ (IsPermutation-sym _ _ (IsPermutation-middle r.came_out pair (all_held r.held))) (IsPermutation-append_right r.came_out _ _ one_more));
-      in_order = λ s. of_size-append s r.went_in (pair ∷ []) ∙ ap (λ xs. xs ++ of_size s (pair ∷ [])) (kept.in_order s) ∙ append_assoc (of_size s r.came_out) (ids_of r.held s) (of_size s (pair ∷ [])) ∙ ap (λ xs. of_size s r.came_out ++ xs) (sym (ids_of_pushed r.held id size s within));
+      together = IsPermutation-push_more r.went_in (r.came_out ++ all_held r.held) (r.came_out ++ all_held (pushed r.held id size)) pair kept.together
+          (IsPermutation-trans _ _ _ (IsPermutation-sym _ _ (IsPermutation-middle r.came_out pair (all_held r.held)))
+          (IsPermutation-append_right r.came_out _ _ one_more));
+      in_order = λ s. of_size-append s r.went_in (pair ∷ []) ∙ ap (λ xs. xs ++ of_size s (pair ∷ [])) (kept.in_order s)
+          ∙ append_assoc (of_size s r.came_out) (ids_of r.held s) (of_size s (pair ∷ []))
+          ∙ ap (λ xs. of_size s r.came_out ++ xs) (sym (ids_of_pushed r.held id size s within));
     }
 
 kept_pop : (r : Run) → Kept r → Kept (after r Pop)
@@ -73,8 +83,11 @@ kept_pop r kept = elim (found_where r.held.by_size) [
         let from_0 : 0 + first_place r.held.by_size ≡ first_place r.held.by_size = omega arith in
         record {
           sizes = ap length found.rest ∙ length-set r.held.by_size (first_place r.held.by_size) found.ids ∙ kept.sizes;
-          together = subst (IsPermutation r.went_in) (ap (λ ps. r.came_out ++ ps) (listed_popped 0 r.held.by_size found.id found.first) ∙ ap (λ k. r.came_out ++ sized found.id k ∷ all_held new) from_0 ∙ sym (append_assoc r.came_out (pair ∷ []) (all_held new))) kept.together;
-          in_order = λ s. kept.in_order s ∙ ap (λ xs. of_size s r.came_out ++ xs) (ids_of_popped r.held found s) ∙ sym (append_assoc (of_size s r.came_out) (of_size s (pair ∷ [])) (ids_of new s)) ∙ ap (λ xs. xs ++ ids_of new s) (sym (of_size-append s r.came_out (pair ∷ [])));
+          together = subst (IsPermutation r.went_in) (ap (λ ps. r.came_out ++ ps) (listed_popped 0 r.held.by_size found.id found.first)
+              ∙ ap (λ k. r.came_out ++ sized found.id k ∷ all_held new) from_0 ∙ sym (append_assoc r.came_out (pair ∷ []) (all_held new))) kept.together;
+          in_order = λ s. kept.in_order s ∙ ap (λ xs. of_size s r.came_out ++ xs) (ids_of_popped r.held found s)
+              ∙ sym (append_assoc (of_size s r.came_out) (of_size s (pair ∷ [])) (ids_of new s))
+              ∙ ap (λ xs. xs ++ ids_of new s) (sym (of_size-append s r.came_out (pair ∷ [])));
         }
 
 kept_all : (events : List Event) (r : Run) → SizesFit events → Kept r → Kept (fold after r events)

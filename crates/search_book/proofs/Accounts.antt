@@ -168,7 +168,8 @@ module _ (budget id : ℕ) (side : Side) where
       by_key None is = by_room (nat_lt (length es) budget) (id_of_none es offer.key is) refl
       by_key (Some other) is =
           let at : HasKeyAt es offer.key other = id_of_some es offer.key other is in
-          subst (λ (o : Option Entry). Account budget id side es (offer ∷ offers) (fold (weighed_next budget id side) (taken es (met_or_passed_over id side offer other o)) offers)) (sym at.stands)
+          subst (λ (o : Option Entry). Account budget id side es (offer ∷ offers)
+          (fold (weighed_next budget id side) (taken es (met_or_passed_over id side offer other o)) offers)) (sym at.stands)
           (by_side other at.entry (same_side at.entry.side side) at.stands at.has_key refl)
 
   account : (offers : List Offer) (es : List Entry) → Account budget id side es offers (taken_all budget id side es offers)
@@ -192,7 +193,8 @@ module _ (id : ℕ) (entry : Entry) (es entries : List Entry) (same : es ≡ ent
 
   end_by : (all : Bool)
       → list_all is_settled last ≡ all
-      → (All (λ (e : Entry). e.stage ≡ Settled) last × ((if all then Some Exhausted else None) ≡ Some Exhausted)) ⊎ (HasUnsettled last × ((if all then Some Exhausted else None) ≡ None))
+      → (All (λ (e : Entry). e.stage ≡ Settled) last × ((if all then Some Exhausted else None)
+      ≡ Some Exhausted)) ⊎ (HasUnsettled last × ((if all then Some Exhausted else None) ≡ None))
   end_by true is = inl (λ k d lt. settled_stage_is (get_or last k d).stage (AllPass-from_list_all is_settled last is k d lt), refl)
   end_by false is =
       let open_still : Fails is_settled last = not_all is_settled last is in

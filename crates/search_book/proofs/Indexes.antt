@@ -15,17 +15,19 @@ use Rattle.grid_core.proofs.OneEach.{each_below, each_length, range_more}
 use Rattle.grid_canon.specs.declared.key.Packed.{Packed}
 use Rattle.grid_canon.specs.Key.{same_key}
 use Rattle.grid_canon.proofs.Keys.{same_key_true, same_key_false}
+use Rattle.search_book.specs.declared.problem.Side.{Side}
 use Rattle.search_book.specs.declared.entry.Entry.{Entry}
+use Rattle.search_book.specs.declared.index.Known.{Known}
 use Rattle.search_book.specs.Entries.{id_of}
-use Rattle.search_book.specs.Entries.{keys}
-use Rattle.search_book.specs.Index.{Indexed, IsIndexOf, paired_ids}
+use Rattle.search_book.specs.Entries.{keys, sides}
+use Rattle.search_book.specs.Index.{Indexed, IsIndexOf, IsKnown, paired_ids}
 use Rattle.search_book.proofs.Appended.{stands_before, stands_last}
-use Rattle.search_book.proofs.Restaged.{SameButStages, same_keys}
+use Rattle.search_book.proofs.Restaged.{SameButStages, same_keys, kept_sides}
 use Rattle.search_book.proofs.Lookups.{HasKeyAt, id_of_some, id_of_none}
 use Rattle.grid_canon.proofs.LeastTranslates.{range_contains}
 
 -- where a look-up finds nothing no key passes the test
-none_at : (test : Packed → Bool) (ps : List (Packed × ℕ)) (k : ℕ) (p : Packed × ℕ) → lookup test ps ≡ None → slice_get ps k ≡ Some p → test p.0 ≡ false
+none_at : (test : Packed → Bool) (ps : List (Packed × Known)) (k : ℕ) (p : Packed × Known) → lookup test ps ≡ None → slice_get ps k ≡ Some p → test p.0 ≡ false
 none_at test [] k p none at = cc
 none_at test (q ∷ qs) k p none at = by k (test q.0) refl none at (λ i rest there. none_at test qs i p rest there)
   where
@@ -35,26 +37,28 @@ none_at test (q ∷ qs) k p none at = by k (test q.0) refl none at (λ i rest th
     by k true is none at deeper = cc
     by zero false is none at deeper =
         let same : q ≡ p = cc in
-        subst (λ (r : Packed × ℕ). test r.0 ≡ false) same is
+        subst (λ (r : Packed × Known). test r.0 ≡ false) same is
     by (suc k) false is none at deeper = deeper k none at
 
 -- an id among the pairs has its pair there
-pair_of : (ps : List (Packed × ℕ)) (k id : ℕ)
-    → k < length (map (λ (p : Packed × ℕ). p.1) ps) → get_or (map (λ (p : Packed × ℕ). p.1) ps) k id ≡ id
-    → (p : Packed × ℕ) × ((slice_get ps k ≡ Some p) × (p.1 ≡ id))
+pair_of : (ps : List (Packed × Known)) (k id : ℕ)
+    → k < length (map (λ (p : Packed × Known). p.1.id) ps) → get_or (map (λ (p : Packed × Known). p.1.id) ps) k id ≡ id
+    → (p : Packed × Known) × ((slice_get ps k ≡ Some p) × (p.1.id ≡ id))
 pair_of [] k id lt is = absurd (omega (arith, lt))
 pair_of (p ∷ ps) zero id lt is = (p, (refl, is))
 pair_of (p ∷ ps) (suc k) id lt is = pair_of ps k id (omega (arith, lt)) is
 
-pair_all : (P : Packed × ℕ → Type 0) (ps : List (Packed × ℕ)) (k : ℕ) (p : Packed × ℕ) → All P ps → slice_get ps k ≡ Some p → P p
+pair_all : (P : Packed × Known → Type 0) (ps : List (Packed × Known)) (k : ℕ) (p : Packed × Known) → All P ps → slice_get ps k ≡ Some p → P p
 pair_all P ps k p all at = All-contains P ps p all (k, slice_get_within ps k p at, get_or_from_slice_get ps k p p at)
 
 -- of keys that differ each has one place
 one_place : (ks : List Packed) (i j : ℕ) (key : Packed) → AllPairs (λ (p q : Packed). p ≢ q) ks → slice_get ks i ≡ Some key → slice_get ks j ≡ Some key → i ≡ j
 one_place ks i j key differ first second = elim (cases_lt i j) [
-  | inl before ↦ absurd (differ i j key before (slice_get_within ks j key second) (get_or_from_slice_get ks i key key first ∙ sym (get_or_from_slice_get ks j key key second)))
+  | inl before ↦ absurd (differ i j key before (slice_get_within ks j key second)
+      (get_or_from_slice_get ks i key key first ∙ sym (get_or_from_slice_get ks j key key second)))
   | inr from ↦ elim (cases_lt j i) [
-    | inl behind ↦ absurd (differ j i key behind (slice_get_within ks i key first) (get_or_from_slice_get ks j key key second ∙ sym (get_or_from_slice_get ks i key key first)))
+    | inl behind ↦ absurd (differ j i key behind (slice_get_within ks i key first)
+        (get_or_from_slice_get ks j key key second ∙ sym (get_or_from_slice_get ks i key key first)))
     | inr to ↦ omega (arith, from, to)
   ]
 ]
@@ -63,21 +67,27 @@ one_place ks i j key differ first second = elim (cases_lt i j) [
 no_place : (ks : List Packed) (key : Packed) (id : ℕ) → All (λ (k : Packed). k ≢ key) ks → slice_get ks id ≢ Some key
 no_place ks key id new stands = new id key (slice_get_within ks id key stands) (get_or_from_slice_get ks id key key stands)
 
-module _ (ks : List Packed) (index : Indexed) (is : IsIndexOf ks index) where
-  -- what a look-up of a key finds is its place
-  pub place_of_pair : (key : Packed) (id : ℕ) → lookup (same_key key) index.paired ≡ Some id → slice_get ks id ≡ Some key
-  place_of_pair key id found =
-      let at = place_from_lookup (same_key key) index.paired id found in
-      pair_all (λ (p : Packed × ℕ). slice_get ks p.1 ≡ Some p.0) index.paired at.0 (at.1, id) is.own_keys at.2
+module _ (ks : List Packed) (ss : List Side) (index : Indexed) (is : IsIndexOf ks ss index) where
+  -- the id that a look-up of a key finds is its place
+  pub place_of_pair : (key : Packed) (known : Known) → lookup (same_key key) index.paired ≡ Some known → slice_get ks known.id ≡ Some key
+  place_of_pair key known found =
+      let at = place_from_lookup (same_key key) index.paired known found in
+      pair_all (λ (p : Packed × Known). slice_get ks p.1.id ≡ Some p.0) index.paired at.0 (at.1, known) is.own_keys at.2
       ∙ ap Some (sym (same_key_true key at.1 at.3))
+
+  -- and the side that it finds stands there
+  pub side_of_pair : (key : Packed) (known : Known) → lookup (same_key key) index.paired ≡ Some known → slice_get ss known.id ≡ Some known.side
+  side_of_pair key known found =
+      let at = place_from_lookup (same_key key) index.paired known found in
+      pair_all (λ (p : Packed × Known). slice_get ss p.1.id ≡ Some p.1.side) index.paired at.0 (at.1, known) is.own_sides at.2
 
   -- a new key is not looked up
   pub new_key : (key : Packed) → All (λ (k : Packed). k ≢ key) ks → lookup (same_key key) index.paired ≡ None
   new_key key new = by (lookup (same_key key) index.paired) refl
     where
-      by : (o : Option ℕ) → lookup (same_key key) index.paired ≡ o → o ≡ None
+      by : (o : Option Known) → lookup (same_key key) index.paired ≡ o → o ≡ None
       by None found = refl
-      by (Some id) found = absurd (no_place ks key id new (place_of_pair key id found))
+      by (Some known) found = absurd (no_place ks key known.id new (place_of_pair key known found))
 
   -- a key that is not looked up and stands at none of the spilled ids has no place
   pub absent_key : (key : Packed)
@@ -86,14 +96,15 @@ module _ (ks : List Packed) (index : Indexed) (is : IsIndexOf ks index) where
   absent_key key none apart id stands =
       let somewhere : Contains (paired_ids index) id ⊎ Contains index.spilled id =
       Contains-append_cases (paired_ids index) index.spilled id
-      (Contains-permutation (range_with_len 0 (length ks)) (paired_ids index ++ index.spilled) id is.once (range_contains (length ks) id (slice_get_within ks id key stands))) in
+      (Contains-permutation (range_with_len 0 (length ks)) (paired_ids index ++ index.spilled) id is.once
+      (range_contains (length ks) id (slice_get_within ks id key stands))) in
       elim somewhere [
         | inl paired ↦
             let found = pair_of index.paired paired.0 id paired.1 paired.2 in
-            let p : Packed × ℕ = found.0 in
+            let p : Packed × Known = found.0 in
             let own : slice_get ks id ≡ Some p.0 =
             subst (λ i. slice_get ks i ≡ Some p.0) found.1.1
-            (pair_all (λ (q : Packed × ℕ). slice_get ks q.1 ≡ Some q.0) index.paired paired.0 p is.own_keys found.1.0) in
+            (pair_all (λ (q : Packed × Known). slice_get ks q.1.id ≡ Some q.0) index.paired paired.0 p is.own_keys found.1.0) in
             let same : Some key ≡ Some p.0 = sym stands ∙ own in
             let key_is : key ≡ p.0 = cc in
             same_key_false key p.0 (none_at (same_key key) index.paired paired.0 p none found.1.0) key_is
@@ -112,52 +123,61 @@ module _ (ks : List Packed) (index : Indexed) (is : IsIndexOf ks index) where
   spilled_count = omega (arith, each_length (length ks) (paired_ids index ++ index.spilled) is.once, length-append (paired_ids index) index.spilled)
 
   -- one key more
-  module _ (key : Packed) (id : ℕ) (new : All (λ (k : Packed). k ≢ key) ks) (place : id ≡ length ks) where
+  module _ (key : Packed) (known : Known) (new : All (λ (k : Packed). k ≢ key) ks) (place : known.id ≡ length ks) (beside : known.id ≡ length ss) where
     differ_more : AllPairs (λ (p q : Packed). p ≢ q) (ks ++ key ∷ [])
     differ_more = all_pairs_push (λ (p q : Packed). p ≢ q) ks key is.differ new
 
     -- each id once, and this one behind them
-    once_more : IsOneEach (length (ks ++ key ∷ [])) ((paired_ids index ++ index.spilled) ++ id ∷ [])
+    once_more : IsOneEach (length (ks ++ key ∷ [])) ((paired_ids index ++ index.spilled) ++ known.id ∷ [])
     once_more =
-        let here : id ≡ 0 + length ks = omega (arith, place) in
+        let here : known.id ≡ 0 + length ks = omega (arith, place) in
         let count : suc (length ks) ≡ length (ks ++ key ∷ []) = omega (arith, length_push ks key) in
-        let range : range_with_len 0 (length ks) ++ id ∷ [] ≡ range_with_len 0 (length (ks ++ key ∷ [])) =
+        let range : range_with_len 0 (length ks) ++ known.id ∷ [] ≡ range_with_len 0 (length (ks ++ key ∷ [])) =
         ap (λ (z : ℕ). range_with_len 0 (length ks) ++ z ∷ []) here
         ∙ sym (range_more (length ks) 0)
         ∙ ap (range_with_len 0) count in
-        subst (λ (ys : List ℕ). IsPermutation ys ((paired_ids index ++ index.spilled) ++ id ∷ [])) range
-        (IsPermutation-append_left (id ∷ []) (range_with_len 0 (length ks)) (paired_ids index ++ index.spilled) is.once)
+        subst (λ (ys : List ℕ). IsPermutation ys ((paired_ids index ++ index.spilled) ++ known.id ∷ [])) range
+        (IsPermutation-append_left (known.id ∷ []) (range_with_len 0 (length ks)) (paired_ids index ++ index.spilled) is.once)
 
-    own_more : All (λ (p : Packed × ℕ). slice_get (ks ++ key ∷ []) p.1 ≡ Some p.0) index.paired
-    own_more =
-        All-weaker (λ (p : Packed × ℕ). slice_get ks p.1 ≡ Some p.0) (λ (p : Packed × ℕ). slice_get (ks ++ key ∷ []) p.1 ≡ Some p.0)
-        (λ p. stands_before ks (key ∷ []) p.1 p.0) index.paired is.own_keys
+    keys_more : All (λ (p : Packed × Known). slice_get (ks ++ key ∷ []) p.1.id ≡ Some p.0) index.paired
+    keys_more =
+        All-weaker (λ (p : Packed × Known). slice_get ks p.1.id ≡ Some p.0) (λ (p : Packed × Known). slice_get (ks ++ key ∷ []) p.1.id ≡ Some p.0)
+        (λ p. stands_before ks (key ∷ []) p.1.id p.0) index.paired is.own_keys
+
+    sides_more : All (λ (p : Packed × Known). slice_get (ss ++ known.side ∷ []) p.1.id ≡ Some p.1.side) index.paired
+    sides_more =
+        All-weaker (λ (p : Packed × Known). slice_get ss p.1.id ≡ Some p.1.side) (λ (p : Packed × Known). slice_get (ss ++ known.side ∷ []) p.1.id ≡ Some p.1.side)
+        (λ p. stands_before ss (known.side ∷ []) p.1.id p.1.side) index.paired is.own_sides
 
     -- beside its key
-    pub paired_more : IsIndexOf (ks ++ key ∷ []) (record { room = index.room; paired = index.paired ++ (key, id) ∷ []; spilled = index.spilled })
+    pub paired_more : IsIndexOf (ks ++ key ∷ []) (ss ++ known.side ∷ []) (record { room = index.room; paired = index.paired ++ (key, known) ∷ []; spilled = index.spilled })
     paired_more = record {
       differ = differ_more;
       once =
-          subst (λ (ids : List ℕ). IsOneEach (length (ks ++ key ∷ [])) (ids ++ index.spilled)) (sym (map_push (λ (p : Packed × ℕ). p.1) index.paired (key, id)))
-          (IsPermutation-trans (range_with_len 0 (length (ks ++ key ∷ []))) ((paired_ids index ++ index.spilled) ++ id ∷ []) ((paired_ids index ++ id ∷ []) ++ index.spilled) once_more moved);
+          subst (λ (ids : List ℕ). IsOneEach (length (ks ++ key ∷ [])) (ids ++ index.spilled)) (sym (map_push (λ (p : Packed × Known). p.1.id) index.paired (key, known)))
+          (IsPermutation-trans (range_with_len 0 (length (ks ++ key ∷ []))) ((paired_ids index ++ index.spilled) ++ known.id ∷ []) ((paired_ids index ++ known.id ∷ []) ++ index.spilled) once_more moved);
       own_keys =
-          All-push (λ (p : Packed × ℕ). slice_get (ks ++ key ∷ []) p.1 ≡ Some p.0) index.paired (key, id) own_more
+          All-push (λ (p : Packed × Known). slice_get (ks ++ key ∷ []) p.1.id ≡ Some p.0) index.paired (key, known) keys_more
           (subst (λ (i : ℕ). slice_get (ks ++ key ∷ []) i ≡ Some key) (sym place) (stands_last ks key));
+      own_sides =
+          All-push (λ (p : Packed × Known). slice_get (ss ++ known.side ∷ []) p.1.id ≡ Some p.1.side) index.paired (key, known) sides_more
+          (subst (λ (i : ℕ). slice_get (ss ++ known.side ∷ []) i ≡ Some known.side) (sym beside) (stands_last ss known.side));
     }
       where
-        moved : IsPermutation ((paired_ids index ++ index.spilled) ++ id ∷ []) ((paired_ids index ++ id ∷ []) ++ index.spilled)
+        moved : IsPermutation ((paired_ids index ++ index.spilled) ++ known.id ∷ []) ((paired_ids index ++ known.id ∷ []) ++ index.spilled)
         moved =
-            subst (λ (ys : List ℕ). IsPermutation ((paired_ids index ++ index.spilled) ++ id ∷ []) ys)
-            (sym (append_assoc (paired_ids index) (id ∷ []) index.spilled))
-            (subst (λ (ys : List ℕ). IsPermutation ys (paired_ids index ++ (id ∷ [] ++ index.spilled))) (sym (append_assoc (paired_ids index) index.spilled (id ∷ [])))
-            (IsPermutation-append_right (paired_ids index) (index.spilled ++ id ∷ []) (id ∷ [] ++ index.spilled) (IsPermutation-append_comm index.spilled (id ∷ []))))
+            subst (λ (ys : List ℕ). IsPermutation ((paired_ids index ++ index.spilled) ++ known.id ∷ []) ys)
+            (sym (append_assoc (paired_ids index) (known.id ∷ []) index.spilled))
+            (subst (λ (ys : List ℕ). IsPermutation ys (paired_ids index ++ (known.id ∷ [] ++ index.spilled))) (sym (append_assoc (paired_ids index) index.spilled (known.id ∷ [])))
+            (IsPermutation-append_right (paired_ids index) (index.spilled ++ known.id ∷ []) (known.id ∷ [] ++ index.spilled) (IsPermutation-append_comm index.spilled (known.id ∷ []))))
 
     -- alone
-    pub spilled_more : IsIndexOf (ks ++ key ∷ []) (record { room = index.room; paired = index.paired; spilled = index.spilled ++ id ∷ [] })
+    pub spilled_more : IsIndexOf (ks ++ key ∷ []) (ss ++ known.side ∷ []) (record { room = index.room; paired = index.paired; spilled = index.spilled ++ known.id ∷ [] })
     spilled_more = record {
       differ = differ_more;
-      once = subst (λ (ys : List ℕ). IsOneEach (length (ks ++ key ∷ [])) ys) (append_assoc (paired_ids index) index.spilled (id ∷ [])) once_more;
-      own_keys = own_more;
+      once = subst (λ (ys : List ℕ). IsOneEach (length (ks ++ key ∷ [])) ys) (append_assoc (paired_ids index) index.spilled (known.id ∷ [])) once_more;
+      own_keys = keys_more;
+      own_sides = sides_more;
     }
 
 -- the place of a key among those of the entries is the id of its entry
@@ -193,24 +213,54 @@ other_key es id z key other stands =
     let key_is : (get_or es id z).key ≡ key = cc in
     same_key_false (get_or es id z).key key other key_is
 
--- what is found among the spilled ids, where the look-up finds nothing
-pub spilled_or_none : (es : List Entry) (index : Indexed) (key : Packed) (o : Option ℕ)
-    → IsIndexOf (keys es) index → lookup (same_key key) index.paired ≡ None
-    → IfSome o (λ id. slice_get (keys es) id ≡ Some key)
-    → IfNone o (All (λ id. slice_get (keys es) id ≢ Some key) index.spilled) → o ≡ id_of es key
-spilled_or_none es index key None is none some apart = sym (absent_id es key (absent_key (keys es) index is key none apart))
-spilled_or_none es index key (Some id) is none some apart = sym (found_id es key id is.differ some)
+-- what is known of a key by its place and the side there
+pub known_by_place : (es : List Entry) (key : Packed) (known : Known)
+    → AllPairs (λ (p q : Packed). p ≢ q) (keys es) → slice_get (keys es) known.id ≡ Some key → slice_get (sides es) known.id ≡ Some known.side → IsKnown es key known
+known_by_place es key known differ stands beside = by (slice_get es known.id) refl
+  where
+    side_there : (o : Option Entry) → slice_get es known.id ≡ o → option_map (λ (e : Entry). e.side) o ≡ Some known.side
+    side_there o is = ap (option_map (λ (e : Entry). e.side)) (sym is) ∙ sym (slice_get-map (λ (e : Entry). e.side) es known.id) ∙ beside
+
+    by : (o : Option Entry) → slice_get es known.id ≡ o → IsKnown es key known
+    by None is =
+        let no : ◌≡◌ {A = Option Side} None (Some known.side) = side_there None is in cc
+    by (Some e) is =
+        let same : Some e.side ≡ Some known.side = side_there (Some e) is in
+        let side : e.side ≡ known.side = cc in
+        record { id = found_id es key known.id differ stands; entry = e; stands = is; side = side }
+
+-- what is found among the spilled ids
+pub spilled_known : (es : List Entry) (index : Indexed) (key : Packed) (o : Option Known)
+    → IsIndexOf (keys es) (sides es) index
+    → IfSome o (λ known. slice_get (keys es) known.id ≡ Some key)
+    → IfSome o (λ known. slice_get (sides es) known.id ≡ Some known.side)
+    → IfSome o (λ known. IsKnown es key known)
+spilled_known es index key None is stands beside = tt
+spilled_known es index key (Some known) is stands beside = known_by_place es key known is.differ stands beside
+
+-- where the look-up finds nothing, and none is found among them, no entry has the key
+pub spilled_none : (es : List Entry) (index : Indexed) (key : Packed) (o : Option Known)
+    → IsIndexOf (keys es) (sides es) index → lookup (same_key key) index.paired ≡ None
+    → IfNone o (All (λ id. slice_get (keys es) id ≢ Some key) index.spilled) → IfNone o (id_of es key ≡ None)
+spilled_none es index key None is none apart = absent_id es key (absent_key (keys es) (sides es) index is key none apart)
+spilled_none es index key (Some known) is none apart = tt
 
 -- the index of the entries at other stages
-pub index_restaged : (old new : List Entry) (index : Indexed) → SameButStages old new → IsIndexOf (keys old) index → IsIndexOf (keys new) index
-index_restaged old new index same is = subst (λ (ks : List Packed). IsIndexOf ks index) (sym (same_keys old new same)) is
+pub index_restaged : (old new : List Entry) (index : Indexed) → SameButStages old new → IsIndexOf (keys old) (sides old) index → IsIndexOf (keys new) (sides new) index
+index_restaged old new index same is =
+    subst (λ (ks : List Packed). IsIndexOf ks (sides new) index) (sym (same_keys old new same))
+    (subst (λ (ss : List Side). IsIndexOf (keys old) ss index) (sym (kept_sides old new same)) is)
 
 -- the index of one entry more
 pub index_more : (es : List Entry) (e : Entry) (id : ℕ) (old new : Indexed) (fs : List Entry)
-    → IsIndexOf (keys es) old → id_of es e.key ≡ None → id ≡ 0 + length es → fs ≡ es ++ e ∷ []
-    → ((known : List Packed) → IsIndexOf known old → All (λ (k : Packed). k ≢ e.key) known → id ≡ length known → IsIndexOf (known ++ e.key ∷ []) new)
-    → IsIndexOf (keys fs) new
+    → IsIndexOf (keys es) (sides es) old → id_of es e.key ≡ None → id ≡ 0 + length es → fs ≡ es ++ e ∷ []
+    → ((ks : List Packed) (ss : List Side)
+    → IsIndexOf ks ss old → All (λ (k : Packed). k ≢ e.key) ks → id ≡ length ks → id ≡ length ss
+    → IsIndexOf (ks ++ e.key ∷ []) (ss ++ e.side ∷ []) new)
+    → IsIndexOf (keys fs) (sides fs) new
 index_more es e id old new fs is none place pushed adds =
     let behind : id ≡ length (keys es) = omega (arith, place, length-map es (λ (f : Entry). f.key)) in
-    subst (λ (ks : List Packed). IsIndexOf ks new) (sym (map_push (λ (f : Entry). f.key) es e) ∙ ap keys (sym pushed))
-    (adds (keys es) is (id_of_none es e.key none) behind)
+    let beside : id ≡ length (sides es) = omega (arith, place, length-map es (λ (f : Entry). f.side)) in
+    subst (λ (ks : List Packed). IsIndexOf ks (sides fs) new) (sym (map_push (λ (f : Entry). f.key) es e) ∙ ap keys (sym pushed))
+    (subst (λ (ss : List Side). IsIndexOf (keys es ++ e.key ∷ []) ss new) (sym (map_push (λ (f : Entry). f.side) es e) ∙ ap sides (sym pushed))
+    (adds (keys es) (sides es) is (id_of_none es e.key none) behind beside))

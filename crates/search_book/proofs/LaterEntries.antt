@@ -57,7 +57,8 @@ later_finished t id e (Some end) i f at stands = (f, (stands, later_itself f))
 pub later_after : (s t : State) (event : Event) (i : ℕ) (f : Entry) → After s event t → StandsAt s.entries i f → HasLater t.entries i f
 later_after s t (Claim worker) i f (id, is) stands =
     subst (λ (u : State). HasLater u.entries i f) (sym is.after)
-    (later_set s.entries id is.entry (record is.entry { stage = InFlight worker }) i f is.next.stands (later_in_flight is.entry worker is.next.unclaimed) stands)
+    (later_set s.entries id is.entry (record is.entry { stage = InFlight worker }) i f is.next.stands
+    (later_in_flight is.entry worker is.next.unclaimed) stands)
 later_after s t (Settle worker id) i f is stands =
     let u : Taken = taken_all s.problem.budget id is.entry.side s.entries is.offers in
     let grown : Appends s.entries u.entries = all_append s.problem.budget id is.entry.side is.offers (record { entries = s.entries; end = None }) in

@@ -34,7 +34,8 @@ not_again : (events : List Event) (s t : State) (run : Runs s events t) (id : �
 not_again [] s t run id e stands was = All-nil (λ (i : ℕ). id ≢ i)
 not_again (Claim worker ∷ events) s t (u, (claim, run)) id e stands was =
     let later = later_after s u (Claim worker) id e claim stands in
-    let other : id ≢ claim.0 = λ same. was (ap (λ (f : Entry). f.stage) (entry_once s.entries id claim.0 e claim.1.entry same stands claim.1.next.stands) ∙ claim.1.next.unclaimed) in
+    let other : id ≢ claim.0 = λ same. was (ap (λ (f : Entry). f.stage) (entry_once s.entries id claim.0 e claim.1.entry same stands claim.1.next.stands)
+    ∙ claim.1.next.unclaimed) in
     All-cons (λ (i : ℕ). id ≢ i) claim.0 (claimed_ids u events t run) other (not_again events u t run id later.0 later.1.0 (later.1.1.claimed was))
 not_again (Settle worker settled ∷ events) s t (u, (settlement, run)) id e stands was =
     let later = later_after s u (Settle worker settled) id e settlement stands in

@@ -16,6 +16,9 @@ StandsAt entries id e = slice_get entries id ≡ Some e
 abbrev pub keys : List Entry → List Packed
 keys entries = map (λ (e : Entry). e.key) entries
 
+abbrev pub sides : List Entry → List Side
+sides entries = map (λ (e : Entry). e.side) entries
+
 -- the id of the entry with this key
 abbrev pub id_of : List Entry → Packed → Option ℕ
 id_of entries key = position (λ (e : Entry). same_key e.key key) entries

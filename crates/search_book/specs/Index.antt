@@ -3,20 +3,33 @@ use Rattle.std.specs.Prelude.{◌≡◌, ◌≢◌, ◌++◌, ℕ, List, Some, l
 use Rattle.std.specs.List.{All, AllPairs}
 use Rattle.grid_core.specs.Diagram.{IsOneEach}
 use Rattle.grid_canon.specs.declared.key.Packed.{Packed}
+use Rattle.search_book.specs.declared.problem.Side.{Side}
+use Rattle.search_book.specs.declared.entry.Entry.{Entry}
+use Rattle.search_book.specs.declared.index.Known.{Known}
+use Rattle.search_book.specs.Entries.{StandsAt, id_of}
 
--- the ids that stand beside their keys, those that stand alone, and for how many of these there is room
+-- what is known of a key: the id of the entry that has it, and its side
+pub record IsKnown (entries : List Entry) (key : Packed) (known : Known) : Type 0 where
+  pub id : id_of entries key ≡ Some known.id
+  pub entry : Entry
+  pub stands : StandsAt entries known.id entry
+  pub side : entry.side ≡ known.side
+
+-- what stands beside the keys, the ids that stand alone, and for how many of these there is room
 pub record Indexed : Type 0 where
   pub room : ℕ
-  pub paired : List (Packed × ℕ)
+  pub paired : List (Packed × Known)
   pub spilled : List ℕ
 
 abbrev pub paired_ids : Indexed → List ℕ
-paired_ids index = map (λ (p : Packed × ℕ). p.1) index.paired
+paired_ids index = map (λ (p : Packed × Known). p.1.id) index.paired
 
--- the ids are the places of the keys, no two of which are one
-pub record IsIndexOf (keys : List Packed) (index : Indexed) : Type 0 where
+-- the ids are the places of the keys, no two of which are one, and of the sides
+pub record IsIndexOf (keys : List Packed) (sides : List Side) (index : Indexed) : Type 0 where
   pub differ : AllPairs (λ (p q : Packed). p ≢ q) keys
   -- each id stands in exactly one of the two lists, and once
   pub once : IsOneEach (length keys) (paired_ids index ++ index.spilled)
   -- what stands beside an id is its key
-  pub own_keys : All (λ (p : Packed × ℕ). slice_get keys p.1 ≡ Some p.0) index.paired
+  pub own_keys : All (λ (p : Packed × Known). slice_get keys p.1.id ≡ Some p.0) index.paired
+  -- and its side
+  pub own_sides : All (λ (p : Packed × Known). slice_get sides p.1.id ≡ Some p.1.side) index.paired

@@ -1,23 +1,32 @@
-//! The ids of the entries by their keys.
-ghost use Rattle.std.specs.Prelude.{◌≡◌, ◌≢◌, ◌<◌, ◌≤◌, ◌++◌, ◌∷◌, [], List, length, slice_get, IfOk, IfSome, IfNone, Some};
+//! The ids and sides of the entries by their keys.
+ghost use Rattle.std.specs.Prelude.{◌≡◌, ◌≢◌, ◌<◌, ◌≤◌, ◌++◌, ◌∷◌, [], List, length, slice_get, IfOk, IfSome, IfNone, Some, None};
 ghost use Rattle.std.specs.List.{All};
 ghost use Rattle.grid_canon.specs.declared.key.Packed.{Packed};
-ghost use Rattle.search_book.specs.Entries.{id_of};
-ghost use Rattle.search_book.specs.Entries.{keys};
-ghost use Rattle.search_book.specs.Index.{IsIndexOf};
+ghost use Rattle.search_book.specs.declared.problem.Side.{Side};
+ghost use Rattle.search_book.specs.Entries.{id_of, keys, sides};
+ghost use Rattle.search_book.specs.Index.{IsIndexOf, IsKnown};
 
 use crate::entry::Entry;
+use crate::problem::Side;
 use grid_canon::Packed;
 use indexmap::IndexMap;
 use memory_core::OutOfMemory;
 use std::alloc::Global;
 use std::marker::Model;
 
-/// The ids of keys. An id stands beside its key in a map, or, where the map had no memory for the pair, alone in a list,
-/// whose memory was taken before: so each id finds a place, and no call but the first one can want memory.
+/// What is known of a key: the id of the entry that has it, and the entry's side.
+#[derive(Clone, Copy, Debug, PartialEq, Eq)]
+pub struct Known {
+    pub id: u32,
+    pub side: Side,
+}
+
+/// The ids of keys. An id stands beside its key in a map, with the side of its entry, so that a look-up need not read the entry;
+/// or, where the map had no memory for the pair, alone in a list, whose memory was taken before: so each id finds a place, and no
+/// call but the first one can want memory.
 #[derive(Drop)]
 pub struct Index {
-    by_key: IndexMap<Packed, u32>,
+    by_key: IndexMap<Packed, Known>,
     spilled: Vec<u32>,
 }
 
@@ -34,7 +43,7 @@ impl Index {
     /// No id, with room for so many.
     pub fn reserve(alloc: Global, room: u32) -> Result<Index, OutOfMemory>
         ensures room { IfOk result (λ index. room ≤ index.room) }
-        ensures index { IfOk result (λ index. IsIndexOf [] index) }
+        ensures index { IfOk result (λ index. IsIndexOf [] [] index) }
     {
         let by_key = IndexMap::with_capacity(alloc, room as usize)?;
         let spilled = Vec::with_capacity(alloc, room as usize)?;
@@ -45,51 +54,55 @@ impl Index {
     #[cfg(test)]
     pub fn without_map(alloc: Global, room: u32) -> Result<Index, OutOfMemory>
         ensures room { IfOk result (λ index. room ≤ index.room) }
-        ensures index { IfOk result (λ index. IsIndexOf [] index) }
+        ensures index { IfOk result (λ index. IsIndexOf [] [] index) }
     {
         let by_key = IndexMap::new(alloc);
         let spilled = Vec::with_capacity(alloc, room as usize)?;
         Ok(Index { by_key, spilled })
     }
 
-    /// Adds the id of a key behind all others. While the map has room to spare it asks for no memory; no clause says so, and where
-    /// the map is refused memory the id spills.
-    pub fn add(&mut self, key: Packed, id: u32)
+    /// Adds what is known of a key behind all others. While the map has room to spare it asks for no memory; no clause says so, and
+    /// where the map is refused memory the id spills.
+    pub fn add(&mut self, key: Packed, known: Known)
         requires { length self.old.spilled < self.old.room }
         ensures room { self.new.room ≡ self.old.room }
-        ensures index { (known : List Packed)
-            → IsIndexOf known self.old
-            → All (λ (k : Packed). k ≢ key) known
-            → id ≡ length known
-            → IsIndexOf (known ++ key ∷ []) self.new }
+        ensures index { (old_keys : List Packed) (old_sides : List Side)
+            → IsIndexOf old_keys old_sides self.old
+            → All (λ (k : Packed). k ≢ key) old_keys
+            → known.id ≡ length old_keys
+            → known.id ≡ length old_sides
+            → IsIndexOf (old_keys ++ key ∷ []) (old_sides ++ known.side ∷ []) self.new }
     {
-        match self.by_key.insert(key, id) {
+        match self.by_key.insert(key, known) {
             Ok(_) => {}
-            Err(_) => self.spilled.push_reserved(id),
+            Err(_) => self.spilled.push_reserved(known.id),
         }
     }
 
-    /// The id of the entry with this key, of the entries whose index this is.
-    pub fn find(&self, entries: &[Entry], key: Packed) -> Option<u32>
-        requires { IsIndexOf (keys entries.now) self.now }
-        ensures { result ≡ id_of entries.now key }
+    /// What is known of a key, by the entries whose index this is.
+    pub fn find(&self, entries: &[Entry], key: Packed) -> Option<Known>
+        requires { IsIndexOf (keys entries.now) (sides entries.now) self.now }
+        ensures some { IfSome result (λ known. IsKnown entries.now key known) }
+        ensures none { IfNone result (id_of entries.now key ≡ None) }
     {
         match self.by_key.get(&key) {
-            Some(id) => Some(*id),
-            None => spilled_id(entries, self.spilled.as_slice(), key),
+            Some(known) => Some(*known),
+            None => spilled_entry(entries, self.spilled.as_slice(), key),
         }
     }
 }
 
-/// The first of the ids whose entry has this key.
-fn spilled_id(entries: &[Entry], ids: &[u32], key: Packed) -> Option<u32>
+/// The first of the ids whose entry has this key, and the side of that entry.
+fn spilled_entry(entries: &[Entry], ids: &[u32], key: Packed) -> Option<Known>
     requires { All (λ id. id < length entries.now) ids.now }
-    ensures some { IfSome result (λ id. slice_get (keys entries.now) id ≡ Some key) }
+    ensures key { IfSome result (λ known. slice_get (keys entries.now) known.id ≡ Some key) }
+    ensures side { IfSome result (λ known. slice_get (sides entries.now) known.id ≡ Some known.side) }
     ensures none { IfNone result (All (λ id. slice_get (keys entries.now) id ≢ Some key) ids.now) }
 {
     for id in ids {
         if entries[*id as usize].key == key {
-            return Some(*id);
+            let side = entries[*id as usize].side;
+            return Some(Known { id: *id, side });
         }
     }
     None

@@ -1,5 +1,5 @@
 //! The offers of an entry are taken, and the entry is settled.
-ghost use Rattle.std.specs.Prelude.{◌≡◌, ◌≤◌, ◌<◌, length, slice_get, Some, IsTrue, true, ◌↔◌};
+ghost use Rattle.std.specs.Prelude.{◌≡◌, ◌≤◌, ◌<◌, length, Some, IsTrue, true, ◌↔◌};
 ghost use Rattle.std.specs.List.{All};
 ghost use Rattle.frontier_core.specs.declared.sizes.TheConstants.{SIZES};
 ghost use Rattle.grid_canon.specs.Key.{size_of};
@@ -12,6 +12,7 @@ ghost use Rattle.search_book.specs.Roll.{is_in_flight};
 use crate::answer::Held;
 use crate::entry::{Entry, Origin, Stage};
 use crate::event::{End, Meeting};
+use crate::index::Known;
 use crate::problem::Side;
 use crate::roll::Roll;
 use next_moves::Offer;
@@ -68,7 +69,7 @@ fn take(roll: &mut Roll, budget: u32, id: u32, side: Side, offer: Offer) -> Opti
     ensures taken { weighed budget id side roll.old.entries offer ≡ record { entries = roll.new.entries; end = result } }
 {
     match roll.find(offer.key) {
-        Some(other) => met_or_passed_over(roll, id, side, offer, other),
+        Some(known) => met_or_passed_over(id, side, offer, known),
         None => {
             if roll.len() < budget {
                 roll.admit(Entry {
@@ -89,16 +90,15 @@ fn take(roll: &mut Roll, budget: u32, id: u32, side: Side, offer: Offer) -> Opti
 }
 
 /// An offered entry of the other side ends the book, and one of this side is passed over.
-fn met_or_passed_over(roll: &Roll, id: u32, side: Side, offer: Offer, other: u32) -> Option<End>
-    requires { other < length roll.now.entries }
-    ensures { result ≡ met_or_passed_over id side offer other (slice_get roll.now.entries other) }
+fn met_or_passed_over(id: u32, side: Side, offer: Offer, known: Known) -> Option<End>
+    ensures { (e : Entry) → e.side ≡ known.side → result ≡ met_or_passed_over id side offer known.id (Some e) }
 {
-    if roll.entries()[other as usize].side == side {
+    if known.side == side {
         None
     } else {
         Some(End::Met(Meeting::Offered {
             id,
-            other,
+            other: known.id,
             link: offer.link,
         }))
     }

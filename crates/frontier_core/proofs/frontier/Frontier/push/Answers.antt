@@ -16,11 +16,14 @@ longer-requires c = pushing.counts c.self.inside.next.items c.self.inside.queues
 
 pub invariant_of-self : goal.invariant_of-self
 invariant_of-self c =
-    rw (c.end_before-end.ensures, c.longer.ensures) (pushing.still_linked c.self.inside.next.items c.self.inside.queues c.self.inside.mask c.self.invariant c.args.self.now c.self.view_is c.args.id c.args.size c.requires.below c.requires.free c.requires.size c.with_size-self-inside.result c.with_size-self-inside.ensures.set c.with_size-self-inside.ensures.others)
+    rw (c.end_before-end.ensures, c.longer.ensures)
+    (pushing.still_linked c.self.inside.next.items c.self.inside.queues c.self.inside.mask c.self.invariant c.args.self.now c.self.view_is c.args.id c.args.size c.requires.below c.requires.free c.requires.size c.with_size-self-inside.result c.with_size-self-inside.ensures.set c.with_size-self-inside.ensures.others)
 
-lists : (c : goal.After-self-2-1) → held_by (set c.self.inside.next.items c.end_before-end.result c.args.id) (set c.self.inside.queues c.args.size c.longer.result) ≡ pushed c.args.self.now c.args.id c.args.size
+lists : (c : goal.After-self-2-1) → held_by (set c.self.inside.next.items c.end_before-end.result c.args.id)
+    (set c.self.inside.queues c.args.size c.longer.result) ≡ pushed c.args.self.now c.args.id c.args.size
 lists c =
-    ap₂ (λ (e : ℕ) (r : Queue). held_by (set c.self.inside.next.items e c.args.id) (set c.self.inside.queues c.args.size r)) c.end_before-end.ensures c.longer.ensures
+    ap₂ (λ (e : ℕ) (r : Queue). held_by (set c.self.inside.next.items e c.args.id)
+    (set c.self.inside.queues c.args.size r)) c.end_before-end.ensures c.longer.ensures
     ∙ pushing.held_after c.self.inside.next.items c.self.inside.queues c.self.inside.mask c.self.invariant c.args.self.now c.self.view_is c.args.id c.args.size c.requires.below c.requires.free c.requires.size
 
 pub returns-clause-lists : goal.returns-clause-lists
@@ -29,5 +32,7 @@ returns-clause-lists c = lists c
 pub returns-clause-order : goal.returns-clause-order
 returns-clause-order c = λ order is.
     let same = lists c in
-    let within : c.args.size < length c.args.self.now.by_size = pushing.has_size c.self.inside.next.items c.self.inside.queues c.self.inside.mask c.self.invariant c.args.self.now c.self.view_is c.args.id c.args.size c.requires.below c.requires.free c.requires.size in
-    subst (λ (h : Held). IsOrderOf (order ++ sized c.args.id c.args.size ∷ []) h) (sym same) (order_pushed order c.args.self.now c.args.id c.args.size within is)
+    let within : c.args.size < length c.args.self.now.by_size =
+    pushing.has_size c.self.inside.next.items c.self.inside.queues c.self.inside.mask c.self.invariant c.args.self.now c.self.view_is c.args.id c.args.size c.requires.below c.requires.free c.requires.size in
+    subst (λ (h : Held). IsOrderOf (order ++ sized c.args.id c.args.size ∷ []) h) (sym same)
+    (order_pushed order c.args.self.now c.args.id c.args.size within is)

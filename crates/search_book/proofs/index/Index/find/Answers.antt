@@ -3,30 +3,42 @@ use Rattle.std.specs.Map.{lookup}
 use Rattle.std.proofs.lemmas.List.{length-map}
 use Rattle.grid_canon.specs.Key.{same_key}
 use Rattle.search_book.specs.declared.entry.Entry.{Entry}
-use Rattle.search_book.specs.Entries.{keys}
+use Rattle.search_book.specs.Entries.{keys, sides}
 use Rattle.search_book.specs.Index.{Indexed, IsIndexOf}
-use Rattle.search_book.proofs.Indexes.{place_of_pair, spilled_inside, spilled_or_none, found_id}
+use Rattle.search_book.proofs.Indexes.{place_of_pair, side_of_pair, spilled_inside, spilled_known, spilled_none, known_by_place}
 use Rattle.search_book.proofs.index.Index.find.Goals as goal
 
-pub spilled_id-requires : goal.spilled_id-requires
-spilled_id-requires c =
+pub spilled_entry-requires : goal.spilled_entry-requires
+spilled_entry-requires c =
     let old : Indexed = record { room = vec_capacity c.self.inside.spilled; paired = c.self.inside.by_key.entries; spilled = c.self.inside.spilled.items } in
-    let is : IsIndexOf (keys c.args.entries.now) old = subst (λ (index : Indexed). IsIndexOf (keys c.args.entries.now) index) (sym c.self.view_is) c.requires in
+    let is : IsIndexOf (keys c.args.entries.now) (sides c.args.entries.now) old =
+    subst (λ (index : Indexed). IsIndexOf (keys c.args.entries.now) (sides c.args.entries.now) index) (sym c.self.view_is) c.requires in
     subst (λ (ids : List ℕ). All (λ (id : ℕ). id < length c.args.entries.now) ids) (sym c.as_slice.ensures.value)
-    (subst (λ (n : ℕ). All (λ (id : ℕ). id < n) c.self.inside.spilled.items) (length-map c.args.entries.now (λ (e : Entry). e.key)) (spilled_inside (keys c.args.entries.now) old is))
+    (subst (λ (n : ℕ). All (λ (id : ℕ). id < n) c.self.inside.spilled.items) (length-map c.args.entries.now (λ (e : Entry). e.key)) (spilled_inside (keys c.args.entries.now) (sides c.args.entries.now) old is))
 
-pub returns-in-Some : goal.returns-in-Some
-returns-in-Some c =
+pub returns-in-Some-clause-some : goal.returns-in-Some-clause-some
+returns-in-Some-clause-some c =
     let old : Indexed = record { room = vec_capacity c.self.inside.spilled; paired = c.self.inside.by_key.entries; spilled = c.self.inside.spilled.items } in
-    let is : IsIndexOf (keys c.args.entries.now) old = subst (λ (index : Indexed). IsIndexOf (keys c.args.entries.now) index) (sym c.self.view_is) c.requires in
-    let found : lookup (same_key c.args.key) old.paired ≡ Some c.in-Some.id.now = sym c.in-Some.ensures.value in
-    sym (found_id c.args.entries.now c.args.key c.in-Some.id.now is.differ (place_of_pair (keys c.args.entries.now) old is c.args.key c.in-Some.id.now found))
+    let is : IsIndexOf (keys c.args.entries.now) (sides c.args.entries.now) old =
+    subst (λ (index : Indexed). IsIndexOf (keys c.args.entries.now) (sides c.args.entries.now) index) (sym c.self.view_is) c.requires in
+    let found : lookup (same_key c.args.key) old.paired ≡ Some c.in-Some.known.now = sym c.in-Some.ensures.value in
+    known_by_place c.args.entries.now c.args.key c.in-Some.known.now is.differ
+    (place_of_pair (keys c.args.entries.now) (sides c.args.entries.now) old is c.args.key c.in-Some.known.now found)
+    (side_of_pair (keys c.args.entries.now) (sides c.args.entries.now) old is c.args.key c.in-Some.known.now found)
 
-pub returns-in-None : goal.returns-in-None
-returns-in-None c =
+pub returns-in-None-clause-some : goal.returns-in-None-clause-some
+returns-in-None-clause-some c =
     let old : Indexed = record { room = vec_capacity c.self.inside.spilled; paired = c.self.inside.by_key.entries; spilled = c.self.inside.spilled.items } in
-    let is : IsIndexOf (keys c.args.entries.now) old = subst (λ (index : Indexed). IsIndexOf (keys c.args.entries.now) index) (sym c.self.view_is) c.requires in
+    let is : IsIndexOf (keys c.args.entries.now) (sides c.args.entries.now) old =
+    subst (λ (index : Indexed). IsIndexOf (keys c.args.entries.now) (sides c.args.entries.now) index) (sym c.self.view_is) c.requires in
+    spilled_known c.args.entries.now old c.args.key c.spilled_entry.result is c.spilled_entry.ensures.key c.spilled_entry.ensures.side
+
+pub returns-in-None-clause-none : goal.returns-in-None-clause-none
+returns-in-None-clause-none c =
+    let old : Indexed = record { room = vec_capacity c.self.inside.spilled; paired = c.self.inside.by_key.entries; spilled = c.self.inside.spilled.items } in
+    let is : IsIndexOf (keys c.args.entries.now) (sides c.args.entries.now) old =
+    subst (λ (index : Indexed). IsIndexOf (keys c.args.entries.now) (sides c.args.entries.now) index) (sym c.self.view_is) c.requires in
     let none : lookup (same_key c.args.key) old.paired ≡ None = sym c.in-None.ensures.value in
-    let apart : IfNone c.spilled_id.result (All (λ (id : ℕ). slice_get (keys c.args.entries.now) id ≢ Some c.args.key) old.spilled) =
-    subst (λ (ids : List ℕ). IfNone c.spilled_id.result (All (λ (id : ℕ). slice_get (keys c.args.entries.now) id ≢ Some c.args.key) ids)) c.as_slice.ensures.value c.spilled_id.ensures.none in
-    spilled_or_none c.args.entries.now old c.args.key c.spilled_id.result is none c.spilled_id.ensures.some apart
+    let apart : IfNone c.spilled_entry.result (All (λ (id : ℕ). slice_get (keys c.args.entries.now) id ≢ Some c.args.key) old.spilled) =
+    subst (λ (ids : List ℕ). IfNone c.spilled_entry.result (All (λ (id : ℕ). slice_get (keys c.args.entries.now) id ≢ Some c.args.key) ids)) c.as_slice.ensures.value c.spilled_entry.ensures.none in
+    spilled_none c.args.entries.now old c.args.key c.spilled_entry.result is none apart

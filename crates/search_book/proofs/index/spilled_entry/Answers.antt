@@ -3,7 +3,7 @@ use Rattle.std.proofs.lemmas.List.{take_all}
 use Rattle.std.proofs.lemmas.List.Elements.{All-more}
 use Rattle.search_book.specs.Entries.{keys}
 use Rattle.search_book.proofs.Indexes.{other_key}
-use Rattle.search_book.proofs.index.spilled_id.Goals as goal
+use Rattle.search_book.proofs.index.spilled_entry.Goals as goal
 
 pub loop-id-preserved : goal.loop-id-preserved
 loop-id-preserved c =

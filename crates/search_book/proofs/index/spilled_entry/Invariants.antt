@@ -1,7 +1,7 @@
 use Rattle.std.proofs.Common.{◌≢◌, Some, slice_get, take}
 use Rattle.std.specs.List.{All}
 use Rattle.search_book.specs.Entries.{keys}
-use Rattle.search_book.proofs.index.spilled_id.Given as goal
+use Rattle.search_book.proofs.index.spilled_entry.Given as goal
 
 -- none of the ids so far is the place of the key
 abbrev pub invariant-loop-id : goal.invariant-loop-id
