@@ -3,6 +3,7 @@
 
 mod finding;
 mod gate;
+mod hand;
 mod holding;
 mod locked;
 mod many;

@@ -12,12 +12,18 @@ use next_moves::Offers;
 use search_book::{Book, Claim, Settled};
 use std::sync::ledger::{Book as Tally, Ledger, Share};
 
-/// An entry that a worker has claimed, with all that its offers need: its diagram, and the cap of the book.
+/// How many entries that are not settled are plenty: more than all workers have in hand at once, so that none goes without one
+/// where another claims several.
+const PLENTY: u64 = 4096;
+
+/// An entry that a worker has claimed, with all that its offers need: its diagram, and the cap of the book. And whether there
+/// is plenty of entries that are not settled.
 #[derive(Drop)]
 pub struct Task {
     pub id: u32,
     pub form: LeastForm,
     pub cap: u8,
+    pub plenty: bool,
 }
 
 /// The answer to a worker that asks for a task.
@@ -104,6 +110,7 @@ impl<L: Ledger, M: Ledger> Locked<L, M> {
                 id: ticket.id,
                 form: ticket.form,
                 cap,
+                plenty: is_plenty(book),
             }),
             Claim::Later => {
                 *waiting = waiting.saturating_add(1);
@@ -177,6 +184,11 @@ impl<L: Ledger, M: Ledger> Locked<L, M> {
         let settled = book.settles();
         (book, settled)
     }
+}
+
+/// Whether there is plenty of entries that are not settled.
+fn is_plenty(book: &Book) -> bool {
+    u64::from(book.len()).saturating_sub(book.settles()) >= PLENTY
 }
 
 /// One settlement of the book, which the seat and the ledger of settlements count where the offers were taken.

@@ -1,11 +1,12 @@
 //! A book that many workers share.
-ghost use Rattle.std.specs.Prelude.{◌≡◌, ◌≢◌, ◌<◌, ◌≤◌, ◌+◌, [], None, true, vec_len, IfOk, IfSome, IfNone};
+ghost use Rattle.std.specs.Prelude.{◌≡◌, ◌≢◌, ◌<◌, ◌≤◌, ◌+◌, [], None, vec_len, IfOk, IfSome, IfNone, true, false};
 ghost use Rattle.search_pool.specs.declared.many.TheConstants.{MAX_WORKERS};
 ghost use Rattle.search_book.specs.Events.{settlements};
 ghost use Rattle.search_pool.specs.Seats.{SeatState, fresh_seats, all_made, how_many_saw_end};
 ghost use Rattle.search_pool.specs.Task.{AllowsOffers};
 
 use crate::gate::Gate;
+use crate::hand::{Hand, Place};
 use crate::holding::{hold, hold_again};
 use crate::locked::{Handed, Locked, Task, Waking};
 use crate::seat::Seat;
@@ -62,31 +63,90 @@ impl<L: Ledger, M: Ledger> SharedBook<L, M> {
         Ok((shared, seats))
     }
 
-    /// Works at the book until its end is seen: claims the next entry, passes the gate, finds the offers and settles the
-    /// entry with them, again and again. Where each entry is claimed and the book is not over it waits for others. Each
-    /// settlement that it makes is counted in its seat. What is promised holds where it returns. As the code is written it
-    /// takes no memory: of all that it calls only the index of the book has an allocator, with room for the whole budget.
+    /// Works at the book until its end is seen: claims the next entry, and further ones where there is plenty of them, passes the
+    /// gate and finds the offers for each, and settles them, again and again. Where each entry is claimed and the book is not over it
+    /// waits for others. Each settlement that it makes is counted in its seat. What is promised holds where it returns. As the code
+    /// is written it takes no memory: of all that it calls only the index of the book has an allocator, with room for the whole
+    /// budget.
     pub fn work<R: Wait, G: Gate>(&self, rt: &R, seat: &mut Seat<L, M>, gate: &G)
         ensures worker { seat.new.worker ≡ seat.old.worker }
         ensures made { seat.old.made ≤ seat.new.made }
         ensures saw_end { seat.new.saw_end ≡ true }
     {
-        let Some(task) = self.next(rt, seat) else {
-            return;
-        };
-        gate.pass(seat.worker(), task.id);
-        let mut offers = Offers::of(&task.form, task.cap);
-        let mut id = task.id;
+        let mut hand = Hand::empty();
         for _ in rt.forever() {
-            self.settle(rt, seat, id, &offers);
-            let Some(task) = self.next(rt, seat) else {
+            if !self.claim_all(rt, seat, &mut hand) {
                 return;
-            };
-            gate.pass(seat.worker(), task.id);
-            offers.renew(&task.form, task.cap);
-            id = task.id;
+            }
+            hand.find_offers(seat.worker(), gate);
+            self.settle_all(rt, seat, &mut hand);
         }
         unreachable!()
+    }
+
+    /// Claims the next task, and further ones where there is plenty, each in a holding of its own; false where the worker saw the end
+    /// before the first. One after the other they cost less: the book stays in its processor's cache.
+    fn claim_all<R: Wait>(&self, rt: &R, seat: &mut Seat<L, M>, hand: &mut Hand) -> bool
+        ensures over { result ≡ false → seat.new.saw_end ≡ true }
+        ensures worker { seat.new.worker ≡ seat.old.worker }
+        ensures made { seat.new.made ≡ seat.old.made }
+    {
+        let Some(task) = self.next(rt, seat) else {
+            return false;
+        };
+        let mut plenty = task.plenty;
+        hand.first.put(task);
+        for place in hand.others.iter_mut() {
+            if !plenty {
+                break;
+            }
+            let Some(task) = self.one_more(rt, seat) else {
+                break;
+            };
+            plenty = task.plenty;
+            place.put(task);
+        }
+        true
+    }
+
+    /// Settles each task in hand, in a holding of its own.
+    fn settle_all<R: Wait>(&self, rt: &R, seat: &mut Seat<L, M>, hand: &mut Hand)
+        ensures worker { seat.new.worker ≡ seat.old.worker }
+        ensures made { seat.old.made ≤ seat.new.made }
+    {
+        self.settle_place(rt, seat, &mut hand.first);
+        for place in hand.others.iter_mut() {
+            self.settle_place(rt, seat, place);
+        }
+    }
+
+    /// Settles the task of a place, where there is one, and takes it away.
+    fn settle_place<R: Wait>(&self, rt: &R, seat: &mut Seat<L, M>, place: &mut Place)
+        ensures worker { seat.new.worker ≡ seat.old.worker }
+        ensures made { seat.old.made ≤ seat.new.made }
+    {
+        if let Some((id, offers)) = place.found() {
+            self.settle(rt, seat, id, offers);
+        }
+        place.clear();
+    }
+
+    /// One more task, where there is one.
+    fn one_more<R: Wait>(&self, rt: &R, seat: &mut Seat<L, M>) -> Option<Task>
+        ensures some { IfSome result (λ task. AllowsOffers task) }
+        ensures worker { seat.new.worker ≡ seat.old.worker }
+        ensures made { seat.new.made ≡ seat.old.made }
+    {
+        let (mut guard, call) = hold(rt, &self.lock);
+        match guard.claim(call, seat) {
+            Handed::Work(task) => Some(task),
+            Handed::Over => None,
+            Handed::Later => {
+                // it has others to settle, so it doesn't wait
+                guard.woken();
+                None
+            }
+        }
     }
 
     /// The worker's next task; None where it saw the end. Where there is none yet it goes to wait out of the holding in

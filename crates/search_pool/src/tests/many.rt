@@ -182,3 +182,15 @@ fn eight_workers_meet_from_the_trefoil_and_its_reverse(rt: HostRuntime) -> Resul
     assert!(rt; finding.stray.is_none());
     Ok(())
 }
+
+#[test]
+fn one_worker_has_four_entries_in_hand_where_there_is_plenty(rt: HostRuntime) -> Result<(), Fail> {
+    let problem = problem_of(LEFT_TREFOIL, RIGHT_TREFOIL, 8, 20_000)?;
+    let Ok(finding) = pool(&rt, rt.alloc(), problem, 1, &OpenGate) else {
+        return Err(Fail::from("no memory"));
+    };
+    assert!(rt; matches!(finding.book.end(), Some(End::Spent { .. })));
+    assert!(rt; finding.stray.is_none());
+    assert_eq!(rt; most_in_flight(finding.book.history()), 4);
+    Ok(())
+}

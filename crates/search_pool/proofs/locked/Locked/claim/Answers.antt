@@ -13,6 +13,6 @@ returns-in-Work-clause-handed g c =
 
 pub returns-in-Work-clause-work : goal.returns-in-Work-clause-work
 returns-in-Work-clause-work g c = λ task is.
-    let made : Task = record { id = c.in-Work.ticket.id; form = c.in-Work.ticket.form; cap = c.problem.result.now.cap } in
+    let made : Task = record { id = c.in-Work.ticket.id; form = c.in-Work.ticket.form; cap = c.problem.result.now.cap; plenty = c.is_plenty.result } in
     let same : made ≡ task = cc in
     subst (λ (t : Task). AllowsOffers t) same (allows_offers c.args.self.now.book c.claim.new.self c.worker.result made c.problem.ensures.sound (record { claims = c.in-Work.ensures.answer.0; ticket = c.in-Work.ensures.answer.1; cap = ap (λ (p : Problem). p.cap) c.problem.ensures.problem }))
