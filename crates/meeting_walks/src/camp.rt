@@ -63,7 +63,7 @@ impl Camp {
     /// Whether a form has the least size.
     fn is_least(&self, table: &Table, number: usize) -> bool {
         match table.get(number) {
-            Some((key, _)) => key.size() == self.low,
+            Some((form, _)) => form.size() == self.low,
             None => false,
         }
     }
@@ -83,9 +83,7 @@ impl Camp {
     /// A random one of the least forms.
     fn any(&self, generator: &mut Pcg32) -> usize {
         let count = self.least.len().min(u32::MAX as usize) as u32;
-        if count == 0 {
-            return self.last;
-        }
-        self.least[below(generator, count) as usize]
+        let place = below(generator, count) as usize;
+        self.least.get(place).copied().unwrap_or(self.last)
     }
 }

@@ -5,22 +5,25 @@ ghost use Rattle.grid_core.specs.Diagram.{size};
 ghost use Rattle.grid_moves.specs.Joining.{Joins};
 ghost use Rattle.grid_canon.specs.Translation.{translate, translates};
 
-use crate::seeker::seek;
-use crate::shifts::{push_shifts, shifts_to};
+use crate::crew::{Crew, Found};
+use crate::shifts::shifts_to;
 use crate::shortening::shortened;
 use crate::spelling::spelled;
+use crate::watch::{Unwatched, Watch};
+use grid_canon::push_shifts;
 use grid_core::Grid;
 use grid_moves::{Move, apply_all};
 use memory_core::OutOfMemory;
 use std::alloc::Global;
+use std::thread::Threads;
 
-/// What bounds a search, and the seed of its random words.
+/// What bounds a search, and the seed of its random words. Where several workers search, the bounds are those of each.
 #[derive(Clone, Copy, Debug, PartialEq, Eq)]
 pub struct Bounds {
-    /// The seed: for the same diagrams, with the same bounds, the same list is found again.
+    /// The seed: for the same diagrams, the same bounds and as many workers, the same list is found again.
     pub seed: u64,
     /// How many steps the walks make before they stop; the start of an excursion is a step, and so is each of its moves. Two excursions,
-    /// one of each side, may pass it, since they are ended first.
+    /// one of each side, may pass it, since they are ended first. Walks that met no new form in a million steps stop before.
     pub steps: u64,
     /// How many forms the table of the walks holds at most. Two excursions, one of each side, add at most `2 * 512 * MAX_SIZE`. Where there
     /// might not be room for so many more, the table is emptied, and both walks begin anew with the random words that follow. With less
@@ -29,10 +32,13 @@ pub struct Bounds {
     pub room: usize,
 }
 
-/// A list of moves that joins the first diagram to the second, or None where the search meets its bounds first; or want of memory.
+/// A list of moves that joins the first diagram to the second: each is legal where it is made, and the last one leads to the second
+/// diagram. Or None where the search ends without one; or want of memory, which is the only error.
 ///
 /// Translates are joined by their shifts, within any bounds. Else the list is sought at random, and need not be the shortest.
 /// None says nothing of the diagrams but that they aren't translates of each other.
+///
+/// One worker searches, in the calling thread.
 pub fn find_joining(
     alloc: Global,
     first: &Grid,
@@ -47,6 +53,32 @@ pub fn find_joining(
             Ok(Some(joined_by_shifts(alloc, first, second, columns, rows)?))
         }
         None => sought(alloc, first, second, bounds),
+    }
+}
+
+/// A list of moves as `find_joining` answers it, sought by so many workers, in as many threads as can be started; 0 counts as 1. Each
+/// worker has a table of its own, and the seed above that of the one before, where 0 is above `u64::MAX`. The list is that of the worker
+/// that makes the fewest steps until its walks meet, the first of those with as few: so it doesn't depend on the order in which the
+/// threads run. Want of memory in one worker is the error, whatever the others have found. The watch is told of the progress of the
+/// first worker.
+pub fn find_joining_by<R: Threads + Sync, W: Watch>(
+    rt: &R,
+    alloc: Global,
+    first: &Grid,
+    second: &Grid,
+    bounds: Bounds,
+    workers: u32,
+    watch: &mut W,
+) -> Result<Option<Vec<Move>>, OutOfMemory>
+    ensures joins { IfOk result (λ found. IfSome found (λ moves. Joins first.now moves.items second.now)) }
+    ensures translates { IfOk result (λ found. Contains (translates first.now) second.now → IsSome found) }
+{
+    match shifts_to(first, second) {
+        Some(shifts) => {
+            let moves = joined_by_shifts(alloc, first, second, shifts.0, shifts.1)?;
+            Ok(Some(moves))
+        }
+        None => sought_by(rt, alloc, first, second, bounds, workers, watch),
     }
 }
 
@@ -69,7 +101,7 @@ fn joined_by_shifts(
     Ok(moves)
 }
 
-/// A list of moves that is found by two walks.
+/// A list of moves that one worker finds in the calling thread.
 fn sought(
     alloc: Global,
     first: &Grid,
@@ -78,10 +110,42 @@ fn sought(
 ) -> Result<Option<Vec<Move>>, OutOfMemory>
     ensures { IfOk result (λ found. IfSome found (λ moves. Joins first.now moves.items second.now)) }
 {
-    let Some(path) = seek(alloc, first, second, bounds)? else {
+    let mut crew = Crew::new(alloc, first, second, bounds, 1)?;
+    crew.work(alloc, &mut Unwatched);
+    joining(alloc, first, second, crew.found(alloc)?)
+}
+
+/// A list of moves that some workers find.
+fn sought_by<R: Threads + Sync, W: Watch>(
+    rt: &R,
+    alloc: Global,
+    first: &Grid,
+    second: &Grid,
+    bounds: Bounds,
+    workers: u32,
+    watch: &mut W,
+) -> Result<Option<Vec<Move>>, OutOfMemory>
+    ensures { IfOk result (λ found. IfSome found (λ moves. Joins first.now moves.items second.now)) }
+{
+    let mut crew = Crew::new(alloc, first, second, bounds, workers)?;
+    crew.work_by(rt, alloc, watch);
+    let found = crew.found(alloc)?;
+    joining(alloc, first, second, found)
+}
+
+/// The moves along a path that was found, made shorter, where they join the diagrams.
+fn joining(
+    alloc: Global,
+    first: &Grid,
+    second: &Grid,
+    found: Option<Found>,
+) -> Result<Option<Vec<Move>>, OutOfMemory>
+    ensures { IfOk result (λ found. IfSome found (λ moves. Joins first.now moves.items second.now)) }
+{
+    let Some(Found { path, seed }) = found else {
         return Ok(None);
     };
-    let path = shortened(alloc, path, bounds.seed)?;
+    let path = shortened(alloc, path, seed)?;
     let Some(moves) = spelled(alloc, first, second, path.as_slice())? else {
         return Ok(None);
     };

@@ -1,9 +1,8 @@
 //! Forms near a path, and which of them are a move apart.
 
 use crate::draws::below;
-use crate::torus::neighbour;
-use grid_canon::{Packed, canonical_key, unpack};
-use grid_core::{Grid, MAX_SIZE};
+use crate::form::Form;
+use grid_core::MAX_SIZE;
 use indexmap::IndexSet;
 use memory_core::OutOfMemory;
 use rand_pcg::Pcg32;
@@ -18,7 +17,7 @@ const UNKNOWN: u32 = u32::MAX;
 /// Forms by number, in the order in which they came, and the moves between them that are known.
 #[derive(Drop)]
 pub(crate) struct Graph {
-    forms: IndexSet<Packed>,
+    forms: IndexSet<Form>,
     nodes: Vec<Node>,
     edges: Vec<Edge>,
 }
@@ -51,13 +50,13 @@ impl Graph {
     }
 
     /// The form of a number.
-    pub(crate) fn form(&self, number: usize) -> Option<Packed> {
+    pub(crate) fn form(&self, number: usize) -> Option<Form> {
         self.forms.get_index(number).copied()
     }
 
     /// The number of a form, which is put in where it isn't there.
-    pub(crate) fn add(&mut self, key: Packed) -> Result<usize, OutOfMemory> {
-        let (number, is_new) = self.forms.insert_full(key)?;
+    pub(crate) fn add(&mut self, form: Form) -> Result<usize, OutOfMemory> {
+        let (number, is_new) = self.forms.insert_full(form)?;
         if is_new {
             self.nodes.push(Node {
                 is_expanded: false,
@@ -120,26 +119,22 @@ impl Graph {
         if let Some(node) = self.nodes.get_mut(number) {
             node.is_expanded = true;
         }
-        let Some(grid) = self.grid(number) else {
+        let Some(form) = self.form(number) else {
             return Ok(());
         };
-        let size = grid.size();
-        for place in 0..4 * size {
-            if let Some(next) = neighbour(&grid, place) {
-                self.meet(number, canonical_key(&next).key, next.size() < size)?;
-            }
+        let torus = form.torus();
+        let steps = torus.steps();
+        for place in 0..steps.count() {
+            let mut next = torus;
+            next.make(steps.at(place));
+            self.meet(number, Form::of(&next), next.size() < torus.size())?;
         }
         Ok(())
     }
 
-    /// The grid of a form.
-    fn grid(&self, number: usize) -> Option<Grid> {
-        unpack(self.form(number)?)
-    }
-
     /// Puts in a neighbour. An exchange with a form that is expanded is known already, since it leads back.
-    fn meet(&mut self, from: usize, key: Packed, is_smaller: bool) -> Result<(), OutOfMemory> {
-        let to = self.add(key)?;
+    fn meet(&mut self, from: usize, form: Form, is_smaller: bool) -> Result<(), OutOfMemory> {
+        let to = self.add(form)?;
         if is_smaller || !self.is_expanded(to) {
             self.tie(from, to)?;
         }

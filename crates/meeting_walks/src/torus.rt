@@ -1,192 +1,260 @@
-//! Random moves of a diagram on the torus: the last column and the last row are neighbours of the first ones. A diagram stands here for all
-//! its translates, so a move that goes round the circle is made on the translate by one.
-ghost use Rattle.std.specs.Prelude.{◌<◌, ◌≤◌, ◌*◌, IfSome};
-ghost use Rattle.grid_core.specs.Diagram.{size};
+//! Diagrams on the torus, changed in place. The last column and the last row are neighbours of the first ones there: such a diagram stands
+//! for all translates of a grid, and a move that goes round the circle is a move like any other.
 
-use crate::draws::below;
-use grid_canon::translate;
-use grid_core::{Corner, Grid, Kind};
-use grid_moves::{Move, apply};
-use rand_pcg::Pcg32;
+use crate::lines::{Lines, Marks, after};
+use grid_core::{Corner, Grid, Kind, MAX_SIZE};
 
-/// How many exchanges are drawn before none is thought to be legal.
-const DRAWS: u32 = 64;
-
-/// The grid after a random stabilisation, or None where it has the greatest size.
-pub(crate) fn stabilised(grid: &Grid, generator: &mut Pcg32) -> Option<Grid> {
-    let size = grid.size();
-    let column = below(generator, u32::from(size)) as u8;
-    let place = below(generator, 8) as u8;
-    apply(grid, stabilisation(column, place)).ok()
+/// A diagram on the torus: the marks of its columns, and again those of its rows.
+#[derive(Clone, Copy, PartialEq, Eq)]
+pub(crate) struct Torus {
+    size: u8,
+    columns: Lines,
+    rows: Lines,
 }
 
-/// The stabilisation in a column at a place of eight: two kinds by four corners.
-pub(crate) fn stabilisation(column: u8, place: u8) -> Move {
-    let kind = if place < 4 { Kind::Cross } else { Kind::Ring };
-    let corner = match place % 4 {
-        0 => Corner::LowLeft,
-        1 => Corner::LowRight,
-        2 => Corner::HighLeft,
-        _ => Corner::HighRight,
-    };
-    Move::Stabilise {
-        column,
-        kind,
-        corner,
+/// A move that makes no diagram larger.
+#[derive(Clone, Copy, Debug, PartialEq, Eq)]
+pub(crate) enum Step {
+    /// A column and the next one trade places.
+    ExchangeColumns(u8),
+    /// A row and the next one trade places.
+    ExchangeRows(u8),
+    /// A column and the next one, which share a row, become one, and the row is taken out.
+    Destabilise(u8),
+}
+
+/// The legal ones of these moves, a bit for each.
+#[derive(Clone, Copy, Debug)]
+pub(crate) struct Steps {
+    columns: u64,
+    rows: u64,
+    destabilisations: u64,
+}
+
+impl Steps {
+    /// How many there are.
+    pub(crate) fn count(&self) -> u32 {
+        let exchanges = self
+            .columns
+            .count_ones()
+            .saturating_add(self.rows.count_ones());
+        exchanges.saturating_add(self.destabilisations.count_ones())
+    }
+
+    /// The one of a number, from 0: the exchanges of columns first, then those of rows.
+    pub(crate) fn at(&self, number: u32) -> Step {
+        let columns = self.columns.count_ones();
+        let rows = self.rows.count_ones();
+        if number < columns {
+            return Step::ExchangeColumns(bit_at(self.columns, number));
+        }
+        let number = number - columns;
+        if number < rows {
+            return Step::ExchangeRows(bit_at(self.rows, number));
+        }
+        Step::Destabilise(bit_at(self.destabilisations, number - rows))
     }
 }
 
-/// A translate of the grid after a random legal exchange, or None where `DRAWS` draws found none.
-pub(crate) fn exchanged(grid: &Grid, generator: &mut Pcg32) -> Option<Grid> {
-    let size = grid.size();
-    for _draw in 0..DRAWS {
-        let place = below(generator, 2 * u32::from(size)) as u8;
-        let next = exchanged_at(grid, place);
-        if next.is_some() {
-            return next;
+/// The place of the bit of a number, from 0, among those that are set.
+fn bit_at(bits: u64, number: u32) -> u8 {
+    let mut rest = bits;
+    for _bit in 0..number {
+        rest &= rest.wrapping_sub(1);
+    }
+    (rest.trailing_zeros() % 64) as u8
+}
+
+impl Torus {
+    /// The diagram on the torus of a grid.
+    pub(crate) fn of(grid: &Grid) -> Torus {
+        let size = grid.size();
+        let mut columns = Lines::none();
+        for column in 0..size {
+            let marks = Marks {
+                cross: grid.row_of(Kind::Cross, column),
+                ring: grid.row_of(Kind::Ring, column),
+            };
+            columns.set(column, marks);
+        }
+        Torus::by_columns(size, columns)
+    }
+
+    /// The diagram with these columns.
+    pub(crate) fn by_columns(size: u8, columns: Lines) -> Torus {
+        let mut torus = Torus {
+            size,
+            columns,
+            rows: Lines::none(),
+        };
+        for column in 0..size {
+            torus.rows.place(columns.marks(column), column);
+        }
+        torus.columns.close(size);
+        torus.rows.close(size);
+        torus
+    }
+
+    /// The grid with these columns, or None where they are those of none.
+    pub(crate) fn grid(&self) -> Option<Grid> {
+        let size = self.size as usize;
+        if size > MAX_SIZE {
+            return None;
+        }
+        let mut crosses = [0u8; MAX_SIZE];
+        let mut rings = [0u8; MAX_SIZE];
+        for column in 0..size {
+            let marks = self.columns.marks(column as u8);
+            crosses[column] = marks.cross;
+            rings[column] = marks.ring;
+        }
+        Grid::new(&crosses[..size], &rings[..size]).ok()
+    }
+
+    /// The number of columns, which is that of the rows.
+    pub(crate) fn size(&self) -> u8 {
+        self.size
+    }
+
+    /// The rows of the marks of a column.
+    pub(crate) fn marks(&self, column: u8) -> Marks {
+        self.columns.marks(column)
+    }
+
+    /// The legal exchanges.
+    pub(crate) fn exchanges(&self) -> Steps {
+        Steps {
+            columns: self.columns.exchanges(self.size),
+            rows: self.rows.exchanges(self.size),
+            destabilisations: 0,
         }
     }
-    None
-}
 
-/// A translate of the grid after the exchange at a place: of a column and the next one, or behind them of a row and the next one.
-fn exchanged_at(grid: &Grid, place: u8) -> Option<Grid>
-    requires { place < 2 * size grid.now }
-{
-    let size = grid.size();
-    if place < size - 1 {
-        apply(grid, Move::ExchangeColumns(place)).ok()
-    } else if place == size - 1 {
-        apply(&translate(grid, 1, 0), Move::ExchangeColumns(size - 2)).ok()
-    } else if place < 2 * size - 1 {
-        apply(grid, Move::ExchangeRows(place - size)).ok()
-    } else {
-        apply(&translate(grid, 0, 1), Move::ExchangeRows(size - 2)).ok()
+    /// The legal destabilisations.
+    pub(crate) fn destabilisations(&self) -> Steps {
+        Steps {
+            columns: 0,
+            rows: 0,
+            destabilisations: self.columns.destabilisations(self.size),
+        }
     }
-}
 
-/// A translate of the grid after a random destabilisation, or None where there is none.
-pub(crate) fn destabilised(grid: &Grid, generator: &mut Pcg32) -> Option<Grid> {
-    let block = random_block(grid, generator)?;
-    destabilised_at(grid, block)
-}
-
-/// A translate of the grid after the destabilisation of a block, or None where it hasn't three marks.
-fn destabilised_at(grid: &Grid, block: Block) -> Option<Grid>
-    requires column { block.column < size grid.now }
-    requires row { block.row < size grid.now }
-{
-    let last = grid.size() - 1;
-    let columns = u8::from(block.column == last);
-    let rows = u8::from(block.row == last);
-    let step = Move::Destabilise {
-        column: block.column - columns,
-        row: block.row - rows,
-    };
-    apply(&translate(grid, columns, rows), step).ok()
-}
-
-/// A translate of the grid after the exchange at a place, or behind those after a destabilisation, or None where it isn't legal.
-/// Each exchange and each destabilisation has a place below `4 * size`.
-pub(crate) fn neighbour(grid: &Grid, place: u8) -> Option<Grid>
-    requires { place < 4 * size grid.now }
-{
-    let size = grid.size();
-    if place < 2 * size {
-        exchanged_at(grid, place)
-    } else {
-        let place = place - 2 * size;
-        let block = block_at(grid, place / 2, place % 2 == 0)?;
-        destabilised_at(grid, block)
+    /// The legal exchanges and destabilisations.
+    pub(crate) fn steps(&self) -> Steps {
+        Steps {
+            columns: self.columns.exchanges(self.size),
+            rows: self.rows.exchanges(self.size),
+            destabilisations: self.columns.destabilisations(self.size),
+        }
     }
-}
 
-/// Two columns and two rows that are neighbours round the circle, by the first of each.
-#[derive(Clone, Copy)]
-struct Block {
-    column: u8,
-    row: u8,
-}
+    /// Makes a legal move. One that isn't may leave columns of no diagram.
+    pub(crate) fn make(&mut self, step: Step) {
+        let size = self.size;
+        match step {
+            Step::ExchangeColumns(column) => {
+                exchange(&mut self.columns, &mut self.rows, column, size);
+            }
+            Step::ExchangeRows(row) => {
+                exchange(&mut self.rows, &mut self.columns, row, size);
+            }
+            Step::Destabilise(column) => self.destabilise(column),
+        }
+    }
 
-/// One of the blocks of three marks, each with the same chance, or None where there is none.
-fn random_block(grid: &Grid, generator: &mut Pcg32) -> Option<Block>
-    ensures column { IfSome result (λ block. block.column < size grid.now) }
-    ensures row { IfSome result (λ block. block.row < size grid.now) }
-{
-    let size = grid.size();
-    let mut found = None;
-    let mut seen = 0;
-    for place in 0..2 * size {
-        if let Some(block) = block_at(grid, place / 2, place % 2 == 0) {
-            seen += 1;
-            if below(generator, seen) == 0 {
-                found = Some(block);
+    /// Takes the row that a column and the next one share out, and makes one column of both.
+    fn destabilise(&mut self, column: u8) {
+        let size = self.size;
+        let next = after(column, size);
+        let near = self.marks(column);
+        let far = self.marks(next);
+        let (row, rest) = if far.cross == near.ring {
+            (
+                near.ring,
+                Marks {
+                    cross: near.cross,
+                    ring: far.ring,
+                },
+            )
+        } else {
+            (
+                near.cross,
+                Marks {
+                    cross: far.cross,
+                    ring: near.ring,
+                },
+            )
+        };
+        let mut columns = Lines::none();
+        for from in 0..size {
+            let marks = if from == column {
+                rest
+            } else {
+                self.marks(from)
+            };
+            let to = if from < next {
+                from
+            } else {
+                from.saturating_sub(1)
+            };
+            if from != next {
+                columns.set(to, marks.lowered(row));
             }
         }
+        *self = Torus::by_columns(size.saturating_sub(1), columns);
     }
-    found
-}
 
-/// The block that has both marks of a column and one of the next column, or of the one before, where there is one.
-fn block_at(grid: &Grid, column: u8, with_next: bool) -> Option<Block>
-    requires { column < size grid.now }
-    ensures column { IfSome result (λ block. block.column < size grid.now) }
-    ensures row { IfSome result (λ block. block.row < size grid.now) }
-{
-    let size = grid.size();
-    let row = low_row(grid, column)?;
-    let near = if with_next {
-        after(column, size)
-    } else {
-        before(column, size)
-    };
-    let cross = is_one_of(grid.row_of(Kind::Cross, near), row, size);
-    let ring = is_one_of(grid.row_of(Kind::Ring, near), row, size);
-    if cross == ring {
-        return None;
+    /// Puts a block of three marks, the one of the other kind at a corner, in place of the mark of a kind in a column; or answers false,
+    /// and changes nothing, where there is no room.
+    pub(crate) fn stabilise(&mut self, column: u8, kind: Kind, corner: Corner) -> bool {
+        let size = self.size;
+        if size as usize >= MAX_SIZE {
+            return false;
+        }
+        let old = self.marks(column);
+        let row = old.of(kind).wrapping_add(corner.row());
+        let old = old.lifted(row);
+        let crossed = Marks {
+            cross: old.cross,
+            ring: row,
+        };
+        let ringed = Marks {
+            cross: row,
+            ring: old.ring,
+        };
+        let is_left = corner.column() == 0;
+        let (left, right) = if (kind == Kind::Cross) == is_left {
+            (crossed, ringed)
+        } else {
+            (ringed, crossed)
+        };
+        let mut columns = self.widened(column, row);
+        columns.set(column, left);
+        columns.set(column.wrapping_add(1), right);
+        *self = Torus::by_columns(size + 1, columns);
+        true
     }
-    Some(Block {
-        column: if with_next { column } else { near },
-        row,
-    })
-}
 
-/// The first of the two rows of a column's marks, where they are neighbours round the circle.
-fn low_row(grid: &Grid, column: u8) -> Option<u8>
-    requires { column < size grid.now }
-    ensures { IfSome result (λ row. row < size grid.now) }
-{
-    let size = grid.size();
-    let cross = grid.row_of(Kind::Cross, column);
-    let ring = grid.row_of(Kind::Ring, column);
-    if after(cross, size) == ring {
-        Some(cross)
-    } else if after(ring, size) == cross {
-        Some(ring)
-    } else {
-        None
+    /// The columns where one more row is put in at a place, with room for one more column behind the given one.
+    fn widened(&self, column: u8, row: u8) -> Lines {
+        let mut columns = Lines::none();
+        for from in 0..self.size {
+            let to = if from <= column { from } else { from + 1 };
+            columns.set(to, self.marks(from).lifted(row));
+        }
+        columns
     }
 }
 
-/// Whether a row is the given one or the next round the circle.
-fn is_one_of(mark: u8, row: u8, size: u8) -> bool
-    requires { row < size }
-{
-    mark == row || mark == after(row, size)
-}
-
-/// The next number round the circle of `size`.
-fn after(number: u8, size: u8) -> u8
-    requires { number < size }
-    ensures { result < size }
-{
-    if number + 1 == size { 0 } else { number + 1 }
-}
-
-/// The number before round the circle of `size`.
-fn before(number: u8, size: u8) -> u8
-    requires { number < size }
-    ensures { result < size }
-{
-    if number == 0 { size - 1 } else { number - 1 }
+/// Lets a line and the next one trade places. The marks of the lines across them follow.
+fn exchange(lines: &mut Lines, across: &mut Lines, line: u8, size: u8) {
+    let next = after(line, size);
+    let near = lines.marks(line);
+    let far = lines.marks(next);
+    lines.set(line, far);
+    lines.set(next, near);
+    lines.close(size);
+    across.place(near, next);
+    across.place(far, line);
+    across.close(size);
 }

@@ -1,0 +1,172 @@
+//! The workers of a search, each with walks, a table and random words of its own, and the rounds in which they work.
+//!
+//! In a round each worker goes on until it has made as many steps as the round allows. Where some have met, the others go on to the
+//! least number of steps at which one has. So the answer is that of the fewest steps whatever the threads' order.
+
+use crate::finding::Bounds;
+use crate::form::Form;
+use crate::seeker::Seeker;
+use crate::watch::Watch;
+use grid_core::Grid;
+use memory_core::OutOfMemory;
+use std::alloc::Global;
+use std::thread;
+use std::thread::Threads;
+
+/// A round has at least so many steps.
+const SHORT_ROUND: u64 = 2048;
+
+/// And it has at most so many.
+const LONG_ROUND: u64 = 65536;
+
+/// The workers.
+#[derive(Drop)]
+pub(crate) struct Crew {
+    seekers: Vec<Seeker>,
+    /// The steps after which no worker goes on.
+    steps: u64,
+    /// The steps that the last round allowed.
+    limit: u64,
+}
+
+/// A path of forms from one diagram's to another's, each a move away from the one before.
+#[derive(Drop)]
+pub(crate) struct Found {
+    pub(crate) path: Vec<Form>,
+    /// The seed of the worker that found it.
+    pub(crate) seed: u64,
+}
+
+impl Crew {
+    /// Some workers, at least one, at their starts. Worker w has the seed w above the given one.
+    pub(crate) fn new(
+        alloc: Global,
+        first: &Grid,
+        second: &Grid,
+        bounds: Bounds,
+        workers: u32,
+    ) -> Result<Crew, OutOfMemory> {
+        let mut seekers = Vec::new(alloc);
+        for worker in 0..workers.max(1) {
+            let own = Bounds {
+                seed: bounds.seed.wrapping_add(u64::from(worker)),
+                steps: bounds.steps,
+                room: bounds.room,
+            };
+            seekers.push(Seeker::new(alloc, first, second, own)?)?;
+        }
+        Ok(Crew {
+            seekers,
+            steps: bounds.steps,
+            limit: 0,
+        })
+    }
+
+    /// Works in the calling thread until the search is over.
+    pub(crate) fn work<W: Watch>(&mut self, alloc: Global, watch: &mut W) {
+        for _round in 0..self.steps {
+            let Some(limit) = self.next_limit() else {
+                break;
+            };
+            for seeker in self.seekers.iter_mut() {
+                seeker.walk(alloc, limit);
+            }
+            self.report(watch);
+        }
+    }
+
+    /// Works in as many threads as there are workers until the search is over.
+    pub(crate) fn work_by<R: Threads + Sync, W: Watch>(
+        &mut self,
+        rt: &R,
+        alloc: Global,
+        watch: &mut W,
+    ) {
+        let workers = self.seekers.len().max(1);
+        for _round in 0..self.steps {
+            let Some(limit) = self.next_limit() else {
+                break;
+            };
+            let go_on = |_at: usize, seeker: &mut Seeker| seeker.walk(alloc, limit);
+            thread::for_each_mut(rt, self.seekers.as_mut_slice(), workers, &go_on);
+            self.report(watch);
+        }
+    }
+
+    /// Begins a round, and answers the steps that it allows; or None where no worker has steps to make.
+    fn next_limit(&mut self) -> Option<u64> {
+        let most = self.most_steps();
+        if self.is_done(most) {
+            return None;
+        }
+        let more = (self.limit / 4).clamp(SHORT_ROUND, LONG_ROUND);
+        self.limit = self.limit.saturating_add(more).min(most);
+        Some(self.limit)
+    }
+
+    /// The steps after which a worker has no say: the fewest with which one has met, or the bound.
+    fn most_steps(&self) -> u64 {
+        self.fewest_steps().unwrap_or(self.steps).min(self.steps)
+    }
+
+    /// The fewest steps with which a worker has met, or None where none has.
+    fn fewest_steps(&self) -> Option<u64> {
+        let mut fewest = None;
+        for seeker in &self.seekers {
+            if seeker.has_met() {
+                fewest = Some(seeker.made().min(fewest.unwrap_or(u64::MAX)));
+            }
+        }
+        fewest
+    }
+
+    /// Whether each worker has ended or made so many steps, or one found no memory.
+    fn is_done(&self, most: u64) -> bool {
+        let seekers = self.seekers.as_slice();
+        self.is_out_of_memory()
+            || seekers
+                .iter()
+                .all(|seeker| seeker.has_ended() || seeker.made() >= most)
+    }
+
+    /// Whether a worker found no memory.
+    fn is_out_of_memory(&self) -> bool {
+        self.seekers
+            .as_slice()
+            .iter()
+            .any(|seeker| seeker.is_out_of_memory())
+    }
+
+    /// Tells how far the first worker is.
+    fn report<W: Watch>(&self, watch: &mut W) {
+        if let Some(seeker) = self.seekers.as_slice().first() {
+            watch.note(seeker.progress());
+        }
+    }
+
+    /// What the worker with the fewest steps has found, the lowest of those with as few; or None where none has. Want of memory in one of
+    /// them is an error.
+    pub(crate) fn found(&self, alloc: Global) -> Result<Option<Found>, OutOfMemory> {
+        if self.is_out_of_memory() {
+            return Err(OutOfMemory);
+        }
+        let fewest = self.fewest_steps();
+        for seeker in &self.seekers {
+            if seeker.has_met() && Some(seeker.made()) == fewest {
+                return found_by(alloc, seeker);
+            }
+        }
+        Ok(None)
+    }
+}
+
+/// What a worker has found.
+fn found_by(alloc: Global, seeker: &Seeker) -> Result<Option<Found>, OutOfMemory> {
+    match seeker.path(alloc)? {
+        Some(path) => Ok(Some(Found {
+            path,
+            seed: seeker.seed(),
+        })),
+        None => Ok(None),
+    }
+}
