@@ -54,7 +54,7 @@ listed_text : (listed : List NamedQuandle) → AllByRecursion HasQuandleText lis
 listed_text [] all = built_in_text
 listed_text (q ∷ qs) all = all
 
-quandles_text : (bytes : List ℕ) (p : ProblemText) → problem_of bytes ≡ Ok p → AllByRecursion HasQuandleText p.quandles
+pub quandles_text : (bytes : List ℕ) (p : ProblemText) → problem_of bytes ≡ Ok p → AllByRecursion HasQuandleText p.quandles
 quandles_text bytes p is =
     let said = (problem_in_says (text_of bytes)).of p is in
     let are = said.1.quandles in

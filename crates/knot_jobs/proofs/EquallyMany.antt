@@ -21,7 +21,8 @@ use Rattle.knot_jobs.specs.EquallyMany.{HaveEquallyMany}
 -- a closure has as many colourings as the braid's action has fixed points: they are read at the feet
 as_many_at_the_feet : (t : Table) → IsQuandle t → (b : Word) → IsBraid b → length (colourings t (closure b)) ≡ length (fixed_points t b)
 as_many_at_the_feet t q b braid =
-    let feet : IsBijection (IsColouring t (closure b)) (IsFixedPoint t b) (at_feet b) = record { into = feet_fixed t q b braid; onto = feet_onto t q b braid; one = feet_one t q b braid } in
+    let feet : IsBijection (IsColouring t (closure b)) (IsFixedPoint t b) (at_feet b) =
+    record { into = feet_fixed t q b braid; onto = feet_onto t q b braid; one = feet_one t q b braid } in
     equal_lengths (IsColouring t (closure b)) (IsFixedPoint t b) (at_feet b) feet (colourings t (closure b)) (fixed_points t b)
     (listing t (closure b)) (fixed_listing t b)
 

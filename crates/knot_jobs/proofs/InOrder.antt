@@ -1,5 +1,5 @@
 -- The images of all lists of one kind under a bijection, put in order, are the ascending list of all of the other kind.
-use Rattle.std.proofs.Common.{◌≡◌, ◌≢◌, ◌∙◌, ◌<◌, ◌≤◌, ◌+◌, ◌↔◌, ℕ, zero, suc, List, [], ◌∷◌, Bool, true, false, cond, length, get_or, map, All, arith, refl, sym, ap, subst, inl, inr}
+use Rattle.std.proofs.Common.{◌≡◌, ◌≢◌, ◌∙◌, ◌<◌, ◌+◌, ◌↔◌, ℕ, zero, suc, List, [], ◌∷◌, Bool, true, false, cond, length, get_or, map, All, arith, refl, sym, ap, subst, inl, inr}
 use Rattle.std.specs.Prelude.{IsSorted, IsPermutation}
 use Rattle.std.specs.List.{AllPairs, Contains}
 use Rattle.std.specs.Str.{bytes_eq}
@@ -13,7 +13,7 @@ use Rattle.std.proofs.lemmas.Cmp.{nat_list_cmp_total, tied_itself}
 use Rattle.std.proofs.lemmas.Slice.Eq.{bytes_eq-Decides}
 use Rattle.std.proofs.lemmas.List.{length-map, get_or-map}
 use Rattle.std.proofs.lemmas.List.Sums.{sum_by-cons}
-use Rattle.std.proofs.lemmas.List.Elements.{All-contains, All-contains_itself, All-weaker}
+use Rattle.std.proofs.lemmas.List.Elements.{All-contains}
 use Rattle.std.proofs.lemmas.List.Sorted.{sorted_far, ranks_by, Contains-permutation, IsPermutation-sym}
 use Rattle.std.proofs.lemmas.Map.Keys.{IsDistinct-IsPermutation}
 use Rattle.std.proofs.lemmas.Map.Made.{AllPairs-from_IsDistinct, IsDistinct-from_AllPairs}
@@ -22,7 +22,7 @@ use Rattle.arrayvec.specs.ArrayVec.{ArrayVec}
 use Rattle.quandle_core.specs.Colours.{ComesBefore}
 use Rattle.quandle_core.specs.Bijection.{IsBijection}
 use Rattle.quandle_core.proofs.Lengths.{IsOneOf}
-use Rattle.braid_core.proofs.Listed.{IsBefore}
+use Rattle.braid_core.proofs.Listed.{IsBefore, Rises}
 use Rattle.colour_list.specs.Listing.{lists_of, is_same, times}
 
 -- ---- where a list stands
@@ -57,11 +57,6 @@ never_both : (x y : List ℕ) → IsBefore x y → IsBefore y x → ⊥
 never_both x y one two =
     let wrong : ◌≡◌ {A = Ordering} Less Equal = sym (nat_list_cmp_total.trans x y x one two) ∙ tied_itself nat_list_cmp_total x in
     absurd cc
-
--- each list comes before all later ones
-abbrev Rises : List (List ℕ) → Type 0
-Rises [] = Unit {0}
-Rises (x ∷ xs) = All (IsBefore x) xs × Rises xs
 
 rising : (xs : List (List ℕ)) → AllPairs IsBefore xs → Rises xs
 rising [] up = tt

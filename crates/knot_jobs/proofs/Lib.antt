@@ -13,5 +13,6 @@ mod AskedOnce
 mod OneAnswer
 mod Endings
 mod Decisions
-mod PrintedVerdicts
+pub mod PrintedVerdicts
 mod AcceptedBehind
+mod HeldVerdicts

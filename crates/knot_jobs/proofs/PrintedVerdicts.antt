@@ -35,6 +35,7 @@ use Rattle.std.proofs.lemmas.List.{length-map}
 use Rattle.grid_core.specs.Parts.{bottoms}
 use Rattle.colour_list.specs.Fits.{fits}
 use Rattle.knot_jobs.specs.Jobs.Decide.{IsShort}
+use Rattle.knot_jobs.specs.Truth.{IsByWrittenQuandle}
 
 -- ---- moves
 
@@ -101,23 +102,36 @@ few_listed few t d quandle grid fitting lists complete =
     let same : length (colourings t d) ≡ length lists = ap length (sym complete) ∙ length-map lists (λ (c : ArrayVec ℕ). c.items) in
     omega arith
 
+-- the lists by which a quandle that has a text tells diagrams apart have texts
+told_text : FewColourings → (d e : Diagram) (q : NamedQuandle) (one two : List (ArrayVec ℕ)) → IsGrid d → IsGrid e → HasQuandleText q
+    → TellsApart q.table d e (lists_of one) (lists_of two) → HasVerdictText (size d) (size e) (Different q one two)
+told_text few d e q one two first second named told =
+    let quandle = named_is q.name q.table named.names in
+    let of_first = few_listed few q.table d quandle first told.fits_first one told.first in
+    let of_second = few_listed few q.table e quandle second told.fits_second two told.second in
+    (named, lists_text q.table d one told.first of_first, lists_text q.table e two told.second of_second)
+
+-- a verdict that holds, and whose moves, if any, are few
+pub held_text : FewColourings → (d e : Diagram) (v : Verdict) → IsGrid d → IsGrid e → IsByWrittenQuandle v → Holds d e v → IsShort v
+    → HasVerdictText (size d) (size e) v
+held_text few d e (Equal moves) first second written holds short = moves_text moves d e holds short
+held_text few d e (Different q one two) first second named told short = told_text few d e q one two first second named told
+held_text few d e (UnknownBudget budget) first second written holds short = absurd holds
+held_text few d e (UnknownExhausted cap k) first second written holds short = absurd holds
+
 -- by a quandle that has a text
 different_text : FewColourings → (d e : Diagram) (q : NamedQuandle) (v : Verdict) → IsGrid d → IsGrid e → HasQuandleText q → separates d e q.table ≡ true → IsDifferentBy d e q v
     → HasVerdictText (size d) (size e) v
 different_text few d e q v first second named is lists =
     let told : TellsApart q.table d e (lists_of lists.one) (lists_of lists.two) = subst (Holds d e) lists.verdict (holds_by d e q v is lists) in
-    let quandle = named_is q.name q.table named.names in
-    let one = few_listed few q.table d quandle first told.fits_first lists.one lists.of_first in
-    let two = few_listed few q.table e quandle second told.fits_second lists.two lists.of_second in
-    subst (HasVerdictText (size d) (size e)) (sym lists.verdict)
-    (named, lists_text q.table d lists.one lists.of_first one, lists_text q.table e lists.two lists.of_second two)
+    subst (HasVerdictText (size d) (size e)) (sym lists.verdict) (told_text few d e q lists.one lists.two first second named told)
 
 -- what is found stands in the list
 found_by : (P : NamedQuandle → Type 0) (p : NamedQuandle → Bool) (q r : NamedQuandle) (rest : List NamedQuandle) (t : Bool) → cond t (Some q) (find p rest) ≡ Some r → P q → (find p rest ≡ Some r → P r) → P r
 found_by P p q r rest true is here later = let same : q ≡ r = cc in subst P same here
 found_by P p q r rest false is here later = later is
 
-found : (P : NamedQuandle → Type 0) (p : NamedQuandle → Bool) (qs : List NamedQuandle) (r : NamedQuandle) → AllByRecursion P qs → find p qs ≡ Some r → P r
+pub found : (P : NamedQuandle → Type 0) (p : NamedQuandle → Bool) (qs : List NamedQuandle) (r : NamedQuandle) → AllByRecursion P qs → find p qs ≡ Some r → P r
 found P p [] r all is = absurd (let wrong : ◌≡◌ {A = Option NamedQuandle} None (Some r) = is in cc)
 found P p (q ∷ qs) r all is = found_by P p q r qs (p q) is all.0 (found P p qs r all.1)
 

@@ -6,7 +6,8 @@ use Rattle.grid_moves.specs.Joining.{Equivalent}
 use Rattle.verdict_core.specs.declared.diagrams.Diagram.{Diagram}
 use Rattle.verdict_core.specs.declared.problem.ProblemText.{ProblemText}
 use Rattle.verdict_core.specs.declared.verdict.Verdict.{Verdict}
-use Rattle.knot_text.specs.Printed.{verdict_text}
+use Rattle.verdict_core.specs.declared.verdict.Verdict.TheVariants.{Equal, Different, UnknownBudget, UnknownExhausted}
+use Rattle.knot_text.specs.Printed.{verdict_text, HasQuandleText}
 use Rattle.verdict_core.specs.Diagrams.{grid_of}
 use Rattle.knot_text.specs.Shapes.{problem_of, check_of}
 use Rattle.knot_text.specs.Pairs.{pair_of}
@@ -66,6 +67,13 @@ pub record IsDecision (bytes text : List ℕ) : Type 0 where
   pub holds : Holds (grid_of problem.first) (grid_of problem.second) verdict
   pub is_true : IsTrueVerdict problem verdict
   pub accepted : IsAcceptedBehind bytes text
+
+-- the quandle of a verdict, if it is by one, has a text
+abbrev pub IsByWrittenQuandle : Verdict → Type 0
+IsByWrittenQuandle (Equal moves) = Unit {0}
+IsByWrittenQuandle (Different listed one two) = HasQuandleText listed
+IsByWrittenQuandle (UnknownBudget budget) = Unit {0}
+IsByWrittenQuandle (UnknownExhausted cap admitted) = Unit {0}
 
 -- ---- two diagrams that were compared
 

@@ -87,7 +87,8 @@ apart_beyond p qs workers v kept decides none = spent_by p v (true_of p qs worke
 
 told_holds_by : (p : Problem) (qs : List NamedQuandle) (v : Verdict) (kept : Option Finding) → IsToldApart p qs v kept → Holds p.first p.second v
 told_holds_by p qs v kept told =
-    holds_by p.first p.second told.quandle v (find_passes (λ (q : NamedQuandle). separates p.first p.second q.table) qs told.quandle told.first_that_does) told.lists
+    holds_by p.first p.second told.quandle v (find_passes
+    (λ (q : NamedQuandle). separates p.first p.second q.table) qs told.quandle told.first_that_does) told.lists
 
 pub holds_where_decided : (p : Problem) (qs : List NamedQuandle) (workers : ℕ) (v : Verdict) (kept : Option Finding) → Decides p qs workers v kept
     → HasEvidence v → Holds p.first p.second v
@@ -111,6 +112,7 @@ claims_by d e q v w quandle lists holds same =
 pub claims_where_decided : (p : Problem) (qs : List NamedQuandle) (workers : ℕ) (v : Verdict) (kept : Option Finding)
     → All (λ (q : NamedQuandle). IsQuandle q.table) qs → Decides p qs workers v kept → Claims p.first p.second v
 claims_where_decided p qs workers v kept quandles decides = elim decides [
-  | inl told ↦ claims_by p.first p.second told.quandle v v (find_among (λ (q : NamedQuandle). IsQuandle q.table) (λ (q : NamedQuandle). separates p.first p.second q.table) qs told.quandle quandles told.first_that_does) told.lists (told_holds_by p qs v kept told) refl
+  | inl told ↦ claims_by p.first p.second told.quandle v v (find_among (λ (q : NamedQuandle). IsQuandle q.table)
+      (λ (q : NamedQuandle). separates p.first p.second q.table) qs told.quandle quandles told.first_that_does) told.lists (told_holds_by p qs v kept told) refl
   | inr searched ↦ claims_within p v searched.true_within
 ]

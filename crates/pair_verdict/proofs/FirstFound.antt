@@ -14,7 +14,8 @@ use Rattle.pair_verdict.specs.Separates.{separates, first_separating, IsDifferen
 
 -- ---- finding
 
-find_by : {X : Type 0} (p : X → Bool) (y x : X) (t : Bool) (rest : Option X) → p y ≡ t → cond t (Some y) rest ≡ Some x → (rest ≡ Some x → p x ≡ true) → p x ≡ true
+find_by : {X : Type 0} (p : X → Bool) (y x : X) (t : Bool) (rest : Option X) → p y ≡ t → cond t (Some y) rest ≡ Some x → (rest ≡ Some x → p x ≡ true)
+    → p x ≡ true
 find_by p y x true rest e is more = let same : y ≡ x = cc in subst (λ z. p z ≡ true) same e
 find_by p y x false rest e is more = more is
 
@@ -24,7 +25,8 @@ find_passes p [] x is = cc
 find_passes p (y ∷ ys) x is = find_by p y x (p y) (find p ys) refl is (find_passes p ys x)
 
 -- what passes behind a front in which nothing does is found
-find_here : {X : Type 0} (p : X → Bool) (xs : List X) (i : ℕ) (d : X) → i < length xs → find p (take i xs) ≡ None → p (get_or xs i d) ≡ true → find p xs ≡ Some (get_or xs i d)
+find_here : {X : Type 0} (p : X → Bool) (xs : List X) (i : ℕ) (d : X) → i < length xs → find p (take i xs) ≡ None → p (get_or xs i d) ≡ true
+    → find p xs ≡ Some (get_or xs i d)
 find_here p xs i d lt none passes =
     ap (find p) (sym (take-append-drop i xs))
     ∙ find-append p (take i xs) (drop i xs)
@@ -33,7 +35,8 @@ find_here p xs i d lt none passes =
     ∙ ap (λ (t : Bool). cond t (Some (get_or xs i d)) (find p (drop (i + 1) xs))) passes
 
 -- the front with one more that does not
-find_past : {X : Type 0} (p : X → Bool) (xs : List X) (i : ℕ) (d : X) → i < length xs → find p (take i xs) ≡ None → p (get_or xs i d) ≡ false → find p (take (i + 1) xs) ≡ None
+find_past : {X : Type 0} (p : X → Bool) (xs : List X) (i : ℕ) (d : X) → i < length xs → find p (take i xs) ≡ None → p (get_or xs i d) ≡ false
+    → find p (take (i + 1) xs) ≡ None
 find_past p xs i d lt none fails =
     ap (find p) (take_more xs i d lt)
     ∙ find-append p (take i xs) (get_or xs i d ∷ [])
@@ -43,22 +46,31 @@ find_past p xs i d lt none fails =
 -- ---- the loop over the listed quandles
 
 -- the verdict by one quandle, where the quandles before do not separate the diagrams
-by_test : (d e : Diagram) (qs : List NamedQuandle) (i : ℕ) (z : NamedQuandle) (o : Option Verdict) (t : Bool) → separates d e (get_or qs i z).table ≡ t → i < length qs → first_separating d e (take i qs) ≡ None → IsSeparation d e (cond t (Some (get_or qs i z)) None) o → is_some o ≡ true → IsSeparation d e (first_separating d e qs) o
+by_test : (d e : Diagram) (qs : List NamedQuandle) (i : ℕ) (z : NamedQuandle) (o : Option Verdict) (t : Bool) → separates d e (get_or qs i z).table ≡ t
+    → i < length qs → first_separating d e (take i qs) ≡ None → IsSeparation d e (cond t (Some (get_or qs i z)) None) o → is_some o ≡ true
+    → IsSeparation d e (first_separating d e qs) o
 by_test d e qs i z o true is lt none verdict some =
     subst (λ (found : Option NamedQuandle). IsSeparation d e found o) (sym (find_here (λ (q : NamedQuandle). separates d e q.table) qs i z lt none is)) verdict
 by_test d e qs i z None false is lt none verdict some = absurd (let wrong : false ≡ true = some in cc)
 by_test d e qs i z (Some v) false is lt none verdict some = absurd verdict
 
-pub told : (d e : Diagram) (qs : List NamedQuandle) (i : ℕ) (z : NamedQuandle) (o : Option Verdict) → i < length qs → first_separating d e (take i qs) ≡ None → get_or qs i z ≡ z → IsSeparation d e (cond (separates d e z.table) (Some z) None) o → is_some o ≡ true → IsSeparation d e (first_separating d e qs) o
-told d e qs i z o lt none is verdict some = by_test d e qs i z o (separates d e (get_or qs i z).table) refl lt none (subst (λ (q : NamedQuandle). IsSeparation d e (cond (separates d e q.table) (Some q) None) o) (sym is) verdict) some
+pub told : (d e : Diagram) (qs : List NamedQuandle) (i : ℕ) (z : NamedQuandle) (o : Option Verdict) → i < length qs → first_separating d e (take i qs) ≡ None
+    → get_or qs i z ≡ z → IsSeparation d e (cond (separates d e z.table) (Some z) None) o → is_some o ≡ true → IsSeparation d e (first_separating d e qs) o
+told d e qs i z o lt none is verdict some = by_test d e qs i z o (separates d e (get_or qs i z).table) refl lt none
+    (subst (λ (q : NamedQuandle). IsSeparation d e (cond (separates d e q.table) (Some q) None) o) (sym is) verdict) some
 
-none_by_test : (d e : Diagram) (qs : List NamedQuandle) (i : ℕ) (z : NamedQuandle) (o : Option Verdict) (t : Bool) → separates d e (get_or qs i z).table ≡ t → i < length qs → first_separating d e (take i qs) ≡ None → IsSeparation d e (cond t (Some (get_or qs i z)) None) o → is_some o ≡ false → first_separating d e (take (i + 1) qs) ≡ None
+none_by_test : (d e : Diagram) (qs : List NamedQuandle) (i : ℕ) (z : NamedQuandle) (o : Option Verdict) (t : Bool) → separates d e (get_or qs i z).table ≡ t
+    → i < length qs → first_separating d e (take i qs) ≡ None → IsSeparation d e (cond t (Some (get_or qs i z)) None) o → is_some o ≡ false
+    → first_separating d e (take (i + 1) qs) ≡ None
 none_by_test d e qs i z o false is lt none verdict fails = find_past (λ (q : NamedQuandle). separates d e q.table) qs i z lt none is
 none_by_test d e qs i z None true is lt none verdict fails = absurd verdict
 none_by_test d e qs i z (Some v) true is lt none verdict fails = absurd (let wrong : true ≡ false = fails in cc)
 
-pub not_told : (d e : Diagram) (qs : List NamedQuandle) (i : ℕ) (z : NamedQuandle) (o : Option Verdict) → i < length qs → first_separating d e (take i qs) ≡ None → get_or qs i z ≡ z → IsSeparation d e (cond (separates d e z.table) (Some z) None) o → is_some o ≡ false → first_separating d e (take (i + 1) qs) ≡ None
-not_told d e qs i z o lt none is verdict fails = none_by_test d e qs i z o (separates d e (get_or qs i z).table) refl lt none (subst (λ (q : NamedQuandle). IsSeparation d e (cond (separates d e q.table) (Some q) None) o) (sym is) verdict) fails
+pub not_told : (d e : Diagram) (qs : List NamedQuandle) (i : ℕ) (z : NamedQuandle) (o : Option Verdict) → i < length qs
+    → first_separating d e (take i qs) ≡ None → get_or qs i z ≡ z → IsSeparation d e (cond (separates d e z.table) (Some z) None) o → is_some o ≡ false
+    → first_separating d e (take (i + 1) qs) ≡ None
+not_told d e qs i z o lt none is verdict fails = none_by_test d e qs i z o (separates d e (get_or qs i z).table) refl lt none
+    (subst (λ (q : NamedQuandle). IsSeparation d e (cond (separates d e q.table) (Some q) None) o) (sym is) verdict) fails
 
 -- ---- what a separating quandle is worth
 
@@ -80,12 +92,14 @@ holds_by d e q v is lists =
       fits_second = fit.1;
       first = lists.of_first;
       second = lists.of_second;
-      differ = λ same. differ (length (colourings q.table d)) (length (colourings q.table e)) parts.1 (ap length (sym lists.of_first) ∙ same ∙ ap length lists.of_second);
+      differ = λ same. differ (length (colourings q.table d)) (length (colourings q.table e)) parts.1
+          (ap length (sym lists.of_first) ∙ same ∙ ap length lists.of_second);
     })
 
 -- ---- what was found
 
-by_found : (d e : Diagram) (qs : List NamedQuandle) (o : Option NamedQuandle) (v : Verdict) → first_separating d e qs ≡ o → IsSeparation d e o (Some v) → Holds d e v
+by_found : (d e : Diagram) (qs : List NamedQuandle) (o : Option NamedQuandle) (v : Verdict) → first_separating d e qs ≡ o → IsSeparation d e o (Some v)
+    → Holds d e v
 by_found d e qs (Some q) v is lists = holds_by d e q v (find_passes (λ (r : NamedQuandle). separates d e r.table) qs q is) lists
 by_found d e qs None v is lists = absurd lists
 

@@ -64,7 +64,8 @@ holds_within p (UnknownBudget budget) is has = absurd has
 holds_within p (UnknownExhausted cap k) is has = absurd has
 
 -- a search of the simplified diagrams where no quandle tells the given ones apart
-pub was_searched : (p : Problem) (qs : List NamedQuandle) (workers : ℕ) (told : Option Verdict) (one two : Simplified) (f : Finding) (v : Verdict) (kept : Option Finding)
+pub was_searched : (p : Problem) (qs : List NamedQuandle) (workers : ℕ) (told : Option Verdict) (one two : Simplified) (f : Finding) (v : Verdict)
+    (kept : Option Finding)
     → IsSeparation p.first p.second (first_separating p.first p.second qs) told → told ≡ None
     → AreSimplified p one two → size p.first ≤ p.cap → size p.second ≤ p.cap
     → kept ≡ Some f → IsFinding (searched p one two) f

@@ -10,3 +10,4 @@ mod separating;
 mod tests;
 
 pub use decision::{Decision, decide, decide_alone};
+pub use separating::told_apart;

@@ -15,7 +15,7 @@ use verdict_core::{Listed, Verdict};
 
 /// The verdict `different` by the first listed quandle that separates two grids, or None where none does. A quandle that
 /// does not fit both is passed over.
-pub(crate) fn told_apart(
+pub fn told_apart(
     alloc: Global,
     first: &Grid,
     second: &Grid,

@@ -54,11 +54,13 @@ range_from_one n m e =
 pub adds_more_from_one : (d : Diagram) (f : ℕ → Move) (n : ℕ) (a b c : List Candidate) → 0 < n → Adds d (map f (range_with_len 1 (n - 1))) a b
     → Adds d (f n ∷ []) b c → Adds d (map f (range_with_len 1 (n + 1 - 1))) a c
 adds_more_from_one d f n a b c lt one two =
-    subst (λ s. Adds d s a c) (sym (ap (λ zs. map f zs) (range_from_one n (n - 1) (omega (arith, lt))) ∙ map-append f (range_with_len 1 (n - 1)) (n ∷ []))) (adds_then d (map f (range_with_len 1 (n - 1))) (f n ∷ []) a b c one two)
+    subst (λ s. Adds d s a c) (sym (ap (λ zs. map f zs) (range_from_one n (n - 1) (omega (arith, lt))) ∙ map-append f (range_with_len 1 (n - 1)) (n ∷ [])))
+    (adds_then d (map f (range_with_len 1 (n - 1))) (f n ∷ []) a b c one two)
 
 -- one more of a list
 pub adds_taken : {A : Type 0} (d : Diagram) (f : A → Move) (xs : List A) (i : ℕ) (x : A) (a b c : List Candidate) → i < length xs → get_or xs i x ≡ x
     → Adds d (map f (take i xs)) a b → Adds d (f x ∷ []) b c → Adds d (map f (take (i + 1) xs)) a c
 adds_taken d f xs i x a b c lt is one two =
-    subst (λ s. Adds d s a c) (sym (ap (λ ys. map f ys) (take_more xs i x lt) ∙ map-append f (take i xs) (get_or xs i x ∷ []) ∙ ap (λ y. map f (take i xs) ++ f y ∷ []) is))
+    subst (λ s. Adds d s a c) (sym (ap (λ ys. map f ys) (take_more xs i x lt) ∙ map-append f (take i xs) (get_or xs i x ∷ [])
+    ∙ ap (λ y. map f (take i xs) ++ f y ∷ []) is))
     (adds_then d (map f (take i xs)) (f x ∷ []) a b c one two)

@@ -9,7 +9,7 @@ use Rattle.std.proofs.lemmas.List.FromFn.{length-range_with_len, get_or-range_wi
 use Rattle.std.proofs.Math.Nat.{pow-le-pow_left, pow-le-pow_right}
 use Rattle.grid_core.specs.declared.mark.Kind.TheVariants.{Cross, Ring}
 use Rattle.grid_core.specs.Diagram.{Diagram, IsGrid, size, row_of}
-use Rattle.grid_core.specs.Parts.{column_of, column_span, is_bottom, bottoms}
+use Rattle.grid_core.specs.Parts.{column_of, is_bottom, bottoms}
 use Rattle.grid_core.proofs.Marks.{column_mark, no_cell_twice}
 use Rattle.quandle_core.specs.Quandle.{Table}
 use Rattle.colour_list.specs.declared.limits.TheConstants.{MAX_COLOURINGS}
@@ -17,6 +17,7 @@ use Rattle.colour_list.specs.Fits.{fits}
 use Rattle.walk_samples.specs.declared.walk.TheConstants.{LARGEST}
 use Rattle.walk_samples.specs.declared.text.TheConstants.{LARGEST_ORDER}
 use Rattle.grid_core.proofs.Bottoms.{count_more}
+use Rattle.grid_core.proofs.Ends.{low}
 
 -- ---- counts
 
@@ -66,13 +67,11 @@ counted_apart p n i j apart li lj one two =
     let long = length-range_with_len 0 n in
     elim (cases_lt i j) [
       | inl less ↦ counted_twice p (range_with_len 0 n) i j less (omega (arith, lj, long)) (at i li one) (at j lj two)
-      | inr more ↦ counted_twice p (range_with_len 0 n) j i (let h : j < i = omega (arith, more, apart) in h) (omega (arith, li, long)) (at j lj two) (at i li one)
+      | inr more ↦ counted_twice p (range_with_len 0 n) j i (let h : j < i = omega (arith, more, apart) in h) (omega (arith, li, long)) (at j lj two)
+          (at i li one)
     ]
 
 -- ---- bottoms
-
-abbrev low : Diagram → ℕ → ℕ
-low d c = (column_span d c).low
 
 two_begin : (d : Diagram) → IsGrid d → (r : ℕ) → r < size d → is_bottom d r ≡ true → 2 ≤ count_by (λ c. low d c == r) (range_with_len 0 (size d))
 two_begin d grid r lt bottom =
@@ -80,7 +79,8 @@ two_begin d grid r lt bottom =
     let ring = column_mark d grid Ring r lt in
     let begin = and_parts (low d (column_of Cross d r) == r) (low d (column_of Ring d r) == r) bottom in
     counted_apart (λ c. low d c == r) (size d) (column_of Cross d r) (column_of Ring d r)
-    (λ e. no_cell_twice d grid (column_of Cross d r) cross.inside (cross.row ∙ (sym ring.row ∙ ap (row_of Ring d) (sym e)))) cross.inside ring.inside begin.0 begin.1
+    (λ e. no_cell_twice d grid (column_of Cross d r) cross.inside
+    (cross.row ∙ (sym ring.row ∙ ap (row_of Ring d) (sym e)))) cross.inside ring.inside begin.0 begin.1
 
 -- below row k, and so among all rows
 record Half (d : Diagram) (k : ℕ) : Type 0 where
@@ -102,11 +102,18 @@ one_more_row d grid k lt false is below =
 half_below : (d : Diagram) → IsGrid d → (k : ℕ) → k ≤ size d → Half d k
 half_below d grid zero le = record { half = omega arith }
 half_below d grid (suc k) le =
-    subst (λ (m : ℕ). Half d m) (let e : k + 1 ≡ suc k = omega arith in e) (one_more_row d grid k (omega (arith, le)) (is_bottom d k) refl (half_below d grid k (omega (arith, le))))
+    subst (λ (m : ℕ). Half d m) (let e : k + 1 ≡ suc k = omega arith in e)
+    (one_more_row d grid k (omega (arith, le)) (is_bottom d k) refl (half_below d grid k (omega (arith, le))))
 
 pub half_are_bottoms : (d : Diagram) → IsGrid d → 2 * bottoms d ≤ size d
 half_are_bottoms d grid =
-    omega (arith, (half_below d grid (size d) (omega arith)).half, count_by-le-length (λ c. nat_lt (low d c) (size d)) (range_with_len 0 (size d)), length-range_with_len 0 (size d))
+    omega (
+      arith,
+      (half_below d grid (size d) (omega arith)).half,
+      count_by-le-length (λ c. nat_lt (low d c) (size d))
+          (range_with_len 0 (size d)),
+      length-range_with_len 0 (size d),
+    )
 
 -- so a small quandle fits a small diagram
 power_small : (q b : ℕ) → q ≤ LARGEST_ORDER → 2 * b ≤ LARGEST → q ^ b ≤ MAX_COLOURINGS

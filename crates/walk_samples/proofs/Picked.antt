@@ -40,12 +40,14 @@ candidate_fault d move fault c found =
 
 pub candidate_small : (d : Diagram) (move : Move) (e : Diagram) → Contains (candidates d) move → Step d move e → size e ≤ LARGEST
 candidate_small d move e c step =
-    let fits = leb-true (size_after move (size d)) LARGEST (none_both (first_fault d move) (nat_le (size_after move (size d)) LARGEST) (filter_contains (is_candidate d) (all_but_slides (size d)) move c).1).1 in
+    let fits = leb-true (size_after move (size d)) LARGEST (none_both (first_fault d move) (nat_le (size_after move (size d)) LARGEST)
+    (filter_contains (is_candidate d) (all_but_slides (size d)) move c).1).1 in
     omega (arith, fits, step_size move d e step)
 
 -- the shift of columns by 1 is tried first, and it is a candidate
 shifts_by_one : (n k : ℕ) → n ≡ suc k → Contains (map column_shift (range_with_len 1 n)) (ShiftColumns 1)
-shifts_by_one n k e = subst (λ (m : ℕ). Contains (map column_shift (range_with_len 1 m)) (ShiftColumns 1)) (sym e) (contains_first (ShiftColumns 1) (map column_shift (range_with_len 2 k)))
+shifts_by_one n k e = subst (λ (m : ℕ). Contains (map column_shift (range_with_len 1 m)) (ShiftColumns 1)) (sym e)
+    (contains_first (ShiftColumns 1) (map column_shift (range_with_len 2 k)))
 
 tried_first : (n : ℕ) → 2 ≤ n → Contains (all_but_slides n) (ShiftColumns 1)
 tried_first n least =
@@ -82,13 +84,15 @@ listed_length d list is = sym (length-map list (λ (c : Candidate). c.step)) ∙
 picked_at : (list : List Candidate) (moves : List Move) (i : ℕ) (blank : Candidate) → steps_of list ≡ moves → i < length list
     → slice_get moves i ≡ Some (get_or list i blank).step
 picked_at list moves i blank is lt =
-    ap (λ xs. slice_get xs i) (sym is) ∙ slice_get-map (λ (c : Candidate). c.step) list i ∙ ap (λ o. option_map (λ (c : Candidate). c.step) o) (slice_get-get_or list i blank lt)
+    ap (λ xs. slice_get xs i) (sym is) ∙ slice_get-map (λ (c : Candidate). c.step) list i
+    ∙ ap (λ o. option_map (λ (c : Candidate). c.step) o) (slice_get-get_or list i blank lt)
 
 pub picked_from : (d : Diagram) (w n i : ℕ) (list : List Candidate) (blank : Candidate) → steps_of list ≡ candidates d → n ≡ length list → i ≡ w % n
     → i < n → Picks d w (get_or list i blank).step
 picked_from d w n i list blank is count place lt =
     let whole : n ≡ length (candidates d) = count ∙ listed_length d list is in
-    ap (λ (k : ℕ). slice_get (candidates d) k) (ap (λ (k : ℕ). w % k) (sym whole) ∙ sym place) ∙ picked_at list (candidates d) i blank is (omega (arith, lt, count))
+    ap (λ (k : ℕ). slice_get (candidates d) k) (ap (λ (k : ℕ). w % k) (sym whole) ∙ sym place)
+    ∙ picked_at list (candidates d) i blank is (omega (arith, lt, count))
 
 -- what is picked is a candidate
 get_contains : (xs : List Move) (i : ℕ) (x : Move) → slice_get xs i ≡ Some x → Contains xs x

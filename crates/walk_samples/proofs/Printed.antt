@@ -24,12 +24,15 @@ line_pair : (name words a b : List ℕ) → name ++ codes ": " ≡ words → lin
 line_pair name words a b is =
     let behind : List ℕ = a ++ (codes " " ++ (b ++ codes "\n")) in
     append_assoc (name ++ codes ":") (codes " " ++ (a ++ (codes " " ++ (b ++ [])))) (codes "\n")
-    ∙ ap (λ (zs : List ℕ). (name ++ codes ":") ++ (codes " " ++ zs)) (append_assoc a (codes " " ++ (b ++ [])) (codes "\n") ∙ ap (λ (zs : List ℕ). a ++ (codes " " ++ zs)) (append_assoc b [] (codes "\n")))
+    ∙ ap (λ (zs : List ℕ). (name ++ codes ":") ++ (codes " " ++ zs))
+    (append_assoc a (codes " " ++ (b ++ [])) (codes "\n") ∙ ap (λ (zs : List ℕ). a ++ (codes " " ++ zs)) (append_assoc b [] (codes "\n")))
     ∙ append_assoc name (codes ":") (codes " " ++ behind) ∙ sym (append_assoc name (codes ": ") behind) ∙ ap (λ (zs : List ℕ). zs ++ behind) is
 
 five_lines : (k l m n o a b c d e a' b' c' d' e' p q r s t : List ℕ) → k ++ codes ": " ≡ p → l ++ codes ": " ≡ q → m ++ codes ": " ≡ r
     → n ++ codes ": " ≡ s → o ++ codes ": " ≡ t
-    → line_text ((k ++ codes ":") ∷ a ∷ a' ∷ []) ++ (line_text ((l ++ codes ":") ∷ b ∷ b' ∷ []) ++ (line_text ((m ++ codes ":") ∷ c ∷ c' ∷ []) ++ (line_text ((n ++ codes ":") ∷ d ∷ d' ∷ []) ++ (line_text ((o ++ codes ":") ∷ e ∷ e' ∷ []) ++ []))))
+    → line_text ((k ++ codes ":") ∷ a ∷ a' ∷ []) ++ (line_text
+    ((l ++ codes ":") ∷ b ∷ b' ∷ []) ++ (line_text ((m ++ codes ":") ∷ c ∷ c' ∷ []) ++ (line_text
+    ((n ++ codes ":") ∷ d ∷ d' ∷ []) ++ (line_text ((o ++ codes ":") ∷ e ∷ e' ∷ []) ++ []))))
     ≡ pair p a a' ++ (pair q b b' ++ (pair r c c' ++ (pair s d d' ++ pair t e e')))
 five_lines k l m n o a b c d e a' b' c' d' e' p q r s t one two three four five =
     ap₂ (λ (xs ys : List ℕ). xs ++ ys) (line_pair k p a a' one)
@@ -61,13 +64,19 @@ dihedral_7 : named (name.Dihedral 7) 7 ++ codes ": " ≡ codes "dihedral 7: "
 unfolding digits
 dihedral_7 = refl
 
-pub counts_by_name : (d e : Diagram) → counts_text d e ≡ counts (trivial 2) d e (codes "trivial 2: ") ++ (counts (dihedral 3) d e (codes "dihedral 3: ") ++ (counts tetrahedral d e (codes "tetrahedral: ") ++ (counts (dihedral 5) d e (codes "dihedral 5: ") ++ counts (dihedral 7) d e (codes "dihedral 7: "))))
+pub counts_by_name : (d e : Diagram) → counts_text d e
+    ≡ counts (trivial 2) d e (codes "trivial 2: ") ++ (counts (dihedral 3) d e
+    (codes "dihedral 3: ") ++ (counts tetrahedral d e (codes "tetrahedral: ") ++ (counts (dihedral 5) d e (codes "dihedral 5: ") ++ counts (dihedral 7) d e
+    (codes "dihedral 7: "))))
 unfolding counts_text
 counts_by_name d e =
     five_lines (named (name.Trivial 2) 2) (named (name.Dihedral 3) 3) (named name.Tetrahedral 4) (named (name.Dihedral 5) 5) (named (name.Dihedral 7) 7)
-    (decimal (length (colourings (trivial 2) d))) (decimal (length (colourings (dihedral 3) d))) (decimal (length (colourings tetrahedral d))) (decimal (length (colourings (dihedral 5) d))) (decimal (length (colourings (dihedral 7) d)))
-    (decimal (length (colourings (trivial 2) e))) (decimal (length (colourings (dihedral 3) e))) (decimal (length (colourings tetrahedral e))) (decimal (length (colourings (dihedral 5) e))) (decimal (length (colourings (dihedral 7) e)))
-    (codes "trivial 2: ") (codes "dihedral 3: ") (codes "tetrahedral: ") (codes "dihedral 5: ") (codes "dihedral 7: ") trivial_2 dihedral_3 of_order_4 dihedral_5 dihedral_7
+    (decimal (length (colourings (trivial 2) d))) (decimal (length (colourings (dihedral 3) d))) (decimal (length (colourings tetrahedral d)))
+    (decimal (length (colourings (dihedral 5) d))) (decimal (length (colourings (dihedral 7) d)))
+    (decimal (length (colourings (trivial 2) e))) (decimal (length (colourings (dihedral 3) e))) (decimal (length (colourings tetrahedral e)))
+    (decimal (length (colourings (dihedral 5) e))) (decimal (length (colourings (dihedral 7) e)))
+    (codes "trivial 2: ") (codes "dihedral 3: ") (codes "tetrahedral: ") (codes "dihedral 5: ")
+    (codes "dihedral 7: ") trivial_2 dihedral_3 of_order_4 dihedral_5 dihedral_7
 
 -- what was appended for a quandle that is known
 pub counted_by : (t u : Table) (d e : Diagram) (words before after : List ℕ) → t ≡ u → after ≡ before ++ counts t d e words
@@ -83,7 +92,9 @@ pub counts_made : (d e : Diagram) (x v w y z last : List ℕ) → v ≡ x ++ cou
     → z ≡ y ++ counts (dihedral 5) d e (codes "dihedral 5: ") → last ≡ z ++ counts (dihedral 7) d e (codes "dihedral 7: ")
     → last ≡ x ++ counts_text d e
 counts_made d e x v w y z last one two three four five =
-    appended_five x v w y z last (counts (trivial 2) d e (codes "trivial 2: ")) (counts (dihedral 3) d e (codes "dihedral 3: ")) (counts tetrahedral d e (codes "tetrahedral: ")) (counts (dihedral 5) d e (codes "dihedral 5: ")) (counts (dihedral 7) d e (codes "dihedral 7: ")) one two three four five
+    appended_five x v w y z last (counts (trivial 2) d e (codes "trivial 2: ")) (counts (dihedral 3) d e (codes "dihedral 3: "))
+    (counts tetrahedral d e (codes "tetrahedral: ")) (counts (dihedral 5) d e (codes "dihedral 5: "))
+    (counts (dihedral 7) d e (codes "dihedral 7: ")) one two three four five
     ∙ ap (λ ys. x ++ ys) (sym (counts_by_name d e))
 
 -- the whole text
@@ -104,7 +115,9 @@ three_lines seed moves rest =
     joined_lines (line_text (codes "sample" ∷ seed ∷ [])) (line_text (codes "moves" ∷ moves ∷ [])) (codes "accepted\n") rest
     ∙ ap₂ (λ (xs ys : List ℕ). xs ++ (ys ++ (codes "accepted\n" ++ rest))) (seed_line seed) (moves_line moves)
 
-pub walk_pieces : (seed : ℕ) (moves : List Move) (d e : Diagram) → walk_text seed moves d e ≡ (codes "sample " ++ (decimal seed ++ codes "\n")) ++ ((codes "moves " ++ (decimal (length moves) ++ codes "\n")) ++ (codes "accepted\n" ++ counts_text d e))
+pub walk_pieces : (seed : ℕ) (moves : List Move) (d e : Diagram)
+    → walk_text seed moves d e ≡ (codes "sample " ++ (decimal seed ++ codes "\n")) ++ ((codes "moves " ++ (decimal
+    (length moves) ++ codes "\n")) ++ (codes "accepted\n" ++ counts_text d e))
 unfolding walk_text
 walk_pieces seed moves d e = three_lines (decimal seed) (decimal (length moves)) (counts_text d e)
 
@@ -116,8 +129,10 @@ walk_made seed n moves d e x v w y last ruling empty at_v count at_w accepted at
     let two : w ≡ v ++ (codes "moves " ++ (decimal (length moves) ++ codes "\n")) =
     at_w ∙ ap (λ (k : ℕ). v ++ (codes "moves " ++ (decimal k ++ codes "\n"))) count in
     let three : y ≡ w ++ codes "accepted\n" = at_y ∙ ap (λ zs. w ++ zs) accepted in
-    at_last ∙ ap (λ zs. zs ++ counts_text d e) (three ∙ ap (λ zs. zs ++ codes "accepted\n") (two ∙ ap (λ zs. zs ++ (codes "moves " ++ (decimal (length moves) ++ codes "\n"))) one))
-    ∙ four (codes "sample " ++ (decimal seed ++ codes "\n")) (codes "moves " ++ (decimal (length moves) ++ codes "\n")) (codes "accepted\n") (counts_text d e) ∙ sym (walk_pieces seed moves d e)
+    at_last ∙ ap (λ zs. zs ++ counts_text d e) (three ∙ ap (λ zs. zs ++ codes "accepted\n")
+    (two ∙ ap (λ zs. zs ++ (codes "moves " ++ (decimal (length moves) ++ codes "\n"))) one))
+    ∙ four (codes "sample " ++ (decimal seed ++ codes "\n")) (codes "moves " ++ (decimal (length moves) ++ codes "\n")) (codes "accepted\n") (counts_text d e)
+    ∙ sym (walk_pieces seed moves d e)
   where
     four : (a b c d : List ℕ) → ((a ++ b) ++ c) ++ d ≡ a ++ (b ++ (c ++ d))
     four a b c d = simp append_assoc

@@ -47,7 +47,10 @@ counts_of_ends : (d e : Diagram) (t : Table) (n : ℕ) → IsQuandle t → Equiv
 counts_of_ends d e t n quandle equivalent first = record { first = first; last = sym (equivalent_lengths t quandle d e equivalent) ∙ first }
 
 -- the lines of the counts
-five_lines : pair (codes "trivial 2: ") (decimal 2) (decimal 2) ++ (pair (codes "dihedral 3: ") (decimal 9) (decimal 9) ++ (pair (codes "tetrahedral: ") (decimal 16) (decimal 16) ++ (pair (codes "dihedral 5: ") (decimal 5) (decimal 5) ++ pair (codes "dihedral 7: ") (decimal 7) (decimal 7)))) ≡ codes "trivial 2: 2 2\ndihedral 3: 9 9\ntetrahedral: 16 16\ndihedral 5: 5 5\ndihedral 7: 7 7\n"
+five_lines : pair (codes "trivial 2: ") (decimal 2) (decimal 2) ++ (pair (codes "dihedral 3: ") (decimal 9)
+    (decimal 9) ++ (pair (codes "tetrahedral: ") (decimal 16)
+    (decimal 16) ++ (pair (codes "dihedral 5: ") (decimal 5) (decimal 5) ++ pair (codes "dihedral 7: ") (decimal 7) (decimal 7))))
+    ≡ codes "trivial 2: 2 2\ndihedral 3: 9 9\ntetrahedral: 16 16\ndihedral 5: 5 5\ndihedral 7: 7 7\n"
 unfolding digits
 five_lines = refl
 
@@ -62,7 +65,8 @@ five_counts d e one two three four five =
     ∙ ap₂ (λ (xs ys : List ℕ). xs ++ ys) (counts_are d e (trivial 2) 2 (codes "trivial 2: ") one)
     (ap₂ (λ (xs ys : List ℕ). xs ++ ys) (counts_are d e (dihedral 3) 9 (codes "dihedral 3: ") two)
     (ap₂ (λ (xs ys : List ℕ). xs ++ ys) (counts_are d e tetrahedral 16 (codes "tetrahedral: ") three)
-    (ap₂ (λ (xs ys : List ℕ). xs ++ ys) (counts_are d e (dihedral 5) 5 (codes "dihedral 5: ") four) (counts_are d e (dihedral 7) 7 (codes "dihedral 7: ") five))))
+    (ap₂ (λ (xs ys : List ℕ). xs ++ ys) (counts_are d e (dihedral 5) 5 (codes "dihedral 5: ") four)
+    (counts_are d e (dihedral 7) 7 (codes "dihedral 7: ") five))))
     ∙ five_lines
 
 equal_text : (seed : ℕ) (moves : List Move) (d e : Diagram) → length moves ≡ TURNS
@@ -79,14 +83,19 @@ equivalent_text : (seed : ℕ) (moves : List Move) (d e : Diagram) → length mo
     → length (colourings (dihedral 7) d) ≡ 7 → walk_text seed moves d e ≡ sample_text seed
 equivalent_text seed moves d e count equivalent one two three four five =
     equal_text seed moves d e count
-    (five_counts d e (counts_of_ends d e (trivial 2) 2 (trivial_is 2 (omega arith) (omega arith)) equivalent one) (counts_of_ends d e (dihedral 3) 9 (dihedral_is 3 (omega arith) (omega arith)) equivalent two) (counts_of_ends d e tetrahedral 16 tetrahedral_is equivalent three) (counts_of_ends d e (dihedral 5) 5 (dihedral_is 5 (omega arith) (omega arith)) equivalent four) (counts_of_ends d e (dihedral 7) 7 (dihedral_is 7 (omega arith) (omega arith)) equivalent five))
+    (five_counts d e (counts_of_ends d e (trivial 2) 2 (trivial_is 2 (omega arith) (omega arith)) equivalent one)
+    (counts_of_ends d e (dihedral 3) 9 (dihedral_is 3 (omega arith) (omega arith)) equivalent two)
+    (counts_of_ends d e tetrahedral 16 tetrahedral_is equivalent three)
+    (counts_of_ends d e (dihedral 5) 5 (dihedral_is 5 (omega arith) (omega arith)) equivalent four)
+    (counts_of_ends d e (dihedral 7) 7 (dihedral_is 7 (omega arith) (omega arith)) equivalent five))
 
 pub same_text : (seed : ℕ) (moves : List Move) (last : Diagram) → Walks right_trefoil (words seed) moves last
     → walk_text seed moves right_trefoil last ≡ sample_text seed
 same_text seed moves last walk =
     let joined : Joins right_trefoil moves last =
     within_joins LARGEST moves right_trefoil last (walk_within (words seed) moves right_trefoil last (omega arith) walk) in
-    equivalent_text seed moves right_trefoil last (walk_length (words seed) moves right_trefoil last walk ∙ words_length TURNS (generator_of seed)) (moves, joined) by_trivial_2 by_dihedral_3 by_tetrahedral by_dihedral_5 by_dihedral_7
+    equivalent_text seed moves right_trefoil last (walk_length (words seed) moves right_trefoil last walk ∙ words_length TURNS (generator_of seed))
+    (moves, joined) by_trivial_2 by_dihedral_3 by_tetrahedral by_dihedral_5 by_dihedral_7
 
 pub told_same : (seed : ℕ) (text : List ℕ) → TellsOfWalk seed text → text ≡ sample_text seed
 told_same seed text t = t.told ∙ same_text seed t.moves t.last t.walk
@@ -116,7 +125,8 @@ pub walk_goes_on : (seed : ℕ) (moves made : List Move) (first : Diagram) (plac
     → StopsAt first made place fault → ⊥
 walk_goes_on seed moves made first place fault known start same stops =
     not_both moves right_trefoil known.0 place fault
-    (subst (λ (d : Diagram). StopsAt d moves place fault) start (subst (λ (ms : List Move). StopsAt first ms place fault) same stops)) (within_joins LARGEST moves right_trefoil known.0 known.1.1)
+    (subst (λ (d : Diagram). StopsAt d moves place fault) start (subst (λ (ms : List Move). StopsAt first ms place fault) same stops))
+    (within_joins LARGEST moves right_trefoil known.0 known.1.1)
 
 pub walk_told : (seed : ℕ) (moves made : List Move) (first last : Diagram) (text : List ℕ) → first ≡ right_trefoil → made ≡ moves
     → Found seed moves last → text ≡ walk_text seed made first last → TellsOfWalk seed text

@@ -9,7 +9,6 @@ use Rattle.std.proofs.lemmas.List.FromFn.{length-range_with_len, get_or-range_wi
 use Rattle.grid_core.specs.declared.mark.Kind.{Kind}
 use Rattle.grid_core.specs.declared.mark.Kind.TheVariants.{Cross, Ring}
 use Rattle.grid_core.specs.declared.mark.Corner.{Corner}
-use Rattle.grid_core.specs.declared.mark.Corner.TheVariants.{LowLeft, LowRight, HighLeft, HighRight}
 use Rattle.grid_core.specs.Diagram.{Diagram, IsGrid, size}
 use Rattle.grid_moves.specs.declared.step.Move.{Move}
 use Rattle.grid_moves.specs.declared.step.Move.TheVariants.{ShiftColumns, ShiftRows, ExchangeColumns, ExchangeRows, SlideColumns, SlideRows}
@@ -21,6 +20,7 @@ use Rattle.grid_moves.specs.Step.{Step}
 use Rattle.grid_moves.proofs.OneResult.{step_exists, step_legal}
 use Rattle.grid_canon.proofs.LeastTranslates.{map_contains, flat_map_contains, range_contains}
 use Rattle.grid_core.specs.Corners.{corners}
+use Rattle.grid_core.proofs.CornerList.{corner_listed}
 use Rattle.next_moves.specs.Offers.{size_after}
 use Rattle.next_moves.proofs.Extended.{step_size}
 use Rattle.next_moves.proofs.Members.{contains_filter, filter_contains}
@@ -75,7 +75,8 @@ module _ (n : ℕ) where
       (Contains-append_left (column_shifts ++ row_shifts ++ column_exchanges ++ row_exchanges) blocks (ShiftColumns k)
       (Contains-append_left (column_shifts ++ row_shifts ++ column_exchanges) row_exchanges (ShiftColumns k)
       (Contains-append_left (column_shifts ++ row_shifts) column_exchanges (ShiftColumns k)
-      (Contains-append_left column_shifts row_shifts (ShiftColumns k) (map_contains column_shift (range_with_len 1 (n - 1)) k (range_contains_from 1 (n - 1) k (omega arith) (omega arith)))))))
+      (Contains-append_left column_shifts row_shifts (ShiftColumns k)
+      (map_contains column_shift (range_with_len 1 (n - 1)) k (range_contains_from 1 (n - 1) k (omega arith) (omega arith)))))))
 
   tried_row_shift : (k : ℕ) → 0 < k → k < n → Contains (all_but_slides n) (ShiftRows k)
   tried_row_shift k some lt =
@@ -83,20 +84,23 @@ module _ (n : ℕ) where
       (Contains-append_left (column_shifts ++ row_shifts ++ column_exchanges ++ row_exchanges) blocks (ShiftRows k)
       (Contains-append_left (column_shifts ++ row_shifts ++ column_exchanges) row_exchanges (ShiftRows k)
       (Contains-append_left (column_shifts ++ row_shifts) column_exchanges (ShiftRows k)
-      (Contains-append_right column_shifts row_shifts (ShiftRows k) (map_contains row_shift (range_with_len 1 (n - 1)) k (range_contains_from 1 (n - 1) k (omega arith) (omega arith)))))))
+      (Contains-append_right column_shifts row_shifts (ShiftRows k)
+      (map_contains row_shift (range_with_len 1 (n - 1)) k (range_contains_from 1 (n - 1) k (omega arith) (omega arith)))))))
 
   tried_column_exchange : (c : ℕ) → c + 1 < n → Contains (all_but_slides n) (ExchangeColumns c)
   tried_column_exchange c lt =
       Contains-append_left (column_shifts ++ row_shifts ++ column_exchanges ++ row_exchanges ++ blocks) marks (ExchangeColumns c)
       (Contains-append_left (column_shifts ++ row_shifts ++ column_exchanges ++ row_exchanges) blocks (ExchangeColumns c)
       (Contains-append_left (column_shifts ++ row_shifts ++ column_exchanges) row_exchanges (ExchangeColumns c)
-      (Contains-append_right (column_shifts ++ row_shifts) column_exchanges (ExchangeColumns c) (map_contains column_exchange (range_with_len 0 (n - 1)) c (range_contains (n - 1) c (omega arith))))))
+      (Contains-append_right (column_shifts ++ row_shifts) column_exchanges (ExchangeColumns c)
+      (map_contains column_exchange (range_with_len 0 (n - 1)) c (range_contains (n - 1) c (omega arith))))))
 
   tried_row_exchange : (r : ℕ) → r + 1 < n → Contains (all_but_slides n) (ExchangeRows r)
   tried_row_exchange r lt =
       Contains-append_left (column_shifts ++ row_shifts ++ column_exchanges ++ row_exchanges ++ blocks) marks (ExchangeRows r)
       (Contains-append_left (column_shifts ++ row_shifts ++ column_exchanges ++ row_exchanges) blocks (ExchangeRows r)
-      (Contains-append_right (column_shifts ++ row_shifts ++ column_exchanges) row_exchanges (ExchangeRows r) (map_contains row_exchange (range_with_len 0 (n - 1)) r (range_contains (n - 1) r (omega arith)))))
+      (Contains-append_right (column_shifts ++ row_shifts ++ column_exchanges) row_exchanges (ExchangeRows r)
+      (map_contains row_exchange (range_with_len 0 (n - 1)) r (range_contains (n - 1) r (omega arith)))))
 
   tried_block : (c r : ℕ) → c + 1 < n → r + 1 < n → Contains (all_but_slides n) (Destabilise c r)
   tried_block c r column row =
@@ -110,15 +114,11 @@ module _ (n : ℕ) where
       Contains-append_right (column_shifts ++ row_shifts ++ column_exchanges ++ row_exchanges ++ blocks) marks (Stabilise c kind corner)
       (flat_map_contains stabilisations (range_with_len 0 n) c (Stabilise c kind corner) (range_contains n c lt) (of_kind kind))
     where
-      each : (corner : Corner) → Contains corners corner
-      each LowLeft = (0, omega arith, refl)
-      each LowRight = (1, omega arith, refl)
-      each HighLeft = (2, omega arith, refl)
-      each HighRight = (3, omega arith, refl)
-
       of_kind : (kind : Kind) → Contains (stabilisations c) (Stabilise c kind corner)
-      of_kind Cross = Contains-append_left (map (stabilisation c Cross) corners) (map (stabilisation c Ring) corners) (Stabilise c Cross corner) (map_contains (stabilisation c Cross) corners corner (each corner))
-      of_kind Ring = Contains-append_right (map (stabilisation c Cross) corners) (map (stabilisation c Ring) corners) (Stabilise c Ring corner) (map_contains (stabilisation c Ring) corners corner (each corner))
+      of_kind Cross = Contains-append_left (map (stabilisation c Cross) corners) (map (stabilisation c Ring) corners) (Stabilise c Cross corner)
+          (map_contains (stabilisation c Cross) corners corner (corner_listed corner))
+      of_kind Ring = Contains-append_right (map (stabilisation c Cross) corners) (map (stabilisation c Ring) corners) (Stabilise c Ring corner)
+          (map_contains (stabilisation c Ring) corners corner (corner_listed corner))
 
 legal_tried : (d : Diagram) (move : Move) → is_slide move ≡ false → first_fault d move ≡ None → Contains (all_but_slides (size d)) move
 legal_tried d (ShiftColumns k) six legal = let inside = between k (size d) legal in tried_column_shift (size d) k inside.0 inside.1
@@ -136,7 +136,8 @@ small_candidate : (d : Diagram) (move : Move) (e : Diagram) → is_slide move �
 small_candidate d move e six step small =
     let legal = step_legal d move e step in
     let fits : nat_le (size_after move (size d)) LARGEST ≡ true = le-leb (size_after move (size d)) LARGEST (omega (arith, small, step_size move d e step)) in
-    contains_filter (is_candidate d) (all_but_slides (size d)) move (legal_tried d move six legal) (ap (λ (fault : Option MoveFault). is_none fault && nat_le (size_after move (size d)) LARGEST) legal ∙ fits)
+    contains_filter (is_candidate d) (all_but_slides (size d)) move (legal_tried d move six legal)
+    (ap (λ (fault : Option MoveFault). is_none fault && nat_le (size_after move (size d)) LARGEST) legal ∙ fits)
 
 -- no slide is tried
 abbrev IsNoSlide : Move → Type 0
@@ -156,19 +157,23 @@ slides_are_left_out n =
     (All-append IsNoSlide (column_shifts n ++ row_shifts n ++ column_exchanges n ++ row_exchanges n) (blocks n)
     (All-append IsNoSlide (column_shifts n ++ row_shifts n ++ column_exchanges n) (row_exchanges n)
     (All-append IsNoSlide (column_shifts n ++ row_shifts n) (column_exchanges n)
-    (All-append IsNoSlide (column_shifts n) (row_shifts n) (all_mapped column_shift (range_with_len 1 (n - 1)) (λ k. refl)) (all_mapped row_shift (range_with_len 1 (n - 1)) (λ k. refl)))
+    (All-append IsNoSlide (column_shifts n) (row_shifts n) (all_mapped column_shift (range_with_len 1 (n - 1)) (λ k. refl))
+    (all_mapped row_shift (range_with_len 1 (n - 1)) (λ k. refl)))
     (all_mapped column_exchange (range_with_len 0 (n - 1)) (λ c. refl)))
     (all_mapped row_exchange (range_with_len 0 (n - 1)) (λ r. refl)))
     (all_flat (destabilisations n) (range_with_len 0 (n - 1)) (λ c. all_mapped (destabilisation c) (range_with_len 0 (n - 1)) (λ r. refl))))
     (all_flat stabilisations (range_with_len 0 n) (λ c.
-    All-append IsNoSlide (map (stabilisation c Cross) corners) (map (stabilisation c Ring) corners) (all_mapped (stabilisation c Cross) corners (λ corner. refl)) (all_mapped (stabilisation c Ring) corners (λ corner. refl))))
+    All-append IsNoSlide (map (stabilisation c Cross) corners) (map (stabilisation c Ring) corners)
+    (all_mapped (stabilisation c Cross) corners (λ corner. refl)) (all_mapped (stabilisation c Ring) corners (λ corner. refl))))
 
 no_slide : (d : Diagram) (move : Move) → Contains (candidates d) move → is_slide move ≡ false
-no_slide d move among = All-contains IsNoSlide (all_but_slides (size d)) move (slides_are_left_out (size d)) (filter_contains (is_candidate d) (all_but_slides (size d)) move among).0
+no_slide d move among = All-contains IsNoSlide (all_but_slides (size d)) move (slides_are_left_out (size d))
+    (filter_contains (is_candidate d) (all_but_slides (size d)) move among).0
 
 pub candidates_are : (d : Diagram) (move : Move) → IsGrid d
     → Contains (candidates d) move ↔ ((is_slide move ≡ false) × ((e : Diagram) × (Step d move e × (size e ≤ LARGEST))))
 candidates_are d move grid = (
-  λ among. (let made = step_exists d move grid (candidate_legal d move among) in (no_slide d move among, (made.0, (made.1, candidate_small d move made.0 among made.1)))),
+  λ among. (let made = step_exists d move grid (candidate_legal d move among) in
+      (no_slide d move among, (made.0, (made.1, candidate_small d move made.0 among made.1)))),
   λ leads. small_candidate d move leads.1.0 leads.0 leads.1.1.0 leads.1.1.1,
 )

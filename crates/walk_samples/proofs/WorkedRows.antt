@@ -3,12 +3,10 @@ use Rattle.std.proofs.Common.{◌≡◌, ◌∷◌, [], refl, length, take}
 use Rattle.grid_core.specs.Diagram.{Diagram}
 use Rattle.grid_core.specs.declared.mark.Kind.TheVariants.{Cross, Ring}
 use Rattle.grid_core.specs.declared.mark.Corner.TheVariants.{LowLeft, LowRight, HighLeft, HighRight}
+use Rattle.grid_core.proofs.WorkedRows.{unknot}
 use Rattle.grid_moves.specs.declared.step.Move.TheVariants.{ShiftColumns, ShiftRows, Stabilise, Destabilise}
 use Rattle.walk_samples.specs.Candidates.{candidates}
 use Rattle.walk_samples.specs.Walk.{right_trefoil, words_of, generator_of, Picks}
-
-abbrev unknot : Diagram
-unknot = record { x = 0 ∷ 1 ∷ []; o = 1 ∷ 0 ∷ [] }
 
 -- two shifts, and eight stabilisations in each column: the two columns touch, and the one block has four marks
 of_unknot : candidates unknot ≡ ShiftColumns 1 ∷ ShiftRows 1
@@ -29,7 +27,8 @@ of_five_rings = refl
 abbrev three_columns : Diagram
 three_columns = record { x = 0 ∷ 1 ∷ 2 ∷ []; o = 1 ∷ 2 ∷ 0 ∷ [] }
 
-of_three_columns : take 7 (candidates three_columns) ≡ ShiftColumns 1 ∷ ShiftColumns 2 ∷ ShiftRows 1 ∷ ShiftRows 2 ∷ Destabilise 0 0 ∷ Destabilise 0 1 ∷ Destabilise 1 1 ∷ []
+of_three_columns : take 7 (candidates three_columns)
+    ≡ ShiftColumns 1 ∷ ShiftColumns 2 ∷ ShiftRows 1 ∷ ShiftRows 2 ∷ Destabilise 0 0 ∷ Destabilise 0 1 ∷ Destabilise 1 1 ∷ []
 of_three_columns = refl
 
 -- the words of the seed 42 are those of PCG's reference code

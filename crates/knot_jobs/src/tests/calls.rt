@@ -2,10 +2,12 @@
 use super::{Outside, run_line, words_of};
 use crate::call::run_alone;
 use crate::status::Status;
+use grid_core::MAX_SIZE;
 use knot_ports::{QuietSink, QuietSource};
 use std::alloc::{AllocError, Global};
 use std::process::Abort;
 use std::test::Fail;
+use text_lines::push_number;
 
 /// A call, and what is expected of it: a command line, an input, the status and the written text.
 pub(super) type Row = (&'static str, &'static [u8], Status, &'static [u8]);
@@ -29,17 +31,26 @@ pub(super) fn compare(rt: &impl Abort, alloc: Global, row: &Row) -> Result<(), F
     Ok(())
 }
 
+/// One row more than the largest size has is over a limit.
+#[test]
+fn a_row_too_many_is_over_a_limit(rt: HostRuntime) -> Result<(), Fail> {
+    let mut input = Vec::from_slice(rt.alloc(), b"x")?;
+    for row in 0..MAX_SIZE as u64 + 1 {
+        input.push(b' ')?;
+        push_number(&mut input, row)?;
+    }
+    let (status, written) = run_line(rt.alloc(), "knot check", &input, &CALM)?;
+    let text: &[u8] = b"limit line 1\n";
+    assert_eq!(rt; status, Status::Limit);
+    assert_eq!(rt; written.as_slice(), text);
+    Ok(())
+}
+
 /// Evidence that two diagrams are equal or different, and its first cause where it does not hold.
 #[test]
 fn certificates_are_ruled_on(rt: HostRuntime) -> Result<(), Fail> {
-    let rows: [Row; 16] = [
+    let rows: [Row; 15] = [
         ("knot check", SHIFTED, Status::Done, b"accepted\n"),
-        (
-            "knot check",
-            b"x 0 1 2 3 4 5 6 7 8 9 10 11 12 13 14 15 16 17 18 19 20 21 22 23 24\n",
-            Status::Limit,
-            b"limit line 1\n",
-        ),
         (
             "knot check",
             b"x 0 1\no 1 0\nx 0 1\no 1 0\n",
@@ -108,7 +119,7 @@ fn certificates_are_ruled_on(rt: HostRuntime) -> Result<(), Fail> {
         ),
         (
             "knot check",
-            b"x 0 1 2 3 4 5 6 7 8 9\no 1 0 3 2 5 4 7 6 9 8\nx 0 1\no 1 0\ndifferent trivial 16\nlist 0\nlist 0\n",
+            b"x 0 1 2 3 4 5 6 7 8 9\no 1 0 3 2 5 4 7 6 9 8\nx 0 1\no 1 0\ndifferent trivial 10\nlist 0\nlist 0\n",
             Status::Rejected,
             b"rejected wide 1 5\n",
         ),
@@ -197,9 +208,9 @@ fn other_jobs_give_the_worked_answers(rt: HostRuntime) -> Result<(), Fail> {
         ),
         (
             "knot colour",
-            b"x 0 1 2 3 4 5 6 7 8 9\no 1 0 3 2 5 4 7 6 9 8\nquandle trivial 16\n",
+            b"x 0 1 2 3 4 5 6 7 8 9\no 1 0 3 2 5 4 7 6 9 8\nquandle trivial 10\n",
             Status::Done,
-            b"quandle trivial 16\nwide 5\n",
+            b"quandle trivial 10\nwide 5\n",
         ),
         (
             "knot colour",
@@ -221,9 +232,9 @@ fn other_jobs_give_the_worked_answers(rt: HostRuntime) -> Result<(), Fail> {
         ),
         (
             "knot close",
-            b"braid 5\nquandle trivial 16\n",
+            b"braid 5\nquandle trivial 10\n",
             Status::Done,
-            b"x 0 1 2 3 4 5 6 7 8 9\no 9 8 7 6 5 4 3 2 1 0\nfeet 0 1 2 3 4\nquandle trivial 16\nwide 5\n",
+            b"x 0 1 2 3 4 5 6 7 8 9\no 9 8 7 6 5 4 3 2 1 0\nfeet 0 1 2 3 4\nquandle trivial 10\nwide 5\n",
         ),
         (
             "knot close",

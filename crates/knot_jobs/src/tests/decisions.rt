@@ -94,7 +94,7 @@ fn pairs_have_their_verdicts(rt: HostRuntime) -> Result<(), Fail> {
         ),
         (
             "knot decide --spare 0 --budget 2",
-            b"x 0 1 2 3 4 5 6 7 8 9\no 1 0 3 2 5 4 7 6 9 8\nx 0 1 2 3 4 5 6 7\no 1 0 3 2 5 4 7 6\nquandle trivial 16\n",
+            b"x 0 1 2 3 4 5 6 7 8 9\no 1 0 3 2 5 4 7 6 9 8\nx 0 1 2 3 4 5 6 7\no 1 0 3 2 5 4 7 6\nquandle trivial 10\n",
             Status::Unknown,
             b"unknown budget 2\n",
         ),

@@ -27,16 +27,16 @@ fn diagrams_have_words_and_fixed_points(rt: HostRuntime) -> Result<(), Fail> {
         ),
         (
             "knot braid",
-            b"x 0 1 2 3 4 5 6 7 8 9\no 1 0 3 2 5 4 7 6 9 8\nquandle trivial 16\n",
+            b"x 0 1 2 3 4 5 6 7 8 9\no 1 0 3 2 5 4 7 6 9 8\nquandle trivial 10\n",
             Status::Done,
-            b"braid 5\nquandle trivial 16\nwide 5\n",
+            b"braid 5\nquandle trivial 10\nwide 5\n",
         ),
         // five strands over one bottom
         (
             "knot braid",
-            b"x 1 2 3 4 5 0\no 0 1 2 3 4 5\nquandle trivial 16\n",
+            b"x 1 2 3 4 5 0\no 0 1 2 3 4 5\nquandle trivial 10\n",
             Status::Done,
-            b"braid 5 -1 -2 -3 -4\nquandle trivial 16\nlist 16\n0 0 0 0 0\n1 1 1 1 1\n2 2 2 2 2\n3 3 3 3 3\n4 4 4 4 4\n5 5 5 5 5\n6 6 6 6 6\n7 7 7 7 7\n8 8 8 8 8\n9 9 9 9 9\n10 10 10 10 10\n11 11 11 11 11\n12 12 12 12 12\n13 13 13 13 13\n14 14 14 14 14\n15 15 15 15 15\n",
+            b"braid 5 -1 -2 -3 -4\nquandle trivial 10\nlist 10\n0 0 0 0 0\n1 1 1 1 1\n2 2 2 2 2\n3 3 3 3 3\n4 4 4 4 4\n5 5 5 5 5\n6 6 6 6 6\n7 7 7 7 7\n8 8 8 8 8\n9 9 9 9 9\n",
         ),
         // more strands than a braid that is read may have
         (

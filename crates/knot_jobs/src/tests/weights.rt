@@ -58,17 +58,17 @@ fn weights_are_compared(rt: HostRuntime) -> Result<(), Fail> {
     Ok(())
 }
 
-/// Two diagrams, the trivial quandle of order 16, and its zero cocycle mod 2.
-fn by_sixteen_colours(alloc: Global, diagrams: &[u8]) -> Result<Vec<u8>, Fail> {
+/// Two diagrams, the trivial quandle of order 10, and its zero cocycle mod 2.
+fn by_ten_colours(alloc: Global, diagrams: &[u8]) -> Result<Vec<u8>, Fail> {
     let mut text = Vec::from_slice(alloc, diagrams)?;
-    text.extend_from_slice(b"quandle trivial 16\nweight 2\n")?;
-    for _ in 0..16 {
-        text.extend_from_slice(b"0 0 0 0 0 0 0 0 0 0 0 0 0 0 0 0\n")?;
+    text.extend_from_slice(b"quandle trivial 10\nweight 2\n")?;
+    for _ in 0..10 {
+        text.extend_from_slice(b"0 0 0 0 0 0 0 0 0 0\n")?;
     }
     Ok(text)
 }
 
-/// The first diagram with more than four bottoms is named, of which sixteen colours have too many choices.
+/// The first diagram with more than four bottoms is named, of which ten colours have too many choices.
 #[test]
 fn the_first_diagram_that_is_too_wide_is_named(rt: HostRuntime) -> Result<(), Fail> {
     let rows: [(&[u8], &[u8]); 5] = [
@@ -78,11 +78,11 @@ fn the_first_diagram_that_is_too_wide_is_named(rt: HostRuntime) -> Result<(), Fa
         (b"braid 6\nbraid 5\n", b"wide 1 6\n"),
         (
             b"braid 1\nbraid 1\n",
-            b"weights 16 0\nweights 16 0\nalike\n",
+            b"weights 10 0\nweights 10 0\nalike\n",
         ),
     ];
     for (diagrams, text) in rows {
-        let input = by_sixteen_colours(rt.alloc(), diagrams)?;
+        let input = by_ten_colours(rt.alloc(), diagrams)?;
         let (status, written) = run_line(rt.alloc(), "knot weights", &input, &CALM)?;
         assert_eq!(rt; status, Status::Done);
         assert_eq!(rt; written.as_slice(), text);

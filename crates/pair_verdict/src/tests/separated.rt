@@ -19,7 +19,7 @@ const FIVE_RINGS: Rows = (
 
 const TRIVIAL_2: QuandleName = QuandleName::Trivial(2);
 
-const TRIVIAL_16: QuandleName = QuandleName::Trivial(16);
+const TRIVIAL_10: QuandleName = QuandleName::Trivial(10);
 
 const DIHEDRAL_3: QuandleName = QuandleName::Dihedral(3);
 
@@ -76,10 +76,10 @@ fn the_first_quandle_that_fits_and_separates_decides(rt: HostRuntime) -> Result<
             (QuandleName::Tetrahedral, 16, 4),
         ),
         (
-            // of the trivial quandle of order 16 the rings would have 16 ^ 5 colourings
+            // of the trivial quandle of order 10 the rings would have 10 ^ 5 colourings
             TREFOIL,
             FIVE_RINGS,
-            [TRIVIAL_16, TRIVIAL_2, DIHEDRAL_3],
+            [TRIVIAL_10, TRIVIAL_2, DIHEDRAL_3],
             (TRIVIAL_2, 2, 32),
         ),
     ];

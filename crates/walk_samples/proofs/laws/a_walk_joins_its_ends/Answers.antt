@@ -6,5 +6,8 @@ use Rattle.walk_samples.proofs.RightTrefoil.{right_trefoil_small}
 use Rattle.walk_samples.proofs.laws.a_walk_joins_its_ends.Goals as goal
 
 pub returns : goal.returns
-returns c = λ seed moves last walk.
-    (walk_length (words seed) moves right_trefoil last walk ∙ words_length TURNS (generator_of seed), walk_within (words seed) moves right_trefoil last right_trefoil_small walk)
+returns c = λ seed moves last walk. (
+  walk_length (words seed) moves right_trefoil last walk ∙ words_length TURNS (generator_of seed),
+  walk_within
+      (words seed) moves right_trefoil last right_trefoil_small walk,
+)

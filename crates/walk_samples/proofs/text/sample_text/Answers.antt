@@ -15,7 +15,8 @@ unreachable-requires c =
 pub returns-clause-found : goal.returns-clause-found
 returns-clause-found c =
     let found = walk_found c.args.seed c.in_ok-moves.moves.items c.as_slice.result.now c.right_trefoil-first.result c.in-Ok.last c.in_ok-moves.ensures.walk c.right_trefoil-first.ensures c.as_slice.ensures.value c.in-Ok.ensures.joined in
-    IfOk-weaker c.walk_text.result _ (λ v. TellsOfWalk c.args.seed v.items) (λ v is. walk_told c.args.seed c.in_ok-moves.moves.items c.as_slice-in-Ok.result.now c.right_trefoil-first.result c.in-Ok.last v.items c.right_trefoil-first.ensures c.as_slice-in-Ok.ensures.value found is) c.walk_text.ensures
+    IfOk-weaker c.walk_text.result _ (λ v. TellsOfWalk c.args.seed v.items)
+    (λ v is. walk_told c.args.seed c.in_ok-moves.moves.items c.as_slice-in-Ok.result.now c.right_trefoil-first.result c.in-Ok.last v.items c.right_trefoil-first.ensures c.as_slice-in-Ok.ensures.value found is) c.walk_text.ensures
 
 pub returns-clause-text : goal.returns-clause-text
 returns-clause-text c =

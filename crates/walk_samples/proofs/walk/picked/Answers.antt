@@ -17,5 +17,7 @@ bounds-deref-place c =
 pub returns : goal.returns
 returns c =
     let some : 0 < c.len.result = omega (arith, some_candidates c.args.grid.now c.size-size.ensures.grid c.requires, listed_length c.args.grid.now c.candidates-list.result.items c.candidates-list.ensures, c.len.ensures.value) in
-    subst (λ (xs : List Candidate). Picks c.args.grid.now c.args.word (get_or xs (c.args.word % c.len.result) (record { step = ShiftColumns 0 })).step) (sym c.deref.ensures.0)
-    (picked_from c.args.grid.now c.args.word c.len.result (c.args.word % c.len.result) c.candidates-list.result.items (record { step = ShiftColumns 0 }) c.candidates-list.ensures c.len.ensures.value refl (omega (arith, some)))
+    subst (λ (xs : List Candidate). Picks c.args.grid.now c.args.word (get_or xs (c.args.word % c.len.result) (record { step = ShiftColumns 0 })).step)
+    (sym c.deref.ensures.0)
+    (picked_from c.args.grid.now c.args.word c.len.result (c.args.word % c.len.result) c.candidates-list.result.items
+    (record { step = ShiftColumns 0 }) c.candidates-list.ensures c.len.ensures.value refl (omega (arith, some)))
