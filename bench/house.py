@@ -2,12 +2,14 @@
 """What the tree shows of its own order: statements that stand twice, wide proof lines, long files and functions.
 
     python3 bench/house.py          all of it
-    python3 bench/house.py twice    one part: twice, wide, long, names
+    python3 bench/house.py twice    one part: twice, library, wide, long, names
 
 A finding is a place to look. Statements are compared by their text, with the names that they bind told apart by place alone.
 """
 import os
 import re
+import shutil
+import subprocess
 import sys
 
 TOP = os.path.dirname(os.path.dirname(os.path.abspath(__file__)))
@@ -77,6 +79,42 @@ def twice():
             print("; ".join(f"{place(path, number)} {name}" for _, path, number, name in places))
     print(f"{count} statements stand more than once")
     return count
+
+
+def plain(statement):
+    """The statement without its type variables and with one binder for neighbours of one type, as the library's pages may write it."""
+    text = statement
+    for short, long in (("ltb", "nat_lt"), ("leb", "nat_le"), ("eqb", "nat_eq"), ("slice_index_or", "get_or")):
+        text = re.sub(rf"\b{short}\b", long, text)
+    text = re.sub(r"\{[^{}]*: *Type 0 *\}", "", text).strip().removeprefix("→").strip()
+    text = re.sub(r"(\([^()]*:[^()]*\)) →(?= *\()", r"\1", text)
+    before = None
+    while before != text:
+        before = text
+        text = re.sub(r"\(([\w' ]+?) : ([^():]+)\) \(([\w' ]+?) : \2\)", r"(\1 \3 : \2)", text)
+    kinds = {}
+    return re.sub(r"\b[A-Z]\b", lambda kind: kinds.setdefault(kind.group(0), f"T{len(kinds)}"), alike(text))
+
+
+def library():
+    """Lemmas that the pages of the kit's library state too, where the kit is on PATH."""
+    told = subprocess.run(["rt", "doc"], capture_output=True, text=True).stdout if shutil.which("rt") else ""
+    pages = os.path.join(os.path.dirname(told.strip()), "rattle", "std", "lemmas")
+    known = {}
+    for folder, _, names_of in sorted(os.walk(pages)):
+        for name in sorted(names_of):
+            if name.endswith(".md"):
+                path = os.path.join(folder, name)
+                for lemma, _, statement in statements(path):
+                    known.setdefault(plain(statement), f"{os.path.relpath(path, pages)[:-3]} {lemma}")
+    count = 0
+    for _, path in files("proofs", ".antt"):
+        for name, number, statement in statements(path):
+            found = known.get(plain(statement)) if "→" in statement else None
+            if found:
+                count += 1
+                print(f"{place(path, number)} {name} is {found}")
+    print(f"{count} statements of {len(known)} of the library stand here too")
 
 
 def defined_twice():
@@ -155,7 +193,7 @@ def names():
             print(f"{crate}: {', '.join(left)}; code: {', '.join(sorted(code.get(crate, set()) - {'lib', 'tests', 'laws'}))}")
 
 
-PARTS = {"twice": (twice, defined_twice), "wide": (wide,), "long": (long,), "names": (names,)}
+PARTS = {"twice": (twice, defined_twice), "library": (library,), "wide": (wide,), "long": (long,), "names": (names,)}
 
 if __name__ == "__main__":
     wanted = sys.argv[1:] or list(PARTS)
