@@ -33,7 +33,7 @@ not_repeated rows c apart lt =
 rows_below : (n : ℕ) (rows : List ℕ) → IsOneEach n rows → AllByRecursion (λ r. r < n) rows
 rows_below n rows each = recursion_from_All (λ r. r < n) rows (each_below n rows each)
 
-rows_are : (rows : List ℕ) → 2 ≤ length rows → IsOneEach (length rows) rows → are_rows rows ≡ true
+pub rows_are : (rows : List ℕ) → 2 ≤ length rows → IsOneEach (length rows) rows → are_rows rows ≡ true
 rows_are rows least each =
     let apart = each_apart (length rows) rows each in
     let once : list_any (λ c. is_repeated rows c) (range_with_len 0 (length rows)) ≡ false = no_repeat rows (λ k lt. not_repeated rows k apart lt) in

@@ -105,11 +105,11 @@ list_begins width order line text =
 
 -- ---- verdicts without lists
 
-only_fault : {A B : Type 0} (m : Result A TextFault) (f : A → B) → read_fault (m >>= λ x. Ok (f x)) ≡ read_fault m
+pub only_fault : {A B : Type 0} (m : Result A TextFault) (f : A → B) → read_fault (m >>= λ x. Ok (f x)) ≡ read_fault m
 only_fault (Ok x) f = refl
 only_fault (Err e) f = refl
 
-none_later : (fault : Option TextFault) → or_later fault None ≡ fault
+pub none_later : (fault : Option TextFault) → or_later fault None ≡ fault
 none_later None = refl
 none_later (Some fault) = refl
 

@@ -62,3 +62,7 @@ mod BraidFaults
 mod HeadFaults
 mod NameFaults
 mod SurplusFaults
+mod InTurn
+mod FirstItems
+mod ItemsInTurn
+mod RowsEach

@@ -1,6 +1,6 @@
 -- The readers of lines refuse them by their kinds.
-use Rattle.std.proofs.Common.{◌≡◌, ◌<◌, ◌≤◌, ◌⊎◌, inl, inr, ℕ, ◌||◌, ◌&&◌, Bool, true, false, cond, List, [], ◌∷◌, codes, length, map, Some}
-use Rattle.std.proofs.Common.{Result, Ok, Err, is_none, nat_lt, refl, ap₂, arith}
+use Rattle.std.proofs.Common.{◌≡◌, ◌∙◌, ◌<◌, ◌≤◌, ◌⊎◌, inl, inr, ℕ, ◌||◌, ◌&&◌, Bool, true, false, cond, List, [], ◌∷◌, codes, length, map, Option, Some, None}
+use Rattle.std.proofs.Common.{Result, Ok, Err, is_none, nat_lt, refl, ap, ap₂, arith}
 use Rattle.std.specs.List.{list_all, list_any}
 use Rattle.std.specs.Str.{bytes_eq}
 use Rattle.std.specs.Str.Parse.{digits_value}
@@ -20,7 +20,8 @@ use Rattle.knot_text.specs.Reading.{◌>>=◌, next_token, word, each_token}
 use Rattle.knot_text.specs.Numbers.{is_long, numbers_behind, numbers_below}
 use Rattle.knot_text.specs.Grids.{are_rows, x_at, o_at}
 use Rattle.knot_text.specs.Colours.{colours_at}
-use Rattle.knot_text.specs.LineKinds.{read_fault, fault_by, FailsByKind, is_overlong, worth, is_row, numbers_of, is_row_over}
+use Rattle.knot_text.specs.LineKinds.{read_fault, fault_by, kind_fault, FailsByKind, is_overlong, worth, is_row, numbers_of, is_row_over}
+use Rattle.knot_text.specs.FirstLines.{or_later}
 use Rattle.knot_text.proofs.Worths.{kept, short_kept}
 use Rattle.knot_text.specs.LineKinds.{x_kind, o_kind, colours_kind, below_kind}
 
@@ -102,48 +103,81 @@ unfolding numbers_behind word next_token
 row_by w n [] = refl
 row_by w n (t ∷ ts) = behind_by w n t ts (bytes_eq t w) refl
 
+-- the value where there is no fault
+abbrev pub or_fault : {A : Type 0} → Option TextFault → A → Result A TextFault
+or_fault None x = Ok x
+or_fault (Some fault) x = Err fault
+
+-- what is read next, where there is no fault
+pub fault_then : {A B : Type 0} (fault : Option TextFault) (x : A) (next : A → Result B TextFault)
+    → read_fault (or_fault fault x >>= next) ≡ or_later fault (read_fault (next x))
+fault_then None x next = refl
+fault_then (Some fault) x next = refl
+
+only_faults : {A : Type 0} (fault : Option TextFault) (x : A) → read_fault (or_fault fault x) ≡ fault
+only_faults None x = refl
+only_faults (Some fault) x = refl
+
 -- what a test of the numbers then says
 judged : {A : Type 0} (n : ℕ) (form over : Bool) (values numbers : List ℕ) (test : List ℕ → Bool) (make : List ℕ → A) (good : Bool)
     → (over ≡ false → values ≡ numbers) → test numbers ≡ good
-    → read_fault (cond form (cond over (Err (Limit n)) (Ok values)) (Err (Malformed n)) >>= λ vs. cond (test vs) (Ok (make vs)) (Err (Malformed n)))
-    ≡ fault_by form over good n
+    → (cond form (cond over (Err (Limit n)) (Ok values)) (Err (Malformed n)) >>= λ vs. cond (test vs) (Ok (make vs)) (Err (Malformed n)))
+    ≡ or_fault (fault_by form over good n) (make numbers)
 judged n true true values numbers test make good same is = refl
 judged n true false values numbers test make true same is = rw (same refl, is) refl
 judged n true false values numbers test make false same is = rw (same refl, is) refl
 judged n false over values numbers test make good same is = refl
 
-pub x_fails : FailsByKind x_kind x_at
+-- the rows of the Xs as they are read, those of the Os, and colours
+pub x_read : (line : NumberedLine) → x_at line ≡ or_fault (kind_fault x_kind line) (numbers_of line.tokens)
 unfolding x_at
-x_fails line =
+x_read line =
     rw (row_by (codes "x") line.number line.tokens)
     (judged line.number (is_row (codes "x") line.tokens) (is_row_over line.tokens) (kept_of line.tokens) (numbers_of line.tokens)
     (λ rows. are_rows rows) (λ rows. rows) _ (all_kept line.tokens) refl)
 
-pub o_fails : (x : List ℕ) → FailsByKind (o_kind x) (o_at x)
+pub o_read : (x : List ℕ) (line : NumberedLine) → o_at x line ≡ or_fault (kind_fault (o_kind x) line) (record { x = x; o = numbers_of line.tokens })
 unfolding o_at
-o_fails x line =
+o_read x line =
     rw (row_by (codes "o") line.number line.tokens)
     (judged line.number (is_row (codes "o") line.tokens) (is_row_over line.tokens) (kept_of line.tokens) (numbers_of line.tokens)
     (λ rows. is_none (first_fault x rows)) (λ rows. record { x = x; o = rows }) _ (all_kept line.tokens) refl)
 
-pub colours_fail : (width order : ℕ) → FailsByKind (colours_kind width order) (colours_at width order)
+pub colours_read : (width order : ℕ) (line : NumberedLine)
+    → colours_at width order line ≡ or_fault (kind_fault (colours_kind width order) line) (record { items = numbers_of line.tokens })
 unfolding colours_at
-colours_fail width order line =
+colours_read width order line =
     rw (row_by (codes "colours") line.number line.tokens)
     (judged line.number (is_row (codes "colours") line.tokens) (is_row_over line.tokens) (kept_of line.tokens) (numbers_of line.tokens)
     (λ colours. are_colours width order colours) (λ colours. record { items = colours }) _ (all_kept line.tokens) refl)
+
+pub x_fails : FailsByKind x_kind x_at
+x_fails line = ap read_fault (x_read line) ∙ only_faults (kind_fault x_kind line) (numbers_of line.tokens)
+
+pub o_fails : (x : List ℕ) → FailsByKind (o_kind x) (o_at x)
+o_fails x line = ap read_fault (o_read x line) ∙ only_faults (kind_fault (o_kind x) line) (record { x = x; o = numbers_of line.tokens })
+
+pub colours_fail : (width order : ℕ) → FailsByKind (colours_kind width order) (colours_at width order)
+colours_fail width order line =
+    ap read_fault (colours_read width order line)
+    ∙ only_faults (kind_fault (colours_kind width order) line) (record { items = numbers_of line.tokens })
 
 -- ---- lines of numbers alone
 
 below_by : (n width order : ℕ) (ts : List (List ℕ)) (form over good : Bool) → list_all is_number ts ≡ form → list_any is_overlong ts ≡ over
     → are_colours width order (map worth ts) ≡ good
-    → read_fault (cond form (Ok (map kept ts)) (Err (Malformed n)) >>= λ values.
-    cond (list_any is_long values) (Err (Limit n)) (cond (are_colours width order values) (Ok values) (Err (Malformed n)))) ≡ fault_by form over good n
+    → (cond form (Ok (map kept ts)) (Err (Malformed n)) >>= λ values.
+    cond (list_any is_long values) (Err (Limit n)) (cond (are_colours width order values) (Ok values) (Err (Malformed n))))
+    ≡ or_fault (fault_by form over good n) (map worth ts)
 below_by n width order ts true true good all is fits = rw (any_long ts all, is) refl
 below_by n width order ts true false true all is fits = rw (any_long ts all, is, short_kept ts is, fits) refl
 below_by n width order ts true false false all is fits = rw (any_long ts all, is, short_kept ts is, fits) refl
 below_by n width order ts false over good all is fits = refl
 
-pub below_fails : (width order : ℕ) → FailsByKind (below_kind width order) (numbers_below width order)
+pub below_read : (width order : ℕ) (line : NumberedLine)
+    → numbers_below width order line ≡ or_fault (kind_fault (below_kind width order) line) (map worth line.tokens)
 unfolding numbers_below
-below_fails width order line = rw (each_read line.number line.tokens) (below_by line.number width order line.tokens _ _ _ refl refl refl)
+below_read width order line = rw (each_read line.number line.tokens) (below_by line.number width order line.tokens _ _ _ refl refl refl)
+
+pub below_fails : (width order : ℕ) → FailsByKind (below_kind width order) (numbers_below width order)
+below_fails width order line = ap read_fault (below_read width order line) ∙ only_faults (kind_fault (below_kind width order) line) (map worth line.tokens)

@@ -2,19 +2,24 @@
 use Rattle.std.proofs.Common.{◌≡◌, pos, negsuc, [], ◌∷◌, codes, refl, Err, arith, true, false}
 use Rattle.std.specs.Fmt.{decimal}
 use Rattle.std.proofs.lemmas.Fmt.{decimal_digit}
-use Rattle.quandle_core.specs.Tables.{trivial}
+use Rattle.grid_core.specs.declared.mark.Kind.TheVariants.{Cross, Ring}
+use Rattle.grid_core.specs.declared.mark.Corner.TheVariants.{LowLeft, LowRight, HighLeft, HighRight}
+use Rattle.grid_moves.specs.declared.step.Move.TheVariants.{ShiftColumns, ShiftRows, ExchangeColumns, ExchangeRows, SlideColumns, SlideRows}
+use Rattle.grid_moves.specs.declared.step.Move.TheVariants.{Stabilise, Destabilise}
+use Rattle.quandle_core.specs.Tables.{trivial, dihedral, tetrahedral, alexander}
 use Rattle.braid_moves.specs.declared.step.BraidMove.TheVariants.{Far, Triple, Cancel, Insert, Turn, Grow, Shrink}
 use Rattle.text_lines.specs.Spelled.{lines_text}
 use Rattle.knot_text.specs.declared.fault.TextFault.TheVariants.{Malformed}
 use Rattle.verdict_core.specs.declared.names.QuandleName.TheVariants as name
+use Rattle.verdict_core.specs.declared.verdict.Verdict.TheVariants.{Equal, Different, UnknownBudget, UnknownExhausted}
 use Rattle.verdict_core.specs.Names.{called}
 use Rattle.knot_text.specs.Reading.{next_line, next_token, line_end, word, number, last_number, last_count, in_turn, each_token}
 use Rattle.knot_text.specs.Numbers.{numbers_behind}
 use Rattle.knot_text.specs.Grids.{x_at, o_at, grid_item}
 use Rattle.knot_text.specs.Moves.{kind_at, corner_at, stabilise, exchange, move_at, next_move, moves_item}
 use Rattle.knot_text.specs.Shapes.{diagram_item, replay_in, replay_of}
-use Rattle.knot_text.specs.Printed.{grid_lines, braid_lines, steps_text, quandle_text, colours_text}
-use Rattle.knot_text.specs.WrittenThere.{said_by}
+use Rattle.knot_text.specs.Printed.{grid_lines, braid_lines, moves_text, steps_text, quandle_text, colours_text, verdict_text}
+use Rattle.knot_text.specs.WrittenThere.{said_by, cocycle_lines}
 
 zero_is : decimal 0 ≡ codes "0"
 zero_is = decimal_digit 0 (omega arith)
@@ -27,6 +32,12 @@ two_is = decimal_digit 2 (omega arith)
 
 three_is : decimal 3 ≡ codes "3"
 three_is = decimal_digit 3 (omega arith)
+
+five_is : decimal 5 ≡ codes "5"
+five_is = decimal_digit 5 (omega arith)
+
+six_is : decimal 6 ≡ codes "6"
+six_is = decimal_digit 6 (omega arith)
 
 -- blanks, a remark, a carriage return and a last line without its feed say nothing
 layout : said_by (codes "# two columns\n x 0\t1 \r\n\no 1 0") ≡ grid_lines (record { x = 0 ∷ 1 ∷ []; o = 1 ∷ 0 ∷ [] })
@@ -43,6 +54,45 @@ coloured = rw two_is refl
 
 colours : colours_text (record { items = 0 ∷ 1 ∷ [] }) ≡ codes "colours 0 1\n"
 colours = rw (zero_is, one_is) refl
+
+-- each word of a move
+moves_of_one_size : moves_text (ShiftColumns 1 ∷ ShiftRows 2 ∷ ExchangeColumns 0 ∷ ExchangeRows 3 ∷ SlideColumns 2 ∷ SlideRows 1 ∷ [])
+    ≡ codes "moves 6\nshift columns 1\nshift rows 2\nexchange columns 0\nexchange rows 3\nslide columns 2\nslide rows 1\n"
+moves_of_one_size = rw (six_is, zero_is, one_is, two_is, three_is) refl
+
+moves_between_sizes : moves_text
+    (Stabilise 0 Cross LowLeft ∷ Stabilise 1 Ring LowRight ∷ Stabilise 2 Cross HighLeft ∷ Stabilise 3 Ring HighRight ∷ Destabilise 2 3 ∷ [])
+    ≡ codes "moves 5\nstabilise 0 x lowleft\nstabilise 1 o lowright\nstabilise 2 x highleft\nstabilise 3 o highright\ndestabilise 2 3\n"
+moves_between_sizes = rw (five_is, zero_is, one_is, two_is, three_is) refl
+
+-- each word of a quandle, of a cocycle and of a verdict
+dihedral_named : quandle_text (called (name.Dihedral 3) (dihedral 3)) ≡ codes "quandle dihedral 3\n"
+dihedral_named = rw three_is refl
+
+tetrahedral_named : quandle_text (called name.Tetrahedral tetrahedral) ≡ codes "quandle tetrahedral\n"
+tetrahedral_named = refl
+
+alexander_named : quandle_text (called (name.Alexander 3 2) (alexander 3 2)) ≡ codes "quandle alexander 3 2\n"
+alexander_named = rw (three_is, two_is) refl
+
+tabled : quandle_text (called name.Table (record { order = 2; entries = 0 ∷ 0 ∷ 1 ∷ 1 ∷ [] })) ≡ codes "quandle table 2\n0 0\n1 1\n"
+tabled = rw (two_is, zero_is, one_is) refl
+
+weighed : lines_text (cocycle_lines (record { quandle = trivial 2; modulus = 3; entries = 0 ∷ 1 ∷ 2 ∷ 0 ∷ [] })) ≡ codes "weight 3\n0 1\n2 0\n"
+weighed = rw (three_is, zero_is, one_is, two_is) refl
+
+equal_said : verdict_text (Equal (ShiftRows 2 ∷ [])) ≡ codes "equal 1\nshift rows 2\n"
+equal_said = rw (one_is, two_is) refl
+
+different_said : verdict_text (Different (called (name.Dihedral 3) (dihedral 3)) (record { items = 0 ∷ 1 ∷ [] } ∷ []) [])
+    ≡ codes "different dihedral 3\nlist 1\n0 1\nlist 0\n"
+different_said = rw (three_is, zero_is, one_is) refl
+
+budget_said : verdict_text (UnknownBudget 3) ≡ codes "unknown budget 3\n"
+budget_said = rw three_is refl
+
+exhausted_said : verdict_text (UnknownExhausted 5 2) ≡ codes "unknown exhausted 5 2\n"
+exhausted_said = rw (five_is, two_is) refl
 
 some_steps : steps_text (Far 2 ∷ Triple 0 ∷ Cancel 1 ∷ []) ≡ codes "steps 3\nfar 2\ntriple 0\ncancel 1\n"
 some_steps = rw (three_is, two_is, zero_is, one_is) refl

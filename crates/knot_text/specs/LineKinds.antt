@@ -16,6 +16,7 @@ use Rattle.text_lines.specs.Lines.{NumberedLine, starts}
 use Rattle.text_lines.specs.Numbers.{is_number}
 use Rattle.knot_text.specs.declared.fault.TextFault.{TextFault}
 use Rattle.knot_text.specs.declared.fault.TextFault.TheVariants.{Malformed, Limit}
+use Rattle.knot_text.specs.declared.weights.TheConstants.{MAX_MODULUS}
 use Rattle.knot_text.specs.Grids.{are_rows}
 
 -- of the tokens of a line: they have the form; they exceed a limit; they say what can be
@@ -272,6 +273,18 @@ surplus_kind = behind_word (codes "quandle") (record {
 -- a word and a number, of which there is a most
 abbrev pub counted_kind : List ℕ → ℕ → LineKind
 counted_kind word most = worded_kind ((one_of (word ∷ []) ∷ is_number ∷ []) ∷ []) most
+
+-- the modulus of a cocycle is at least 2
+abbrev pub says_modulus : List (List ℕ) → Bool
+says_modulus (word ∷ modulus ∷ []) = nat_le 2 (worth modulus)
+says_modulus tokens = true
+
+abbrev pub modulus_kind : LineKind
+modulus_kind = record {
+  form = (counted_kind (codes "weight") MAX_MODULUS).form;
+  over = (counted_kind (codes "weight") MAX_MODULUS).over;
+  content = λ tokens. says_modulus tokens;
+}
 
 -- `unknown budget` and a number, or `unknown exhausted` and two
 abbrev pub unknown_forms : List Form

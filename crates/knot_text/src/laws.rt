@@ -1,8 +1,11 @@
 //! Laws of texts, over the definitions alone.
-ghost use Rattle.std.specs.Prelude.{◌≡◌, ◌≤◌, ◌+◌, ◌↔◌, ℕ, List, [], ◌∷◌, ◌++◌, length, Some, None, Ok, codes, false, true};
-ghost use Rattle.grid_core.specs.Diagram.{Diagram as Marks, IsGrid, size};
+ghost use Rattle.std.specs.Prelude.{◌≡◌, ◌≤◌, ◌+◌, ◌↔◌, ℕ, suc, List, [], ◌∷◌, ◌++◌, length, Some, None, Ok, codes, false, true, is_none, if◌then◌else◌};
+ghost use Rattle.grid_core.specs.Diagram.{Diagram as Marks, IsGrid, IsOneEach, size};
 ghost use Rattle.grid_core.specs.declared.grid.TheConstants.{MAX_SIZE};
 ghost use Rattle.quandle_core.specs.declared.quandle.TheConstants.{MAX_ORDER};
+ghost use Rattle.quandle_core.specs.Quandle.{Table};
+ghost use Rattle.quandle_core.specs.Fault.{first_fault as table_first_fault};
+ghost use Rattle.colour_weights.specs.Fault.{first_fault as cochain_fault};
 ghost use Rattle.arrayvec.specs.ArrayVec.{ArrayVec};
 ghost use Rattle.colour_list.specs.declared.limits.TheConstants.{MAX_COLOURINGS};
 ghost use Rattle.knot_text.specs.declared.reading.TheConstants.{MAX_NUMBER};
@@ -10,31 +13,33 @@ ghost use Rattle.knot_text.specs.Reading.{in_turn};
 ghost use Rattle.colour_rows.specs.Colouring.{AreColours};
 ghost use Rattle.braid_core.specs.Braid.{Word, IsBraid};
 ghost use Rattle.braid_closure.specs.Closure.{closure_size};
-ghost use Rattle.text_lines.specs.Lines.{NumberedLine, Text, first_starts, are_whole_lines, text_from};
+ghost use Rattle.text_lines.specs.Lines.{NumberedLine, Text, starts, begins, first_starts, are_whole_lines, text_from};
 ghost use Rattle.text_lines.specs.Spelled.{lines_text};
 ghost use Rattle.verdict_core.specs.declared.diagrams.Diagram.TheVariants as diagram;
 ghost use Rattle.verdict_core.specs.Names.{NamedQuandle};
 ghost use Rattle.knot_text.specs.Quandles.{built_in};
 ghost use Rattle.knot_text.specs.Numbers.{numbers_below};
-ghost use Rattle.knot_text.specs.Grids.{x_at, o_at, grid_item};
+ghost use Rattle.knot_text.specs.Grids.{are_rows, x_at, o_at, grid_item};
 ghost use Rattle.knot_text.specs.Braids.{braid_at, braid_item};
 ghost use Rattle.knot_text.specs.Moves.{move_at, move_lines, moves_item};
-ghost use Rattle.knot_text.specs.Quandles.{quandle_item, surplus_quandle};
-ghost use Rattle.knot_text.specs.Colours.{colours_at, colours_item};
+ghost use Rattle.knot_text.specs.declared.quandles.TheConstants.{MAX_QUANDLES};
+ghost use Rattle.knot_text.specs.Quandles.{table_item, quandle_item, surplus_quandle, quandles, quandle_list};
+ghost use Rattle.knot_text.specs.Colours.{colours_at, colours_item, coloured};
 ghost use Rattle.knot_text.specs.Verdicts.{colour_line, list_item, verdict_item};
 ghost use Rattle.verdict_core.specs.Diagrams.{grid_of, columns};
 ghost use Rattle.knot_text.specs.Shapes.{diagram_item, problem_item, problem_in, check_in, replay_in, colour_in, close_in, lone_diagram_in, problem_of, check_of, replay_of, colour_of, close_of, lone_diagram_of};
 ghost use Rattle.knot_text.specs.Pairs.{pair_in, pair_of};
 ghost use Rattle.knot_text.specs.BraidSteps.{step_at, step_lines, steps_item};
 ghost use Rattle.knot_text.specs.BraidChecks.{braidcheck_in, braidcheck_of};
-ghost use Rattle.knot_text.specs.Weights.{weight_in, weight_of};
+ghost use Rattle.knot_text.specs.Weights.{modulus_at, cochain, cocycle_item, weight_in, weight_of};
 ghost use Rattle.knot_text.specs.Printed.{grid_text, braid_text, moves_text, verdict_lines, verdict_text, HaveText, HasVerdictText};
 ghost use Rattle.knot_text.specs.Printed.{grid_lines, moves_lines, quandle_lines, quandle_text, braid_lines, diagram_lines, colours_lines, colours_text, HasQuandleText, HasDiagramText};
 ghost use Rattle.knot_text.specs.Printed.{steps_text, HaveStepsText};
 ghost use Rattle.knot_text.specs.WrittenThere.{StandInFront, said_by, HasProblemText, problem_lines, IsProblemText, IsCheckText, HasReplayText, replay_lines, IsColourText, IsCloseText, IsPairText};
 ghost use Rattle.knot_text.specs.WrittenThere.{StepsInFront, IsBraidCheckText, HasWeightText, weight_lines};
-ghost use Rattle.knot_text.specs.LineKinds.{FailsByKind, x_kind, o_kind, colours_kind, below_kind, braid_kind, move_kind, step_kind, read_fault, counted_kind, unknown_kind, name_kind, others, behind_word, surplus_kind};
-ghost use Rattle.knot_text.specs.FirstLines.{count, table_fault, BeginsBy, BeginsWith, FailsWith, FailsElse};
+ghost use Rattle.knot_text.specs.LineKinds.{FailsByKind, x_kind, o_kind, colours_kind, below_kind, braid_kind, move_kind, step_kind, modulus_kind, read_fault, numbers_of, counted_kind, unknown_kind, name_kind, others, behind_word, surplus_kind};
+ghost use Rattle.knot_text.specs.FirstLines.{count, table_fault, on_top, BeginsBy, BeginsWith, BeginsElse, FailsWith, FailsElse};
+ghost use Rattle.knot_text.specs.FirstLines.{lines_fault, rows_fault, item_then, end_fault, as_quandle};
 ghost use Rattle.knot_text.specs.FirstBadLine.{put_behind, IsStable, FailsFirst};
 
 use crate::braid_checks::BraidCheckText;
@@ -139,11 +144,26 @@ pub fn a_line_fails_by_its_form_then_its_limits_then_its_content()
     ensures braid_line { FailsByKind braid_kind braid_at }
     ensures move_line { FailsByKind move_kind move_at }
     ensures step { FailsByKind step_kind step_at }
+    ensures modulus { FailsByKind modulus_kind modulus_at }
 {}
 
-/// An item fails by its first line, where that is no line of its kind, else by what this line asks for behind it: so many
-/// moves, steps or lines of colours. Its form and limits are those of `LineKinds`.
+/// The rows that a line of Xs may have: two or more, and each number below their number once. So it is refused in its own
+/// line, and not in the line of the Os behind it.
+pub fn rows_are_each_number_once()
+    ensures { (rows : List ℕ) → are_rows rows ≡ true ↔ ((2 ≤ length rows) × IsOneEach (length rows) rows) }
+{}
+
+/// An item fails by its first line, where that is no line of its kind, else by what this line asks for behind it: the other
+/// line of a grid, so many moves, steps or lines of colours, or the lines of a table. Its form, limits and content are
+/// those of `LineKinds`.
 pub fn an_item_fails_by_its_first_line_first()
+    ensures grid { BeginsBy x_kind (λ tokens text. lines_fault (o_kind (numbers_of tokens)) 1 text) grid_item }
+    ensures braid { BeginsBy braid_kind (λ tokens text. None) braid_item }
+    ensures braid_diagram { BeginsWith (codes "braid") braid_kind (λ tokens text. None) diagram_item }
+    ensures grid_diagram { BeginsElse (codes "braid") x_kind (λ tokens text. lines_fault (o_kind (numbers_of tokens)) 1 text) diagram_item }
+    ensures colours { (width order : ℕ) → BeginsBy (colours_kind width order) (λ tokens text. None) (colours_item width order) }
+    ensures cocycle { (q : Table) → BeginsBy modulus_kind
+        (λ tokens text. rows_fault q.order (count tokens) (λ entries. is_none (cochain_fault (cochain q (count tokens) entries))) text) (cocycle_item q) }
     ensures moves { BeginsBy (counted_kind (codes "moves") MAX_NUMBER) (λ tokens text. read_fault (move_lines (count tokens) text)) moves_item }
     ensures steps { BeginsBy (counted_kind (codes "steps") MAX_NUMBER) (λ tokens text. read_fault (step_lines (count tokens) text)) steps_item }
     ensures quandle { BeginsBy (behind_word (codes "quandle") name_kind) (λ tokens text. table_fault (others tokens) text) quandle_item }
@@ -155,6 +175,49 @@ pub fn an_item_fails_by_its_first_line_first()
     ensures unknown { (one two : ℕ) → BeginsWith (codes "unknown") unknown_kind (λ tokens text. None) (verdict_item one two) }
     ensures different { (one two : ℕ) → FailsWith (codes "different") (behind_word (codes "different") name_kind) (verdict_item one two) }
     ensures other { (one two : ℕ) → FailsElse (codes "equal" ∷ codes "different" ∷ codes "unknown" ∷ []) (verdict_item one two) }
+{}
+
+/// Lines of one kind, one behind the other, fail by the first of them that is no line of this kind; that a table is one of a
+/// quandle is part of the content of its last line.
+pub fn lines_of_a_kind_fail_in_turn()
+    ensures moves { (count : ℕ) (text : Text) → read_fault (move_lines count text) ≡ lines_fault move_kind count text }
+    ensures steps { (count : ℕ) (text : Text) → read_fault (step_lines count text) ≡ lines_fault step_kind count text }
+    ensures list { (width order count : ℕ) (text : Text)
+        → read_fault (in_turn (colour_line width order) count text) ≡ lines_fault (below_kind width order) count text }
+    ensures table { (order : ℕ) (text : Text) → read_fault (table_item order text)
+        ≡ rows_fault order order (λ entries. is_none (table_first_fault (record { order = order; entries = entries }))) text }
+{}
+
+/// A text fails by its items in turn, and what stands behind the last of them is malformed; a list of quandles fails by the
+/// quandles that it lists.
+pub fn a_text_fails_by_its_items_in_turn()
+    ensures problem_front { (text : Text) → read_fault (problem_item text)
+        ≡ item_then (diagram_item text) (λ first text. item_then (diagram_item text) (λ second text. read_fault (quandle_list text))) }
+    ensures problem { (text : Text) → read_fault (problem_in text) ≡ item_then (problem_item text) (λ problem text. end_fault text) }
+    ensures check { (text : Text) → read_fault (check_in text) ≡ item_then (problem_item text)
+        (λ problem text. item_then (verdict_item (columns problem.first) (columns problem.second) text) (λ verdict text. end_fault text)) }
+    ensures replay { (text : Text) → read_fault (replay_in text) ≡ item_then (diagram_item text)
+        (λ diagram text. item_then (moves_item text) (λ moves text. item_then (coloured (columns diagram) text) (λ colours text. end_fault text))) }
+    ensures colour { (text : Text) → read_fault (colour_in text)
+        ≡ item_then (diagram_item text) (λ diagram text. item_then (quandle_list text) (λ quandles text. end_fault text)) }
+    ensures close { (text : Text) → read_fault (close_in text)
+        ≡ item_then (braid_item text) (λ braid text. item_then (quandle_list text) (λ quandles text. end_fault text)) }
+    ensures diagram { (text : Text) → read_fault (lone_diagram_in text) ≡ item_then (diagram_item text) (λ diagram text. end_fault text) }
+    ensures pair { (text : Text) → read_fault (pair_in text)
+        ≡ item_then (diagram_item text) (λ first text. item_then (diagram_item text) (λ second text. end_fault text)) }
+    ensures braidcheck { (text : Text) → read_fault (braidcheck_in text) ≡ item_then (braid_item text)
+        (λ first text. item_then (braid_item text) (λ second text. item_then (steps_item text) (λ steps text. end_fault text))) }
+    ensures weights { (text : Text) → read_fault (weight_in text) ≡ item_then (diagram_item text) (λ first text. item_then (diagram_item text)
+        (λ second text. item_then (quandle_item text) (λ q text. item_then (cocycle_item q.table text) (λ cocycle text. end_fault text)))) }
+    ensures coloured { (width : ℕ) (text : Text) → read_fault (coloured width text) ≡ (if begins (codes "quandle") text
+        then item_then (quandle_item text) (λ q text. read_fault (colours_item width q.table.order text)) else None) }
+    ensures list { (text : Text) → read_fault (quandle_list text) ≡ read_fault (quandles MAX_QUANDLES text) }
+    ensures listed { (room : ℕ) (text : Text) → read_fault (quandles (suc room) text) ≡ (if begins (codes "quandle") text
+        then item_then (quandle_item text) (λ q text. read_fault (quandles room text)) else None) }
+    ensures full { (text : Text) → read_fault (quandles 0 text) ≡ (if begins (codes "quandle") text then read_fault (surplus_quandle text) else None) }
+    ensures different { (one two : ℕ) (line : NumberedLine) (text : Text) → starts (codes "different") line.tokens ≡ true
+        → read_fault (verdict_item one two (on_top line text)) ≡ item_then (quandle_item (on_top (as_quandle line) text))
+        (λ q text. item_then (list_item one q.table.order text) (λ list text. read_fault (list_item two q.table.order text))) }
 {}
 
 /// An item is read from the front of a text in the same way whatever whole lines are put behind the text.

@@ -1,5 +1,5 @@
 -- A number has one spelling, and it is read again.
-use Rattle.std.proofs.Common.{◌≡◌, ◌<◌, ◌≤◌, ◌^◌, ◌⊎◌, inl, inr, ◌==◌, ℕ, zero, suc, Bool, true, false, cond, List, [], ◌∷◌, length, slice_index, Some, nat_lt, arith, refl, sym, ap, ◌∙◌}
+use Rattle.std.proofs.Common.{◌≡◌, ◌<◌, ◌≤◌, ◌^◌, ◌⊎◌, inl, inr, ◌==◌, ℕ, zero, suc, Bool, true, false, cond, List, [], ◌∷◌, length, slice_index, ◌↔◌, Some, None, IsSome, nat_lt, arith, refl, sym, ap, ◌∙◌}
 use Rattle.std.specs.Fmt.{decimal}
 use Rattle.std.specs.List.{list_all}
 use Rattle.std.specs.Char.{digit_value}
@@ -102,3 +102,23 @@ number_spelling token n e small =
           sym text ∙ ap decimal short.1
       | inr long ↦ absurd (omega (arith, long.1))
     ]
+
+-- ---- what is read at all
+
+some_of : {A : Type 0} (b : Bool) (x : A) → b ≡ true → IsSome (cond b (Some x) None)
+some_of true x is = refl
+some_of false x is = absurd cc
+
+some_from : {A : Type 0} (b : Bool) (x : A) → IsSome (cond b (Some x) None) → b ≡ true
+some_from true x some = refl
+some_from false x some = absurd cc
+
+abbrev as_read : List ℕ → ℕ
+as_read token = cond (nat_lt MAX_DIGITS (length token)) OVERLONG (digits_value 10 token)
+
+pub read_by_form : (token : List ℕ)
+    → IsSome (number_of token) ↔ ((0 < length token) × AllDigits 10 token × (slice_index token 0 ≡ 48 → length token ≡ 1))
+read_by_form token = (
+  λ some. (let form = form_of token (some_from (is_number token) (as_read token) some) in (form.some, form.digits, form.zero_alone)),
+  λ form. some_of (is_number token) (as_read token) (number_test token form.0 form.1 form.2),
+)

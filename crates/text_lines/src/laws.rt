@@ -1,5 +1,6 @@
 //! Laws of texts, over the definitions alone.
-ghost use Rattle.std.specs.Prelude.{◌≡◌, ◌<◌, ◌+◌, ◌^◌, ◌⊎◌, ℕ, List, ◌++◌, codes, length, Some, false, true};
+ghost use Rattle.std.specs.Prelude.{◌≡◌, ◌<◌, ◌+◌, ◌^◌, ◌⊎◌, ◌↔◌, ℕ, List, ◌++◌, codes, length, slice_index, Some, IsSome, false, true};
+ghost use Rattle.std.specs.Str.Parse.{AllDigits};
 ghost use Rattle.std.specs.List.{list_all};
 ghost use Rattle.std.specs.Fmt.{decimal};
 ghost use Rattle.text_lines.specs.Lines.{line_count, are_whole_lines, text_from};
@@ -30,10 +31,13 @@ pub fn written_lines_are_read()
         } }
 {}
 
-/// A number of at most `MAX_DIGITS` digits has one spelling, which is read as this number; every other is overlong.
+/// A number of at most `MAX_DIGITS` digits has one spelling, which is read as this number; every longer one is overlong. Read
+/// is what has a digit, has nothing else, and has no 0 in front of another.
 pub fn a_number_has_one_spelling()
     ensures read { (n : ℕ) → n < 10 ^ MAX_DIGITS → number_of (decimal n) ≡ Some n }
     ensures only { (token : List ℕ) (n : ℕ) → number_of token ≡ Some n → n < 10 ^ MAX_DIGITS → token ≡ decimal n }
     ensures long { (token : List ℕ) (n : ℕ) → number_of token ≡ Some n
         → (n < 10 ^ MAX_DIGITS) ⊎ ((n ≡ OVERLONG) × (MAX_DIGITS < length token)) }
+    ensures form { (token : List ℕ) → IsSome (number_of token)
+        ↔ ((0 < length token) × AllDigits 10 token × (slice_index token 0 ≡ 48 → length token ≡ 1)) }
 {}

@@ -1,4 +1,4 @@
-use Rattle.text_lines.proofs.NumberTexts.{decimal_read, number_spelling, number_range}
+use Rattle.text_lines.proofs.NumberTexts.{decimal_read, number_spelling, number_range, read_by_form}
 use Rattle.text_lines.proofs.laws.a_number_has_one_spelling.Goals as goal
 
 pub returns-clause-read : goal.returns-clause-read
@@ -9,3 +9,6 @@ returns-clause-only c = number_spelling
 
 pub returns-clause-long : goal.returns-clause-long
 returns-clause-long c = number_range
+
+pub returns-clause-form : goal.returns-clause-form
+returns-clause-form c = read_by_form
