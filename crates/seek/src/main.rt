@@ -1,0 +1,175 @@
+//! The program: a verdict on two diagrams, sought and written.
+//! What is written with status 0 is a decision on the problem, by the contract of `run` of seek_core, which is called here.
+#![tactic(auto)]
+
+mod failure;
+mod out_file;
+mod parts;
+mod ports;
+mod progress;
+mod report;
+
+use crate::failure::{Failure, OUTPUT};
+use crate::out_file::OutFile;
+use crate::parts::Parts;
+use crate::ports::TellingSink;
+use crate::progress::Teller;
+use crate::report::{tell, tell_ending};
+use clap::error::ErrorKind;
+use knot_jobs::Status;
+use knot_ports::Sink;
+use seek_core::{Bounds, Ending, run};
+use seek_words::{Asked, read_words};
+use std::io;
+use std::process::ExitCode;
+use std::thread::Threads;
+
+/// Where the system refuses the words for another cause than memory.
+const NO_WORDS: u8 = 10;
+
+fn main(rt: HostRuntime) -> ExitCode {
+    let alloc = rt.alloc();
+    let args = match std::env::args(&rt) {
+        Ok(args) => args,
+        Err(error) if error.kind() == io::ErrorKind::OutOfMemory => {
+            return ExitCode::from(tell(&rt, &Failure::OutOfMemory).number());
+        }
+        Err(error) => {
+            let _told = eprintln!(rt; "seek: the words can't be read: {error}");
+            return ExitCode::from(NO_WORDS);
+        }
+    };
+    let words: Vec<String> = match args.collect(alloc) {
+        Ok(words) => words,
+        Err(_) => return ExitCode::from(tell(&rt, &Failure::OutOfMemory).number()),
+    };
+    ExitCode::from(call(&rt, &rt, words.as_slice()))
+}
+
+/// Does what the words ask for, with workers in threads of the second runtime: the exit status. Words that are refused are answered by
+/// `clap`, as is a request for help.
+fn call<R: Threads + Sync>(rt: &HostRuntime, threads: &R, words: &[String]) -> u8 {
+    match read_words(rt.alloc(), words) {
+        Ok(asked) => seek(rt, threads, &asked).number(),
+        Err(error) => answer_words(rt, &error).number(),
+    }
+}
+
+/// Prints the text of `clap`: what is wrong with the words, the help, or the version.
+fn answer_words(rt: &HostRuntime, error: &clap::Error) -> Status {
+    let printed = error.print(rt);
+    if error.kind() == ErrorKind::OutOfMemory {
+        return Status::OutOfMemory;
+    }
+    if error.use_stderr() {
+        return Status::Usage;
+    }
+    match printed {
+        Ok(()) => Status::Done,
+        Err(error) => tell(
+            rt,
+            &Failure::Write {
+                name: OUTPUT,
+                error: Some(error),
+            },
+        ),
+    }
+}
+
+/// Reads the diagrams, seeks a verdict on them, and writes it.
+fn seek<R: Threads + Sync>(rt: &HostRuntime, threads: &R, asked: &Asked) -> Status {
+    let parts = match Parts::read(rt, asked) {
+        Ok(parts) => parts,
+        Err(failure) => return tell(rt, &failure),
+    };
+    let written = match asked.out {
+        Some(path) => to_file(rt, threads, &parts, asked, path),
+        None => to_output(rt, threads, &parts, asked),
+    };
+    match written {
+        Ok(ending) => tell_ending(rt, asked, &parts, &ending),
+        Err(failure) => tell(rt, &failure),
+    }
+}
+
+/// Seeks a verdict, writes it to the sink, and tells how far the search is.
+fn run_told<R: Threads + Sync, K: Sink>(
+    rt: &HostRuntime,
+    threads: &R,
+    parts: &Parts,
+    asked: &Asked,
+    sink: &mut K,
+) -> Ending {
+    let mut teller = Teller::new(rt, asked.talk);
+    let ending = run(
+        threads,
+        rt.alloc(),
+        parts.bytes(),
+        bounds_of(asked),
+        sink,
+        &mut teller,
+    );
+    teller.end();
+    ending
+}
+
+/// What bounds the search.
+fn bounds_of(asked: &Asked) -> Bounds {
+    Bounds {
+        seed: asked.seed,
+        steps: asked.steps,
+        room: asked.room as usize,
+        workers: asked.workers,
+    }
+}
+
+/// Seeks a verdict, and writes it to standard output.
+fn to_output<'a, R: Threads + Sync>(
+    rt: &HostRuntime,
+    threads: &R,
+    parts: &Parts,
+    asked: &Asked,
+) -> Result<Ending, Failure<'a>> {
+    let mut sink = TellingSink::new(rt.stdout());
+    match run_told(rt, threads, parts, asked, &mut sink) {
+        Ending::WriteFault => Err(Failure::Write {
+            name: OUTPUT,
+            error: sink.into_error(),
+        }),
+        ending => Ok(ending),
+    }
+}
+
+/// Seeks a verdict, and writes it to a file: whole, or not at all.
+fn to_file<'a, R: Threads + Sync>(
+    rt: &HostRuntime,
+    threads: &R,
+    parts: &Parts,
+    asked: &Asked,
+    path: &'a str,
+) -> Result<Ending, Failure<'a>> {
+    let Ok(mut file) = OutFile::new(rt, path) else {
+        return Err(Failure::OutOfMemory);
+    };
+    if let Err(error) = file.prepare() {
+        return Err(Failure::Write {
+            name: path,
+            error: Some(error),
+        });
+    }
+    let ending = run_told(rt, threads, parts, asked, &mut file);
+    match ending {
+        Ending::Done => match file.keep() {
+            Ok(()) => Ok(Ending::Done),
+            Err(error) => Err(Failure::Write {
+                name: path,
+                error: Some(error),
+            }),
+        },
+        Ending::WriteFault => Err(Failure::Write {
+            name: path,
+            error: file.drop_it(),
+        }),
+        other => Ok(other),
+    }
+}

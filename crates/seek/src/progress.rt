@@ -1,0 +1,109 @@
+//! How far a search is, told on standard error.
+
+use meeting_walks::{Progress, Watch};
+use seek_words::Talk;
+use std::io::IsTerminal;
+use std::time::{Duration, Instant};
+
+/// So many milliseconds lie between two lines at least.
+const PAUSE: u64 = 500;
+
+/// How it is told.
+#[derive(Clone, Copy, Debug, PartialEq, Eq)]
+enum Way {
+    /// Not at all.
+    Silent,
+    /// Each time in a line of its own.
+    Lines,
+    /// In one line of a terminal, which is written over.
+    OneLine,
+}
+
+/// Tells how far a search is, at most twice a second.
+#[derive(Drop)]
+pub(crate) struct Teller<'a> {
+    rt: &'a HostRuntime,
+    way: Way,
+    /// When it was told last.
+    last: Option<Instant>,
+    /// Whether a line stands on the terminal.
+    is_written: bool,
+}
+
+impl<'a> Teller<'a> {
+    /// Tells where standard error is a terminal, or where it is asked for; on a terminal first when half a second has passed.
+    pub(crate) fn new(rt: &'a HostRuntime, talk: Talk) -> Teller<'a> {
+        let way = way_of(talk, rt.stderr().is_terminal());
+        let last = match way {
+            Way::OneLine => Instant::now(rt).ok(),
+            Way::Silent | Way::Lines => None,
+        };
+        Teller {
+            rt,
+            way,
+            last,
+            is_written: false,
+        }
+    }
+
+    /// Whether it is time to tell, which is noted then.
+    fn is_due(&mut self) -> bool {
+        let Ok(now) = Instant::now(self.rt) else {
+            return false;
+        };
+        let is_due = match self.last {
+            Some(last) => now.duration_since(last) >= Duration::from_millis(PAUSE),
+            None => true,
+        };
+        if is_due {
+            self.last = Some(now);
+        }
+        is_due
+    }
+
+    /// Tells once.
+    fn tell(&mut self, progress: Progress) {
+        let Progress {
+            steps,
+            forms,
+            first_size,
+            second_size,
+        } = progress;
+        let _told = match self.way {
+            Way::Silent => Ok(()),
+            Way::Lines => eprintln!(self.rt;
+                "seek: {steps} steps, {forms} forms, least sizes {first_size} and {second_size}"
+            ),
+            Way::OneLine => eprint!(self.rt;
+                "\rseek: {steps} steps, {forms} forms, least sizes {first_size} and {second_size}\x1b[K"
+            ),
+        };
+        self.is_written = self.way == Way::OneLine;
+    }
+
+    /// Clears the line of a terminal.
+    pub(crate) fn end(&mut self) {
+        if self.is_written {
+            let _told = eprint!(self.rt; "\r\x1b[K");
+            self.is_written = false;
+        }
+    }
+}
+
+/// The way that goes with what is asked for, on a terminal or not.
+fn way_of(talk: Talk, is_terminal: bool) -> Way {
+    match talk {
+        Talk::Quiet => Way::Silent,
+        Talk::Terminal | Talk::Progress if is_terminal => Way::OneLine,
+        Talk::Progress => Way::Lines,
+        Talk::Terminal => Way::Silent,
+    }
+}
+
+impl<'a> Watch for Teller<'a> {
+    fn note(&mut self, progress: Progress) {
+        if self.way != Way::Silent && self.is_due() {
+            self.tell(progress);
+        }
+    }
+}

@@ -1,0 +1,15 @@
+pub mod Formulas
+pub mod Candidates
+pub mod Found
+pub mod Parts
+pub mod Answers
+pub use Rattle.grid_moves.specs.Joining
+pub use Rattle.knot_ports.specs.Faults
+pub use Rattle.knot_ports.specs.Sink
+pub use Rattle.verdict_core.specs.Diagrams
+pub use Rattle.verdict_core.specs.Names
+pub use Rattle.verdict_core.specs.Evidence
+pub use Rattle.knot_text.specs.Printed
+pub use Rattle.knot_text.specs.Shapes
+pub use Rattle.pair_verdict.specs.Separates
+pub use Rattle.knot_jobs.specs.Truth

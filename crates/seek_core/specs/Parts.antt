@@ -1,0 +1,7 @@
+-- A problem that comes in parts.
+use Rattle.std.specs.Prelude.{ℕ, List, [], fold}
+use Rattle.knot_jobs.specs.Truth.{put_behind}
+
+-- the parts one behind the other, each from the beginning of a line on
+abbrev pub joined : List (List ℕ) → List ℕ
+joined parts = fold put_behind [] parts

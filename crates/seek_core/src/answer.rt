@@ -1,0 +1,84 @@
+//! The answer to an input: the text of a decision on it, or what was tried, or its first bad line.
+ghost use Rattle.std.specs.Prelude.{◌≡◌, ℕ, List, Ok, IfOk};
+ghost use Rattle.std.specs.List.{All};
+ghost use Rattle.knot_text.specs.Printed.{HasQuandleText};
+ghost use Rattle.knot_text.specs.Shapes.{problem_of};
+ghost use Rattle.seek_core.specs.Answers.{IsTrueAnswer};
+
+use crate::bounds::Bounds;
+use crate::finding::{Search, find};
+use grid_core::Items;
+use knot_jobs::laws::a_verdict_that_holds_is_a_decision;
+use knot_text::{TextFault, print_verdict, read_problem};
+use meeting_walks::Watch;
+use memory_core::OutOfMemory;
+use std::alloc::Global;
+use std::thread::Threads;
+use verdict_core::{Listed, ProblemText};
+
+/// What was tried of two diagrams without finding a verdict on them.
+#[derive(Drop)]
+pub struct Tried {
+    /// The columns of both diagrams.
+    pub columns: (u8, u8),
+    /// The quandles that fit both diagrams, none of which separates them.
+    pub quandles: Items<Listed>,
+}
+
+/// What is answered to an input.
+#[derive(Drop)]
+pub enum Answer {
+    /// The text of a verdict.
+    Decided(Items<u8>),
+    /// No verdict was found.
+    NotFound(Tried),
+    /// The first bad line has not the form of what is due there, or says what can't be, or stands behind the end.
+    Malformed { line: usize },
+    /// The first bad line exceeds a limit.
+    Limit { line: usize },
+}
+
+/// The answer to the bytes of an input: a problem is decided where a verdict on it is found within the bounds. Want of memory is the
+/// only error.
+pub fn answer_to<R: Threads + Sync, W: Watch>(
+    rt: &R,
+    alloc: Global,
+    bytes: &[u8],
+    bounds: Bounds,
+    watch: &mut W,
+) -> Result<Answer, OutOfMemory>
+    ensures { IfOk result (λ a. IsTrueAnswer bytes.now a) }
+{
+    a_verdict_that_holds_is_a_decision();
+    match read_problem(alloc, bytes) {
+        Ok(problem) => answer_problem(rt, alloc, &problem, bounds, watch),
+        Err(TextFault::OutOfMemory) => Err(OutOfMemory),
+        Err(TextFault::Malformed { line }) => Ok(Answer::Malformed { line }),
+        Err(TextFault::Limit { line }) => Ok(Answer::Limit { line }),
+    }
+}
+
+/// The answer to a problem, from whatever bytes it was read.
+fn answer_problem<R: Threads + Sync, W: Watch>(
+    rt: &R,
+    alloc: Global,
+    problem: &ProblemText,
+    bounds: Bounds,
+    watch: &mut W,
+) -> Result<Answer, OutOfMemory>
+    requires { All HasQuandleText problem.now.quandles }
+    ensures { (bytes : List ℕ) → problem_of bytes ≡ Ok problem.now → IfOk result (λ a. IsTrueAnswer bytes a) }
+{
+    a_verdict_that_holds_is_a_decision();
+    let Search { verdict, quandles } = find(rt, alloc, problem, bounds, watch)?;
+    match verdict {
+        Some(verdict) => {
+            let text = print_verdict(alloc, &verdict)?;
+            Ok(Answer::Decided(Items::from_vec(text)))
+        }
+        None => Ok(Answer::NotFound(Tried {
+            columns: (problem.first.columns(), problem.second.columns()),
+            quandles: Items::from_vec(quandles),
+        })),
+    }
+}

@@ -1,0 +1,122 @@
+//! The top call: the answer to an input, written.
+ghost use Rattle.std.specs.Prelude.{◌≡◌, ◌<◌, ◌≤◌, ℕ, List, length};
+ghost use Rattle.knot_ports.specs.Faults.{Rose};
+ghost use Rattle.knot_jobs.specs.declared.status.Status.TheVariants as status;
+ghost use Rattle.seek_core.specs.declared.ending.Ending.TheVariants as ending;
+ghost use Rattle.seek_core.specs.declared.ending.TheConstants.{MAX_BYTES};
+ghost use Rattle.seek_core.specs.Answers.{Ends, WritesDecision, IsTooLong, IsTrueAnswer, ending_status};
+ghost use Rattle.seek_core.specs.Parts.{joined};
+
+use crate::answer::{Answer, Tried, answer_to};
+use crate::bounds::Bounds;
+use crate::parts::join_parts;
+use grid_core::Items;
+use knot_jobs::Status;
+use knot_ports::{Sink, give_all};
+use meeting_walks::Watch;
+use std::alloc::Global;
+use std::thread::Threads;
+
+/// The most bytes that an input may have.
+pub const MAX_BYTES: usize = 1_048_576;
+
+/// How a call of `run` ended.
+#[derive(Drop)]
+pub enum Ending {
+    /// The text of a verdict was written.
+    Done,
+    /// No verdict was found.
+    NotFound(Tried),
+    /// The first bad line has not the form of what is due there, or says what can't be, or stands behind the end.
+    Malformed { line: usize },
+    /// The first bad line exceeds a limit.
+    Limit { line: usize },
+    /// The input has more than `MAX_BYTES` bytes.
+    TooLong,
+    /// The sink failed.
+    WriteFault,
+    /// Memory was wanting.
+    OutOfMemory,
+}
+
+impl Ending {
+    /// The exit status of the program: it has the number of `knot`'s status of that name. For `Unknown` it means less: nothing was found.
+    pub fn status(&self) -> Status
+        ensures { result ≡ ending_status self.now }
+    {
+        match self {
+            Ending::Done => Status::Done,
+            Ending::NotFound(_) => Status::Unknown,
+            Ending::Malformed { .. } => Status::Malformed,
+            Ending::Limit { .. } | Ending::TooLong => Status::Limit,
+            Ending::WriteFault => Status::WriteFault,
+            Ending::OutOfMemory => Status::OutOfMemory,
+        }
+    }
+}
+
+/// Looks for a verdict on the two diagrams of an input, which comes in parts, and writes it to the sink.
+///
+/// Where it ends with status 0, the text of a verdict was written, what it says of the two diagrams is true, and behind the input `check`
+/// accepts it, where both are within its limit of bytes. Else nothing was written, or, where the sink failed, a front of such a text: the
+/// whole text is made before the first write. That a verdict is found is not promised. A longer input than `MAX_BYTES` is answered by
+/// `TooLong`, or by want of memory, and the sink is said to have failed only where its count of faults rose, or stands at its last value.
+pub fn run<R: Threads + Sync, K: Sink, W: Watch>(
+    rt: &R,
+    alloc: Global,
+    parts: &[Items<u8>],
+    bounds: Bounds,
+    sink: &mut K,
+    watch: &mut W,
+) -> Ending
+    ensures decides { ending_status result ≡ status.Done → WritesDecision (joined parts.now) (K.held sink.old) (K.held sink.new) }
+    ensures ends { Ends (joined parts.now) (K.held sink.old) (K.held sink.new) result }
+    ensures long { MAX_BYTES < length (joined parts.now) → IsTooLong result }
+    ensures fault { result ≡ ending.WriteFault → Rose (K.faults sink.old) (K.faults sink.new) }
+    ensures count { K.faults sink.old ≤ K.faults sink.new }
+{
+    match join_parts(alloc, parts) {
+        Ok(bytes) => run_whole(rt, alloc, bytes.as_slice(), bounds, sink, watch),
+        Err(_) => Ending::OutOfMemory,
+    }
+}
+
+/// The same for the bytes of the whole input.
+fn run_whole<R: Threads + Sync, K: Sink, W: Watch>(
+    rt: &R,
+    alloc: Global,
+    bytes: &[u8],
+    bounds: Bounds,
+    sink: &mut K,
+    watch: &mut W,
+) -> Ending
+    ensures ends { Ends bytes.now (K.held sink.old) (K.held sink.new) result }
+    ensures long { MAX_BYTES < length bytes.now → IsTooLong result }
+    ensures fault { result ≡ ending.WriteFault → Rose (K.faults sink.old) (K.faults sink.new) }
+    ensures count { K.faults sink.old ≤ K.faults sink.new }
+{
+    if bytes.len() > MAX_BYTES {
+        return Ending::TooLong;
+    }
+    match answer_to(rt, alloc, bytes, bounds, watch) {
+        Ok(answer) => deliver(answer, sink),
+        Err(_) => Ending::OutOfMemory,
+    }
+}
+
+/// Writes an answer, where it is a text, whatever input it answers.
+fn deliver<K: Sink>(answer: Answer, sink: &mut K) -> Ending
+    ensures ends { (bytes : List ℕ) → IsTrueAnswer bytes answer → Ends bytes (K.held sink.old) (K.held sink.new) result }
+    ensures fault { result ≡ ending.WriteFault → Rose (K.faults sink.old) (K.faults sink.new) }
+    ensures count { K.faults sink.old ≤ K.faults sink.new }
+{
+    match answer {
+        Answer::Decided(text) => match give_all(sink, text.as_slice()) {
+            Ok(()) => Ending::Done,
+            Err(_) => Ending::WriteFault,
+        },
+        Answer::NotFound(tried) => Ending::NotFound(tried),
+        Answer::Malformed { line } => Ending::Malformed { line },
+        Answer::Limit { line } => Ending::Limit { line },
+    }
+}

@@ -1,0 +1,92 @@
+//! Laws of the quandles by formula, of the candidates and of the parts of a problem, over the definitions alone.
+ghost use Rattle.std.specs.Prelude.{◌≡◌, ◌≤◌, ◌⊎◌, ℕ, false, true, List, ◌++◌, None, Ok, length, flat_map};
+ghost use Rattle.std.specs.List.{All, Contains};
+ghost use Rattle.grid_core.specs.Diagram.{Diagram};
+ghost use Rattle.quandle_core.specs.declared.quandle.TheConstants.{MAX_ORDER};
+ghost use Rattle.quandle_core.specs.Tables.{trivial, dihedral, alexander, tetrahedral};
+ghost use Rattle.colour_list.specs.Fits.{fits};
+ghost use Rattle.verdict_core.specs.declared.problem.ProblemText.{ProblemText};
+ghost use Rattle.verdict_core.specs.Diagrams.{grid_of};
+ghost use Rattle.verdict_core.specs.Names.{NamedQuandle, Names};
+ghost use Rattle.pair_verdict.specs.Separates.{separates, first_separating};
+ghost use Rattle.knot_text.specs.Printed.{HasQuandleText};
+ghost use Rattle.knot_text.specs.Shapes.{problem_of};
+ghost use Rattle.knot_text.specs.WrittenThere.{said_by};
+ghost use Rattle.seek_core.specs.Answers.{WasTriedInVain};
+ghost use Rattle.seek_core.specs.Candidates.{IsUnlisted, candidates};
+ghost use Rattle.seek_core.specs.Formulas.{formula_quandles, HaveOwnTables, HaveTable, IsFactor, IsByFormula};
+ghost use Rattle.seek_core.specs.Parts.{joined};
+
+use crate::answer::Tried;
+use knot_jobs::laws::a_verdict_that_holds_is_a_decision;
+
+/// Each quandle by formula is the one that its name names, and has a text.
+pub fn quandles_by_formula_have_texts()
+    ensures { All HasQuandleText formula_quandles }
+{}
+
+/// There are 66 quandles by formula: as many as trivial 2, tetrahedral, and the orders from 3 to `MAX_ORDER` have dihedral and Alexander
+/// ones that are not trivial.
+pub fn there_are_so_many_quandles_by_formula()
+    ensures { length formula_quandles ≡ 66 }
+{}
+
+/// No two of the quandles by formula have one table.
+pub fn each_quandle_by_formula_stands_once()
+    ensures { HaveOwnTables formula_quandles }
+{}
+
+/// Trivial 2 and the tetrahedral quandle are among the quandles by formula, and so are all dihedral quandles from order 3 to `MAX_ORDER`
+/// and, of each order up to it, the Alexander ones of all factors from 2 to n - 1 that have an inverse modulo n. That of the factor n - 1
+/// is the dihedral one. There are no others.
+pub fn quandles_by_formula_are_all_of_their_kinds()
+    ensures trivial { HaveTable formula_quandles (trivial 2) }
+    ensures tetrahedral { HaveTable formula_quandles tetrahedral }
+    ensures dihedral { (n : ℕ) → 3 ≤ n → n ≤ MAX_ORDER → HaveTable formula_quandles (dihedral n) }
+    ensures alexander { (n a : ℕ) → n ≤ MAX_ORDER → IsFactor n a → HaveTable formula_quandles (alexander n a) }
+    ensures only { All (λ (q : NamedQuandle). IsByFormula q.table) formula_quandles }
+{}
+
+/// Where none of the candidates separates two diagrams, no listed quandle does, and none by formula. More than that: the first candidate
+/// that separates them is the first that does among the listed ones with those by formula behind them, so what is passed over takes no
+/// verdict away. For those by formula each listed quandle has to be the one that its name names, as in every problem that was read: else
+/// a listed one could bear the name of one by formula, and keep it from being tried.
+pub fn where_no_candidate_separates_no_quandle_does()
+    ensures listed { (d e : Diagram) (listed : List NamedQuandle)
+        → first_separating d e (candidates d e listed) ≡ None
+        → All (λ (q : NamedQuandle). separates d e q.table ≡ false) listed }
+    ensures by_formula { (d e : Diagram) (listed : List NamedQuandle)
+        → All (λ (q : NamedQuandle). Names q.name q.table) listed
+        → first_separating d e (candidates d e listed) ≡ None
+        → All (λ (q : NamedQuandle). separates d e q.table ≡ false) formula_quandles }
+    ensures first { (d e : Diagram) (listed : List NamedQuandle)
+        → All (λ (q : NamedQuandle). Names q.name q.table) listed
+        → first_separating d e (candidates d e listed) ≡ first_separating d e (listed ++ formula_quandles) }
+{}
+
+/// Where an input was tried in vain, neither a quandle of its problem nor one by formula separates its diagrams.
+pub fn what_was_tried_in_vain_no_quandle_separates()
+    ensures listed { (bytes : List ℕ) (tried : Tried) (problem : ProblemText)
+        → WasTriedInVain bytes tried
+        → problem_of bytes ≡ Ok problem
+        → All (λ (q : NamedQuandle). separates (grid_of problem.first) (grid_of problem.second) q.table ≡ false) problem.quandles }
+    ensures by_formula { (bytes : List ℕ) (tried : Tried) (problem : ProblemText)
+        → WasTriedInVain bytes tried
+        → problem_of bytes ≡ Ok problem
+        → All (λ (q : NamedQuandle). separates (grid_of problem.first) (grid_of problem.second) q.table ≡ false) formula_quandles }
+{
+    a_verdict_that_holds_is_a_decision();
+}
+
+/// Each candidate fits both diagrams, and is a listed quandle, or one by formula whose name no listed one has: nothing else is tried.
+pub fn a_candidate_is_listed_or_by_formula()
+    ensures fit { (d e : Diagram) (listed : List NamedQuandle)
+        → All (λ (q : NamedQuandle). (fits q.table d ≡ true) × (fits q.table e ≡ true)) (candidates d e listed) }
+    ensures kinds { (d e : Diagram) (listed : List NamedQuandle)
+        → All (λ (q : NamedQuandle). Contains listed q ⊎ IsUnlisted listed q) (candidates d e listed) }
+{}
+
+/// Put together the parts say what each of them says, in their order: lines do not run into each other.
+pub fn joined_parts_say_what_each_says()
+    ensures { (parts : List (List ℕ)) → said_by (joined parts) ≡ flat_map said_by parts }
+{}

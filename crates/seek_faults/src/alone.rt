@@ -1,0 +1,60 @@
+//! Whether a text is one diagram.
+
+use std::fmt;
+use text_lines::Lines;
+
+/// Why a text is not one diagram.
+#[derive(Clone, Copy, Debug, PartialEq, Eq)]
+pub enum NotOne {
+    /// It has no line but blank ones and comments.
+    Nothing,
+    /// It ends behind the line of the Xs.
+    Half,
+    /// This line, counted from 1, stands behind the diagram.
+    More { line: usize },
+}
+
+impl NotOne {
+    /// The line that is one too many.
+    pub fn line(self) -> Option<usize> {
+        match self {
+            NotOne::Nothing | NotOne::Half => None,
+            NotOne::More { line } => Some(line),
+        }
+    }
+}
+
+impl fmt::Display for NotOne {
+    fn fmt<W: fmt::Write>(&self, f: &mut fmt::Formatter<W>) -> fmt::Result {
+        match self {
+            NotOne::Nothing => write!(f, "there is no diagram in it"),
+            NotOne::Half => write!(f, "it ends before the line `o ..` of its diagram"),
+            NotOne::More { .. } => write!(
+                f,
+                "a line too many: where two diagrams are given, each stands alone, and quandles in a file behind `--quandles`"
+            ),
+        }
+    }
+}
+
+/// Whether a text is one diagram and no more, by the number of its lines: one that begins with `braid`, or one that begins with `x` and
+/// another. A text that begins with another word is left to `reason_at`, and so is what else is wrong with a line.
+pub fn one_diagram(bytes: &[u8]) -> Result<(), NotOne> {
+    let mut lines = Lines::new(bytes);
+    let Some(first) = lines.next_line() else {
+        return Err(NotOne::Nothing);
+    };
+    let is_grid = first.starts(b"x");
+    if !is_grid && !first.starts(b"braid") {
+        return Ok(());
+    }
+    if is_grid && lines.next_line().is_none() {
+        return Err(NotOne::Half);
+    }
+    match lines.next_line() {
+        Some(line) => Err(NotOne::More {
+            line: line.number(),
+        }),
+        None => Ok(()),
+    }
+}

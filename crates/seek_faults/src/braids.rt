@@ -1,0 +1,160 @@
+//! Why a line is no braid.
+
+use crate::reason::{Due, Reason};
+use crate::shown::Shown;
+use braid_core::MAX_STRANDS;
+use grid_core::MAX_SIZE;
+use std::fmt;
+use text_lines::{Line, MAX_DIGITS};
+
+/// The greatest number of so many digits.
+const MAX_NUMBER: u32 = 999_999_999;
+
+/// Why a line is no braid.
+#[derive(Clone, Copy, Debug, PartialEq, Eq)]
+pub enum BraidReason<'a> {
+    /// Nothing stands behind `braid`.
+    NoStrands,
+    /// There are none, or too many.
+    Strands { strands: u32 },
+    /// A token is no letter.
+    NoLetter { token: Shown<'a> },
+    /// A letter is 0, or crosses strands that are not there.
+    Letter { letter: i64, strands: u32 },
+    /// The closure has too many columns.
+    Wide { letters: usize, strands: u32 },
+}
+
+impl<'a> fmt::Display for BraidReason<'a> {
+    fn fmt<W: fmt::Write>(&self, f: &mut fmt::Formatter<W>) -> fmt::Result {
+        match self {
+            BraidReason::NoStrands => {
+                write!(
+                    f,
+                    "the number of strands is due behind `braid`, and then the letters"
+                )
+            }
+            BraidReason::Strands { strands: 0 } => write!(f, "a braid has one strand or more"),
+            BraidReason::Strands { strands } => write!(
+                f,
+                "{strands} strands are more than the {MAX_STRANDS} that a braid may have"
+            ),
+            BraidReason::NoLetter { token } => write!(
+                f,
+                "{token} is not a letter: a letter is a number, with a `-` before it for a negative crossing"
+            ),
+            BraidReason::Letter { letter: 0, .. } => {
+                write!(
+                    f,
+                    "0 is not a letter: the letters of a braid begin with 1 and -1"
+                )
+            }
+            BraidReason::Letter { letter, strands } => write!(
+                f,
+                "{letter} is not a letter of a braid of {strands} strands: a letter i crosses strands i and i + 1"
+            ),
+            BraidReason::Wide { letters, strands } => write!(
+                f,
+                "the closure of {letters} letters on {strands} strands has more than the {MAX_SIZE} columns that a diagram may have: one a letter and two a strand"
+            ),
+        }
+    }
+}
+
+/// The letter that a token writes.
+fn letter(token: &[u8]) -> Option<i64> {
+    match token {
+        [b'-', rest @ ..] => Some(-i64::from(text_lines::number(rest)?)),
+        _ => Some(i64::from(text_lines::number(token)?)),
+    }
+}
+
+/// Why the line of a braid is bad, from behind its first word.
+pub(crate) fn braid_reason<'a>(line: &mut Line<'a>, due: Due) -> Reason<'a> {
+    let Some(token) = line.next_token() else {
+        return Reason::Braid(BraidReason::NoStrands);
+    };
+    let Some(strands) = text_lines::number(token) else {
+        return Reason::NoNumber {
+            token: Shown(token),
+        };
+    };
+    let word = match Word::of(line, strands) {
+        Ok(word) => word,
+        Err(reason) => return reason,
+    };
+    if token.len() > MAX_DIGITS {
+        return Reason::Digits {
+            token: Shown(token),
+        };
+    }
+    match word.reason(strands) {
+        Some(reason) => Reason::Braid(reason),
+        None => Reason::Other { due },
+    }
+}
+
+/// The letters of a line.
+#[derive(Drop)]
+struct Word {
+    /// How many there are.
+    count: usize,
+    /// The first that crosses strands that are not there.
+    bad: Option<i64>,
+}
+
+impl Word {
+    /// The letters that are left of a line of a braid of so many strands, or why some token is none.
+    fn of<'a>(line: &mut Line<'a>, strands: u32) -> Result<Word, Reason<'a>> {
+        let mut word = Word {
+            count: 0,
+            bad: None,
+        };
+        let mut long = None;
+        for _token in 0..u64::MAX {
+            let Some(token) = line.next_token() else {
+                break;
+            };
+            let Some(value) = letter(token) else {
+                return Err(Reason::Braid(BraidReason::NoLetter {
+                    token: Shown(token),
+                }));
+            };
+            if value.unsigned_abs() > u64::from(MAX_NUMBER) && long.is_none() {
+                long = Some(token);
+            }
+            word.take(value, strands);
+        }
+        match long {
+            Some(token) => Err(Reason::Digits {
+                token: Shown(token),
+            }),
+            None => Ok(word),
+        }
+    }
+
+    /// Why so many strands and these letters are no braid: by a limit, and only then by what they say.
+    fn reason<'a>(&self, strands: u32) -> Option<BraidReason<'a>> {
+        let letters = self.count;
+        if strands as usize > MAX_STRANDS {
+            return Some(BraidReason::Strands { strands });
+        }
+        if letters.saturating_add(2 * (strands as usize)) > MAX_SIZE {
+            return Some(BraidReason::Wide { letters, strands });
+        }
+        if strands < 1 {
+            return Some(BraidReason::Strands { strands });
+        }
+        let letter = self.bad?;
+        Some(BraidReason::Letter { letter, strands })
+    }
+
+    /// Takes one letter more.
+    fn take(&mut self, value: i64, strands: u32) {
+        self.count = self.count.saturating_add(1);
+        let is_bad = value == 0 || value.unsigned_abs() >= u64::from(strands);
+        if is_bad && self.bad.is_none() {
+            self.bad = Some(value);
+        }
+    }
+}

@@ -1,0 +1,12 @@
+//! The words of the seeker's command line, read by `clap`: which diagrams, by which bounds, and where to.
+#![tactic(auto)]
+
+mod asked;
+mod command;
+mod given;
+#[cfg(test)]
+mod tests;
+
+pub use asked::{Asked, Talk, read_words};
+pub use command::VERSION;
+pub use given::{Diagrams, Given};
