@@ -1,0 +1,322 @@
+#!/usr/bin/env python3
+"""Joins a table of pairs by `seek`, each of two diagrams of one link, has `knot check` rule on what is written, and times it.
+
+    python3 bench/seek.py                    the table, a line a family
+    python3 bench/seek.py --each             also a line for each pair
+    python3 bench/seek.py --family walks     one family: words, walks, sums, links or unknots
+    python3 bench/seek.py --seed 5           the seed that `seek` is given; the pairs stay the same
+    python3 bench/seek.py --workers 2        the table, and the time of each pair by so many workers beside that of one
+    python3 bench/seek.py --instructions     the instructions of a step, by callgrind, and no table
+
+The pairs are made here, from a seed of their own: two words of one knot by braid relations and Markov moves; a diagram, and where a
+walk of 3,000 moves from it ends in 12 to 24 columns; sums of two knots in either order; links; and unknots in disguise. Each pair is
+one process, and its seconds are those of the processor; what workers gain is told by the clock. The instructions of a step are those
+of a walk of 220,000 steps less those of one of 20,000, between a diagram and its mirror image, which no moves join and no quandle
+tells apart, over the 200,000 steps.
+"""
+import argparse
+import csv
+import os
+import random
+import re
+import resource
+import statistics
+import subprocess
+import sys
+import tempfile
+import time
+from typing import NamedTuple
+
+from measure import CRATES, PROGRAM, built, counted
+
+TOP = os.path.join(CRATES, "..")
+sys.path.insert(0, os.path.join(TOP, "tools"))
+from diagrams import CORNERS, MAX_SIZE, Braid, Grid, grid_of, grid_text
+from moves import Illegal, made
+
+SEEK = os.path.join(CRATES, "seek", "out", "seek")
+UNKNOT = Grid((0, 1), (1, 0))
+MOVES = 3_000
+SIZES = (12, 14, 16, 18, 20, 22, 24)
+LINKS = {
+    "hopf": Braid(2, (1, 1)),
+    "torus 2 4": Braid(2, (1, 1, 1, 1)),
+    "torus 2 6": Braid(2, (1,) * 6),
+    "torus 3 3": Braid(3, (1, 2) * 3),
+    "whitehead": Braid(3, (1, -2, 1, -2, -2)),
+    "borromean": Braid(3, (1, -2) * 3),
+    "chain of three": Braid(3, (1, 1, 2, 2)),
+    "chain of four": Braid(4, (1, 1, 2, 2, 3, 3)),
+    "trefoil and a ring": Braid(3, (1, 1, 1)),
+}
+MIRRORED = {
+    "trefoil": Braid(2, (1, 1, 1)),
+    "torus 3 4": Braid(3, (1, 2) * 4),
+    "three trefoils": Braid(4, (1, 1, 1, 2, 2, 2, 3, 3, 3)),
+}
+FEW, MANY = 20_000, 220_000
+
+
+# Braids
+
+def columns(braid):
+    return len(braid.letters) + 2 * braid.strands
+
+
+def relations(letters):
+    """The words that a word leads to by one relation that keeps its length: far letters trade, and triples turn."""
+    for at in range(len(letters) - 1):
+        a, b = letters[at:at + 2]
+        if abs(abs(a) - abs(b)) > 1:
+            yield letters[:at] + (b, a) + letters[at + 2:]
+        if at + 2 < len(letters):
+            a, b, c = letters[at:at + 3]
+            if a == c and abs(abs(a) - abs(b)) == 1 and (a > 0) == (b > 0):
+                yield letters[:at] + (b, a, b) + letters[at + 3:]
+
+
+def changed(braid, dice):
+    """The braid after one relation or Markov move that is picked at random and keeps its closure within the greatest size."""
+    strands, letters = braid
+    kind = dice.randrange(6)
+    if kind == 0 and letters:
+        turn = dice.randrange(len(letters))
+        return Braid(strands, letters[turn:] + letters[:turn])
+    if kind == 1 and strands > 1:
+        at, letter = dice.randrange(len(letters) + 1), dice.choice((1, -1)) * dice.randrange(1, strands)
+        return Braid(strands, letters[:at] + (letter, -letter) + letters[at:])
+    if kind == 2:
+        pairs = [at for at in range(len(letters) - 1) if letters[at] == -letters[at + 1]]
+        if pairs:
+            at = dice.choice(pairs)
+            return Braid(strands, letters[:at] + letters[at + 2:])
+    if kind == 3 and strands < 8:
+        return Braid(strands + 1, letters + (dice.choice((1, -1)) * strands,))
+    if kind == 4 and strands > 1 and letters and abs(letters[-1]) == strands - 1:
+        if all(abs(letter) < strands - 1 for letter in letters[:-1]):
+            return Braid(strands - 1, letters[:-1])
+    near = list(relations(letters))
+    return Braid(strands, dice.choice(near)) if near else braid
+
+
+def varied(braid, dice, turns=200):
+    """A word of the same link, as far as turns lead, and not the same closure."""
+    here = braid
+    while here == braid or columns(here) > MAX_SIZE:
+        here = braid
+        for _ in range(turns):
+            further = changed(here, dice)
+            if columns(further) <= MAX_SIZE:
+                here = further
+    return here
+
+
+def knots():
+    """The knots of the table whose braids fit, by name."""
+    with open(os.path.join(TOP, "quandles", "knots-to-8.csv"), encoding="utf-8") as table:
+        for row in csv.DictReader(table):
+            letters = tuple(map(int, re.findall(r"-?\d+", row["braid"])))
+            braid = Braid(max(map(abs, letters)) + 1, letters)
+            if columns(braid) <= MAX_SIZE:
+                yield row["name"], braid
+
+
+def sum_of(one, two):
+    """A word of the sum of two closed braids."""
+    strands = one.strands + two.strands - 1
+    shift = one.strands - 1
+    moved = tuple(letter + shift if letter > 0 else letter - shift for letter in two.letters)
+    return Braid(strands, one.letters + moved)
+
+
+def text_of(diagram):
+    if isinstance(diagram, Braid):
+        return f"braid {diagram.strands} {' '.join(map(str, diagram.letters))}\n"
+    return grid_text(diagram)
+
+
+# Walks
+
+def a_move(size, most, dice):
+    """A move that is picked at random; it may not be legal."""
+    kind = dice.random()
+    if kind < 0.2:
+        return ("shift", dice.choice(("columns", "rows")), dice.randrange(1, size))
+    if kind < 0.7:
+        return ("exchange", dice.choice(("columns", "rows")), dice.randrange(size - 1))
+    if kind < 0.85 and size < most:
+        return ("stabilise", dice.randrange(size), dice.choice("xo"), dice.choice(CORNERS))
+    return ("destabilise", dice.randrange(size - 1), dice.randrange(size - 1))
+
+
+def walked(start, size, dice):
+    """Where a walk ends that has so many columns at its end and never more."""
+    here, turns = start, 0
+    while turns < MOVES or len(here.xs) < size:
+        move = a_move(len(here.xs), size, dice)
+        if turns >= MOVES and move[0] == "destabilise":
+            continue
+        try:
+            here = made(here, move)
+        except Illegal:
+            continue
+        turns += 1
+    return here
+
+
+# Pairs
+
+def word_pairs(dice):
+    for name, braid in knots():
+        for turn in (1, 2):
+            yield f"{name}, word {turn}", braid, varied(braid, dice)
+
+
+def walk_pairs(dice):
+    table = dict(knots())
+    for name in ("3_1", "4_1", "5_1", "5_2", "6_1", "6_2", "7_1"):
+        start = grid_of(table[name])
+        for size in SIZES:
+            yield f"{name} to {size}", start, walked(start, max(size, len(start.xs)), dice)
+
+
+def sum_pairs(dice):
+    table = list(knots())[:7]
+    for at, (one, first) in enumerate(table):
+        for two, second in table[at:]:
+            there, back = sum_of(first, second), sum_of(second, first)
+            if columns(there) <= MAX_SIZE and there != back:
+                yield f"{one} and {two}", there, back
+            elif columns(there) <= MAX_SIZE:
+                yield f"{one} and {two}", there, varied(there, dice)
+
+
+def link_pairs(dice):
+    for name, braid in LINKS.items():
+        for turn in (1, 2, 3):
+            yield f"{name}, word {turn}", braid, varied(braid, dice)
+        yield f"{name} to {MAX_SIZE}", grid_of(braid), walked(grid_of(braid), MAX_SIZE, dice)
+
+
+def unknot_pairs(dice):
+    for size in SIZES:
+        for turn in (1, 2, 3, 4, 5):
+            yield f"{size} columns, {turn}", walked(UNKNOT, size, dice), UNKNOT
+
+
+FAMILIES = {"words": word_pairs, "walks": walk_pairs, "sums": sum_pairs, "links": link_pairs, "unknots": unknot_pairs}
+
+
+# Running
+
+class Sought(NamedTuple):
+    """The end of a run: its status, the verdict, what was said of it, and its time, by the processors and by the clock."""
+    status: int
+    verdict: str
+    said: str
+    processor: float
+    clock: float
+
+
+def processor_seconds():
+    """What all processes took that were started here and have ended."""
+    used = resource.getrusage(resource.RUSAGE_CHILDREN)
+    return used.ru_utime + used.ru_stime
+
+
+def sought(problem, seed, workers=1):
+    with tempfile.NamedTemporaryFile("w", suffix=".txt") as file:
+        file.write(problem)
+        file.flush()
+        before, start = processor_seconds(), time.perf_counter()
+        done = subprocess.run([SEEK, "--seed", str(seed), "--workers", str(workers), file.name], capture_output=True)
+        clock, processor = time.perf_counter() - start, processor_seconds() - before
+        return Sought(done.returncode, done.stdout.decode(), done.stderr.decode(), processor, clock)
+
+
+def is_accepted(problem, verdict):
+    done = subprocess.run([PROGRAM, "check"], input=(problem + verdict).encode(), capture_output=True)
+    return done.stdout == b"accepted\n"
+
+
+class Family(NamedTuple):
+    """The processor seconds and the lengths of the lists of a family's pairs, how many pairs had no list, and of each pair the seconds
+    by the clock of one worker and of so many."""
+    seconds: list
+    lengths: list
+    missed: int
+    clocks: list
+
+
+def run_family(name, seed, with_each, workers):
+    seconds, lengths, missed, clocks = [], [], 0, []
+    dice = random.Random(f"pairs of {name}")
+    for pair, first, second in FAMILIES[name](dice):
+        problem = text_of(first) + text_of(second)
+        one = sought(problem, seed)
+        seconds.append(one.processor)
+        is_list = one.verdict.startswith("equal ")
+        if is_list and not is_accepted(problem, one.verdict):
+            sys.exit(f"not accepted: {name}, {pair}\n{problem}{one.verdict}")
+        if is_list:
+            lengths.append(int(one.verdict.split(maxsplit=2)[1]))
+        else:
+            missed += 1
+        if workers > 1:
+            clocks.append((one.clock, sought(problem, seed, workers).clock))
+        if with_each:
+            ending = lengths[-1] if is_list else f"status {one.status}: {one.said.strip()}"
+            print(f"  {pair:28} {one.processor:8.3f} s  {ending}", flush=True)
+    return Family(seconds, lengths, missed, clocks)
+
+
+def show(name, family):
+    pairs, lengths = len(family.seconds), family.lengths
+    lists = f"{statistics.median(lengths):8.0f} {max(lengths):8}" if lengths else " " * 17
+    seconds = f"{sum(family.seconds):9.2f} {statistics.median(family.seconds):8.3f} {max(family.seconds):8.3f}"
+    print(f"{name:8} {pairs:5} {pairs - family.missed:6} {seconds} {lists}", flush=True)
+
+
+def show_workers(clocks, workers):
+    """Sets the time of so many workers by the clock beside that of one, over the half of the pairs that took one worker the longest."""
+    harder = sorted(clocks, reverse=True)[: (len(clocks) + 1) // 2]
+    one, many = (sum(column) for column in zip(*harder))
+    print(f"the harder half, {len(harder)} pairs: {one:.2f} s by one worker, {many:.2f} s by {workers}, a ratio of {many / one:.2f}")
+
+
+def show_instructions(seed):
+    """The instructions of a step."""
+    for name, braid in MIRRORED.items():
+        mirror = Braid(braid.strands, tuple(-letter for letter in braid.letters))
+        with tempfile.NamedTemporaryFile("w", suffix=".txt") as file:
+            file.write(text_of(braid) + text_of(mirror))
+            file.flush()
+            few, many = (counted([SEEK, "--quiet", "--seed", str(seed), "--steps", str(steps), file.name]) for steps in (FEW, MANY))
+        print(f"{name:16} {(many - few) / (MANY - FEW):8.0f} instructions a step", flush=True)
+
+
+def main():
+    words = argparse.ArgumentParser(description=__doc__, formatter_class=argparse.RawDescriptionHelpFormatter)
+    words.add_argument("--each", action="store_true")
+    words.add_argument("--family", choices=sorted(FAMILIES))
+    words.add_argument("--seed", type=int, default=1)
+    words.add_argument("--workers", type=int, default=1)
+    words.add_argument("--instructions", action="store_true")
+    asked = words.parse_args()
+    built()
+    built(SEEK, "./seek --version")
+    if asked.instructions:
+        return show_instructions(asked.seed)
+    print(f"{'pairs':8} {'all':>5} {'joined':>6} {'seconds':>9} {'median':>8} {'longest':>8} {'list':>8} {'longest':>8}")
+    total = Family([], [], 0, [])
+    for name in [asked.family] if asked.family else FAMILIES:
+        found = run_family(name, asked.seed, asked.each, asked.workers)
+        show(name, found)
+        total = Family(*(before + more for before, more in zip(total, found)))
+    show("all", total)
+    if asked.workers > 1:
+        show_workers(total.clocks, asked.workers)
+
+
+if __name__ == "__main__":
+    main()
