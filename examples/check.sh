@@ -1,12 +1,13 @@
 #!/bin/sh
 # Runs every example through ./knot: examples/JOB/NAME.txt must give NAME.out, and the exit status in NAME.status, or 0.
 # Further words stand in NAME.args, in one line. What decide answers with status 0 must be accepted by check behind its input.
+# Then every example of ./seek: the words in seek/NAME.words, one a line, must give NAME.out and NAME.err, or nothing, and the status.
 set -u
 
 here=$(CDPATH='' cd -- "$(dirname -- "$0")" && pwd) || exit 1
 knot=$here/../knot
 found=${TMPDIR:-/tmp}/knot-example.$$
-trap 'rm -f "$found"' EXIT
+trap 'rm -f "$found" "$found".*' EXIT
 passed=0
 failed=0
 
@@ -36,6 +37,30 @@ for input in "$here"/*/*.txt; do
     elif [ "$job" = decide ] && [ "$status" -eq 0 ] && ! is_accepted "$input"; then
         failed=$((failed + 1))
         echo "not accepted behind its input: $name"
+    else
+        passed=$((passed + 1))
+    fi
+done
+
+seek=$here/../seek
+cd "$here/seek" || exit 1
+for words in *.words; do
+    stem=${words%.words}
+    wanted=0
+    [ -f "$stem.status" ] && wanted=$(cat "$stem.status")
+    for stream in out err; do
+        [ -f "$stem.$stream" ] || printf '' >"$found.$stream.wanted"
+        [ -f "$stem.$stream" ] && cp "$stem.$stream" "$found.$stream.wanted"
+    done
+    set --
+    while IFS= read -r word; do
+        set -- "$@" "$word"
+    done <"$words"
+    "$seek" "$@" >"$found.out" 2>"$found.err" </dev/null
+    status=$?
+    if [ "$status" -ne "$wanted" ] || ! cmp -s "$found.out" "$found.out.wanted" || ! cmp -s "$found.err" "$found.err.wanted"; then
+        failed=$((failed + 1))
+        echo "differs: seek/$stem, status $status, wanted $wanted"
     else
         passed=$((passed + 1))
     fi

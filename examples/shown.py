@@ -4,8 +4,8 @@
     examples/shown.py              README.md and docs/GUIDE.md
     examples/shown.py FILE..       these
 
-A document's commands run one behind the other in one shell, in a copy of the tree without the crates, where ./knot is the
-program of this tree; so a file that one command makes is there for the next. A block begins at the top of the copy. A line
+A document's commands run one behind the other in one shell, in a copy of the tree without the crates, where ./knot and ./seek
+are the programs of this tree; so a file that one command makes is there for the next. A block begins at the top of the copy. A line
 `...` stands for lines that are left out, and where nothing is shown below a command, what it gives isn't compared. Status 0
 where all is as shown."""
 
@@ -87,7 +87,8 @@ def main():
             for name in os.listdir(TOP):
                 if os.path.isdir(f"{TOP}/{name}") and name not in ("crates", ".git"):
                     shutil.copytree(f"{TOP}/{name}", f"{folder}/{name}")
-            os.symlink(f"{TOP}/knot", f"{folder}/knot")
+            for program in ("knot", "seek"):
+                os.symlink(f"{TOP}/{program}", f"{folder}/{program}")
             shell = subprocess.Popen(["sh"], cwd=folder, stdin=subprocess.PIPE, stdout=subprocess.PIPE,
                                      stderr=subprocess.STDOUT, text=True)
             for block in blocks(path):
