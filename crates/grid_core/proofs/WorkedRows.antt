@@ -23,7 +23,7 @@ abbrev pub closure : Diagram
 closure = record { x = 4 ∷ 3 ∷ 2 ∷ 0 ∷ 1 ∷ 5 ∷ 6 ∷ []; o = 6 ∷ 5 ∷ 4 ∷ 3 ∷ 2 ∷ 1 ∷ 0 ∷ [] }
 
 -- the one place that says the largest size by its number, beside the constant
-largest_size : MAX_SIZE ≡ 24
+largest_size : MAX_SIZE ≡ 48
 largest_size = refl
 
 bottoms_of_trefoil : bottoms right_trefoil ≡ 2

@@ -11,7 +11,7 @@ use arrayvec::ArrayVec;
 use std::marker::Model;
 
 /// The greatest size of a grid: every other place names this constant.
-pub const MAX_SIZE: usize = 24;
+pub const MAX_SIZE: usize = 48;
 
 /// A row for each column, from the left.
 pub type Rows = ArrayVec<u8, MAX_SIZE>;

@@ -8,7 +8,7 @@ use Rattle.quandle_core.specs.Colours.{are_colours, all_lists}
 use Rattle.quandle_core.specs.declared.fault.QuandleFault.TheVariants.{Order, Length, Range, Idempotent, Collision, Distributive}
 
 -- the one place that says the largest order by its number, beside the constant
-largest_order : MAX_ORDER ≡ 16
+largest_order : MAX_ORDER ≡ 32
 largest_order = refl
 
 -- 0 ▷ 1 = 2 in the dihedral quandle of order 3

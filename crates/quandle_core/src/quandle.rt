@@ -11,7 +11,7 @@ use crate::fault::{
 use std::marker::Model;
 
 /// The greatest order of a quandle.
-pub const MAX_ORDER: usize = 16;
+pub const MAX_ORDER: usize = 32;
 
 /// The greatest number of entries of a table.
 pub const MAX_TABLE: usize = MAX_ORDER * MAX_ORDER;
