@@ -16,6 +16,8 @@ pub mod Joined
 pub mod Equivalence
 pub mod Within
 pub mod Stopped
+pub mod Sizes
+mod Tidied
 pub mod OneStabilisation
 pub mod TurnedBack
 mod WorkedMoves

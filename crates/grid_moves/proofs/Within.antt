@@ -1,5 +1,6 @@
 -- Lists of moves that stay within a cap.
-use Rattle.std.proofs.Common.{◌≤◌, ◌++◌, ◌∷◌, [], ℕ, List, refl, sym, subst}
+use Rattle.std.proofs.Common.{◌≤◌, ◌++◌, ◌∷◌, [], ℕ, List, arith, refl, sym, subst}
+use Rattle.grid_core.specs.declared.grid.TheConstants.{MAX_SIZE}
 use Rattle.grid_core.specs.Diagram.{Diagram, IsGrid, size}
 use Rattle.grid_moves.specs.declared.step.Move.{Move}
 use Rattle.grid_moves.specs.Joining.{Joins, JoinsWithin, Equivalent, WithinCap}
@@ -46,3 +47,15 @@ within_cap_same d cap le = ([], (le, refl))
 pub within_end : (cap : ℕ) (moves : List Move) (d e : Diagram) → JoinsWithin cap d moves e → size e ≤ cap
 within_end cap [] d e joined = subst (λ g. size g ≤ cap) joined.1 joined.0
 within_end cap (move ∷ moves) d e joined = within_end cap moves joined.1.0 e joined.1.1.1
+
+-- a list within a cap is one within a larger cap
+pub within_larger : (cap more : ℕ) (moves : List Move) (d e : Diagram) → cap ≤ more → JoinsWithin cap d moves e → JoinsWithin more d moves e
+within_larger cap more [] d e le joined = (omega (arith, le, joined.0), joined.1)
+within_larger cap more (move ∷ moves) d e le joined =
+    (omega (arith, le, joined.0), (joined.1.0, (joined.1.1.0, within_larger cap more moves joined.1.0 e le joined.1.1.1)))
+
+-- each list from a grid is within the greatest size
+pub joins_within_most : (moves : List Move) (d e : Diagram) → IsGrid d → Joins d moves e → JoinsWithin MAX_SIZE d moves e
+joins_within_most [] d e grid joined = (grid.most, joined)
+joins_within_most (move ∷ moves) d e grid joined =
+    (grid.most, (joined.0, (joined.1.0, joins_within_most moves joined.0 e joined.1.0.after joined.1.1)))

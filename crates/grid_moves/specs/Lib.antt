@@ -14,6 +14,8 @@ pub mod MoveFault
 pub mod Joining
 pub mod Undoing
 pub mod MoveLists
+pub mod Tidy
+pub mod SizeAfter
 pub use Rattle.grid_core.specs.Diagram
 pub use Rattle.grid_core.specs.Span
 pub use Rattle.grid_core.specs.Corners

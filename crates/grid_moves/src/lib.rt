@@ -12,9 +12,11 @@ mod stabilisation;
 mod step;
 #[cfg(test)]
 mod tests;
+mod tidy;
 mod undoing;
 
 pub use applying::{apply, apply_all, inverse};
 pub use stabilisation::{Widening, widening_of};
 pub use step::{Move, MoveFault};
+pub use tidy::{is_tidy, may_follow};
 pub use undoing::push_undone;

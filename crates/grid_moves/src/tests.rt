@@ -1,7 +1,7 @@
 //! Moves on worked examples, and every move on every grid of two to four columns.
 ghost use Rattle.std.specs.Prelude.{◌<◌, ◌≤◌};
 
-use crate::{Move, MoveFault, apply, apply_all, inverse, push_undone};
+use crate::{Move, MoveFault, apply, apply_all, inverse, is_tidy, push_undone};
 use grid_core::{Corner, Grid, Kind, MAX_SIZE};
 use std::alloc::Global;
 use std::test::Fail;
@@ -198,6 +198,28 @@ fn the_right_trefoil_goes_to_its_reverse_and_back(rt: HostRuntime) -> Result<(),
         return Err(Fail::from("no grid"));
     };
     assert!(rt; are_undone(rt.alloc(), &grid, &moves)?);
+    Ok(())
+}
+
+#[test]
+fn tidy_lists_are_known(rt: HostRuntime) -> Result<(), Fail> {
+    let columns = Move::ShiftColumns(1);
+    let rows = Move::ShiftRows(1);
+    let slide = Move::SlideRows(0);
+    let lists: [(&[Move], bool); 9] = [
+        (&[], true),
+        (&[columns, rows], true),
+        (&[rows, columns], false),
+        (&[columns, columns], false),
+        (&[rows, rows], false),
+        (&[columns, rows, rows], false),
+        (&[columns, rows, slide, columns, rows], true),
+        (&[rows, slide, rows, columns], false),
+        (&[slide, slide, rows], true),
+    ];
+    for (list, tidy) in lists {
+        assert_eq!(rt; is_tidy(list), tidy);
+    }
     Ok(())
 }
 

@@ -1,0 +1,47 @@
+-- Tidy lists of moves: no two shifts in a row that could be one, and those of columns before those of rows.
+use Rattle.std.specs.Prelude.{◌&&◌, ◌||◌, not, Bool, true, false, List, [], ◌∷◌, Option, Some, None}
+use Rattle.grid_moves.specs.declared.step.Move.{Move}
+use Rattle.grid_moves.specs.declared.step.Move.TheVariants.{ShiftColumns, ShiftRows, ExchangeColumns, ExchangeRows, SlideColumns, SlideRows, Stabilise, Destabilise}
+
+abbrev pub is_shift : Move → Bool
+is_shift (ShiftColumns k) = true
+is_shift (ShiftRows k) = true
+is_shift (ExchangeColumns c) = false
+is_shift (ExchangeRows r) = false
+is_shift (SlideColumns c) = false
+is_shift (SlideRows r) = false
+is_shift (Stabilise c kind corner) = false
+is_shift (Destabilise c r) = false
+
+abbrev pub is_column_shift : Move → Bool
+is_column_shift (ShiftColumns k) = true
+is_column_shift (ShiftRows k) = false
+is_column_shift (ExchangeColumns c) = false
+is_column_shift (ExchangeRows r) = false
+is_column_shift (SlideColumns c) = false
+is_column_shift (SlideRows r) = false
+is_column_shift (Stabilise c kind corner) = false
+is_column_shift (Destabilise c r) = false
+
+abbrev pub is_row_shift : Move → Bool
+is_row_shift (ShiftColumns k) = false
+is_row_shift (ShiftRows k) = true
+is_row_shift (ExchangeColumns c) = false
+is_row_shift (ExchangeRows r) = false
+is_row_shift (SlideColumns c) = false
+is_row_shift (SlideRows r) = false
+is_row_shift (Stabilise c kind corner) = false
+is_row_shift (Destabilise c r) = false
+
+-- a shift of columns may not follow directly on a shift, and a shift of rows not directly on one of rows; the first move may be any
+abbrev pub may_follow : Option Move → Move → Bool
+may_follow None move = true
+may_follow (Some before) move = not ((is_column_shift move && is_shift before) || (is_row_shift move && is_row_shift before))
+
+-- each move may follow on the one before it, the first on this one
+abbrev pub are_tidy_behind : Option Move → List Move → Bool
+are_tidy_behind before [] = true
+are_tidy_behind before (move ∷ moves) = may_follow before move && are_tidy_behind (Some move) moves
+
+abbrev pub is_tidy : List Move → Bool
+is_tidy moves = are_tidy_behind None moves

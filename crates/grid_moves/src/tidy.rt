@@ -1,0 +1,77 @@
+//! Tidy lists of moves.
+ghost use Rattle.std.specs.Prelude.{◌≡◌};
+ghost use Rattle.grid_moves.specs.Tidy.{is_shift, is_column_shift, is_row_shift, may_follow, is_tidy};
+
+use crate::step::Move;
+
+/// Whether a list of moves is tidy: no shift of columns follows directly on a shift, and no shift of rows directly on one of rows.
+/// Takes no memory.
+pub fn is_tidy(steps: &[Move]) -> bool
+    ensures { result ≡ is_tidy steps.now }
+{
+    let mut before = None;
+    for step in steps {
+        if !may_follow(before, *step) {
+            return false;
+        }
+        before = Some(*step);
+    }
+    true
+}
+
+/// Whether a move may stand in a tidy list directly behind another, or where there is none before it, as the first.
+pub fn may_follow(before: Option<Move>, step: Move) -> bool
+    ensures { result ≡ may_follow before step }
+{
+    match before {
+        None => true,
+        Some(last) => {
+            !((is_column_shift(step) && is_shift(last))
+                || (is_row_shift(step) && is_row_shift(last)))
+        }
+    }
+}
+
+fn is_shift(step: Move) -> bool
+    ensures { result ≡ is_shift step }
+{
+    match step {
+        Move::ShiftColumns(_) | Move::ShiftRows(_) => true,
+        Move::ExchangeColumns(_)
+        | Move::ExchangeRows(_)
+        | Move::SlideColumns(_)
+        | Move::SlideRows(_)
+        | Move::Stabilise { .. }
+        | Move::Destabilise { .. } => false,
+    }
+}
+
+fn is_column_shift(step: Move) -> bool
+    ensures { result ≡ is_column_shift step }
+{
+    match step {
+        Move::ShiftColumns(_) => true,
+        Move::ShiftRows(_)
+        | Move::ExchangeColumns(_)
+        | Move::ExchangeRows(_)
+        | Move::SlideColumns(_)
+        | Move::SlideRows(_)
+        | Move::Stabilise { .. }
+        | Move::Destabilise { .. } => false,
+    }
+}
+
+fn is_row_shift(step: Move) -> bool
+    ensures { result ≡ is_row_shift step }
+{
+    match step {
+        Move::ShiftRows(_) => true,
+        Move::ShiftColumns(_)
+        | Move::ExchangeColumns(_)
+        | Move::ExchangeRows(_)
+        | Move::SlideColumns(_)
+        | Move::SlideRows(_)
+        | Move::Stabilise { .. }
+        | Move::Destabilise { .. } => false,
+    }
+}
