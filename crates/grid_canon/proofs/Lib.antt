@@ -8,10 +8,12 @@ pub mod NumbersOfDigits
 mod DigitLists
 mod Guards
 pub mod CutNumbers
-mod TranslatedNumbers
+pub mod Words
 pub mod Keys
 mod ShortGrids
 pub mod ShortKeys
 pub mod Joined
 pub mod CanonicalForms
+pub mod Tidied
+pub mod Making
 mod WorkedRows

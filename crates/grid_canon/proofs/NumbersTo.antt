@@ -1,8 +1,9 @@
 -- Numbers by their digits to any base.
-use Rattle.std.proofs.Common.{◌≡◌, ◌<◌, ◌+◌, ◌*◌, ◌^◌, ◌++◌, ◌∷◌, [], ◌∙◌, ℕ, zero, suc, List, All, length, arith, sym, refl, ap, ap₂, inl, inr, length-append}
+use Rattle.std.proofs.Common.{◌≡◌, ◌<◌, ◌+◌, ◌*◌, ◌^◌, ◌++◌, ◌∷◌, [], ◌∙◌, ℕ, zero, suc, List, All, length, replicate, arith, sym, refl, ap, ap₂, inl, inr, length-append}
 use Rattle.std.proofs.Math.Nat.{pow-zero, pow-succ', mul_comm}
 use Rattle.std.proofs.lemmas.Nat.{pow-add, mul-add-lt}
 use Rattle.std.proofs.lemmas.Bool.{cases_order}
+use Rattle.std.proofs.lemmas.List.{length-replicate}
 use Rattle.std.proofs.lemmas.List.Elements.{All-tail}
 use Rattle.std.specs.Ordering.{nat_cmp, ordering_then}
 use Rattle.std.specs.Cmp.Lexicographic.{slice_cmp}
@@ -42,6 +43,20 @@ number_to-push base xs x =
   where
     simpler : (a b c : ℕ) → a * (b * 1) + (c * 1 + 0) ≡ a * b + c
     simpler a b c = omega arith
+
+-- zeros behind the digits
+number_to-zeros : (base k : ℕ) → number_to base (replicate k 0) ≡ 0
+number_to-zeros base zero = refl
+number_to-zeros base (suc k) = omega (arith, number_to-zeros base k)
+
+pub number_to-filled : (base : ℕ) (xs : List ℕ) (k : ℕ) → number_to base (xs ++ replicate k 0) ≡ number_to base xs * base ^ k
+number_to-filled base xs k =
+    number_to-append base xs (replicate k 0)
+    ∙ ap₂ (λ (z w : ℕ). number_to base xs * base ^ z + w) (length-replicate k 0) (number_to-zeros base k)
+    ∙ nothing_more (number_to base xs * base ^ k)
+  where
+    nothing_more : (a : ℕ) → a + 0 ≡ a
+    nothing_more a = omega arith
 
 -- numbers with as many digits are in the order of their lists
 pub number_to-order : (base : ℕ) (xs ys : List ℕ) → 0 < base → length xs ≡ length ys → AreDigitsTo base xs → AreDigitsTo base ys

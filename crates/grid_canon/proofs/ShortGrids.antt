@@ -21,7 +21,7 @@ abbrev pair : List ℕ → List ℕ → Diagram
 pair x o = record { x = x; o = o }
 
 -- a grid of few columns is that of the numbers of its rows
-read_digits : (n value : ℕ) (rows : List ℕ) → length rows ≡ n → AreShortDigits rows → value ≡ short_number rows → digits n value ≡ rows
+pub read_digits : (n value : ℕ) (rows : List ℕ) → length rows ≡ n → AreShortDigits rows → value ≡ short_number rows → digits n value ≡ rows
 read_digits n value rows long all is = ap₂ digits (sym long) is ∙ digits-short_number rows all
 
 digits_fit : (n value : ℕ) (rows : List ℕ) → length rows ≡ n → AreShortDigits rows → value ≡ short_number rows → value < SHORT_BASE ^ n

@@ -5,13 +5,13 @@ use Rattle.std.specs.Ordering.{is_le, is_eq}
 use Rattle.std.proofs.lemmas.Bool.{ltb-true, eqb-true, leb-true, or_cases, and_parts, not-true}
 use Rattle.std.proofs.lemmas.List.Folds.{list_all_at}
 use Rattle.std.proofs.lemmas.List.FromFn.{get_or-range_with_len, length-range_with_len}
-use Rattle.grid_core.specs.declared.grid.TheConstants.{MAX_SIZE}
 use Rattle.grid_core.specs.Diagram.{Diagram, size}
 use Rattle.grid_core.proofs.WorkedRows.{right_trefoil, left_trefoil}
 use Rattle.grid_canon.specs.declared.canonical_form.LeastForm.{LeastForm}
 use Rattle.grid_canon.specs.Translation.{translate, translates}
 use Rattle.grid_canon.specs.Order.{compare}
 use Rattle.grid_canon.specs.CanonicalForm.{IsLeastForm}
+use Rattle.grid_canon.specs.declared.key.TheConstants.{BASE}
 use Rattle.grid_canon.specs.Key.{key_of}
 use Rattle.grid_canon.proofs.Ordered.{compare_self}
 use Rattle.grid_canon.proofs.LeastTranslates.{translates_contains}
@@ -96,7 +96,8 @@ by_columns_alone = refl
 
 -- the key of the left trefoil
 left_key : key_of left_trefoil ≡ record {
-  first = 5 * 32 ^ MAX_SIZE + 0 * 32 ^ (MAX_SIZE - 1) + 1 * 32 ^ (MAX_SIZE - 2) + 2 * 32 ^ (MAX_SIZE - 3) + 3 * 32 ^ (MAX_SIZE - 4) + 4 * 32 ^ (MAX_SIZE - 5);
-  second = 2 * 32 ^ (MAX_SIZE - 1) + 3 * 32 ^ (MAX_SIZE - 2) + 4 * 32 ^ (MAX_SIZE - 3) + 0 * 32 ^ (MAX_SIZE - 4) + 1 * 32 ^ (MAX_SIZE - 5);
+  size = 5;
+  x = (0 * BASE ^ 15 + 1 * BASE ^ 14 + 2 * BASE ^ 13 + 3 * BASE ^ 12 + 4 * BASE ^ 11) ∷ 0 ∷ 0 ∷ [];
+  o = (2 * BASE ^ 15 + 3 * BASE ^ 14 + 4 * BASE ^ 13 + 0 * BASE ^ 12 + 1 * BASE ^ 11) ∷ 0 ∷ 0 ∷ [];
 }
 left_key = refl

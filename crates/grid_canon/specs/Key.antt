@@ -1,11 +1,13 @@
--- Keys: a grid as two numbers.
-use Rattle.std.specs.Prelude.{ℕ, ◌+◌, ◌-◌, ◌*◌, ◌/◌, ◌%◌, ◌^◌, List, ◌∷◌, ◌++◌, Bool, ◌==◌, ◌&&◌, length, replicate}
+-- Keys: a grid as its size and the words of its rows.
+use Rattle.std.specs.Prelude.{ℕ, zero, suc, ◌+◌, ◌-◌, ◌*◌, ◌/◌, ◌%◌, ◌^◌, List, [], ◌∷◌, ◌++◌, Bool, ◌==◌, ◌&&◌, fold, length, replicate, take, drop, slice_index}
+use Rattle.std.specs.Str.{bytes_eq}
 use Rattle.std.specs.Ordering.{nat_cmp, ordering_then}
+use Rattle.std.specs.Cmp.Lexicographic.{slice_cmp}
 use Rattle.std.specs.declared.cmp.Ordering.{Ordering}
 use Rattle.grid_core.specs.declared.grid.TheConstants.{MAX_SIZE}
 use Rattle.grid_core.specs.Diagram.{Diagram, size}
 use Rattle.grid_canon.specs.declared.key.Packed.{Packed}
-use Rattle.grid_canon.specs.declared.key.TheConstants.{BASE}
+use Rattle.grid_canon.specs.declared.key.TheConstants.{BASE, WORD_COLUMNS, WORDS}
 use Rattle.grid_canon.specs.Digits.{number_to}
 
 -- the number with these digits to the base of keys, the highest first
@@ -16,29 +18,41 @@ number digits = number_to BASE digits
 abbrev pub filled : List ℕ → List ℕ
 filled rows = rows ++ replicate (MAX_SIZE - length rows) 0
 
--- the key of a diagram: its size and the rows of its Xs, and the rows of its Os
-abbrev pub key_of : Diagram → Packed
-key_of d = record { first = number (size d ∷ filled d.x); second = number (filled d.o) }
+-- the first words of some digits: each is the number of as many digits as a word has columns
+abbrev pub words : ℕ → List ℕ → List ℕ
+words zero digits = []
+words (suc n) digits = number (take WORD_COLUMNS digits) ∷ words n (drop WORD_COLUMNS digits)
 
--- the size of the diagram with this key, which is the key's first digit
+-- the words of the rows of a kind
+abbrev pub words_of : List ℕ → List ℕ
+words_of rows = words WORDS (filled rows)
+
+-- the key of a diagram: its size, the words of the rows of its Xs, and those of its Os
+abbrev pub key_of : Diagram → Packed
+key_of d = record { size = size d; x = words_of d.x; o = words_of d.o }
+
+-- the size of the diagram with this key
 abbrev pub size_of : Packed → ℕ
-size_of key = key.first / BASE ^ MAX_SIZE
+size_of key = key.size
 
 -- whether two keys are one
 abbrev pub same_key : Packed → Packed → Bool
-same_key p q = (p.first == q.first) && (p.second == q.second)
+same_key p q = (p.size == q.size) && (bytes_eq p.x q.x && bytes_eq p.o q.o)
 
--- the order of keys: by the first number, then by the second
+-- the order of keys: by size, then by the words of the Xs, then by those of the Os
 abbrev pub compare_keys : Packed → Packed → Ordering
-compare_keys p q = ordering_then (nat_cmp p.first q.first) (nat_cmp p.second q.second)
+compare_keys p q = ordering_then (nat_cmp p.size q.size) (ordering_then (slice_cmp nat_cmp p.x q.x) (slice_cmp nat_cmp p.o q.o))
 
--- a checksum of 128 bits with one more number counted in, and with both numbers of a key
+-- a checksum of 128 bits behind which one more number is counted in; with one more number added; and with a whole key counted in
 abbrev pub mixed : ℕ → ℕ → ℕ
 mixed sum number = (sum * 31 % 2 ^ 128 + number) % 2 ^ 128
 
-abbrev pub checksum_after : ℕ → Packed → ℕ
-checksum_after before key = mixed (mixed before key.first) key.second
+abbrev pub added : ℕ → ℕ → ℕ
+added sum number = (sum + number) % 2 ^ 128
 
--- the digit of column c in the number of a key; only private clauses and proofs cite it
-abbrev pub digit_at : ℕ → ℕ → ℕ
-digit_at value c = value / BASE ^ (MAX_SIZE - 1 - c) % BASE
+abbrev pub checksum_after : ℕ → Packed → ℕ
+checksum_after before key = fold added (fold added (mixed before key.size) key.x) key.o
+
+-- the digit of column c in the words of a kind; only private clauses and proofs cite it
+abbrev pub digit_at : List ℕ → ℕ → ℕ
+digit_at ws c = slice_index ws (c / WORD_COLUMNS) / BASE ^ (WORD_COLUMNS - 1 - c % WORD_COLUMNS) % BASE

@@ -1,5 +1,6 @@
 pub mod Translation
 pub mod Shifts
+pub mod Tidied
 pub mod Order
 pub mod CanonicalForm
 pub mod Cornered
@@ -8,3 +9,5 @@ pub mod ShortGrid
 pub mod Key
 pub use Rattle.grid_core.specs.Diagram
 pub use Rattle.grid_moves.specs.Shift
+pub use Rattle.grid_moves.specs.Joining
+pub use Rattle.grid_moves.specs.Tidy

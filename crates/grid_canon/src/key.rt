@@ -1,41 +1,46 @@
-//! Keys: a grid as two numbers.
-ghost use Rattle.std.specs.Prelude.{◌≡◌, ◌≢◌, ◌<◌, ◌≤◌, ◌+◌, ◌-◌, ◌*◌, ◌^◌, ◌∷◌, IfSome, IfNone, length, map};
+//! Keys: a grid as its size and the words of its rows.
+ghost use Rattle.std.specs.Prelude.{◌≡◌, ◌≢◌, ◌<◌, ◌≤◌, ◌+◌, ◌*◌, ◌-◌, ◌^◌, IfSome, IfNone, fold, length, map, take, drop};
 ghost use Rattle.std.specs.List.{All, range_with_len};
 ghost use Rattle.grid_core.specs.declared.grid.TheConstants.{MAX_SIZE};
 ghost use Rattle.grid_core.specs.Diagram.{Diagram, IsGrid};
-ghost use Rattle.grid_moves.specs.Shift.{shifted};
-ghost use Rattle.grid_canon.specs.Translation.{translated_rows, translate};
-ghost use Rattle.grid_canon.specs.declared.digits.TheConstants.{MAX_SHORT_SIZE, SHORT_BASE};
-ghost use Rattle.grid_canon.specs.Key.{number, filled, key_of, size_of, compare_keys, mixed, checksum_after, digit_at};
+ghost use Rattle.grid_canon.specs.Translation.{translate};
+ghost use Rattle.grid_canon.specs.Key.{number, filled, words_of, key_of, size_of, compare_keys, mixed, added, checksum_after, digit_at};
 
-use crate::digits::MAX_SHORT_SIZE;
-use crate::translation::lowered;
+use crate::translation::translated_rows;
 use arrayvec::ArrayVec;
 use grid_core::{Grid, Kind, MAX_SIZE, Rows};
 use std::cmp::Ordering;
 
-/// A row of a grid is a digit to this base in a key: it is above every row and every size.
-pub const BASE: u128 = 32;
+/// A row of a grid is a digit to this base in a word of a key: it is above every row.
+pub const BASE: u128 = 64;
 
 /// The base is this power of two.
-pub(crate) const DIGIT_BITS: u32 = 5;
+pub(crate) const DIGIT_BITS: u32 = 6;
 
-/// The key of a grid of size n. Keys are equal exactly for equal grids; they are ordered by size, then as the Xs, then as the Os:
-/// by `first` and then by `second`, so the fields stand in this order.
+/// The columns whose rows stand in one word of a key.
+pub const WORD_COLUMNS: usize = 16;
+
+/// The words of a key for the rows of a kind: with a column for each of the greatest size.
+pub const WORDS: usize = 3;
+
+/// The key of a grid. Keys are equal exactly for equal grids; they are ordered by size, then as the Xs, then as the Os:
+/// so the fields stand in this order.
 #[derive(Clone, Copy, Debug, Default, PartialEq, Eq, PartialOrd, Ord, Hash)]
 pub struct Packed {
-    /// The number with the digit n and then the rows of the Xs by column, filled with 0 up to the greatest size.
-    pub first: u128,
-    /// The number with the rows of the Os by column as its digits, filled with 0 up to the greatest size.
-    pub second: u128,
+    /// The size of the grid.
+    pub size: u8,
+    /// The words with the rows of the Xs by column as their digits, the first column's as the highest, filled with 0 up to the greatest size.
+    pub x: [u128; WORDS],
+    /// The words of the Os, likewise.
+    pub o: [u128; WORDS],
 }
 
 impl Packed {
-    /// The size of the grid that has this key, which is the key's first digit.
+    /// The size of the grid that has this key.
     pub fn size(self) -> u8
         ensures { result ≡ size_of self }
     {
-        (self.first >> (DIGIT_BITS * MAX_SIZE as u32)) as u8
+        self.size
     }
 
     /// A checksum that counts this key in behind what was counted before: a program that only makes keys, to measure what that takes,
@@ -43,7 +48,8 @@ impl Packed {
     pub fn checksum_after(self, before: u128) -> u128
         ensures { result ≡ checksum_after before self }
     {
-        mixed(mixed(before, self.first), self.second)
+        let sum = mixed(before, u128::from(self.size));
+        added_words(added_words(sum, &self.x), &self.o)
     }
 }
 
@@ -54,18 +60,29 @@ fn mixed(sum: u128, number: u128) -> u128
     sum.wrapping_mul(31).wrapping_add(number)
 }
 
+/// A checksum with some words added.
+fn added_words(sum: u128, words: &[u128]) -> u128
+    ensures { result ≡ fold added sum words.now }
+{
+    let mut total = sum;
+    for word in words {
+        total = total.wrapping_add(*word);
+    }
+    total
+}
+
 /// The key of a grid. Takes no memory.
 pub fn pack(grid: &Grid) -> Packed
     ensures { result ≡ key_of grid.now }
 {
-    let size = grid.size();
     Packed {
-        first: filled_number(size, grid.rows(Kind::Cross)),
-        second: filled_number(0, grid.rows(Kind::Ring)),
+        size: grid.size(),
+        x: words_of(grid.rows(Kind::Cross)),
+        o: words_of(grid.rows(Kind::Ring)),
     }
 }
 
-/// How two keys compare: by the first number, and then by the second. It is the order that the type derives.
+/// How two keys compare: by size, and then by their words from the left. It is the order that the type derives.
 pub fn compare_keys(p: &Packed, q: &Packed) -> Ordering
     ensures { result ≡ compare_keys p.now q.now }
 {
@@ -77,12 +94,11 @@ pub fn unpack(key: Packed) -> Option<Grid>
     ensures some { IfSome result (λ g. key_of g ≡ key) }
     ensures complete { (d : Diagram) → IsGrid d → key_of d ≡ key → result ≡ Some d }
 {
-    let size = key.size();
-    if size as usize > MAX_SIZE {
+    if key.size as usize > MAX_SIZE {
         return None;
     }
-    let x = rows_of_key(key.first, size);
-    let o = rows_of_key(key.second, size);
+    let x = rows_of_key(&key.x, key.size);
+    let o = rows_of_key(&key.o, key.size);
     match Grid::new(x.as_slice(), o.as_slice()) {
         Ok(grid) => if_key(grid, key),
         Err(_) => None,
@@ -97,25 +113,41 @@ fn if_key(grid: Grid, key: Packed) -> Option<Grid>
     if pack(&grid) == key { Some(grid) } else { None }
 }
 
-/// The number with a first digit and then the rows, filled with 0 up to the greatest size.
-fn filled_number(head: u8, rows: &[u8]) -> u128
-    requires head { head < BASE }
+/// The words of some rows.
+fn words_of(rows: &[u8]) -> [u128; WORDS]
     requires count { length rows.now ≤ MAX_SIZE }
     requires inside { All (λ r. r < BASE) rows.now }
-    ensures { result ≡ number (head ∷ filled rows.now) }
+    ensures { result ≡ words_of rows.now }
 {
-    let count = rows.len();
-    number(head, rows) << (DIGIT_BITS * (MAX_SIZE - count) as u32)
+    [
+        word_at(rows, 0),
+        word_at(rows, WORD_COLUMNS),
+        word_at(rows, 2 * WORD_COLUMNS),
+    ]
 }
 
-/// The number with a first digit and then the rows.
-fn number(head: u8, rows: &[u8]) -> u128
-    requires head { head < BASE }
+/// The word of the rows from a column on.
+fn word_at(rows: &[u8], from: usize) -> u128
     requires count { length rows.now ≤ MAX_SIZE }
+    requires from { from + WORD_COLUMNS ≤ MAX_SIZE }
     requires inside { All (λ r. r < BASE) rows.now }
-    ensures { result ≡ number (head ∷ rows.now) }
+    ensures { result ≡ number (take WORD_COLUMNS (drop from (filled rows.now))) }
 {
-    let mut value = u128::from(head);
+    if rows.len() <= from {
+        return 0;
+    }
+    let (_, behind) = rows.split_at(from);
+    let (piece, _) = behind.split_at(behind.len().min(WORD_COLUMNS));
+    number(piece) << (DIGIT_BITS * (WORD_COLUMNS - piece.len()) as u32)
+}
+
+/// The number with these rows as its digits.
+fn number(rows: &[u8]) -> u128
+    requires count { length rows.now ≤ WORD_COLUMNS }
+    requires inside { All (λ r. r < BASE) rows.now }
+    ensures { result ≡ number rows.now }
+{
+    let mut value = 0;
     for row in rows {
         value = value * BASE + u128::from(*row);
     }
@@ -129,74 +161,34 @@ pub(crate) fn translated_key(x: &[u8], o: &[u8], columns: usize, by: u8) -> Pack
     requires by { by < length x.now }
     ensures { result ≡ key_of (translate (record { x = x.now; o = o.now }) columns by) }
 {
-    let size = x.len();
+    let size = x.len() as u8;
+    let crosses = translated_rows(x, columns as u8, by, size);
+    let rings = translated_rows(o, columns as u8, by, size);
     Packed {
-        first: translated_number(size as u8, x, columns, by),
-        second: translated_number(0, o, columns, by),
+        size,
+        x: words_of(crosses.as_slice()),
+        o: words_of(rings.as_slice()),
     }
 }
 
-/// The number with a first digit and then the rows of a kind after both shifts, filled with 0 up to the greatest size.
-fn translated_number(head: u8, rows: &[u8], columns: usize, by: u8) -> u128
-    requires head { head < BASE }
-    requires count { length rows.now ≤ MAX_SIZE }
-    requires columns { columns < length rows.now }
-    requires by { by < length rows.now }
-    requires inside { All (λ r. r < length rows.now) rows.now }
-    ensures { result ≡ number (head ∷ filled (translated_rows (length rows.now) columns by rows.now)) }
-{
-    let size = rows.len();
-    let (left, right) = rows.split_at(columns);
-    let value = lowered_digits(u128::from(head), right, by, size as u8);
-    let value = lowered_digits(value, left, by, size as u8);
-    value << (DIGIT_BITS * (MAX_SIZE - size) as u32)
-}
-
-/// A number with some rows behind, each lower round the circle.
-fn lowered_digits(value: u128, rows: &[u8], by: u8, size: u8) -> u128
-    requires count { length rows.now ≤ MAX_SIZE }
-    requires value { value < BASE ^ (MAX_SIZE + 1 - length rows.now) }
-    requires size { size ≤ MAX_SIZE }
-    requires by { by < size }
-    requires inside { All (λ r. r < size) rows.now }
-    ensures { result ≡ value * BASE ^ length rows.now + number (map (shifted size by) rows.now) }
-{
-    let mut long = value;
-    for row in rows {
-        long = long * BASE + u128::from(lowered(*row, by, size));
-    }
-    long
-}
-
-/// The rows of the first columns in a number of a key.
-fn rows_of_key(value: u128, count: u8) -> Rows
+/// The rows of the first columns in the words of a key.
+fn rows_of_key(words: &[u128; WORDS], count: u8) -> Rows
     requires { count ≤ MAX_SIZE }
-    ensures { result.items ≡ map (digit_at value) (range_with_len 0 count) }
+    ensures { result.items ≡ map (digit_at words.now) (range_with_len 0 count) }
 {
     let mut rows = ArrayVec::new();
     for c in 0..count {
-        rows.push(digit_at(value, c));
+        rows.push(digit_at(words, c));
     }
     rows
 }
 
 /// The digit of a column.
-fn digit_at(value: u128, c: u8) -> u8
+fn digit_at(words: &[u128; WORDS], c: u8) -> u8
     requires { c < MAX_SIZE }
-    ensures { result ≡ digit_at value c }
+    ensures { result ≡ digit_at words.now c }
 {
-    let after = MAX_SIZE as u32 - 1 - u32::from(c);
-    ((value >> (DIGIT_BITS * after)) % BASE) as u8
-}
-
-/// The number with a first digit and then those of a short number, which has the same base, filled with 0 up to the greatest size.
-pub(crate) fn filled_short(head: u32, value: u64, size: u32) -> u128
-    requires head { head < BASE }
-    requires most { size ≤ MAX_SHORT_SIZE }
-    requires value { value < SHORT_BASE ^ size }
-    ensures { result ≡ head * BASE ^ MAX_SIZE + value * BASE ^ (MAX_SIZE - size) }
-{
-    let full = value << (DIGIT_BITS * (MAX_SHORT_SIZE as u32 - size));
-    (u128::from(head) << (DIGIT_BITS * MAX_SIZE as u32))
-        + (u128::from(full) << (DIGIT_BITS * (MAX_SIZE - MAX_SHORT_SIZE) as u32))
+    let place = c as usize;
+    let after = (WORD_COLUMNS - 1 - place % WORD_COLUMNS) as u32;
+    ((words[place / WORD_COLUMNS] >> (DIGIT_BITS * after)) % BASE) as u8
 }

@@ -1,4 +1,4 @@
-//! One name for all translates of a grid diagram: the least of them, with the shifts that reach it, and the key of two numbers.
+//! One name for all translates of a grid diagram: the least of them, with the shifts that reach it, and its key, the size and six words.
 //! Two diagrams are translates of each other exactly where their canonical forms have one key.
 #![tactic(auto)]
 
@@ -8,13 +8,16 @@ mod key;
 pub mod laws;
 mod shifts;
 mod short_grid;
+mod spread;
 #[cfg(test)]
 mod tests;
+mod tidying;
 mod translation;
 
 pub use canonical_form::{LeastForm, LeastKey, canonical, canonical_key};
 pub use digits::MAX_SHORT_SIZE;
-pub use key::{BASE, Packed, compare_keys, pack, unpack};
+pub use key::{BASE, Packed, WORD_COLUMNS, WORDS, compare_keys, pack, unpack};
 pub use shifts::{push_shifts, push_shifts_back};
 pub use short_grid::ShortGrid;
+pub use tidying::tidy;
 pub use translation::translate;

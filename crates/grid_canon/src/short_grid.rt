@@ -12,7 +12,8 @@ use crate::canonical_form::LeastKey;
 use crate::digits::{
     MAX_SHORT_SIZE, cut, cut_next, first_digit, lifted, lowered, number_of, with_digit,
 };
-use crate::key::{Packed, filled_short};
+use crate::key::Packed;
+use crate::spread::short_words;
 use grid_core::{Grid, Kind};
 use grid_moves::Widening;
 use std::marker::Model;
@@ -81,8 +82,9 @@ impl ShortGrid {
         let rings = self.cornered_rings(least.column, least.row);
         LeastKey {
             key: Packed {
-                first: filled_short(size, least.crosses, size),
-                second: filled_short(0, rings, size),
+                size: size as u8,
+                x: short_words(least.crosses, size),
+                o: short_words(rings, size),
             },
             columns: least.column as u8,
             rows: least.row as u8,

@@ -2,11 +2,11 @@
 ghost use Rattle.std.specs.Prelude.{◌≤◌};
 
 use crate::{
-    LeastForm, LeastKey, Packed, ShortGrid, canonical, canonical_key, compare_keys, pack,
-    translate, unpack,
+    LeastForm, LeastKey, Packed, ShortGrid, WORD_COLUMNS, WORDS, canonical, canonical_key,
+    compare_keys, pack, tidy, translate, unpack,
 };
 use grid_core::{Corner, Grid, Kind, MAX_SIZE};
-use grid_moves::{Widening, widening_of};
+use grid_moves::{Move, Widening, apply_all, widening_of};
 use std::alloc::Global;
 use std::cmp::Ordering;
 use std::test::Fail;
@@ -205,36 +205,74 @@ fn keys_are_compared_by_their_numbers(rt: HostRuntime) -> Result<(), Fail> {
     Ok(())
 }
 
-/// One more as the size in a key: a digit has five bits, and stands before one for each column.
-const SIZE_DIGIT: u128 = 1 << (5 * MAX_SIZE);
-
-/// One more as the row of the second column.
-const SECOND_ROW: u128 = 1 << (5 * (MAX_SIZE - 2));
+/// One more as the row of the second column: the digits of the columns behind it in its word stand below it.
+const SECOND_ROW: u128 = 1 << (6 * (WORD_COLUMNS - 2));
 
 #[test]
-fn numbers_that_are_no_key_are_refused(rt: HostRuntime) -> Result<(), Fail> {
+fn what_is_no_key_is_refused(rt: HostRuntime) -> Result<(), Fail> {
     let Ok(unknot) = Grid::new(&[0, 1], &[1, 0]) else {
         return Err(Fail::from("no grid"));
     };
     let key = pack(&unknot);
+    let [x, more, most] = key.x;
+    let [o, _, _] = key.o;
     let wrong = [
-        // a row out of range, a row twice, a number behind the last column, another size
-        (key.first + SECOND_ROW, key.second),
-        (key.first - SECOND_ROW, key.second),
-        (key.first + 1, key.second),
-        (key.first, key.second + 1),
-        (key.first + SIZE_DIGIT, key.second),
-        (key.first - 2 * SIZE_DIGIT, key.second),
-        (key.first, key.second + SIZE_DIGIT),
-        (u128::MAX, u128::MAX),
+        // a row out of range, a row twice
+        Packed {
+            x: [x + SECOND_ROW, more, most],
+            ..key
+        },
+        Packed {
+            x: [x - SECOND_ROW, more, most],
+            ..key
+        },
+        // a digit behind the last column, in each word
+        Packed {
+            x: [x + 1, more, most],
+            ..key
+        },
+        Packed {
+            x: [x, 1, most],
+            ..key
+        },
+        Packed {
+            o: [o, 0, 1],
+            ..key
+        },
+        // another size
+        Packed { size: 3, ..key },
+        Packed { size: 0, ..key },
+        Packed {
+            size: MAX_SIZE as u8 + 1,
+            ..key
+        },
+        Packed {
+            x: [u128::MAX; WORDS],
+            ..key
+        },
     ];
     assert!(rt; unpack(key).is_some());
-    for (first, second) in wrong {
-        assert!(rt;
-            unpack(Packed { first, second }).is_none(),
-            "{first} {second}"
-        );
+    for other in wrong {
+        assert!(rt; unpack(other).is_none(), "{other:?}");
     }
+    Ok(())
+}
+
+#[test]
+fn a_key_has_the_columns_of_the_greatest_size(rt: HostRuntime) -> Result<(), Fail> {
+    let mut x = [0; MAX_SIZE];
+    let mut o = [0; MAX_SIZE];
+    for c in 0..MAX_SIZE {
+        x[c] = c as u8;
+        o[c] = (c as u8 + 1) % MAX_SIZE as u8;
+    }
+    let Ok(grid) = Grid::new(&x, &o) else {
+        return Err(Fail::from("no grid"));
+    };
+    let key = pack(&grid);
+    assert_eq!(rt; key.size as usize, MAX_SIZE);
+    assert_eq!(rt; key.x[WORDS - 1] % 64, MAX_SIZE as u128 - 1);
+    assert!(rt; is_plain(&grid));
     Ok(())
 }
 
@@ -268,6 +306,64 @@ fn grids_compared(n: u8, orders: u16) -> Result<u32, Fail>
         }
     }
     Ok(count)
+}
+
+/// What a list of moves on the unknot of two columns becomes.
+fn tidied_on_unknot(alloc: Global, moves: &[Move]) -> Result<Vec<Move>, Fail> {
+    let grid = match Grid::new(&[0, 1], &[1, 0]) {
+        Ok(grid) => grid,
+        Err(fault) => return Err(Fail::from(fault)),
+    };
+    match apply_all(&grid, moves) {
+        Ok(_) => Ok(tidy(alloc, &grid, moves)?),
+        Err(stop) => Err(Fail::from(stop)),
+    }
+}
+
+const GROWN: Move = Move::Stabilise {
+    column: 0,
+    kind: Kind::Cross,
+    corner: Corner::LowLeft,
+};
+
+const SHRUNK: Move = Move::Destabilise { column: 0, row: 0 };
+
+#[test]
+fn lists_of_moves_become_tidy(rt: HostRuntime) -> Result<(), Fail> {
+    let rows: [(&[Move], &[Move]); 6] = [
+        (&[], &[]),
+        (
+            &[
+                Move::ShiftRows(1),
+                Move::ShiftColumns(1),
+                Move::ShiftRows(1),
+            ],
+            &[Move::ShiftColumns(1)],
+        ),
+        (&[Move::ShiftColumns(1), Move::ShiftColumns(1)], &[]),
+        (
+            &[Move::ShiftRows(1), Move::ShiftColumns(1)],
+            &[Move::ShiftColumns(1), Move::ShiftRows(1)],
+        ),
+        (&[GROWN, SHRUNK], &[GROWN, SHRUNK]),
+        // three columns behind the stabilisation
+        (
+            &[
+                Move::ShiftRows(1),
+                GROWN,
+                Move::ShiftRows(2),
+                Move::ShiftColumns(2),
+                Move::ShiftRows(2),
+                Move::ShiftColumns(1),
+            ],
+            &[Move::ShiftRows(1), GROWN, Move::ShiftRows(1)],
+        ),
+    ];
+    for (moves, wanted) in rows {
+        let list = tidied_on_unknot(rt.alloc(), moves)?;
+        assert_eq!(rt; list.as_slice(), wanted);
+    }
+    Ok(())
 }
 
 #[test]

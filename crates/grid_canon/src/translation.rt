@@ -24,7 +24,7 @@ pub fn translate(grid: &Grid, columns: u8, rows: u8) -> Grid
 }
 
 /// The rows of a kind after both shifts.
-fn translated_rows(list: &[u8], columns: u8, rows: u8, size: u8) -> Rows
+pub(crate) fn translated_rows(list: &[u8], columns: u8, rows: u8, size: u8) -> Rows
     requires size { size ≤ MAX_SIZE }
     requires list { length list.now ≡ size }
     requires inside { All (λ r. r < size) list.now }

@@ -13,7 +13,7 @@ push-requires c = (
     arith,
     ap length c.loop-c.invariant,
     length-map (range_with_len 0 c.loop-c.c)
-        (digit_at c.args.value),
+        (digit_at c.args.words.now),
     length-range_with_len 0 c.loop-c.c,
     c.requires,
   ),
@@ -22,4 +22,4 @@ push-requires c = (
 pub loop-c-preserved : goal.loop-c-preserved
 loop-c-preserved c =
     c.push.ensures.items ∙ ap₂ (λ (xs : List ℕ) (x : ℕ). xs ++ x ∷ []) c.loop-c.invariant c.digit_at.ensures
-    ∙ sym (digits_more (digit_at c.args.value) c.loop-c.c)
+    ∙ sym (digits_more (digit_at c.args.words.now) c.loop-c.c)

@@ -4,4 +4,4 @@ use Rattle.grid_canon.specs.Key.{digit_at}
 use Rattle.grid_canon.proofs.key.rows_of_key.Given as goal
 
 abbrev pub invariant-loop-c : goal.invariant-loop-c
-invariant-loop-c l = l.rows.items ≡ map (digit_at l.value) (range_with_len 0 l.c)
+invariant-loop-c l = l.rows.items ≡ map (digit_at l.words) (range_with_len 0 l.c)
