@@ -16,10 +16,10 @@ use Rattle.grid_canon.specs.CanonicalForm.{IsCanonicalForm, IsCanonical}
 use Rattle.grid_canon.specs.Key.{key_of}
 use Rattle.grid_canon.proofs.Keys.{key_once}
 use Rattle.grid_canon.proofs.CanonicalForms.{translated_back, translated_size, canonical_exists, canonical_grid, canonical_once, canonical_of_translate}
-use Rattle.next_moves.specs.Neighbours.{is_shift}
+use Rattle.grid_moves.specs.Tidy.{is_shift}
 use Rattle.next_moves.specs.Tries.{is_exchange}
-use Rattle.next_moves.specs.Offers.{size_after}
-use Rattle.next_moves.proofs.Extended.{step_size}
+use Rattle.grid_moves.specs.SizeAfter.{size_after}
+use Rattle.grid_moves.proofs.Sizes.{step_size}
 use Rattle.next_moves.proofs.Closed.{shift_translates}
 use Rattle.mono_simplify.specs.ExchangeClass.{is_shift_or_exchange, JoinedByExchanges, IsInClass, IsIrreducible}
 use Rattle.mono_simplify.specs.Listing.{with_keys, IsListing, NoTranslateDestabilises}

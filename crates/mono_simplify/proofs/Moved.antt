@@ -17,10 +17,12 @@ use Rattle.grid_canon.proofs.LeastTranslates.{shifts_of, translates_contains, ma
 use Rattle.grid_canon.proofs.CanonicalForms.{translated_grid, translated_size, canonical_of_translate, canonical_exists, canonical_grid}
 use Rattle.grid_canon.proofs.Translated.{size-translate}
 use Rattle.next_moves.specs.declared.links.Offer.{Offer}
-use Rattle.next_moves.specs.Neighbours.{is_shift}
+use Rattle.grid_moves.specs.Tidy.{is_shift}
 use Rattle.next_moves.specs.Tries.{Try, tries, exchanges, is_exchange, column_exchange, row_exchange}
-use Rattle.next_moves.specs.Offers.{size_after, is_offered, Leads, IsOfferOf, AreOffersOf, IsOfferList, try_of}
-use Rattle.next_moves.proofs.Extended.{legal_offered, step_size}
+use Rattle.grid_moves.specs.SizeAfter.{size_after}
+use Rattle.next_moves.specs.Offers.{is_offered, Leads, IsOfferOf, AreOffersOf, IsOfferList, try_of}
+use Rattle.grid_moves.proofs.Sizes.{step_size}
+use Rattle.next_moves.proofs.Extended.{legal_offered}
 use Rattle.next_moves.proofs.Members.{contains_first, contains_later, contains_filter, filter_contains, mapped_from}
 use Rattle.next_moves.proofs.Matched.{matched}
 use Rattle.next_moves.proofs.Complete.{neighbour_offered, led_by, ranged}

@@ -7,8 +7,7 @@ use Rattle.std.proofs.lemmas.List.Folds.{list_any-append}
 use Rattle.grid_core.specs.Diagram.{Diagram, size}
 use Rattle.grid_moves.specs.declared.step.Move.{Move}
 use Rattle.grid_moves.specs.Joining.{JoinsWithin}
-use Rattle.grid_moves.proofs.Within.{within_append, within_end}
-use Rattle.next_moves.proofs.Linked.{within_larger}
+use Rattle.grid_moves.proofs.Within.{within_append, within_end, within_larger}
 use Rattle.mono_simplify.specs.Simplified.{is_destabilisation, is_monotonic, AreMonotonic}
 use Rattle.mono_simplify.proofs.Monotonic.{monotonic_more}
 

@@ -7,7 +7,7 @@ use Rattle.grid_moves.specs.declared.step.Move.TheVariants.{Destabilise}
 use Rattle.grid_moves.specs.MoveFault.{first_fault}
 use Rattle.grid_moves.specs.Joining.{Joins}
 use Rattle.grid_canon.specs.CanonicalForm.{IsCanonicalForm}
-use Rattle.next_moves.specs.Neighbours.{is_shift}
+use Rattle.grid_moves.specs.Tidy.{is_shift}
 use Rattle.next_moves.specs.Tries.{is_exchange}
 
 abbrev pub is_shift_or_exchange : Move → Bool

@@ -15,7 +15,8 @@ use Rattle.grid_moves.proofs.OneResult.{step_exists}
 use Rattle.grid_canon.specs.Translation.{translate}
 use Rattle.grid_canon.proofs.Translated.{row_of-translate, translate-grid, size-translate}
 use Rattle.next_moves.specs.Tries.{shift_before, place_after_shift, destabilisation}
-use Rattle.next_moves.specs.Offers.{is_offered, size_after}
+use Rattle.grid_moves.specs.SizeAfter.{size_after}
+use Rattle.next_moves.specs.Offers.{is_offered}
 use Rattle.next_moves.specs.Extends.{next, row_of_both}
 use Rattle.next_moves.proofs.Sides.{shift_before-below, place_after_shift-below, next-below, first_origin, second_origin, from_first, from_second, pair_of_rows}
 

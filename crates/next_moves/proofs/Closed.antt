@@ -13,14 +13,14 @@ use Rattle.grid_canon.specs.CanonicalForm.{IsCanonicalForm, IsCanonical}
 use Rattle.grid_canon.proofs.LeastTranslates.{translates_contains, shifts_of}
 use Rattle.grid_canon.proofs.Joined.{column_shift_step, row_shift_step, shifts_joined_within}
 use Rattle.grid_canon.proofs.CanonicalForms.{canonical_exists, canonical_of_translate, translated_back, translated_size}
-use Rattle.grid_moves.proofs.Within.{within_cap_after}
+use Rattle.grid_moves.proofs.Within.{within_cap_after, within_larger}
 use Rattle.grid_canon.specs.Shifts.{shift_moves}
 use Rattle.grid_canon.specs.Key.{key_of}
 use Rattle.grid_canon.proofs.Keys.{key_once}
 use Rattle.next_moves.specs.Offers.{IsOfferList, Neighbourhood, IsWhole}
 use Rattle.next_moves.specs.Reach.{IsReached, AreMembers}
-use Rattle.next_moves.proofs.Linked.{within_larger}
-use Rattle.next_moves.specs.Neighbours.{is_shift, IsNeighbour}
+use Rattle.grid_moves.specs.Tidy.{is_shift}
+use Rattle.next_moves.specs.Neighbours.{IsNeighbour}
 
 -- a shift leads to a translate
 pub shift_translates : (move : Move) (d e : Diagram) → is_shift move ≡ true → Step d move e → Contains (translates d) e

@@ -13,7 +13,8 @@ use Rattle.grid_canon.specs.Key.{key_of}
 use Rattle.grid_canon.proofs.LeastTranslates.{shifts_of, translates_contains, map_contains}
 use Rattle.grid_canon.proofs.CanonicalForms.{translated_size, canonical_of_translate, canonical_once}
 use Rattle.next_moves.specs.declared.links.Offer.{Offer}
-use Rattle.next_moves.specs.Neighbours.{is_shift, IsNeighbour}
+use Rattle.grid_moves.specs.Tidy.{is_shift}
+use Rattle.next_moves.specs.Neighbours.{IsNeighbour}
 use Rattle.grid_core.specs.Corners.{corners}
 use Rattle.next_moves.specs.Tries.{Try, tries, column_exchange, column_slide, column_trades, row_exchange, row_slide, row_trades, destabilisation, destabilisations, stabilisation, stabilisations}
 use Rattle.next_moves.specs.Offers.{is_offered, Leads, IsOfferOf, IsOfferList, try_of}

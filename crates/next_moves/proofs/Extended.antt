@@ -13,8 +13,10 @@ use Rattle.grid_moves.specs.declared.step.Move.{Move}
 use Rattle.grid_moves.specs.declared.step.Move.TheVariants.{ShiftColumns, ShiftRows, ExchangeColumns, ExchangeRows, SlideColumns, SlideRows, Stabilise, Destabilise}
 use Rattle.grid_moves.specs.declared.step.MoveFault.{MoveFault}
 use Rattle.grid_moves.specs.MoveFault.{first_fault}
-use Rattle.grid_moves.specs.Step.{Step, Moves}
+use Rattle.grid_moves.specs.Step.{Step}
+use Rattle.grid_moves.specs.SizeAfter.{size_after}
 use Rattle.grid_moves.proofs.OneResult.{step_legal}
+use Rattle.grid_moves.proofs.Sizes.{step_size}
 use Rattle.grid_canon.specs.Translation.{translate}
 use Rattle.grid_canon.specs.CanonicalForm.{IsLeastForm}
 use Rattle.grid_canon.specs.declared.canonical_form.LeastForm.{LeastForm}
@@ -23,7 +25,7 @@ use Rattle.grid_canon.proofs.Translated.{size-translate}
 use Rattle.next_moves.specs.declared.links.Offer.{Offer}
 use Rattle.grid_core.specs.Corners.{corners}
 use Rattle.next_moves.specs.Tries.{Try, column_trades, row_trades, destabilisations, stabilisation, stabilisations}
-use Rattle.next_moves.specs.Offers.{size_after, is_offered, Leads, IsOfferOf, AreOffersOf, IsOfferList, try_of}
+use Rattle.next_moves.specs.Offers.{is_offered, Leads, IsOfferOf, AreOffersOf, IsOfferList, try_of}
 use Rattle.next_moves.specs.Extends.{Extends}
 
 pub extends_none : (d : Diagram) (cap : ℕ) (old new : List Offer) → new ≡ old → Extends d cap [] old new
@@ -60,20 +62,6 @@ extends_one d cap t offer old new same offered is leads = record {
     leads = All-cons (IsOfferOf d) offer [] leads (All-nil (IsOfferOf d));
   };
 }
-
--- the size of a result
-moved_size : (move : Move) (d e : Diagram) → Moves move d e → size e ≡ size_after move (size d)
-moved_size (ShiftColumns k) d e m = m.renumbered.same_size
-moved_size (ShiftRows k) d e m = m.renumbered.same_size
-moved_size (ExchangeColumns c) d e m = m.renumbered.same_size
-moved_size (ExchangeRows r) d e m = m.renumbered.same_size
-moved_size (SlideColumns c) d e m = m.renumbered.same_size
-moved_size (SlideRows r) d e m = m.renumbered.same_size
-moved_size (Stabilise c kind corner) d e m = m.1.1.larger
-moved_size (Destabilise c r) d e m = omega (arith, m.undone.larger)
-
-pub step_size : (move : Move) (d e : Diagram) → Step d move e → size e ≡ size_after move (size d)
-step_size move d e step = moved_size move d e step.marks
 
 -- what is offered, by what the call found
 none_fault : (fault : Option MoveFault) (b : Bool) → fault ≡ None → (is_none fault && b) ≡ b

@@ -3,7 +3,7 @@ use Rattle.std.proofs.Common.{◌≡◌, ◌≤◌, ◌+◌, ◌++◌, ◌∷◌
 use Rattle.grid_core.specs.Diagram.{Diagram, IsGrid, size}
 use Rattle.grid_moves.specs.declared.step.Move.{Move}
 use Rattle.grid_moves.specs.Joining.{Joins, JoinsWithin}
-use Rattle.grid_moves.proofs.Within.{within_append, within_joins}
+use Rattle.grid_moves.proofs.Within.{within_append, within_joins, within_larger}
 use Rattle.grid_canon.specs.Translation.{translate}
 use Rattle.grid_canon.specs.Shifts.{shift_moves}
 use Rattle.grid_canon.proofs.Translated.{size-translate}
@@ -11,12 +11,6 @@ use Rattle.grid_canon.proofs.Joined.{shifts_joined_within}
 use Rattle.next_moves.specs.declared.links.Link.{Link}
 use Rattle.next_moves.specs.Offers.{Leads}
 use Rattle.next_moves.specs.Links.{link_moves}
-
--- a list within a cap is one within a larger cap
-pub within_larger : (cap more : ℕ) (moves : List Move) (d e : Diagram) → cap ≤ more → JoinsWithin cap d moves e → JoinsWithin more d moves e
-within_larger cap more [] d e le joined = (omega (arith, le, joined.0), joined.1)
-within_larger cap more (move ∷ moves) d e le joined =
-    (omega (arith, le, joined.0), (joined.1.0, (joined.1.1.0, within_larger cap more moves joined.1.0 e le joined.1.1.1)))
 
 pub link_joined_within : (d f : Diagram) (link : Link) (cap : ℕ) → IsGrid d → Leads d link f → size d ≤ cap → size f ≤ cap
     → JoinsWithin cap d (link_moves link) f

@@ -16,7 +16,7 @@ use Rattle.grid_canon.specs.Translation.{translate, translates}
 use Rattle.grid_canon.proofs.Translated.{origin, origin-below, origin-shifted, size-translate, row_of-translate, translate-translate}
 use Rattle.grid_canon.proofs.Joined.{at_origin}
 use Rattle.grid_canon.proofs.LeastTranslates.{translates_contains, flat_map_contains, range_contains, map_contains, origin_zero}
-use Rattle.next_moves.specs.Neighbours.{is_shift}
+use Rattle.grid_moves.specs.Tidy.{is_shift}
 use Rattle.grid_core.specs.Corners.{corners}
 use Rattle.grid_core.proofs.CornerList.{corner_listed}
 use Rattle.next_moves.specs.Tries.{Try, shift_before, place_after_shift, tries, is_exchange, column_exchange, column_slide, column_trades, row_exchange, row_slide, row_trades, destabilisation, destabilisations, stabilisation, stabilisations}

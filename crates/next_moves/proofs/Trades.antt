@@ -14,7 +14,8 @@ use Rattle.grid_moves.specs.MoveFault.{first_fault, exchange_fault, slide_fault}
 use Rattle.grid_canon.specs.Translation.{translate}
 use Rattle.next_moves.specs.declared.links.Offer.{Offer}
 use Rattle.next_moves.specs.Tries.{Try, shift_before, place_after_shift, column_exchange, column_slide, row_exchange, row_slide, column_trades, row_trades}
-use Rattle.next_moves.specs.Offers.{size_after, is_legal, is_offered}
+use Rattle.grid_moves.specs.SizeAfter.{size_after}
+use Rattle.next_moves.specs.Offers.{is_legal, is_offered}
 use Rattle.next_moves.specs.Extends.{Extends}
 use Rattle.next_moves.proofs.Extended.{extends_then, extends_skip}
 

@@ -4,8 +4,7 @@ use Rattle.std.specs.List.{All}
 use Rattle.std.specs.Option.{is_none}
 use Rattle.grid_core.specs.declared.grid.TheConstants.{MAX_SIZE}
 use Rattle.grid_core.specs.Diagram.{Diagram, IsGrid, size}
-use Rattle.grid_moves.specs.declared.step.Move.{Move}
-use Rattle.grid_moves.specs.declared.step.Move.TheVariants.{ShiftColumns, ShiftRows, ExchangeColumns, ExchangeRows, SlideColumns, SlideRows, Stabilise, Destabilise}
+use Rattle.grid_moves.specs.SizeAfter.{size_after}
 use Rattle.grid_moves.specs.Step.{Step}
 use Rattle.grid_moves.specs.MoveFault.{first_fault}
 use Rattle.grid_canon.specs.declared.key.Packed.{Packed}
@@ -15,17 +14,6 @@ use Rattle.grid_canon.specs.Key.{key_of}
 use Rattle.next_moves.specs.declared.links.Link.{Link}
 use Rattle.next_moves.specs.declared.links.Offer.{Offer}
 use Rattle.next_moves.specs.Tries.{Try, tries, is_exchange}
-
--- the size of the result of a move on a diagram of this size
-abbrev pub size_after : Move → ℕ → ℕ
-size_after (ShiftColumns k) n = n
-size_after (ShiftRows k) n = n
-size_after (ExchangeColumns c) n = n
-size_after (ExchangeRows r) n = n
-size_after (SlideColumns c) n = n
-size_after (SlideRows r) n = n
-size_after (Stabilise c kind corner) n = n + 1
-size_after (Destabilise c r) n = n - 1
 
 -- the move is legal on its translate of d
 abbrev pub is_legal : Diagram → Try → Bool

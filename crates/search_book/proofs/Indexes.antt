@@ -213,6 +213,16 @@ other_key es id z key other stands =
     let key_is : (get_or es id z).key ≡ key = cc in
     same_key_false (get_or es id z).key key other key_is
 
+-- an entry with this key, and the side of an entry
+pub own_key : (es : List Entry) (id : ℕ) (z : Entry) (key : Packed) → id < length es → same_key (get_or es id z).key key ≡ true
+    → slice_get (keys es) id ≡ Some key
+own_key es id z key within same =
+    slice_get-map (λ (e : Entry). e.key) es id ∙ ap (option_map (λ (e : Entry). e.key)) (slice_get-get_or es id z within)
+    ∙ ap Some (same_key_true (get_or es id z).key key same)
+
+pub own_side : (es : List Entry) (id : ℕ) (z : Entry) → id < length es → slice_get (sides es) id ≡ Some (get_or es id z).side
+own_side es id z within = slice_get-map (λ (e : Entry). e.side) es id ∙ ap (option_map (λ (e : Entry). e.side)) (slice_get-get_or es id z within)
+
 -- what is known of a key by its place and the side there
 pub known_by_place : (es : List Entry) (key : Packed) (known : Known)
     → AllPairs (λ (p q : Packed). p ≢ q) (keys es) → slice_get (keys es) known.id ≡ Some key → slice_get (sides es) known.id ≡ Some known.side → IsKnown es key known

@@ -5,7 +5,7 @@ use Rattle.grid_core.specs.Diagram.{Diagram, size}
 use Rattle.grid_moves.specs.declared.step.Move.{Move}
 use Rattle.grid_moves.specs.MoveFault.{first_fault}
 use Rattle.grid_moves.specs.MoveLists.{all_but_slides}
-use Rattle.next_moves.specs.Offers.{size_after}
+use Rattle.grid_moves.specs.SizeAfter.{size_after}
 use Rattle.walk_samples.specs.declared.walk.TheConstants.{LARGEST}
 
 -- the move is legal, and its result is not larger than LARGEST

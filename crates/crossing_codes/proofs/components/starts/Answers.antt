@@ -1,11 +1,25 @@
-use Rattle.std.proofs.Common.{◌≡◌, ◌<◌, ◌∙◌, ◌==◌, ◌||◌, ◌++◌, ◌∷◌, [], ℕ, List, true, false, get_or, sym, ap, subst, arith}
+use Rattle.std.proofs.Common.{◌≡◌, ◌<◌, ◌∙◌, ◌==◌, ◌||◌, ◌++◌, ◌∷◌, [], ℕ, List, true, false, get_or, length, refl, sym, ap, subst, arith}
 use Rattle.std.specs.List.{All, list_any, flat_map}
+use Rattle.std.proofs.lemmas.List.{get_or-replicate}
 use Rattle.std.proofs.lemmas.List.Elements.{All-push}
+use Rattle.grid_core.specs.declared.grid.TheConstants.{MAX_SIZE}
 use Rattle.grid_core.specs.Diagram.{size}
 use Rattle.crossing_codes.specs.Components.{component}
 use Rattle.crossing_codes.proofs.StartSteps.{reached, start_found, reached_more, start_passed}
 use Rattle.crossing_codes.proofs.components.starts.Goals as goal
 use Rattle.crossing_codes.proofs.components.starts.Goals.{then-not-seen-column, else-not-seen-column}
+
+pub loop-column-init : goal.loop-column-init
+loop-column-init c =
+    let none : length c.new-starts.result.items ≡ 0 = ap length c.new-starts.ensures in
+    let most = c.size-column-end.ensures.grid.most in
+    record {
+      starts = c.new-starts.ensures;
+      inside = λ k d lt. absurd (omega (arith, lt, none));
+      long = refl;
+      few = omega (arith, none);
+      seen = λ k within. get_or-replicate MAX_SIZE k false false (omega (arith, within, most));
+    }
 
 pub loop-column-preserved : goal.loop-column-preserved
 loop-column-preserved c =

@@ -2,7 +2,7 @@ use Rattle.std.proofs.Common.{◌≢◌, ◌∙◌, sym, subst, ℕ, List, Some,
 use Rattle.std.proofs.lemmas.List.{take_all}
 use Rattle.std.proofs.lemmas.List.Elements.{All-more}
 use Rattle.search_book.specs.Entries.{keys}
-use Rattle.search_book.proofs.Indexes.{other_key}
+use Rattle.search_book.proofs.Indexes.{other_key, own_key, own_side}
 use Rattle.search_book.proofs.index.spilled_entry.Goals as goal
 
 pub loop-id-preserved : goal.loop-id-preserved
@@ -16,3 +16,12 @@ pub returns-clause-none : goal.returns-clause-none
 returns-clause-none c =
     subst (λ (ids : List ℕ). All (λ (i : ℕ). slice_get (keys c.args.entries.now) i ≢ Some c.args.key) ids)
     (take_all c.loop-id.id-index c.args.ids.now c.loop-id-test.false) c.loop-id.invariant
+
+pub returns-then-eq-clause-key : goal.returns-then-eq-clause-key
+returns-then-eq-clause-key c =
+    let within = c.requires c.loop-id.id-index 0 c.loop-id-test.true in
+    own_key c.args.entries.now (get_or c.args.ids.now c.loop-id.id-index 0) _ c.args.key within (sym c.eq.ensures ∙ c.if-eq.true)
+
+pub returns-then-eq-clause-side : goal.returns-then-eq-clause-side
+returns-then-eq-clause-side c =
+    own_side c.args.entries.now (get_or c.args.ids.now c.loop-id.id-index 0) _ (c.requires c.loop-id.id-index 0 c.loop-id-test.true)

@@ -9,7 +9,8 @@ use Rattle.grid_canon.proofs.Joined.{translate_none}
 use Rattle.next_moves.specs.declared.links.Offer.{Offer}
 use Rattle.next_moves.specs.Tries.{stabilisation, unshifted}
 use Rattle.next_moves.specs.Offers.{try_of}
-use Rattle.next_moves.proofs.Extended.{extends_legal, step_size}
+use Rattle.grid_moves.proofs.Sizes.{step_size}
+use Rattle.next_moves.proofs.Extended.{extends_legal}
 use Rattle.next_moves.proofs.tries.Tries.push_stabilised.Goals as goal
 
 pub returns-clause-offered : goal.returns-clause-offered
