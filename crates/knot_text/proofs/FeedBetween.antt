@@ -6,11 +6,12 @@ use Rattle.verdict_core.specs.declared.verdict.Verdict.{Verdict}
 use Rattle.verdict_core.specs.declared.problem.ProblemText.{ProblemText}
 use Rattle.verdict_core.specs.Diagrams.{columns}
 use Rattle.knot_text.specs.Shapes.{problem_in, problem_of, check_of}
-use Rattle.knot_text.specs.Printed.{verdict_text, HasVerdictText}
+use Rattle.knot_text.specs.Printed.{version_text, HasVersionText}
+use Rattle.knot_text.specs.declared.verdicts.Version.{Version}
 use Rattle.knot_text.proofs.ReadBack.{verdict_behind}
 
-pub verdict_behind_feed : (bytes : List ℕ) (p : ProblemText) (v : Verdict) → are_whole_lines bytes ≡ false → problem_of bytes ≡ Ok p
-    → HasVerdictText (columns p.first) (columns p.second) v → check_of (bytes ++ (codes "\n" ++ verdict_text v)) ≡ Ok (p, v)
-verdict_behind_feed bytes p v lacks is fits =
+pub verdict_behind_feed : (version : Version) (bytes : List ℕ) (p : ProblemText) (v : Verdict) → are_whole_lines bytes ≡ false → problem_of bytes ≡ Ok p
+    → HasVersionText version (columns p.first) (columns p.second) v → check_of (bytes ++ (codes "\n" ++ version_text version v)) ≡ Ok (p, v)
+verdict_behind_feed version bytes p v lacks is fits =
     let same : problem_of (bytes ++ codes "\n") ≡ Ok p = ap problem_in (feed_added 0 bytes lacks) ∙ is in
-    ap check_of (sym (append_assoc bytes (codes "\n") (verdict_text v))) ∙ verdict_behind (bytes ++ codes "\n") p v (feed_ends bytes) same fits
+    ap check_of (sym (append_assoc bytes (codes "\n") (version_text version v))) ∙ verdict_behind version (bytes ++ codes "\n") p v (feed_ends bytes) same fits

@@ -1,28 +1,33 @@
 -- Items of one line, of two, and of a modulus and its table are refused by their first lines.
-use Rattle.std.proofs.Common.{◌≡◌, ◌∙◌, ℕ, ◌||◌, Bool, true, false, cond, List, [], ◌∷◌, codes, Option, Some, None, Result, Ok, Err, nat_le, nat_lt, is_none, refl, ap, sym, arith}
+use Rattle.std.proofs.Common.{◌≡◌, ◌∙◌, ℕ, ◌||◌, ◌==◌, Bool, true, false, cond, List, [], ◌∷◌, codes, Option, Some, None, Result, Ok, Err, nat_le, nat_lt, is_none, refl, ap, sym, arith}
 use Rattle.std.specs.Str.{bytes_eq}
 use Rattle.quandle_core.specs.Quandle.{Table}
 use Rattle.colour_weights.specs.Fault.{first_fault}
 use Rattle.arrayvec.specs.ArrayVec.{ArrayVec}
 use Rattle.grid_core.specs.Diagram.{Diagram}
-use Rattle.text_lines.specs.Lines.{NumberedLine, Text}
+use Rattle.text_lines.specs.Lines.{NumberedLine, Text, starts}
 use Rattle.text_lines.specs.Numbers.{is_number}
 use Rattle.verdict_core.specs.declared.diagrams.Diagram.TheVariants as diagram
 use Rattle.knot_text.specs.declared.fault.TextFault.{TextFault}
 use Rattle.knot_text.specs.declared.fault.TextFault.TheVariants.{Malformed}
+use Rattle.knot_text.specs.declared.reading.TheConstants.{MAX_NUMBER}
+use Rattle.knot_text.specs.declared.verdicts.TheConstants.{TIDY_VERSION}
+use Rattle.knot_text.specs.declared.verdicts.Version.TheVariants.{Plain, Tidy}
 use Rattle.knot_text.specs.declared.weights.TheConstants.{MAX_MODULUS}
-use Rattle.knot_text.specs.Reading.{◌>>=◌, next_line, next_token, line_end, word, number, last_number, at_most}
+use Rattle.knot_text.specs.Reading.{◌>>=◌, next_line, next_token, line_end, word, number, last_number, last_count, at_most}
 use Rattle.knot_text.specs.Grids.{o_at, grid_item}
 use Rattle.knot_text.specs.Braids.{braid_at, braid_item}
 use Rattle.knot_text.specs.Colours.{colours_item}
 use Rattle.knot_text.specs.Shapes.{diagram_item}
+use Rattle.knot_text.specs.Verdicts.{verdict_of, version_at, tidy_item, plain_item, versioned_item, verdict_item}
 use Rattle.knot_text.specs.Weights.{modulus_at, cochain, cochain_item, cocycle_item}
 use Rattle.knot_text.specs.LineKinds.{read_fault, fault_by, kind_fault, FailsByKind, worth, numbers_of, x_kind, o_kind, colours_kind, braid_kind, modulus_kind}
+use Rattle.knot_text.specs.LineKinds.{counted_kind, says_version, certificate_kind}
 use Rattle.knot_text.specs.FirstLines.{count, or_later, on_top, fault_among, lines_fault, rows_fault, BeginsBy, BeginsWith, BeginsElse}
 use Rattle.knot_text.proofs.StepsAgain.{line_of}
 use Rattle.knot_text.proofs.Worths.{kept, within, above_kept}
 use Rattle.knot_text.proofs.StepFaults.{most_by, chosen}
-use Rattle.knot_text.proofs.HeadFaults.{only_fault, none_later}
+use Rattle.knot_text.proofs.HeadFaults.{only_fault, none_later, head_fails}
 use Rattle.knot_text.proofs.LineFaults.{or_fault, fault_then, x_read, o_read, colours_read}
 use Rattle.knot_text.proofs.BraidFaults.{braid_fails}
 use Rattle.knot_text.proofs.InTurn.{cochain_turn}
@@ -133,3 +138,59 @@ cocycle_begins q line text =
     ap (λ (read : Result ℕ TextFault). read_fault (read >>= behind)) (modulus_line line.number line.tokens)
     ∙ fault_then (kind_fault modulus_kind line) (count line.tokens) behind
     ∙ ap (λ (later : Option TextFault). or_later (kind_fault modulus_kind line) later) (cochain_turn q (count line.tokens) text)
+
+-- ---- the head line of a verdict
+
+-- what a number is worth there
+abbrev judge : ℕ → ℕ → Result (Unit {0}) TextFault
+judge n version = cond (version == TIDY_VERSION) (Ok tt) (Err (Malformed n))
+
+abbrev judged_as : ℕ → Bool → Result (Unit {0}) TextFault
+judged_as n good = cond good (Ok tt) (Err (Malformed n))
+
+judged_version : (form over good : Bool) (n : ℕ)
+    → or_later (fault_by form over true n) (read_fault (judged_as n good)) ≡ fault_by form over good n
+judged_version false over good n = refl
+judged_version true true good n = refl
+judged_version true false true n = refl
+judged_version true false false n = refl
+
+says_count : (tokens : List (List ℕ)) → (count tokens == TIDY_VERSION) ≡ says_version tokens
+says_count [] = refl
+says_count (w ∷ []) = refl
+says_count (w ∷ t ∷ tokens) = refl
+
+version_line : (n : ℕ) (tokens : List (List ℕ)) → read_fault (version_at (line_of n tokens)) ≡ kind_fault certificate_kind (line_of n tokens)
+unfolding version_at last_count
+version_line n tokens =
+    let kind = counted_kind (codes "certificate") MAX_NUMBER in
+    head_fails (codes "certificate") MAX_NUMBER n (judge n) tokens (omega arith) refl
+    ∙ ap (λ (good : Bool). or_later (fault_by (kind.form tokens) (kind.over tokens) true n) (read_fault (judged_as n good))) (says_count tokens)
+    ∙ judged_version (kind.form tokens) (kind.over tokens) (says_version tokens) n
+
+pub version_fails : FailsByKind certificate_kind version_at
+version_fails line = version_line line.number line.tokens
+
+-- ---- a verdict behind its head line, or without one
+
+head_then : {A B : Type 0} (head : Result A TextFault) (next : A → Result B TextFault) (later : Option TextFault)
+    → ((x : A) → read_fault (next x) ≡ later) → read_fault (head >>= next) ≡ or_later (read_fault head) later
+head_then (Ok x) next later same = same x
+head_then (Err e) next later same = refl
+
+pub certificate_begins : (one two : ℕ) → BeginsWith (codes "certificate") certificate_kind
+    (λ tokens text. read_fault (verdict_of Tidy one two text)) (verdict_item one two)
+unfolding verdict_item versioned_item tidy_item next_line
+certificate_begins one two line text is =
+    let later = read_fault (verdict_of Tidy one two text) in
+    rw is (only_fault (tidy_item one two (on_top line text)) (λ versioned. (versioned.0.1, versioned.1))
+    ∙ head_then (version_at line) (λ head. verdict_of Tidy one two text >>= λ verdict. Ok ((Tidy, verdict.0), verdict.1)) later
+    (λ head. only_fault (verdict_of Tidy one two text) (λ verdict. ((Tidy, verdict.0), verdict.1)))
+    ∙ ap (λ (fault : Option TextFault). or_later fault later) (version_fails line))
+
+pub plain_begins : (one two : ℕ) (line : NumberedLine) (text : Text) → starts (codes "certificate") line.tokens ≡ false
+    → read_fault (verdict_item one two (on_top line text)) ≡ read_fault (verdict_of Plain one two (on_top line text))
+unfolding verdict_item versioned_item plain_item
+plain_begins one two line text is =
+    rw is (only_fault (plain_item one two (on_top line text)) (λ versioned. (versioned.0.1, versioned.1))
+    ∙ only_fault (verdict_of Plain one two (on_top line text)) (λ verdict. ((Plain, verdict.0), verdict.1)))

@@ -9,10 +9,11 @@ use Rattle.verdict_core.specs.declared.verdict.Verdict.TheVariants.{Equal, Unkno
 use Rattle.knot_text.specs.declared.fault.TextFault.{TextFault}
 use Rattle.knot_text.specs.declared.fault.TextFault.TheVariants.{Malformed}
 use Rattle.knot_text.specs.declared.reading.TheConstants.{MAX_NUMBER}
+use Rattle.knot_text.specs.declared.verdicts.Version.{Version}
 use Rattle.knot_text.specs.Reading.{◌>>=◌, in_turn, next_line, next_token, line_end, word, number, last_number, last_count, at_most}
 use Rattle.knot_text.specs.Moves.{move_lines, moves_item}
 use Rattle.knot_text.specs.BraidSteps.{step_lines, steps_item}
-use Rattle.knot_text.specs.Verdicts.{colour_line, list_item, equal_at, budget_at, exhausted_at, unknown_at, unknown_item, verdict_item}
+use Rattle.knot_text.specs.Verdicts.{moves_of, colour_line, list_item, equal_at, budget_at, exhausted_at, unknown_at, unknown_item, verdict_of}
 use Rattle.knot_text.specs.LineKinds.{read_fault, fault_by, kind_fault, worth, fits, is_above, counted_kind, unknown_kind}
 use Rattle.knot_text.specs.FirstLines.{count, or_later, on_top, BeginsBy, BeginsWith}
 use Rattle.knot_text.proofs.StepsAgain.{line_of}
@@ -67,7 +68,7 @@ head_by w most n items m rest true is few plain =
     (or_none (fits (is_number ∷ []) rest)))
 head_by w most n items m rest false is few plain = rw is refl
 
-head_fails : {A : Type 0} (w : List ℕ) (most n : ℕ) (items : ℕ → Result A TextFault) (tokens : List (List ℕ)) → most ≤ MAX_NUMBER → is_number w ≡ false
+pub head_fails : {A : Type 0} (w : List ℕ) (most n : ℕ) (items : ℕ → Result A TextFault) (tokens : List (List ℕ)) → most ≤ MAX_NUMBER → is_number w ≡ false
     → read_fault (head w most items (line_of n tokens)) ≡ or_later (kind_fault (counted_kind w most) (line_of n tokens)) (read_fault (items (count tokens)))
 unfolding word next_token
 head_fails w most n items [] few plain = refl
@@ -116,32 +117,32 @@ none_later (Some fault) = refl
 abbrev any_above : List (List ℕ) → Bool
 any_above ts = list_any (λ token. is_above MAX_NUMBER token) ts
 
-equal_head : (n : ℕ) (rest : List (List ℕ)) (text : Text)
-    → read_fault (equal_at (line_of n rest) text)
-    ≡ or_later (fault_by (fits (is_number ∷ []) rest || false) (any_above rest) true n) (read_fault (move_lines (count (codes "equal" ∷ rest)) text))
+equal_head : (version : Version) (n : ℕ) (rest : List (List ℕ)) (text : Text)
+    → read_fault (equal_at version (line_of n rest) text)
+    ≡ or_later (fault_by (fits (is_number ∷ []) rest || false) (any_above rest) true n) (read_fault (moves_of version (count (codes "equal" ∷ rest)) text))
 unfolding equal_at last_count
-equal_head n rest text =
+equal_head version n rest text =
     let k = count (codes "equal" ∷ rest) in
     let form = fits (is_number ∷ []) rest in
-    counted_fails MAX_NUMBER n (λ k. move_lines k text >>= λ moves. Ok (Equal moves.0, moves.1)) (codes "equal") rest (omega arith)
+    counted_fails MAX_NUMBER n (λ k. moves_of version k text >>= λ moves. Ok (Equal moves.0, moves.1)) (codes "equal") rest (omega arith)
     ∙ ap (λ (later : Option TextFault). or_later (fault_by form (any_above rest) true n) later)
-    (only_fault (move_lines k text) (λ moves. (Equal moves.0, moves.1)))
-    ∙ ap (λ (b : Bool). or_later (fault_by b (any_above rest) true n) (read_fault (move_lines k text))) (or_none form)
+    (only_fault (moves_of version k text) (λ moves. (Equal moves.0, moves.1)))
+    ∙ ap (λ (b : Bool). or_later (fault_by b (any_above rest) true n) (read_fault (moves_of version k text))) (or_none form)
 
-equal_by : (one two n : ℕ) (tokens : List (List ℕ)) (text : Text) → starts (codes "equal") tokens ≡ true
-    → read_fault (verdict_item one two (on_top (line_of n tokens) text))
-    ≡ or_later (kind_fault (counted_kind (codes "equal") MAX_NUMBER) (line_of n tokens)) (read_fault (move_lines (count tokens) text))
-unfolding verdict_item next_line next_token
-equal_by one two n [] text is = absurd cc
-equal_by one two n (m ∷ rest) text is =
+equal_by : (version : Version) (one two n : ℕ) (tokens : List (List ℕ)) (text : Text) → starts (codes "equal") tokens ≡ true
+    → read_fault (verdict_of version one two (on_top (line_of n tokens) text))
+    ≡ or_later (kind_fault (counted_kind (codes "equal") MAX_NUMBER) (line_of n tokens)) (read_fault (moves_of version (count tokens) text))
+unfolding verdict_of next_line next_token
+equal_by version one two n [] text is = absurd cc
+equal_by version one two n (m ∷ rest) text is =
     chosen (codes "equal") m
-    (λ w. read_fault (verdict_item one two (on_top (line_of n (w ∷ rest)) text))
-    ≡ or_later (kind_fault (counted_kind (codes "equal") MAX_NUMBER) (line_of n (w ∷ rest))) (read_fault (move_lines (count (w ∷ rest)) text)))
-    is (equal_head n rest text)
+    (λ w. read_fault (verdict_of version one two (on_top (line_of n (w ∷ rest)) text))
+    ≡ or_later (kind_fault (counted_kind (codes "equal") MAX_NUMBER) (line_of n (w ∷ rest))) (read_fault (moves_of version (count (w ∷ rest)) text)))
+    is (equal_head version n rest text)
 
-pub equal_begins : (one two : ℕ) → BeginsWith (codes "equal") (counted_kind (codes "equal") MAX_NUMBER)
-    (λ tokens text. read_fault (move_lines (count tokens) text)) (verdict_item one two)
-equal_begins one two line text is = equal_by one two line.number line.tokens text is
+pub equal_begins : (version : Version) (one two : ℕ) → BeginsWith (codes "equal") (counted_kind (codes "equal") MAX_NUMBER)
+    (λ tokens text. read_fault (moves_of version (count tokens) text)) (verdict_of version one two)
+equal_begins version one two line text is = equal_by version one two line.number line.tokens text is
 
 budget_fails : (n : ℕ) (rest : List (List ℕ)) → read_fault (budget_at (line_of n rest)) ≡ fault_by (fits (is_number ∷ []) rest || false) (any_above rest) true n
 unfolding budget_at last_count
@@ -190,16 +191,16 @@ unknown_fails n (cause ∷ rest) =
     (λ is. chosen (codes "exhausted") cause (λ w. read_fault (exhausted_at left) ≡ fault w) is (exhausted_fails n rest))
     (λ exhausted. rw (budget, exhausted) refl))
 
-unknown_by : (one two n : ℕ) (tokens : List (List ℕ)) (text : Text) → starts (codes "unknown") tokens ≡ true
-    → read_fault (verdict_item one two (on_top (line_of n tokens) text)) ≡ or_later (kind_fault unknown_kind (line_of n tokens)) None
-unfolding verdict_item unknown_item next_line next_token
-unknown_by one two n [] text is = absurd cc
-unknown_by one two n (m ∷ rest) text is =
+unknown_by : (version : Version) (one two n : ℕ) (tokens : List (List ℕ)) (text : Text) → starts (codes "unknown") tokens ≡ true
+    → read_fault (verdict_of version one two (on_top (line_of n tokens) text)) ≡ or_later (kind_fault unknown_kind (line_of n tokens)) None
+unfolding verdict_of unknown_item next_line next_token
+unknown_by version one two n [] text is = absurd cc
+unknown_by version one two n (m ∷ rest) text is =
     chosen (codes "unknown") m
-    (λ w. read_fault (verdict_item one two (on_top (line_of n (w ∷ rest)) text)) ≡ or_later (kind_fault unknown_kind (line_of n (w ∷ rest))) None)
+    (λ w. read_fault (verdict_of version one two (on_top (line_of n (w ∷ rest)) text)) ≡ or_later (kind_fault unknown_kind (line_of n (w ∷ rest))) None)
     is
     (only_fault (unknown_at (line_of n rest)) (λ v. (v, text)) ∙ unknown_fails n rest
     ∙ sym (none_later (kind_fault unknown_kind (line_of n (codes "unknown" ∷ rest)))))
 
-pub unknown_begins : (one two : ℕ) → BeginsWith (codes "unknown") unknown_kind (λ tokens text. None) (verdict_item one two)
-unknown_begins one two line text is = unknown_by one two line.number line.tokens text is
+pub unknown_begins : (version : Version) (one two : ℕ) → BeginsWith (codes "unknown") unknown_kind (λ tokens text. None) (verdict_of version one two)
+unknown_begins version one two line text is = unknown_by version one two line.number line.tokens text is

@@ -1,8 +1,12 @@
 -- Lines of one kind are refused in turn, and so are the lines of a table.
-use Rattle.std.proofs.Common.{◌≡◌, ◌∙◌, ◌-◌, ℕ, zero, suc, ◌&&◌, Bool, true, false, cond, List, [], ◌∷◌, ◌++◌, map, Option, Some, None}
+use Rattle.std.proofs.Common.{◌≡◌, ◌∙◌, ◌-◌, ℕ, zero, suc, ◌&&◌, ◌||◌, not, codes, Bool, true, false, cond, List, [], ◌∷◌, ◌++◌, map, Option, Some, None}
 use Rattle.std.proofs.Common.{Result, Ok, Err, is_none, refl, ap, sym, append_assoc}
 use Rattle.quandle_core.specs.Fault.{first_fault}
 use Rattle.quandle_core.specs.Quandle.{Table}
+use Rattle.grid_moves.specs.declared.step.Move.{Move}
+use Rattle.grid_moves.specs.declared.step.Move.TheVariants.{ShiftColumns, ShiftRows, ExchangeColumns, ExchangeRows, SlideColumns, SlideRows}
+use Rattle.grid_moves.specs.declared.step.Move.TheVariants.{Stabilise, Destabilise}
+use Rattle.grid_moves.specs.Tidy.{is_shift, is_column_shift, is_row_shift, may_follow}
 use Rattle.colour_weights.specs.Fault.{first_fault as cochain_fault}
 use Rattle.text_lines.specs.Lines.{NumberedLine, Text}
 use Rattle.verdict_core.specs.declared.names.QuandleName.TheVariants as name
@@ -11,18 +15,21 @@ use Rattle.knot_text.specs.declared.fault.TextFault.{TextFault}
 use Rattle.knot_text.specs.declared.fault.TextFault.TheVariants.{Malformed}
 use Rattle.knot_text.specs.Reading.{◌>>=◌, in_turn, next_line}
 use Rattle.knot_text.specs.Numbers.{numbers_below}
-use Rattle.knot_text.specs.Moves.{move_at, next_move, move_lines}
+use Rattle.knot_text.specs.Moves.{move_at, next_move, move_lines, tidy_move_at, tidy_move, tidy_moves}
+use Rattle.knot_text.specs.Printed.{move_tokens}
 use Rattle.knot_text.specs.BraidSteps.{step_at, next_step, step_lines}
 use Rattle.knot_text.specs.Verdicts.{colour_line}
 use Rattle.knot_text.specs.Quandles.{table_row, table_rows, table_item}
 use Rattle.knot_text.specs.Weights.{cochain, cochain_item}
 use Rattle.knot_text.specs.FirstBadLine.{lines_then}
 use Rattle.knot_text.specs.LineKinds.{LineKind, read_fault, fault_by, kind_fault, FailsByKind, worth, below_kind, move_kind, step_kind}
-use Rattle.knot_text.specs.FirstLines.{or_later, fault_among, lines_fault, last_kind, rows_among, rows_fault}
+use Rattle.knot_text.specs.LineKinds.{says_shift, says_shift_of, tidy_kind}
+use Rattle.knot_text.specs.FirstLines.{or_later, fault_among, lines_fault, tidy_among, tidy_fault, last_kind, rows_among, rows_fault}
 use Rattle.knot_text.proofs.HeadFaults.{only_fault}
 use Rattle.knot_text.proofs.LineFaults.{or_fault, below_read, below_fails}
 use Rattle.knot_text.proofs.MoveFaults.{move_fails}
 use Rattle.knot_text.proofs.StepFaults.{step_fails}
+use Rattle.knot_text.proofs.ItemsSay.{move_says, tidy_at_says}
 
 -- ---- so many lines of one kind
 
@@ -70,6 +77,112 @@ unfolding colour_line
 colours_turn width order count text =
     turns_fail (below_kind width order) (λ line. numbers_below width order line) (λ colours. record { items = colours })
     (λ line. below_fails width order line) count text.lines text.ending
+
+-- ---- tidy lists
+
+-- of the move before, the tokens of its line; where there is none, none
+abbrev AreTokensOf : Option Move → List (List ℕ) → Type 0
+AreTokensOf None tokens = tokens ≡ []
+AreTokensOf (Some move) tokens = tokens ≡ move_tokens move
+
+shift_said : (move : Move) → says_shift (move_tokens move) ≡ is_shift move
+shift_said (ShiftColumns k) = refl
+shift_said (ShiftRows k) = refl
+shift_said (ExchangeColumns c) = refl
+shift_said (ExchangeRows r) = refl
+shift_said (SlideColumns c) = refl
+shift_said (SlideRows r) = refl
+shift_said (Stabilise c kind corner) = refl
+shift_said (Destabilise c r) = refl
+
+columns_said : (move : Move) → says_shift_of (codes "columns") (move_tokens move) ≡ is_column_shift move
+columns_said (ShiftColumns k) = refl
+columns_said (ShiftRows k) = refl
+columns_said (ExchangeColumns c) = refl
+columns_said (ExchangeRows r) = refl
+columns_said (SlideColumns c) = refl
+columns_said (SlideRows r) = refl
+columns_said (Stabilise c kind corner) = refl
+columns_said (Destabilise c r) = refl
+
+rows_said : (move : Move) → says_shift_of (codes "rows") (move_tokens move) ≡ is_row_shift move
+rows_said (ShiftColumns k) = refl
+rows_said (ShiftRows k) = refl
+rows_said (ExchangeColumns c) = refl
+rows_said (ExchangeRows r) = refl
+rows_said (SlideColumns c) = refl
+rows_said (SlideRows r) = refl
+rows_said (Stabilise c kind corner) = refl
+rows_said (Destabilise c r) = refl
+
+no_shift_before : (columns rows : Bool) → not ((columns && false) || (rows && false)) ≡ true
+no_shift_before true true = refl
+no_shift_before true false = refl
+no_shift_before false true = refl
+no_shift_before false false = refl
+
+-- what a line says decides whether its move may follow
+follows : (before : Option Move) (tokens : List (List ℕ)) (move : Move) → AreTokensOf before tokens
+    → (tidy_kind tokens).content (move_tokens move) ≡ may_follow before move
+follows None tokens move are =
+    rw are (no_shift_before (says_shift_of (codes "columns") (move_tokens move)) (says_shift_of (codes "rows") (move_tokens move)))
+follows (Some last) tokens move are = rw (are, columns_said move, rows_said move, rows_said last, shift_said last) refl
+
+tidy_err : (form over content : Bool) (n : ℕ) (e : TextFault) → Some e ≡ fault_by form over true n → Some e ≡ fault_by form over content n
+tidy_err false over content n e is = is
+tidy_err true true content n e is = is
+tidy_err true false content n e is = absurd cc
+
+tidy_ok : (form over content : Bool) (n : ℕ) (move : Move) → None ≡ fault_by form over true n
+    → read_fault (cond content (Ok move) (Err (Malformed n))) ≡ fault_by form over content n
+tidy_ok false over content n move is = absurd cc
+tidy_ok true true content n move is = absurd cc
+tidy_ok true false true n move is = refl
+tidy_ok true false false n move is = refl
+
+tidy_line_by : (before : Option Move) (tokens : List (List ℕ)) (line : NumberedLine) (r : Result Move TextFault) → AreTokensOf before tokens
+    → move_at line ≡ r → read_fault r ≡ kind_fault move_kind line
+    → read_fault (r >>= λ move. cond (may_follow before move) (Ok move) (Err (Malformed line.number))) ≡ kind_fault (tidy_kind tokens) line
+tidy_line_by before tokens line (Err e) are is fails =
+    tidy_err (move_kind.form line.tokens) (move_kind.over line.tokens) ((tidy_kind tokens).content line.tokens) line.number e fails
+tidy_line_by before tokens line (Ok move) are is fails =
+    let said = (move_says line).of move is in
+    let may = follows before tokens move are in
+    let content = ap (λ (ts : List (List ℕ)). (tidy_kind tokens).content ts) said.1 ∙ may in
+    ap (λ (b : Bool). read_fault (cond b (Ok move) (Err (Malformed line.number)))) (sym content)
+    ∙ tidy_ok (move_kind.form line.tokens) (move_kind.over line.tokens) ((tidy_kind tokens).content line.tokens) line.number move fails
+
+tidy_line : (before : Option Move) (tokens : List (List ℕ)) (line : NumberedLine) → AreTokensOf before tokens
+    → read_fault (tidy_move_at before line) ≡ kind_fault (tidy_kind tokens) line
+unfolding tidy_move_at
+tidy_line before tokens line are = tidy_line_by before tokens line (move_at line) are refl (move_fails line)
+
+-- a line, and the lines behind it
+tidy_by : (count : ℕ) (rest : Text) (r : Result Move TextFault) (fault later : Option TextFault) → read_fault r ≡ fault
+    → ((move : Move) → r ≡ Ok move → read_fault (tidy_moves (Some move) count rest) ≡ later)
+    → read_fault ((r >>= made (λ move. move) rest) >>= λ first. tidy_moves (Some first.0) count first.1 >>= put_before first.0)
+    ≡ or_later fault later
+tidy_by count rest (Ok move) fault later is more =
+    only_fault (tidy_moves (Some move) count rest) (λ others. (move ∷ others.0, others.1)) ∙ more move refl
+    ∙ ap (λ (first : Option TextFault). or_later first later) is
+tidy_by count rest (Err e) fault later is more = ap (λ (first : Option TextFault). or_later first later) is
+
+-- a move that may follow is the one of its line
+tidy_said : (before : Option Move) (line : NumberedLine) (move : Move) → tidy_move_at before line ≡ Ok move → AreTokensOf (Some move) line.tokens
+tidy_said before line move is = ((tidy_at_says before line).of move is).written.1
+
+tidy_turns : (before : Option Move) (tokens : List (List ℕ)) (count : ℕ) (lines : List NumberedLine) (ending : ℕ) → AreTokensOf before tokens
+    → read_fault (tidy_moves before count (lines_then lines ending)) ≡ tidy_among tokens count lines ending
+unfolding tidy_moves tidy_move next_line
+tidy_turns before tokens zero lines ending are = refl
+tidy_turns before tokens (suc count) [] ending are = refl
+tidy_turns before tokens (suc count) (line ∷ lines) ending are =
+    tidy_by count (lines_then lines ending) (tidy_move_at before line) (kind_fault (tidy_kind tokens) line) (tidy_among line.tokens count lines ending)
+    (tidy_line before tokens line are)
+    (λ move is. tidy_turns (Some move) line.tokens count lines ending (tidy_said before line move is))
+
+pub tidy_turn : (count : ℕ) (text : Text) → read_fault (tidy_moves None count text) ≡ tidy_fault count text
+tidy_turn count text = tidy_turns None [] count text.lines text.ending refl
 
 -- ---- tables
 

@@ -24,10 +24,17 @@ use Rattle.knot_text.specs.Numbers.{is_long, numbers_behind, numbers_below}
 use Rattle.knot_text.specs.Grids.{are_rows, x_at, o_at, grid_item}
 use Rattle.knot_text.specs.Braids.{letter_of, exceeds, braid_of, braid_at, braid_item}
 use Rattle.knot_text.specs.Moves.{last_place, one_place, shift, exchange, slide, kind_at, corner_at, stabilise, destabilise, move_at, next_move, moves_item, on_axis}
+use Rattle.knot_text.specs.Moves.{tidy_move_at, tidy_move, tidy_moves}
 use Rattle.knot_text.specs.Quandles.{with_order, alexander_at, tetrahedral_at, written_at, is_over, meant, table_row, table_rows}
 use Rattle.knot_text.specs.Quandles.{table_item, quandle_of, quandle_at, quandle_item, surplus_quandle, quandles, quandle_list}
 use Rattle.knot_text.specs.Colours.{colours_at, colours_item, coloured_item, coloured}
-use Rattle.knot_text.specs.Verdicts.{equal_at, colour_line, list_item, different_at, budget_at, exhausted_at, unknown_at, unknown_item, verdict_item}
+use Rattle.knot_text.specs.Verdicts.{moves_of, equal_at, colour_line, list_item, different_at, budget_at, exhausted_at, unknown_at, unknown_item}
+use Rattle.knot_text.specs.Verdicts.{verdict_of, version_at, tidy_item, plain_item, versioned_item}
+use Rattle.knot_text.specs.declared.verdicts.TheConstants.{TIDY_VERSION}
+use Rattle.knot_text.specs.declared.verdicts.Version.{Version}
+use Rattle.knot_text.specs.declared.verdicts.Version.TheVariants.{Plain, Tidy}
+use Rattle.grid_moves.specs.declared.step.Move.{Move}
+use Rattle.grid_moves.specs.Tidy.{may_follow}
 use Rattle.knot_text.proofs.StepsAgain.{line_of}
 use Rattle.knot_text.proofs.Alike.{Alike, alike_ok, alike_err, alike_if, Same, SameLine, SameRest, SameText, SameLeft, same_bind, line_bind}
 use Rattle.knot_text.proofs.Alike.{rest_bind, text_bind, next_bind, begins_alike}
@@ -187,6 +194,17 @@ turns_alike item each zero t u same = alike_ok (refl, same)
 turns_alike item each (suc count) t u same =
     text_bind _ _ (each t u same) (λ first v w behind. text_bind _ _ (turns_alike item each count v w behind) (λ others p q left. alike_ok (refl, left)))
 
+tidy_at_alike : (before : Option Move) (ts : List (List ℕ)) (n m : ℕ) → Alike Same (tidy_move_at before (line_of n ts)) (tidy_move_at before (line_of m ts))
+unfolding tidy_move_at
+tidy_at_alike before ts n m = same_bind (move_alike ts n m) (λ move. alike_if (may_follow before move) (alike_ok refl) alike_err)
+
+tidy_moves_alike : (before : Option Move) (count : ℕ) (t u : Text) → SameText t u → Alike SameLeft (tidy_moves before count t) (tidy_moves before count u)
+unfolding tidy_moves tidy_move
+tidy_moves_alike before zero t u same = alike_ok (refl, same)
+tidy_moves_alike before (suc count) t u same =
+    text_bind _ _ (next_bind _ _ _ _ same (λ ts n m v w behind. same_bind (tidy_at_alike before ts n m) (λ move. alike_ok (refl, behind))))
+    (λ first v w behind. text_bind _ _ (tidy_moves_alike (Some first) count v w behind) (λ others p q left. alike_ok (refl, left)))
+
 pub moves_alike : (t u : Text) → SameText t u → Alike SameLeft (moves_item t) (moves_item u)
 unfolding moves_item
 moves_alike t u same = next_bind _ _ _ _ same (λ ts n m v w behind. line_bind _ _ (word_alike (codes "moves") ts n m)
@@ -285,10 +303,15 @@ lists_alike width order t u same =
     next_bind _ _ _ _ same (λ ts n m v w behind. line_bind _ _ (word_alike (codes "list") ts n m) (λ us i j. rest_bind _ _ (last_alike us i j) (λ count vs k l.
     same_bind (most_alike MAX_COLOURINGS count k l) (λ few. turns_alike (colour_line width order) (colour_line_alike width order) few v w behind))))
 
-equal_alike : (ts : List (List ℕ)) (n m : ℕ) (t u : Text) → SameText t u → Alike SameLeft (equal_at (line_of n ts) t) (equal_at (line_of m ts) u)
+moves_of_alike : (version : Version) (count : ℕ) (t u : Text) → SameText t u → Alike SameLeft (moves_of version count t) (moves_of version count u)
+moves_of_alike Plain count t u same = turns_alike next_move next_move_alike count t u same
+moves_of_alike Tidy count t u same = tidy_moves_alike None count t u same
+
+equal_alike : (version : Version) (ts : List (List ℕ)) (n m : ℕ) (t u : Text) → SameText t u
+    → Alike SameLeft (equal_at version (line_of n ts) t) (equal_at version (line_of m ts) u)
 unfolding equal_at
-equal_alike ts n m t u same =
-    same_bind (count_alike ts n m) (λ count. text_bind _ _ (turns_alike next_move next_move_alike count t u same) (λ moves v w behind. alike_ok (refl, behind)))
+equal_alike version ts n m t u same =
+    same_bind (count_alike ts n m) (λ count. text_bind _ _ (moves_of_alike version count t u same) (λ moves v w behind. alike_ok (refl, behind)))
 
 different_alike : (one two : ℕ) (ts : List (List ℕ)) (n m : ℕ) (t u : Text) → SameText t u
     → Alike SameLeft (different_at one two (line_of n ts) t) (different_at one two (line_of m ts) u)
@@ -309,9 +332,28 @@ unknown_item_alike : (ts : List (List ℕ)) (n m : ℕ) (t u : Text) → SameTex
 unfolding unknown_item
 unknown_item_alike ts n m t u same = same_bind (unknown_alike ts n m) (λ v. alike_ok (refl, same))
 
-pub verdict_alike : (one two : ℕ) (t u : Text) → SameText t u → Alike SameLeft (verdict_item one two t) (verdict_item one two u)
-unfolding verdict_item
-verdict_alike one two t u same = next_bind _ _ _ _ same (λ ts n m v w behind. rest_bind _ _ (token_alike ts n m) (λ kind us i j.
-    alike_if (bytes_eq kind (codes "equal")) (equal_alike us i j v w behind)
+verdict_of_alike : (version : Version) (one two : ℕ) (t u : Text) → SameText t u
+    → Alike SameLeft (verdict_of version one two t) (verdict_of version one two u)
+unfolding verdict_of
+verdict_of_alike version one two t u same = next_bind _ _ _ _ same (λ ts n m v w behind. rest_bind _ _ (token_alike ts n m) (λ kind us i j.
+    alike_if (bytes_eq kind (codes "equal")) (equal_alike version us i j v w behind)
     (alike_if (bytes_eq kind (codes "different")) (different_alike one two us i j v w behind)
     (alike_if (bytes_eq kind (codes "unknown")) (unknown_item_alike us i j v w behind) alike_err))))
+
+version_alike : (ts : List (List ℕ)) (n m : ℕ) → Alike Same (version_at (line_of n ts)) (version_at (line_of m ts))
+unfolding version_at
+version_alike ts n m = line_bind _ _ (word_alike (codes "certificate") ts n m) (λ us i j. same_bind (count_alike us i j) (λ version.
+    alike_if (version == TIDY_VERSION) (alike_ok refl) alike_err))
+
+tidy_item_alike : (one two : ℕ) (t u : Text) → SameText t u → Alike SameLeft (tidy_item one two t) (tidy_item one two u)
+unfolding tidy_item
+tidy_item_alike one two t u same = next_bind _ _ _ _ same (λ ts n m v w behind. same_bind (version_alike ts n m) (λ head.
+    text_bind _ _ (verdict_of_alike Tidy one two v w behind) (λ verdict p q left. alike_ok (refl, left))))
+
+plain_item_alike : (one two : ℕ) (t u : Text) → SameText t u → Alike SameLeft (plain_item one two t) (plain_item one two u)
+unfolding plain_item
+plain_item_alike one two t u same = text_bind _ _ (verdict_of_alike Plain one two t u same) (λ verdict p q left. alike_ok (refl, left))
+
+pub versioned_alike : (one two : ℕ) (t u : Text) → SameText t u → Alike SameLeft (versioned_item one two t) (versioned_item one two u)
+unfolding versioned_item
+versioned_alike one two t u same = begins_alike (codes "certificate") t u same (tidy_item_alike one two t u same) (plain_item_alike one two t u same)

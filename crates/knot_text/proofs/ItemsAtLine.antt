@@ -1,5 +1,5 @@
 -- What is read of the lines of the items fails with the number of the line alone.
-use Rattle.std.proofs.Common.{ℕ, ◌||◌, List, length, cond, Result, Ok, Err, refl, ◌∙◌, codes, nat_lt}
+use Rattle.std.proofs.Common.{ℕ, ◌||◌, ◌==◌, List, length, cond, Option, Result, Ok, Err, refl, ◌∙◌, codes, nat_lt}
 use Rattle.std.specs.Prelude.{is_none}
 use Rattle.std.specs.List.{list_any}
 use Rattle.std.specs.Str.{bytes_eq}
@@ -28,9 +28,11 @@ use Rattle.knot_text.specs.Numbers.{is_long, numbers_behind}
 use Rattle.knot_text.specs.Grids.{are_rows, x_at, o_at}
 use Rattle.knot_text.specs.Braids.{letter_of, exceeds, braid_of, braid_at}
 use Rattle.knot_text.specs.Colours.{colours_at}
-use Rattle.knot_text.specs.Moves.{last_place, one_place, on_axis, shift, exchange, slide, kind_at, corner_at, stabilise, destabilise, move_at}
+use Rattle.knot_text.specs.Moves.{last_place, one_place, on_axis, shift, exchange, slide, kind_at, corner_at, stabilise, destabilise, move_at, tidy_move_at}
+use Rattle.grid_moves.specs.Tidy.{may_follow}
+use Rattle.knot_text.specs.declared.verdicts.TheConstants.{TIDY_VERSION}
 use Rattle.knot_text.specs.Quandles.{with_order, alexander_at, tetrahedral_at, written_at}
-use Rattle.knot_text.specs.Verdicts.{budget_at, exhausted_at, unknown_at}
+use Rattle.knot_text.specs.Verdicts.{budget_at, exhausted_at, unknown_at, version_at}
 use Rattle.knot_text.proofs.AtLine.{At, Keeps, at_ok, at_malformed, at_limit, at_bind, at_cond, at_same, keeps_ok, keeps_err, keeps_bind}
 use Rattle.knot_text.proofs.AtLine.{keeps_cond, keeps_same, next_token_at, next_token_keeps, line_end_at, line_end_keeps, word_at}
 use Rattle.knot_text.proofs.AtLine.{word_keeps, number_at, number_keeps, last_number_at, last_number_keeps, at_most_at, counted_at}
@@ -198,6 +200,10 @@ move_at_at line = chosen_at moves line (λ t rest.
     (at_cond (bytes_eq t (codes "stabilise")) (stabilise_at rest)
     (at_cond (bytes_eq t (codes "destabilise")) (destabilise_at rest) at_malformed)))))
 
+pub tidy_move_at_at : (before : Option Move) (line : NumberedLine) → At line.number (tidy_move_at before line)
+unfolding tidy_move_at
+tidy_move_at_at before line = at_bind (move_at_at line) (λ move e. at_cond (may_follow before move) at_ok at_malformed)
+
 -- a word, and a number that ends the line
 pub word_count_at : (w : List ℕ) (most : ℕ) (line : NumberedLine)
     → At line.number (word w line >>= λ rest. last_number rest >>= λ v. at_most most v.1.number v.0)
@@ -273,3 +279,11 @@ pub unknown_at_at : (line : NumberedLine) → At line.number (unknown_at line)
 unfolding unknown_at
 unknown_at_at line = chosen_at causes line (λ t rest.
     at_cond (bytes_eq t (codes "budget")) (budget_at_at rest) (at_cond (bytes_eq t (codes "exhausted")) (exhausted_at_at rest) at_malformed))
+
+-- ---- the head line of a verdict
+
+pub version_at_at : (line : NumberedLine) → At line.number (version_at line)
+unfolding version_at
+version_at_at line =
+    at_bind (word_at (codes "certificate") line) (λ rest e. at_bind (at_same ((word_keeps (codes "certificate") line).of rest e) (last_count_at rest))
+    (λ v f. at_cond (v == TIDY_VERSION) at_ok at_malformed))

@@ -10,7 +10,8 @@ use Rattle.knot_text.specs.Moves.{moves_item}
 use Rattle.knot_text.specs.BraidSteps.{steps_item}
 use Rattle.knot_text.specs.Quandles.{quandle_at, quandle_item, surplus_quandle, quandles, quandle_list, or_built_in}
 use Rattle.knot_text.specs.Colours.{colours_item, coloured_item, coloured}
-use Rattle.knot_text.specs.Verdicts.{list_item, different_at, verdict_item}
+use Rattle.knot_text.specs.Verdicts.{list_item, different_at, verdict_of, verdict_item}
+use Rattle.knot_text.specs.declared.verdicts.Version.{Version}
 use Rattle.knot_text.specs.Shapes.{diagram_item, problem_item, problem_in, check_in, replay_in, colour_in, close_in, lone_diagram_in}
 use Rattle.knot_text.specs.Pairs.{pair_in}
 use Rattle.knot_text.specs.BraidChecks.{braidcheck_in}
@@ -131,23 +132,23 @@ full_turns text = by (begins (codes "quandle") text) refl
 
 -- ---- `different`
 
-abbrev Differs : ℕ → ℕ → ℕ → List (List ℕ) → Text → Type 0
-Differs one two n tokens text =
-    read_fault (verdict_item one two (on_top (line_of n tokens) text)) ≡ item_then (quandle_item (on_top (as_quandle (line_of n tokens)) text))
+abbrev Differs : Version → ℕ → ℕ → ℕ → List (List ℕ) → Text → Type 0
+Differs version one two n tokens text =
+    read_fault (verdict_of version one two (on_top (line_of n tokens) text)) ≡ item_then (quandle_item (on_top (as_quandle (line_of n tokens)) text))
     (λ q text. item_then (list_item one q.table.order text) (λ list text. read_fault (list_item two q.table.order text)))
 
-lists_turn : (one two n : ℕ) (name : List (List ℕ)) (text : Text) → Differs one two n (codes "different" ∷ name) text
-unfolding verdict_item different_at quandle_item next_line next_token word
-lists_turn one two n name text =
+lists_turn : (version : Version) (one two n : ℕ) (name : List (List ℕ)) (text : Text) → Differs version one two n (codes "different" ∷ name) text
+unfolding verdict_of different_at quandle_item next_line next_token word
+lists_turn version one two n name text =
     then_by (quandle_at (line_of n name) text) _ _
     (λ q. then_by (list_item one q.0.table.order q.1) _ _ (λ first. only_fault (list_item two q.0.table.order first.1) _))
 
-different_by : (one two n : ℕ) (tokens : List (List ℕ)) (text : Text) → starts (codes "different") tokens ≡ true → Differs one two n tokens text
-different_by one two n [] text is = absurd cc
-different_by one two n (m ∷ name) text is =
-    chosen (codes "different") m (λ w. Differs one two n (w ∷ name) text) is (lists_turn one two n name text)
+different_by : (version : Version) (one two n : ℕ) (tokens : List (List ℕ)) (text : Text) → starts (codes "different") tokens ≡ true → Differs version one two n tokens text
+different_by version one two n [] text is = absurd cc
+different_by version one two n (m ∷ name) text is =
+    chosen (codes "different") m (λ w. Differs version one two n (w ∷ name) text) is (lists_turn version one two n name text)
 
-pub different_turns : (one two : ℕ) (line : NumberedLine) (text : Text) → starts (codes "different") line.tokens ≡ true
-    → read_fault (verdict_item one two (on_top line text)) ≡ item_then (quandle_item (on_top (as_quandle line) text))
+pub different_turns : (version : Version) (one two : ℕ) (line : NumberedLine) (text : Text) → starts (codes "different") line.tokens ≡ true
+    → read_fault (verdict_of version one two (on_top line text)) ≡ item_then (quandle_item (on_top (as_quandle line) text))
     (λ q text. item_then (list_item one q.table.order text) (λ list text. read_fault (list_item two q.table.order text)))
-different_turns one two line text is = different_by one two line.number line.tokens text is
+different_turns version one two line text is = different_by version one two line.number line.tokens text is

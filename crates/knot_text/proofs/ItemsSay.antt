@@ -1,4 +1,5 @@
 -- A grid, a braid, moves and colours that were read are written there.
+use Rattle.std.proofs.lemmas.Bool.{and_from}
 use Rattle.std.proofs.Common.{◌≡◌, ℕ, zero, suc, ◌≤◌, ◌==◌, ◌||◌, ℤ, List, [], ◌∷◌, ◌++◌, length, map, Bool, true, false, cond, Option}
 use Rattle.std.proofs.Common.{Some, None, Result, Ok, Err, refl, sym, ap, ap₂, subst, ◌∙◌, arith, codes, nat_lt, add-one, neg_ℤ}
 use Rattle.std.proofs.Common.{unsigned_abs}
@@ -38,7 +39,8 @@ use Rattle.knot_text.specs.Reading.{◌>>=◌, next_line, in_turn, each_token}
 use Rattle.knot_text.specs.Grids.{x_at, o_at, grid_item, are_rows}
 use Rattle.knot_text.specs.Braids.{letter_of, is_long_letter, exceeds, braid_of, braid_at, braid_item}
 use Rattle.knot_text.specs.Moves.{last_place, one_place, shift, exchange, slide, kind_at, corner_at, stabilise, destabilise, move_at, on_axis}
-use Rattle.knot_text.specs.Moves.{next_move, move_lines, moves_item}
+use Rattle.knot_text.specs.Moves.{next_move, move_lines, tidy_move_at, tidy_move, tidy_moves, moves_item}
+use Rattle.grid_moves.specs.Tidy.{may_follow, are_tidy_behind, is_tidy}
 use Rattle.knot_text.specs.Colours.{colours_at, colours_item}
 use Rattle.knot_text.specs.Printed.{rows_tokens, grid_lines, kind_word, corner_word, move_tokens, moves_lines, HasMoveText, HaveText}
 use Rattle.knot_text.specs.Printed.{letter_token, braid_lines, colours_lines}
@@ -298,7 +300,7 @@ behind_says : (name : List ℕ) (line : NumberedLine) (t : List ℕ × NumberedL
     → bytes_eq t.0 name ≡ true → Says r (IsMoveBehind (name ∷ []) t.1.tokens) → Says r (IsLine HasMoveText move_tokens line)
 behind_says name line t is same says = says_more (λ move there. (there.0, is ∙ ap (λ (s : List ℕ). s ∷ t.1.tokens) (is_word t.0 name same) ∙ there.1)) says
 
-move_says : (line : NumberedLine) → Says (move_at line) (IsLine HasMoveText move_tokens line)
+pub move_says : (line : NumberedLine) → Says (move_at line) (IsLine HasMoveText move_tokens line)
 unfolding move_at
 move_says line = says_bind (IsFirst line.tokens) (next_token_says line) (λ t is.
     says_if (bytes_eq t.0 (codes "shift")) (λ same. behind_says (codes "shift") line t is same (shift_says t.1)) (λ a.
@@ -320,6 +322,53 @@ counted_moves_say name line text count there few tokens = says_more (λ moves ar
   in_front_of (in_front_is (ap (λ (ts : List (List ℕ)). ts ∷ []) (tokens ∙ ap (λ (k : ℕ). name ∷ decimal k ∷ []) (sym are.count))) there) are.there,
 ))
     (turns_say HasMoveText move_tokens next_move next_move_says count line.1)
+
+-- likewise of a tidy list
+abbrev pub HaveTidyText : List Move → Type 0
+HaveTidyText moves = HaveText moves × (is_tidy moves ≡ true)
+
+-- so many moves, each of which may follow on the one before it
+record AreTidyMoves (before : Option Move) (many : ℕ) (text : Text) (x : List Move × Text) : Type 0 where
+  count : length x.0 ≡ many
+  each : AllByRecursion HasMoveText x.0
+  tidy : are_tidy_behind before x.0 ≡ true
+  there : StandInFront (map move_tokens x.0) text x.1
+
+-- a move line that may follow
+pub record IsTidyLine (before : Option Move) (line : NumberedLine) (move : Move) : Type 0 where
+  pub written : IsLine HasMoveText move_tokens line move
+  may : may_follow before move ≡ true
+
+pub tidy_at_says : (before : Option Move) (line : NumberedLine) → Says (tidy_move_at before line) (IsTidyLine before line)
+unfolding tidy_move_at
+tidy_at_says before line = says_bind (IsLine HasMoveText move_tokens line) (move_says line) (λ move is.
+    says_if (may_follow before move) (λ may. says_ok move (record { written = is; may = may })) (λ other. says_err))
+
+tidy_moves_say : (before : Option Move) (count : ℕ) (text : Text) → Says (tidy_moves before count text) (AreTidyMoves before count text)
+unfolding tidy_moves tidy_move
+tidy_moves_say before zero text = says_ok ([], text) (record { count = refl; each = tt; tidy = refl; there = no_lines_in_front text })
+tidy_moves_say before (suc count) text =
+    says_bind (λ (first : Move × Text). IsWritten HasMoveText (λ x. move_tokens x ∷ []) text first × (may_follow before first.0 ≡ true))
+    (says_bind (IsNext text) (next_says text) (λ line there.
+    says_bind (IsTidyLine before line.0) (tidy_at_says before line.0) (λ x is.
+    says_ok (x, line.1) ((is.written.0, in_front_is (ap (λ (ts : List (List ℕ)). ts ∷ []) is.written.1) there), is.may))))
+    (λ first is.
+    says_bind (AreTidyMoves (Some first.0) count first.1) (tidy_moves_say (Some first.0) count first.1) (λ others are.
+    says_ok (first.0 ∷ others.0, others.1) (record {
+      count = ap suc are.count;
+      each = (is.0.0, are.each);
+      tidy = and_from (may_follow before first.0) (are_tidy_behind (Some first.0) others.0) is.1 are.tidy;
+      there = in_front_of is.0.1 are.there;
+    })))
+
+pub counted_tidy_say : (name : List ℕ) (line : NumberedLine × Text) (text : Text) (count : ℕ) → IsNext text line → count ≤ MAX_NUMBER
+    → line.0.tokens ≡ name ∷ decimal count ∷ []
+    → Says (tidy_moves None count line.1) (IsWritten HaveTidyText (moves_lines name) text)
+counted_tidy_say name line text count there few tokens = says_more (λ moves are. (
+  (record { count = omega (arith, are.count, few); each = are.each }, are.tidy),
+  in_front_of (in_front_is (ap (λ (ts : List (List ℕ)). ts ∷ []) (tokens ∙ ap (λ (k : ℕ). name ∷ decimal k ∷ []) (sym are.count))) there) are.there,
+))
+    (tidy_moves_say None count line.1)
 
 pub moves_say : (text : Text) → Says (moves_item text) (IsWritten HaveText (moves_lines (codes "moves")) text)
 unfolding moves_item

@@ -1,5 +1,5 @@
 -- Each item takes lines from the front alone, and fails at the first bad one.
-use Rattle.std.proofs.Common.{◌≡◌, ℕ, zero, suc, ◌-◌, List, [], ◌++◌, Bool, true, false, cond, Option, Some, None, Result, Ok, Err, refl}
+use Rattle.std.proofs.Common.{◌≡◌, ℕ, zero, suc, ◌-◌, List, [], ◌++◌, Bool, true, false, cond, Option, Some, None, Result, Ok, Err, refl, ◌∷◌}
 use Rattle.std.proofs.Common.{ap, ◌∙◌, inl, inr, ◌⊎◌, codes, nat_le}
 use Rattle.std.specs.Prelude.{is_none}
 use Rattle.std.specs.Str.{bytes_eq}
@@ -21,12 +21,17 @@ use Rattle.knot_text.specs.Numbers.{numbers_below}
 use Rattle.knot_text.specs.Grids.{x_at, o_at, grid_item}
 use Rattle.knot_text.specs.Braids.{braid_at, braid_item}
 use Rattle.knot_text.specs.Colours.{colours_at, colours_item, coloured_item}
-use Rattle.knot_text.specs.Moves.{move_at, next_move, move_lines, moves_item}
+use Rattle.knot_text.specs.Moves.{move_at, next_move, move_lines, tidy_move_at, tidy_move, tidy_moves, moves_item}
 use Rattle.knot_text.specs.Quandles.{written_at, is_over, meant, table_row, table_rows, table_item, quandle_of, quandle_at, quandle_item}
-use Rattle.knot_text.specs.Verdicts.{equal_at, colour_line, list_item, different_at, unknown_at, unknown_item, verdict_item}
+use Rattle.knot_text.specs.Verdicts.{moves_of, equal_at, colour_line, list_item, different_at, unknown_at, unknown_item, verdict_of, version_at}
+use Rattle.knot_text.specs.Verdicts.{tidy_item, plain_item, versioned_item, verdict_item}
+use Rattle.knot_text.specs.declared.verdicts.Version.{Version}
+use Rattle.knot_text.specs.declared.verdicts.Version.TheVariants.{Plain, Tidy}
+use Rattle.grid_moves.specs.declared.step.Move.{Move}
+use Rattle.knot_text.proofs.Choices.{IsDue, choice_steady}
 use Rattle.knot_text.proofs.Steady.{Steady, Anywhere, then_read, pure_steady, same_steady, then_steady, turns_steady}
 use Rattle.knot_text.proofs.AtLine.{At, at_ok, at_malformed, at_limit, at_bind, at_cond, at_same, word_at, word_keeps, last_count_at, numbers_below_at, line_alone}
-use Rattle.knot_text.proofs.ItemsAtLine.{x_at_at, o_at_at, braid_at_at, colours_at_at, move_at_at, chosen_at, word_count_at, written_at_at}
+use Rattle.knot_text.proofs.ItemsAtLine.{x_at_at, o_at_at, braid_at_at, colours_at_at, move_at_at, tidy_move_at_at, version_at_at, chosen_at, word_count_at, written_at_at}
 use Rattle.knot_text.proofs.ItemsAtLine.{written_keeps, unknown_at_at}
 
 -- ---- a line, and what follows from it
@@ -96,6 +101,22 @@ next_move_steady = line_alone move_at move_at_at
 
 pub move_lines_steady : (count : ℕ) → Steady Anywhere (move_lines count)
 move_lines_steady count = turns_steady next_move count next_move_steady
+
+tidy_move_steady : (before : Option Move) → Steady Anywhere (tidy_move before)
+unfolding tidy_move
+tidy_move_steady before = line_alone (tidy_move_at before) (tidy_move_at_at before)
+
+tidy_moves_steady : (before : Option Move) (count : ℕ) → Steady Anywhere (tidy_moves before count)
+unfolding tidy_moves
+tidy_moves_steady before zero = pure_steady []
+tidy_moves_steady before (suc count) =
+    then_steady Anywhere (tidy_move before) (λ first text. tidy_moves (Some first) count text >>= λ others. Ok (first ∷ others.0, others.1)) (tidy_move_steady before)
+    (λ first. then_steady Anywhere (tidy_moves (Some first) count) (λ others text. Ok (first ∷ others, text)) (tidy_moves_steady (Some first) count)
+    (λ others. pure_steady (first ∷ others)))
+
+moves_of_steady : (version : Version) (count : ℕ) → Steady Anywhere (moves_of version count)
+moves_of_steady Plain count = move_lines_steady count
+moves_of_steady Tidy count = tidy_moves_steady None count
 
 moves_line_at : (line : NumberedLine) → At line.number (word (codes "moves") line >>= last_count)
 unfolding last_count
@@ -329,21 +350,21 @@ Course = ℕ ⊎ (Plan ⊎ Verdict)
 abbrev two_lists : ℕ → ℕ → NamedQuandle → Text → Result (Verdict × Text) TextFault
 two_lists one two q text = list_item one q.table.order text >>= λ a. list_item two q.table.order a.1 >>= λ b. Ok (Different q a.0 b.0, b.1)
 
-abbrev take_course : ℕ → ℕ → Course → Text → Result (Verdict × Text) TextFault
-take_course one two (inl count) text = move_lines count text >>= λ m. Ok (Equal m.0, m.1)
-take_course one two (inr (inl p)) text = go p text >>= λ q. two_lists one two q.0 q.1
-take_course one two (inr (inr v)) text = Ok (v, text)
+abbrev take_course : Version → ℕ → ℕ → Course → Text → Result (Verdict × Text) TextFault
+take_course version one two (inl count) text = moves_of version count text >>= λ m. Ok (Equal m.0, m.1)
+take_course version one two (inr (inl p)) text = go p text >>= λ q. two_lists one two q.0 q.1
+take_course version one two (inr (inr v)) text = Ok (v, text)
 
-course_steady : (one two : ℕ) (c : Course) → Steady Anywhere (take_course one two c)
-course_steady one two (inl count) =
-    then_steady Anywhere (move_lines count) (λ m text. Ok (Equal m, text)) (move_lines_steady count) (λ m. pure_steady (Equal m))
-course_steady one two (inr (inl p)) =
+course_steady : (version : Version) (one two : ℕ) (c : Course) → Steady Anywhere (take_course version one two c)
+course_steady version one two (inl count) =
+    then_steady Anywhere (moves_of version count) (λ m text. Ok (Equal m, text)) (moves_of_steady version count) (λ m. pure_steady (Equal m))
+course_steady version one two (inr (inl p)) =
     then_steady Anywhere (go p) (λ q text. two_lists one two q text) (go_steady p)
     (λ q. then_steady Anywhere (list_item one q.table.order) (λ a text. list_item two q.table.order text >>= λ b. Ok (Different q a b.0, b.1))
     (list_steady one q.table.order)
     (λ a. then_steady Anywhere (list_item two q.table.order) (λ b text. Ok (Different q a b, text)) (list_steady two q.table.order)
     (λ b. pure_steady (Different q a b))))
-course_steady one two (inr (inr v)) = pure_steady v
+course_steady version one two (inr (inr v)) = pure_steady v
 
 abbrev other_courses : List ℕ → NumberedLine → Result Course TextFault
 other_courses t rest = cond (bytes_eq t (codes "unknown")) (unknown_at rest >>= λ v. Ok (inr (inr v))) (Err (Malformed rest.number))
@@ -362,35 +383,35 @@ course_at line = chosen_at courses line (λ t rest.
     (at_cond (bytes_eq t (codes "different")) (at_bind (plan_at rest) (λ p e. at_ok))
     (at_cond (bytes_eq t (codes "unknown")) (at_bind (unknown_at_at rest) (λ v e. at_ok)) at_malformed)))
 
-flat_counted : (one two : ℕ) (s : Result ℕ TextFault) (text : Text)
-    → (s >>= λ count. move_lines count text >>= λ m. Ok (Equal m.0, m.1)) ≡ ((s >>= λ c. Ok (inl c)) >>= λ c. take_course one two c text)
-flat_counted one two (Ok count) text = refl
-flat_counted one two (Err e) text = refl
+flat_counted : (version : Version) (one two : ℕ) (s : Result ℕ TextFault) (text : Text)
+    → (s >>= λ count. moves_of version count text >>= λ m. Ok (Equal m.0, m.1)) ≡ ((s >>= λ c. Ok (inl c)) >>= λ c. take_course version one two c text)
+flat_counted version one two (Ok count) text = refl
+flat_counted version one two (Err e) text = refl
 
-flat_equal : (one two : ℕ) (rest : NumberedLine) (text : Text)
-    → equal_at rest text ≡ ((last_count rest >>= λ c. Ok (inl c)) >>= λ c. take_course one two c text)
+flat_equal : (version : Version) (one two : ℕ) (rest : NumberedLine) (text : Text)
+    → equal_at version rest text ≡ ((last_count rest >>= λ c. Ok (inl c)) >>= λ c. take_course version one two c text)
 unfolding equal_at
-flat_equal one two rest text = flat_counted one two (last_count rest) text
+flat_equal version one two rest text = flat_counted version one two (last_count rest) text
 
-flat_planned : (one two : ℕ) (s : Result Plan TextFault) (text : Text)
-    → ((s >>= λ p. go p text) >>= λ q. two_lists one two q.0 q.1) ≡ ((s >>= λ p. Ok (inr (inl p))) >>= λ c. take_course one two c text)
-flat_planned one two (Ok p) text = refl
-flat_planned one two (Err e) text = refl
+flat_planned : (version : Version) (one two : ℕ) (s : Result Plan TextFault) (text : Text)
+    → ((s >>= λ p. go p text) >>= λ q. two_lists one two q.0 q.1) ≡ ((s >>= λ p. Ok (inr (inl p))) >>= λ c. take_course version one two c text)
+flat_planned version one two (Ok p) text = refl
+flat_planned version one two (Err e) text = refl
 
-flat_different : (one two : ℕ) (rest : NumberedLine) (text : Text)
-    → different_at one two rest text ≡ ((plan rest >>= λ p. Ok (inr (inl p))) >>= λ c. take_course one two c text)
+flat_different : (version : Version) (one two : ℕ) (rest : NumberedLine) (text : Text)
+    → different_at one two rest text ≡ ((plan rest >>= λ p. Ok (inr (inl p))) >>= λ c. take_course version one two c text)
 unfolding different_at
-flat_different one two rest text = ap (λ r. r >>= λ q. two_lists one two q.0 q.1) (flat_quandle rest text) ∙ flat_planned one two (plan rest) text
+flat_different version one two rest text = ap (λ r. r >>= λ q. two_lists one two q.0 q.1) (flat_quandle rest text) ∙ flat_planned version one two (plan rest) text
 
-flat_said : (one two : ℕ) (s : Result Verdict TextFault) (text : Text)
-    → (s >>= λ v. Ok (v, text)) ≡ ((s >>= λ v. Ok (inr (inr v))) >>= λ c. take_course one two c text)
-flat_said one two (Ok v) text = refl
-flat_said one two (Err e) text = refl
+flat_said : (version : Version) (one two : ℕ) (s : Result Verdict TextFault) (text : Text)
+    → (s >>= λ v. Ok (v, text)) ≡ ((s >>= λ v. Ok (inr (inr v))) >>= λ c. take_course version one two c text)
+flat_said version one two (Ok v) text = refl
+flat_said version one two (Err e) text = refl
 
-flat_unknown : (one two : ℕ) (rest : NumberedLine) (text : Text)
-    → unknown_item rest text ≡ ((unknown_at rest >>= λ v. Ok (inr (inr v))) >>= λ c. take_course one two c text)
+flat_unknown : (version : Version) (one two : ℕ) (rest : NumberedLine) (text : Text)
+    → unknown_item rest text ≡ ((unknown_at rest >>= λ v. Ok (inr (inr v))) >>= λ c. take_course version one two c text)
 unfolding unknown_item
-flat_unknown one two rest text = flat_said one two (unknown_at rest) text
+flat_unknown version one two rest text = flat_said version one two (unknown_at rest) text
 
 -- a choice, and what follows from it
 flat_choice : {A B : Type 0} (b : Bool) (x y : Result B TextFault) (u v : Result A TextFault) (f : A → Result B TextFault) → x ≡ (u >>= f)
@@ -398,42 +419,71 @@ flat_choice : {A B : Type 0} (b : Bool) (x y : Result B TextFault) (u v : Result
 flat_choice true x y u v f first second = first
 flat_choice false x y u v f first second = second
 
-flat_courses : (one two : ℕ) (t : List ℕ) (rest : NumberedLine) (text : Text)
-    → cond (bytes_eq t (codes "equal")) (equal_at rest text)
+flat_courses : (version : Version) (one two : ℕ) (t : List ℕ) (rest : NumberedLine) (text : Text)
+    → cond (bytes_eq t (codes "equal")) (equal_at version rest text)
     (cond (bytes_eq t (codes "different")) (different_at one two rest text)
     (cond (bytes_eq t (codes "unknown")) (unknown_item rest text) (Err (Malformed rest.number))))
-    ≡ (courses t rest >>= λ c. take_course one two c text)
-flat_courses one two t rest text =
-    let f = λ (c : Course). take_course one two c text in
-    flat_choice (bytes_eq t (codes "equal")) (equal_at rest text)
+    ≡ (courses t rest >>= λ c. take_course version one two c text)
+flat_courses version one two t rest text =
+    let f = λ (c : Course). take_course version one two c text in
+    flat_choice (bytes_eq t (codes "equal")) (equal_at version rest text)
     (cond (bytes_eq t (codes "different")) (different_at one two rest text)
     (cond (bytes_eq t (codes "unknown")) (unknown_item rest text) (Err (Malformed rest.number)))) (last_count rest >>= λ c. Ok (inl c))
-    (cond (bytes_eq t (codes "different")) (plan rest >>= λ p. Ok (inr (inl p))) (other_courses t rest)) f (flat_equal one two rest text)
+    (cond (bytes_eq t (codes "different")) (plan rest >>= λ p. Ok (inr (inl p))) (other_courses t rest)) f (flat_equal version one two rest text)
     (flat_choice (bytes_eq t (codes "different")) (different_at one two rest text)
     (cond (bytes_eq t (codes "unknown")) (unknown_item rest text) (Err (Malformed rest.number))) (plan rest >>= λ p. Ok (inr (inl p))) (other_courses t rest) f
-    (flat_different one two rest text)
+    (flat_different version one two rest text)
     (flat_choice (bytes_eq t (codes "unknown")) (unknown_item rest text) (Err (Malformed rest.number)) (unknown_at rest >>= λ v. Ok (inr (inr v)))
-    (Err (Malformed rest.number)) f (flat_unknown one two rest text) refl))
+    (Err (Malformed rest.number)) f (flat_unknown version one two rest text) refl))
 
-flat_kind : (one two : ℕ) (s : Result (List ℕ × NumberedLine) TextFault) (text : Text)
-    → (s >>= λ kind. cond (bytes_eq kind.0 (codes "equal")) (equal_at kind.1 text)
+flat_kind : (version : Version) (one two : ℕ) (s : Result (List ℕ × NumberedLine) TextFault) (text : Text)
+    → (s >>= λ kind. cond (bytes_eq kind.0 (codes "equal")) (equal_at version kind.1 text)
     (cond (bytes_eq kind.0 (codes "different")) (different_at one two kind.1 text)
     (cond (bytes_eq kind.0 (codes "unknown")) (unknown_item kind.1 text) (Err (Malformed kind.1.number)))))
-    ≡ ((s >>= λ kind. courses kind.0 kind.1) >>= λ c. take_course one two c text)
-flat_kind one two (Ok kind) text = flat_courses one two kind.0 kind.1 text
-flat_kind one two (Err e) text = refl
+    ≡ ((s >>= λ kind. courses kind.0 kind.1) >>= λ c. take_course version one two c text)
+flat_kind version one two (Ok kind) text = flat_courses version one two kind.0 kind.1 text
+flat_kind version one two (Err e) text = refl
 
-flat_verdict : (one two : ℕ) (r : Result (NumberedLine × Text) TextFault)
-    → (r >>= λ line. next_token line.0 >>= λ kind. cond (bytes_eq kind.0 (codes "equal")) (equal_at kind.1 line.1)
+flat_verdict : (version : Version) (one two : ℕ) (r : Result (NumberedLine × Text) TextFault)
+    → (r >>= λ line. next_token line.0 >>= λ kind. cond (bytes_eq kind.0 (codes "equal")) (equal_at version kind.1 line.1)
     (cond (bytes_eq kind.0 (codes "different")) (different_at one two kind.1 line.1)
     (cond (bytes_eq kind.0 (codes "unknown")) (unknown_item kind.1 line.1) (Err (Malformed kind.1.number)))))
-    ≡ (r >>= λ line. course line.0 >>= λ c. take_course one two c line.1)
-flat_verdict one two (Ok line) = flat_kind one two (next_token line.0) line.1
-flat_verdict one two (Err e) = refl
+    ≡ (r >>= λ line. course line.0 >>= λ c. take_course version one two c line.1)
+flat_verdict version one two (Ok line) = flat_kind version one two (next_token line.0) line.1
+flat_verdict version one two (Err e) = refl
+
+verdict_of_steady : (version : Version) (one two : ℕ) → Steady Anywhere (verdict_of version one two)
+unfolding verdict_of
+verdict_of_steady version one two =
+    same_steady Anywhere (λ text. next_line text >>= λ line. course line.0 >>= λ c. take_course version one two c line.1) (verdict_of version one two)
+    (λ text. flat_verdict version one two (next_line text))
+    (line_then course (take_course version one two) course_at (course_steady version one two))
+
+tidy_item_steady : (one two : ℕ) → Steady Anywhere (tidy_item one two)
+unfolding tidy_item
+tidy_item_steady one two =
+    line_then version_at (λ head text. verdict_of Tidy one two text >>= λ v. Ok ((Tidy, v.0), v.1)) version_at_at
+    (λ head. then_steady Anywhere (verdict_of Tidy one two) (λ v text. Ok ((Tidy, v), text)) (verdict_of_steady Tidy one two) (λ v. pure_steady (Tidy, v)))
+
+plain_item_steady : (one two : ℕ) → Steady Anywhere (plain_item one two)
+unfolding plain_item
+plain_item_steady one two =
+    then_steady Anywhere (verdict_of Plain one two) (λ v text. Ok ((Plain, v), text)) (verdict_of_steady Plain one two) (λ v. pure_steady (Plain, v))
+
+tidy_item_due : (one two : ℕ) → IsDue (tidy_item one two)
+unfolding tidy_item next_line
+tidy_item_due one two ending = refl
+
+plain_item_due : (one two : ℕ) → IsDue (plain_item one two)
+unfolding plain_item verdict_of next_line
+plain_item_due one two ending = refl
+
+versioned_steady : (one two : ℕ) → Steady Anywhere (versioned_item one two)
+unfolding versioned_item
+versioned_steady one two =
+    choice_steady (codes "certificate") (tidy_item one two) (plain_item one two) (tidy_item_due one two) (plain_item_due one two) (tidy_item_steady one two)
+    (plain_item_steady one two)
 
 pub verdict_steady : (one two : ℕ) → Steady Anywhere (verdict_item one two)
 unfolding verdict_item
-verdict_steady one two =
-    same_steady Anywhere (λ text. next_line text >>= λ line. course line.0 >>= λ c. take_course one two c line.1) (verdict_item one two)
-    (λ text. flat_verdict one two (next_line text))
-    (line_then course (take_course one two) course_at (course_steady one two))
+verdict_steady one two = then_steady Anywhere (versioned_item one two) (λ w text. Ok (w.1, text)) (versioned_steady one two) (λ w. pure_steady w.1)

@@ -19,9 +19,9 @@ pub mod Words
 pub mod Steady
 pub mod AtLine
 pub mod ItemsAtLine
-pub mod ItemsSteady
 pub mod FirstFault
 pub mod Choices
+pub mod ItemsSteady
 pub mod QuandlesSteady
 pub mod ShapesFail
 pub mod BraidStepLines

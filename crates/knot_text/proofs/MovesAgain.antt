@@ -1,5 +1,6 @@
 -- Moves that were printed are read again.
-use Rattle.std.proofs.Common.{◌≡◌, ℕ, ◌≤◌, ◌+◌, List, [], ◌∷◌, length, map, Ok, refl, arith, codes}
+use Rattle.std.proofs.Common.{◌≡◌, ℕ, ◌≤◌, ◌+◌, List, [], ◌∷◌, length, map, Ok, refl, arith, codes, Option, Some, true}
+use Rattle.std.proofs.lemmas.Bool.{and_parts}
 use Rattle.std.specs.List.{AllByRecursion}
 use Rattle.std.specs.Fmt.{decimal}
 use Rattle.grid_core.specs.declared.mark.Kind.{Kind}
@@ -13,7 +14,8 @@ use Rattle.text_lines.specs.Lines.{Text}
 use Rattle.text_lines.specs.Spelled.{numbered}
 use Rattle.knot_text.specs.declared.reading.TheConstants.{MAX_PLACE}
 use Rattle.knot_text.specs.Reading.{next_line, next_token, line_end}
-use Rattle.knot_text.specs.Moves.{last_place, shift, exchange, slide, kind_at, corner_at, stabilise, destabilise, move_at, next_move, move_lines, moves_item}
+use Rattle.grid_moves.specs.Tidy.{may_follow, are_tidy_behind}
+use Rattle.knot_text.specs.Moves.{last_place, shift, exchange, slide, kind_at, corner_at, stabilise, destabilise, move_at, next_move, move_lines, tidy_move_at, tidy_move, tidy_moves, moves_item}
 use Rattle.knot_text.specs.Printed.{kind_word, corner_word, move_tokens, moves_lines, HasMoveText, HaveText}
 use Rattle.knot_text.proofs.StepsAgain.{line_of, lines_before, word_again, number_again, last_again, most_again, count_again, turns_again}
 
@@ -68,6 +70,22 @@ next_again k move rest fits = rw (move_again (k + 1) move fits) refl
 pub move_lines_again : (n : ℕ) (moves : List Move) (text : Text) → AllByRecursion HasMoveText moves
     → move_lines (length moves) (lines_before (numbered n (map move_tokens moves)) text) ≡ Ok (moves, text)
 move_lines_again n moves text fits = turns_again next_move move_tokens HasMoveText n moves text next_again fits
+
+tidy_again : (before : Option Move) (k : ℕ) (move : Move) (rest : Text) → HasMoveText move → may_follow before move ≡ true
+    → tidy_move before (lines_before (line_of (k + 1) (move_tokens move) ∷ []) rest) ≡ Ok (move, rest)
+unfolding tidy_move tidy_move_at next_line
+tidy_again before k move rest fits may = rw (move_again (k + 1) move fits, may) refl
+
+pub tidy_moves_again : (before : Option Move) (n : ℕ) (moves : List Move) (text : Text) → AllByRecursion HasMoveText moves
+    → are_tidy_behind before moves ≡ true
+    → tidy_moves before (length moves) (lines_before (numbered n (map move_tokens moves)) text) ≡ Ok (moves, text)
+unfolding tidy_moves
+tidy_moves_again before n [] text fits tidy = refl
+tidy_moves_again before n (x ∷ xs) text fits tidy =
+    let parts = and_parts (may_follow before x) (are_tidy_behind (Some x) xs) tidy in
+    let one = tidy_again before n x (lines_before (numbered (n + 1) (map move_tokens xs)) text) fits.0 parts.0 in
+    let others = tidy_moves_again (Some x) (n + 1) xs text fits.1 parts.1 in
+    rw (one, others) refl
 
 pub moves_again : (n : ℕ) (moves : List Move) (text : Text) → HaveText moves
     → moves_item (lines_before (numbered n (moves_lines (codes "moves") moves)) text) ≡ Ok (moves, text)

@@ -15,7 +15,8 @@ use Rattle.knot_text.specs.declared.quandles.Written.TheVariants as written
 use Rattle.knot_text.specs.Reading.{◌>>=◌, next_line, next_token, line_end, word, number, last_number}
 use Rattle.knot_text.specs.Quandles.{with_order, alexander_at, tetrahedral_at, written_at, is_over, quandle_of, quandle_at, quandle_item, table_item}
 use Rattle.verdict_core.specs.declared.verdict.Verdict.TheVariants.{Different}
-use Rattle.knot_text.specs.Verdicts.{list_item, different_at, verdict_item}
+use Rattle.knot_text.specs.Verdicts.{list_item, different_at, verdict_of}
+use Rattle.knot_text.specs.declared.verdicts.Version.{Version}
 use Rattle.knot_text.specs.LineKinds.{read_fault, fault_by, kind_fault, is_overlong, worth, fits}
 use Rattle.knot_text.specs.LineKinds.{is_name_over, says_quandle, name_kind, others, behind_word}
 use Rattle.knot_text.specs.FirstLines.{or_later, on_top, table_fault, BeginsBy, FailsWith, FailsElse}
@@ -266,19 +267,19 @@ different_head one two n name text fault is =
     >>= λ second. Ok (Different quandle.0 first.0 second.0, second.1)) fault
     (name_fails n name text ∙ ap (λ (first : Option TextFault). or_later first (table_fault name text)) is)
 
-different_by : (one two n : ℕ) (tokens : List (List ℕ)) (text : Text) (fault : TextFault) → starts (codes "different") tokens ≡ true
+different_by : (version : Version) (one two n : ℕ) (tokens : List (List ℕ)) (text : Text) (fault : TextFault) → starts (codes "different") tokens ≡ true
     → kind_fault (behind_word (codes "different") name_kind) (line_of n tokens) ≡ Some fault
-    → read_fault (verdict_item one two (on_top (line_of n tokens) text)) ≡ Some fault
-unfolding verdict_item next_line next_token
-different_by one two n [] text fault is bad = absurd cc
-different_by one two n (m ∷ name) text fault is bad =
+    → read_fault (verdict_of version one two (on_top (line_of n tokens) text)) ≡ Some fault
+unfolding verdict_of next_line next_token
+different_by version one two n [] text fault is bad = absurd cc
+different_by version one two n (m ∷ name) text fault is bad =
     chosen (codes "different") m
     (λ w. kind_fault (behind_word (codes "different") name_kind) (line_of n (w ∷ name)) ≡ Some fault
-    → read_fault (verdict_item one two (on_top (line_of n (w ∷ name)) text)) ≡ Some fault)
+    → read_fault (verdict_of version one two (on_top (line_of n (w ∷ name)) text)) ≡ Some fault)
     is (λ named. different_head one two n name text fault named) bad
 
-pub different_fails : (one two : ℕ) → FailsWith (codes "different") (behind_word (codes "different") name_kind) (verdict_item one two)
-different_fails one two line text fault is bad = different_by one two line.number line.tokens text fault is bad
+pub different_fails : (version : Version) (one two : ℕ) → FailsWith (codes "different") (behind_word (codes "different") name_kind) (verdict_of version one two)
+different_fails version one two line text fault is bad = different_by version one two line.number line.tokens text fault is bad
 
 -- ---- no verdict
 
@@ -288,14 +289,14 @@ none_by false true c none = absurd cc
 none_by false false true none = absurd cc
 none_by false false false none = (refl, refl, refl)
 
-other_by : (one two n : ℕ) (tokens : List (List ℕ)) (text : Text)
+other_by : (version : Version) (one two n : ℕ) (tokens : List (List ℕ)) (text : Text)
     → list_any (λ word. starts word tokens) (codes "equal" ∷ codes "different" ∷ codes "unknown" ∷ []) ≡ false
-    → read_fault (verdict_item one two (on_top (line_of n tokens) text)) ≡ Some (Malformed n)
-unfolding verdict_item next_line next_token
-other_by one two n [] text none = refl
-other_by one two n (m ∷ rest) text none =
+    → read_fault (verdict_of version one two (on_top (line_of n tokens) text)) ≡ Some (Malformed n)
+unfolding verdict_of next_line next_token
+other_by version one two n [] text none = refl
+other_by version one two n (m ∷ rest) text none =
     let each = none_by (bytes_eq m (codes "equal")) (bytes_eq m (codes "different")) (bytes_eq m (codes "unknown")) none in
     rw (each.0, each.1, each.2) refl
 
-pub others_fail : (one two : ℕ) → FailsElse (codes "equal" ∷ codes "different" ∷ codes "unknown" ∷ []) (verdict_item one two)
-others_fail one two line text none = other_by one two line.number line.tokens text none
+pub others_fail : (version : Version) (one two : ℕ) → FailsElse (codes "equal" ∷ codes "different" ∷ codes "unknown" ∷ []) (verdict_of version one two)
+others_fail version one two line text none = other_by version one two line.number line.tokens text none

@@ -23,13 +23,14 @@ use Rattle.verdict_core.specs.Names.{NamedQuandle}
 use Rattle.verdict_core.specs.Diagrams.{columns}
 use Rattle.knot_text.specs.Shapes.{problem_of, check_of, replay_of}
 use Rattle.knot_text.specs.Printed.{grid_lines, grid_text, moves_lines, moves_text, HaveText, quandle_lines, quandle_text, HasQuandleText}
-use Rattle.knot_text.specs.Printed.{list_lines, verdict_lines, HasListText, HasVerdictText, diagram_lines, HasDiagramText, colours_lines}
+use Rattle.knot_text.specs.Printed.{list_lines, verdict_lines, version_lines, HasListText, HasVersionText, diagram_lines, HasDiagramText, colours_lines}
 use Rattle.knot_text.specs.Printed.{colours_text}
 use Rattle.knot_text.specs.WrittenThere.{tokens_by_line, said_by, listed_lines, HasProblemText, problem_lines, given_lines, HasGivenText}
 use Rattle.knot_text.specs.WrittenThere.{HasReplayText, replay_lines}
 use Rattle.knot_text.proofs.StepsAgain.{all_short}
 use Rattle.verdict_core.proofs.Named.{names_order}
-use Rattle.knot_text.proofs.Words.{grid_words, moves_words, verdict_words, numbers_words}
+use Rattle.knot_text.proofs.Words.{grid_words, moves_words, verdict_words, version_words, numbers_words}
+use Rattle.knot_text.specs.declared.verdicts.Version.{Version}
 use Rattle.knot_text.proofs.BraidAgain.{braid_words}
 use Rattle.knot_text.proofs.WrittenAgain.{numbered_tokens}
 use Rattle.knot_text.proofs.ShapesAgain.{diagram_grid, problem_in_written, check_in_written, replay_in_written}
@@ -91,15 +92,15 @@ pub problem_printed : (listed : List NamedQuandle) (p : ProblemText) → HasProb
 problem_printed listed p has =
     problem_in_written (text_of (lines_text (problem_lines listed p))) p (listed, has, printed_says (problem_lines listed p) (problem_words listed p has))
 
-pub check_printed : (listed : List NamedQuandle) (p : ProblemText) (v : Verdict) → HasProblemText listed p
-    → HasVerdictText (columns p.first) (columns p.second) v → check_of (lines_text (problem_lines listed p ++ verdict_lines v)) ≡ Ok (p, v)
-check_printed listed p v has fits =
+pub check_printed : (version : Version) (listed : List NamedQuandle) (p : ProblemText) (v : Verdict) → HasProblemText listed p
+    → HasVersionText version (columns p.first) (columns p.second) v → check_of (lines_text (problem_lines listed p ++ version_lines version v)) ≡ Ok (p, v)
+check_printed version listed p v has fits =
     let some : 1 ≤ columns p.first = omega (arith, (diagram_grid p.first has.first).least) in
     let also : 1 ≤ columns p.second = omega (arith, (diagram_grid p.second has.second).least) in
-    let words = both_lines (problem_lines listed p) (verdict_lines v) (problem_words listed p has)
-    (verdict_words (columns p.first) (columns p.second) v some also fits) in
-    check_in_written (text_of (lines_text (problem_lines listed p ++ verdict_lines v))) p v
-    (listed, has, fits, printed_says (problem_lines listed p ++ verdict_lines v) words)
+    let lines : List (List (List ℕ)) = problem_lines listed p ++ version_lines version v in
+    let words = both_lines (problem_lines listed p) (version_lines version v) (problem_words listed p has)
+    (version_words version (columns p.first) (columns p.second) v some also fits) in
+    check_in_written (text_of (lines_text lines)) p v (listed, has, (version, fits, printed_says lines words))
 
 pub replay_printed : (r : ReplayText) → HasReplayText r → replay_of (lines_text (replay_lines r)) ≡ Ok r
 replay_printed r has =

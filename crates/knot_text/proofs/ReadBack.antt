@@ -10,6 +10,8 @@ use Rattle.text_lines.proofs.Parted.{text_lines_parted, text_ending_parted}
 use Rattle.knot_text.specs.declared.fault.TextFault.{TextFault}
 use Rattle.verdict_core.specs.declared.diagrams.Diagram.TheVariants.{Grid}
 use Rattle.knot_text.specs.declared.quandles.TheConstants.{MAX_QUANDLES}
+use Rattle.knot_text.specs.declared.verdicts.Version.{Version}
+use Rattle.knot_text.specs.declared.verdicts.Version.TheVariants.{Plain, Tidy}
 use Rattle.verdict_core.specs.declared.verdict.Verdict.{Verdict}
 use Rattle.verdict_core.specs.declared.verdict.Verdict.TheVariants.{Equal, Different, UnknownBudget, UnknownExhausted}
 use Rattle.verdict_core.specs.declared.problem.ProblemText.{ProblemText}
@@ -21,7 +23,7 @@ use Rattle.knot_text.specs.Quandles.{quandle_list}
 use Rattle.knot_text.specs.Verdicts.{verdict_item}
 use Rattle.verdict_core.specs.Diagrams.{grid_of, columns}
 use Rattle.knot_text.specs.Shapes.{diagram_item, problem_item, problem_in, check_in, problem_of, check_of}
-use Rattle.knot_text.specs.Printed.{grid_lines, grid_text, move_tokens, moves_lines, moves_text, HaveText, verdict_lines, verdict_text, HasVerdictText}
+use Rattle.knot_text.specs.Printed.{grid_lines, grid_text, move_tokens, moves_lines, moves_text, HaveText, version_lines, version_text, HasVersionText}
 use Rattle.knot_text.specs.FirstBadLine.{lines_then, put_behind}
 use Rattle.knot_text.proofs.Steady.{bind_ok, ok_is}
 use Rattle.knot_text.proofs.GridsRead.{problem_grids}
@@ -29,7 +31,7 @@ use Rattle.knot_text.proofs.StepsAgain.{lines_before}
 use Rattle.knot_text.proofs.GridAgain.{grid_again}
 use Rattle.knot_text.proofs.MovesAgain.{moves_again}
 use Rattle.knot_text.proofs.VerdictAgain.{verdict_again}
-use Rattle.knot_text.proofs.Words.{grid_words, moves_words, verdict_words}
+use Rattle.knot_text.proofs.Words.{grid_words, moves_words, version_words}
 use Rattle.knot_text.proofs.QuandlesSteady.{AtOther, ends_here}
 use Rattle.knot_text.proofs.ShapesFail.{problem_stable}
 
@@ -44,20 +46,21 @@ moves_read n moves more fits =
     ∙ moves_again n moves (text_from (n + length (moves_lines (codes "moves") moves)) more) fits
     ∙ ap (λ (k : ℕ). Ok (moves, text_from k more)) count
 
-pub verdict_read : (n one two : ℕ) (v : Verdict) (more : List ℕ) → 1 ≤ one → 1 ≤ two → HasVerdictText one two v
-    → verdict_item one two (text_from n (verdict_text v ++ more)) ≡ Ok (v, text_from (n + length (verdict_lines v)) more)
-verdict_read n one two v more some also fits =
-    ap (verdict_item one two) (lines_read n (verdict_lines v) more (verdict_words one two v some also fits))
-    ∙ verdict_again one two n v (text_from (n + length (verdict_lines v)) more) fits
+pub verdict_read : (version : Version) (n one two : ℕ) (v : Verdict) (more : List ℕ) → 1 ≤ one → 1 ≤ two → HasVersionText version one two v
+    → verdict_item one two (text_from n (version_text version v ++ more)) ≡ Ok (v, text_from (n + length (version_lines version v)) more)
+verdict_read version n one two v more some also fits =
+    ap (verdict_item one two) (lines_read n (version_lines version v) more (version_words version one two v some also fits))
+    ∙ verdict_again version one two n v (text_from (n + length (version_lines version v)) more) fits
 
 -- ---- a verdict behind its problem
 
 -- a verdict does not begin with `quandle`
-verdict_other : (n : ℕ) (v : Verdict) (lines : List NumberedLine) → AtOther (numbered n (verdict_lines v) ++ lines)
-verdict_other n (Equal moves) lines = refl
-verdict_other n (Different q first second) lines = refl
-verdict_other n (UnknownBudget budget) lines = refl
-verdict_other n (UnknownExhausted cap admitted) lines = refl
+verdict_other : (version : Version) (n : ℕ) (v : Verdict) (lines : List NumberedLine) → AtOther (numbered n (version_lines version v) ++ lines)
+verdict_other Tidy n v lines = refl
+verdict_other Plain n (Equal moves) lines = refl
+verdict_other Plain n (Different q first second) lines = refl
+verdict_other Plain n (UnknownBudget budget) lines = refl
+verdict_other Plain n (UnknownExhausted cap admitted) lines = refl
 
 none_among : (lines : List NumberedLine) (u : Unit {0}) → no_line_among lines ≡ Ok u → lines ≡ []
 none_among [] u is = refl
@@ -72,11 +75,11 @@ unfolding text_end
 at_end n = refl
 
 -- the text of a verdict alone begins with no `quandle`
-text_other : (n one two : ℕ) (v : Verdict) → 1 ≤ one → 1 ≤ two → HasVerdictText one two v → AtOther (text_from n (verdict_text v)).lines
-text_other n one two v some also fits =
-    let text : text_from n (verdict_text v) ≡ lines_before (numbered n (verdict_lines v)) (text_from (n + length (verdict_lines v)) []) =
-    ap (text_from n) (sym (append-nil (verdict_text v))) ∙ lines_read n (verdict_lines v) [] (verdict_words one two v some also fits) in
-    ap (λ (t : Text). first_starts (codes "quandle") t.lines) text ∙ verdict_other n v (text_from (n + length (verdict_lines v)) []).lines
+text_other : (version : Version) (n one two : ℕ) (v : Verdict) → 1 ≤ one → 1 ≤ two → HasVersionText version one two v → AtOther (text_from n (version_text version v)).lines
+text_other version n one two v some also fits =
+    let text : text_from n (version_text version v) ≡ lines_before (numbered n (version_lines version v)) (text_from (n + length (version_lines version v)) []) =
+    ap (text_from n) (sym (append-nil (version_text version v))) ∙ lines_read n (version_lines version v) [] (version_words version one two v some also fits) in
+    ap (λ (t : Text). first_starts (codes "quandle") t.lines) text ∙ verdict_other version n v (text_from (n + length (version_lines version v)) []).lines
 
 -- and it is read to its end
 abbrev judged : ProblemText → Verdict → Text → Result (ProblemText × Verdict) TextFault
@@ -85,19 +88,19 @@ judged p v text = text_end text >>= λ end. Ok (p, v)
 abbrev behind_problem : ℕ → ℕ → ProblemText → Text → Result (ProblemText × Verdict) TextFault
 behind_problem one two p text = verdict_item one two text >>= λ w. judged p w.0 w.1
 
-verdict_ends : (n one two : ℕ) (p : ProblemText) (v : Verdict) → 1 ≤ one → 1 ≤ two → HasVerdictText one two v
-    → behind_problem one two p (text_from n (verdict_text v)) ≡ Ok (p, v)
-verdict_ends n one two p v some also fits =
-    let k = n + length (verdict_lines v) in
-    let read : verdict_item one two (text_from n (verdict_text v)) ≡ Ok (v, text_from k []) =
-    ap (λ (bytes : List ℕ). verdict_item one two (text_from n bytes)) (sym (append-nil (verdict_text v))) ∙ verdict_read n one two v [] some also fits in
+verdict_ends : (version : Version) (n one two : ℕ) (p : ProblemText) (v : Verdict) → 1 ≤ one → 1 ≤ two → HasVersionText version one two v
+    → behind_problem one two p (text_from n (version_text version v)) ≡ Ok (p, v)
+verdict_ends version n one two p v some also fits =
+    let k = n + length (version_lines version v) in
+    let read : verdict_item one two (text_from n (version_text version v)) ≡ Ok (v, text_from k []) =
+    ap (λ (bytes : List ℕ). verdict_item one two (text_from n bytes)) (sym (append-nil (version_text version v))) ∙ verdict_read version n one two v [] some also fits in
     let last : judged p v (text_from k []) ≡ Ok (p, v) = ap (λ r. r >>= λ end. Ok (p, v)) (at_end k) in
     ap (λ r. r >>= λ w. judged p w.0 w.1) read ∙ last
 
-pub verdict_behind : (bytes : List ℕ) (p : ProblemText) (v : Verdict) → are_whole_lines bytes ≡ true → problem_of bytes ≡ Ok p
-    → HasVerdictText (columns p.first) (columns p.second) v → check_of (bytes ++ verdict_text v) ≡ Ok (p, v)
+pub verdict_behind : (version : Version) (bytes : List ℕ) (p : ProblemText) (v : Verdict) → are_whole_lines bytes ≡ true → problem_of bytes ≡ Ok p
+    → HasVersionText version (columns p.first) (columns p.second) v → check_of (bytes ++ version_text version v) ≡ Ok (p, v)
 unfolding problem_in check_in
-verdict_behind bytes p v whole is fits =
+verdict_behind version bytes p v whole is fits =
     let q = bind_ok (problem_item (text_of bytes)) (λ x. text_end x.1 >>= λ end. Ok x.0) p is in
     let rest = q.0.1 in
     let e = bind_ok (text_end rest) (λ end. Ok q.0.0) p q.2 in
@@ -107,16 +110,16 @@ verdict_behind bytes p v whole is fits =
     let also : 1 ≤ columns p.second = omega (arith, grids.1.least) in
     let none = no_lines rest e.0 e.1 in
     let m = 0 + line_count bytes in
-    let tail = text_from m (verdict_text v) in
-    let other = text_other m (columns p.first) (columns p.second) v some also fits in
-    let text : text_of (bytes ++ verdict_text v) ≡ put_behind (text_of bytes) tail.lines tail.ending =
-    ap₂ lines_then (text_lines_parted 0 bytes (verdict_text v) whole) (text_ending_parted 0 bytes (verdict_text v) whole) in
+    let tail = text_from m (version_text version v) in
+    let other = text_other version m (columns p.first) (columns p.second) v some also fits in
+    let text : text_of (bytes ++ version_text version v) ≡ put_behind (text_of bytes) tail.lines tail.ending =
+    ap₂ lines_then (text_lines_parted 0 bytes (version_text version v) whole) (text_ending_parted 0 bytes (version_text version v) whole) in
     let behind : put_behind rest tail.lines tail.ending ≡ tail = ap (λ (ls : List NumberedLine). lines_then (ls ++ tail.lines) tail.ending) none in
-    let item : problem_item (text_of (bytes ++ verdict_text v)) ≡ Ok (p, tail) =
+    let item : problem_item (text_of (bytes ++ version_text version v)) ≡ Ok (p, tail) =
     ap problem_item text ∙ problem_stable (text_of bytes) q.0.0 rest q.1 tail.lines tail.ending other
     ∙ ap₂ (λ (x : ProblemText) (t : Text). Ok (x, t)) same behind in
     ap (λ r. r >>= λ x. behind_problem (columns x.0.first) (columns x.0.second) x.0 x.1) item
-    ∙ verdict_ends m (columns p.first) (columns p.second) p v some also fits
+    ∙ verdict_ends version m (columns p.first) (columns p.second) p v some also fits
 
 -- ---- two grids and a verdict
 
@@ -134,13 +137,13 @@ no_quandles text other = ap (λ r. r >>= λ q. Ok (or_built_in q.0, q.1)) (ends_
 abbrev pub two_grids : Marks → Marks → ProblemText
 two_grids a b = record { first = Grid a; second = Grid b; quandles = built_in }
 
-pub certificate_read : (a b : Marks) (v : Verdict) → IsGrid a → IsGrid b → HasVerdictText (size a) (size b) v
-    → check_of (grid_text a ++ (grid_text b ++ verdict_text v)) ≡ Ok (two_grids a b, v)
+pub certificate_read : (version : Version) (a b : Marks) (v : Verdict) → IsGrid a → IsGrid b → HasVersionText version (size a) (size b) v
+    → check_of (grid_text a ++ (grid_text b ++ version_text version v)) ≡ Ok (two_grids a b, v)
 unfolding check_in problem_item
-certificate_read a b v first second fits =
+certificate_read version a b v first second fits =
     let some : 1 ≤ size a = omega (arith, first.least) in
     let also : 1 ≤ size b = omega (arith, second.least) in
-    let tail = text_from (0 + 2 + 2) (verdict_text v) in
-    let other = text_other (0 + 2 + 2) (size a) (size b) v some also fits in
-    rw (diagram_read 0 a (grid_text b ++ verdict_text v) first, diagram_read (0 + 2) b (verdict_text v) second, no_quandles tail other)
-    (verdict_ends (0 + 2 + 2) (size a) (size b) (two_grids a b) v some also fits)
+    let tail = text_from (0 + 2 + 2) (version_text version v) in
+    let other = text_other version (0 + 2 + 2) (size a) (size b) v some also fits in
+    rw (diagram_read 0 a (grid_text b ++ version_text version v) first, diagram_read (0 + 2) b (version_text version v) second, no_quandles tail other)
+    (verdict_ends version (0 + 2 + 2) (size a) (size b) (two_grids a b) v some also fits)

@@ -15,7 +15,8 @@ use Rattle.knot_text.specs.Moves.{moves_item}
 use Rattle.knot_text.specs.Verdicts.{verdict_item}
 use Rattle.knot_text.specs.Shapes.{problem_of, check_of, replay_of, colour_of, close_of, lone_diagram_of}
 use Rattle.knot_text.specs.Pairs.{pair_of}
-use Rattle.knot_text.specs.Printed.{grid_text, moves_text, HaveText, verdict_text, HasVerdictText}
+use Rattle.knot_text.specs.Printed.{grid_text, moves_text, HaveText, version_text, HasVersionText}
+use Rattle.knot_text.specs.declared.verdicts.Version.{Version}
 use Rattle.knot_text.specs.WrittenThere.{said_by, IsProblemText, IsCheckText, IsColourText, IsCloseText, IsPairText}
 use Rattle.knot_text.proofs.Steady.{ok_is}
 use Rattle.knot_text.proofs.ReadBack.{grid_read, moves_read, verdict_read}
@@ -64,7 +65,7 @@ grid_once d e one two same = once grid_item (grid_text d) (grid_text e) d e _ _ 
 pub moves_once : (a b : List Move) → HaveText a → HaveText b → moves_text a ≡ moves_text b → a ≡ b
 moves_once a b one two same = once moves_item (moves_text a) (moves_text b) a b _ _ (moves_read 0 a [] one) (moves_read 0 b [] two) same
 
-pub verdict_once : (one two : ℕ) (v w : Verdict) → 1 ≤ one → 1 ≤ two → HasVerdictText one two v → HasVerdictText one two w
-    → verdict_text v ≡ verdict_text w → v ≡ w
-verdict_once one two v w some also first second same = once (verdict_item one two) (verdict_text v) (verdict_text w) v w _ _
-    (verdict_read 0 one two v [] some also first) (verdict_read 0 one two w [] some also second) same
+pub verdict_once : (one two : ℕ) (a b : Version) (v w : Verdict) → 1 ≤ one → 1 ≤ two → HasVersionText a one two v → HasVersionText b one two w
+    → version_text a v ≡ version_text b w → v ≡ w
+verdict_once one two a b v w some also first second same = once (verdict_item one two) (version_text a v) (version_text b w) v w _ _
+    (verdict_read a 0 one two v [] some also first) (verdict_read b 0 one two w [] some also second) same

@@ -24,7 +24,9 @@ use Rattle.knot_text.specs.Colours.{coloured_item, coloured}
 use Rattle.verdict_core.specs.Diagrams.{grid_of, columns}
 use Rattle.knot_text.specs.Shapes.{diagram_item, problem_item, problem_in, check_in, replay_in, colour_in, close_in, lone_diagram_in}
 use Rattle.knot_text.specs.Pairs.{pair_in}
-use Rattle.knot_text.specs.Printed.{moves_lines, quandle_lines, HasQuandleText, diagram_lines, HasDiagramText, colours_lines, verdict_lines}
+use Rattle.knot_text.specs.Printed.{moves_lines, quandle_lines, HasQuandleText, diagram_lines, HasDiagramText, colours_lines, version_lines}
+use Rattle.knot_text.specs.declared.verdicts.Version.{Version}
+use Rattle.knot_text.specs.declared.verdicts.Version.TheVariants.{Plain, Tidy}
 use Rattle.knot_text.specs.WrittenThere.{tokens_by_line, StandInFront, AreListed, listed_lines, HasProblemText, problem_lines}
 use Rattle.knot_text.specs.WrittenThere.{IsProblemText, IsCheckText, given_lines, HasGivenText, HasReplayText, replay_lines, IsColourText}
 use Rattle.knot_text.specs.WrittenThere.{IsCloseText, IsPairText}
@@ -175,19 +177,21 @@ problem_in_written text p is =
     let item = problem_written is.0 p text (nothing_behind text) is.1 (whole (problem_lines is.0 p) text is.2) refl in
     rw (item, end_read text) refl
 
--- a verdict does not begin with `quandle`
-verdict_first : (v : Verdict) (text rest : Text) → StandInFront (verdict_lines v) text rest → AtOther text.lines
-verdict_first (Equal moves) text rest there = begins_with (codes "quandle") _ _ text rest there
-verdict_first (Different q first second) text rest there = begins_with (codes "quandle") _ _ text rest there
-verdict_first (UnknownBudget budget) text rest there = begins_with (codes "quandle") _ _ text rest there
-verdict_first (UnknownExhausted cap admitted) text rest there = begins_with (codes "quandle") _ _ text rest there
+-- a verdict does not begin with `quandle`, nor does its head line
+verdict_first : (version : Version) (v : Verdict) (text rest : Text) → StandInFront (version_lines version v) text rest → AtOther text.lines
+verdict_first Tidy v text rest there = begins_with (codes "quandle") _ _ text rest there
+verdict_first Plain (Equal moves) text rest there = begins_with (codes "quandle") _ _ text rest there
+verdict_first Plain (Different q first second) text rest there = begins_with (codes "quandle") _ _ text rest there
+verdict_first Plain (UnknownBudget budget) text rest there = begins_with (codes "quandle") _ _ text rest there
+verdict_first Plain (UnknownExhausted cap admitted) text rest there = begins_with (codes "quandle") _ _ text rest there
 
 pub check_in_written : (text : Text) (p : ProblemText) (v : Verdict) → IsCheckText (tokens_by_line text.lines) p v → check_in text ≡ Ok (p, v)
 unfolding check_in
 check_in_written text p v is =
-    let c = cut (problem_lines is.0 p) (verdict_lines v) text (nothing_behind text) (whole (problem_lines is.0 p ++ verdict_lines v) text is.3) in
-    let item = problem_written is.0 p text c.mid is.1 c.first (verdict_first v c.mid (nothing_behind text) c.second) in
-    rw (item, verdict_written (columns p.first) (columns p.second) c.mid v (nothing_behind text) is.2 c.second, end_read text) refl
+    let version : Version = is.2.0 in
+    let c = cut (problem_lines is.0 p) (version_lines version v) text (nothing_behind text) (whole (problem_lines is.0 p ++ version_lines version v) text is.2.2) in
+    let item = problem_written is.0 p text c.mid is.1 c.first (verdict_first version v c.mid (nothing_behind text) c.second) in
+    rw (item, verdict_written version (columns p.first) (columns p.second) c.mid v (nothing_behind text) is.2.1 c.second, end_read text) refl
 
 pub replay_in_written : (text : Text) (r : ReplayText) → HasReplayText r → tokens_by_line text.lines ≡ replay_lines r → replay_in text ≡ Ok r
 unfolding replay_in

@@ -17,7 +17,7 @@ use Rattle.knot_text.specs.Colours.{coloured_item, coloured}
 use Rattle.verdict_core.specs.Diagrams.{columns}
 use Rattle.knot_text.specs.Shapes.{diagram_item, problem_item, problem_in, check_in, replay_in, colour_in, close_in, lone_diagram_in}
 use Rattle.knot_text.specs.Pairs.{pair_in}
-use Rattle.knot_text.specs.Printed.{grid_lines, moves_lines, HaveText, quandle_lines, HasQuandleText, verdict_lines, HasVerdictText}
+use Rattle.knot_text.specs.Printed.{grid_lines, moves_lines, HaveText, quandle_lines, HasQuandleText}
 use Rattle.knot_text.specs.Printed.{braid_lines, diagram_lines, HasDiagramText, colours_lines}
 use Rattle.knot_text.specs.WrittenThere.{tokens_by_line, StandInFront, AreListed, listed_lines, HasProblemText, problem_lines}
 use Rattle.knot_text.specs.WrittenThere.{IsProblemText, IsCheckText, given_lines, HasGivenText, HasReplayText, replay_lines, IsColourText}
@@ -25,7 +25,7 @@ use Rattle.knot_text.specs.WrittenThere.{IsCloseText, IsPairText}
 use Rattle.knot_text.proofs.Says.{Says, says_ok, says_err, says_bind, says_if, no_lines_in_front, in_front_of}
 use Rattle.knot_text.proofs.ItemsSay.{IsWritten, grid_says, braid_says, moves_say, colours_say}
 use Rattle.knot_text.proofs.QuandleSays.{AreItems, quandle_says, quandles_say}
-use Rattle.knot_text.proofs.VerdictSays.{verdict_says}
+use Rattle.knot_text.proofs.VerdictSays.{IsJudged, verdict_says}
 
 -- ---- the end
 
@@ -97,10 +97,9 @@ problem_in_says text = says_bind (IsProblem text) (problem_says text) (λ p is.
 pub check_in_says : (text : Text) → Says (check_in text) (λ c. IsCheckText (tokens_by_line text.lines) c.0 c.1)
 unfolding check_in
 check_in_says text = says_bind (IsProblem text) (problem_says text) (λ p is.
-    says_bind (IsWritten (HasVerdictText (columns p.0.first) (columns p.0.second)) verdict_lines p.1)
-    (verdict_says (columns p.0.first) (columns p.0.second) p.1) (λ v judged.
+    says_bind (IsJudged (columns p.0.first) (columns p.0.second) p.1) (verdict_says (columns p.0.first) (columns p.0.second) p.1) (λ v judged.
     says_bind (λ (end : Unit {0}). v.1.lines ≡ []) (end_says v.1) (λ end none.
-    says_ok (p.0, v.0) (is.listed, is.has, judged.0, all_lines (in_front_of is.there judged.1) none))))
+    says_ok (p.0, v.0) (is.listed, is.has, (judged.version, judged.has, all_lines (in_front_of is.there judged.there) none)))))
 
 -- ---- the other shapes
 

@@ -1,23 +1,28 @@
 -- A verdict that was printed is read again.
-use Rattle.std.proofs.Common.{◌≡◌, ℕ, ◌<◌, ◌≤◌, ◌+◌, List, [], ◌∷◌, ◌++◌, length, map, Ok, refl, ap, ◌∙◌, arith, codes, append_assoc}
+use Rattle.std.proofs.Common.{◌≡◌, ℕ, ◌<◌, ◌≤◌, ◌+◌, List, [], ◌∷◌, ◌++◌, length, map, Ok, refl, ap, ◌∙◌, arith, codes, append_assoc, None, true, false}
 use Rattle.std.specs.Fmt.{decimal}
 use Rattle.std.proofs.lemmas.List.Elements.{recursion_from_All}
 use Rattle.arrayvec.specs.ArrayVec.{ArrayVec}
 use Rattle.colour_list.specs.declared.limits.TheConstants.{MAX_COLOURINGS}
 use Rattle.colour_rows.specs.Colouring.{AreColours}
 use Rattle.grid_moves.specs.declared.step.Move.{Move}
-use Rattle.text_lines.specs.Lines.{NumberedLine, Text}
+use Rattle.text_lines.specs.Lines.{NumberedLine, Text, begins}
 use Rattle.text_lines.specs.Spelled.{numbered}
 use Rattle.knot_text.specs.declared.reading.TheConstants.{MAX_NUMBER}
 use Rattle.verdict_core.specs.declared.verdict.Verdict.{Verdict}
 use Rattle.verdict_core.specs.declared.verdict.Verdict.TheVariants.{Equal, Different, UnknownBudget, UnknownExhausted}
 use Rattle.verdict_core.proofs.Named.{names_order}
 use Rattle.verdict_core.specs.Names.{NamedQuandle}
-use Rattle.knot_text.specs.Reading.{next_line, next_token}
-use Rattle.knot_text.specs.Verdicts.{equal_at, colour_line, list_item, different_at, budget_at, exhausted_at, unknown_at, unknown_item, verdict_item}
-use Rattle.knot_text.specs.Printed.{move_tokens, name_tokens, table_lines, list_lines, verdict_lines, HaveText, HasListText, HasVerdictText}
+use Rattle.knot_text.specs.Reading.{◌>>=◌, next_line, next_token}
+use Rattle.knot_text.specs.Verdicts.{equal_at, colour_line, list_item, different_at, budget_at, exhausted_at, unknown_at, unknown_item}
+use Rattle.knot_text.specs.Verdicts.{verdict_of, version_at, tidy_item, plain_item, versioned_item, verdict_item}
+use Rattle.knot_text.specs.declared.verdicts.TheConstants.{TIDY_VERSION}
+use Rattle.knot_text.specs.declared.verdicts.Version.{Version}
+use Rattle.knot_text.specs.declared.verdicts.Version.TheVariants.{Plain, Tidy}
+use Rattle.grid_moves.specs.Tidy.{is_tidy}
+use Rattle.knot_text.specs.Printed.{move_tokens, name_tokens, table_lines, list_lines, verdict_lines, head_tokens, version_lines, HaveText, HasListText, HasVerdictText, HasVersionText}
 use Rattle.knot_text.proofs.StepsAgain.{line_of, lines_before, word_again, number_again, last_again, most_again, count_again, below_again, turns_again}
-use Rattle.knot_text.proofs.MovesAgain.{move_lines_again}
+use Rattle.knot_text.proofs.MovesAgain.{move_lines_again, tidy_moves_again}
 use Rattle.knot_text.proofs.QuandleAgain.{quandle_again}
 
 -- ---- lines behind lines
@@ -78,9 +83,15 @@ different_again one two n q first second text fits =
     ap (different_at one two (line_of (n + 1) (name_tokens q.name order))) text_is ∙ read
 
 equal_again : (n : ℕ) (moves : List Move) (text : Text) → HaveText moves
-    → equal_at (line_of (n + 1) (decimal (length moves) ∷ [])) (lines_before (numbered (n + 1) (map move_tokens moves)) text) ≡ Ok (Equal moves, text)
+    → equal_at Plain (line_of (n + 1) (decimal (length moves) ∷ [])) (lines_before (numbered (n + 1) (map move_tokens moves)) text) ≡ Ok (Equal moves, text)
 unfolding equal_at
 equal_again n moves text fits = rw (count_again (length moves) (n + 1) fits.count, move_lines_again (n + 1) moves text fits.each) refl
+
+tidy_equal_again : (n : ℕ) (moves : List Move) (text : Text) → HaveText moves → is_tidy moves ≡ true
+    → equal_at Tidy (line_of (n + 1) (decimal (length moves) ∷ [])) (lines_before (numbered (n + 1) (map move_tokens moves)) text) ≡ Ok (Equal moves, text)
+unfolding equal_at
+tidy_equal_again n moves text fits tidy =
+    rw (count_again (length moves) (n + 1) fits.count, tidy_moves_again None (n + 1) moves text fits.each tidy) refl
 
 budget_again : (n k : ℕ) → k ≤ MAX_NUMBER → budget_at (line_of n (decimal k ∷ [])) ≡ Ok (UnknownBudget k)
 unfolding budget_at
@@ -91,10 +102,39 @@ unfolding exhausted_at
 exhausted_again n cap k few small =
     rw (number_again cap n (decimal k ∷ []) few, last_again k n small, most_again MAX_NUMBER n cap few, most_again MAX_NUMBER n k small) refl
 
-pub verdict_again : (one two n : ℕ) (v : Verdict) (text : Text) → HasVerdictText one two v
-    → verdict_item one two (lines_before (numbered n (verdict_lines v)) text) ≡ Ok (v, text)
-unfolding verdict_item unknown_item unknown_at next_line next_token
-verdict_again one two n (Equal moves) text fits = equal_again n moves text fits
-verdict_again one two n (Different q first second) text fits = different_again one two n q first second text fits
-verdict_again one two n (UnknownBudget budget) text fits = rw (budget_again (n + 1) budget fits) refl
-verdict_again one two n (UnknownExhausted cap admitted) text fits = rw (exhausted_again (n + 1) cap admitted fits.0 fits.1) refl
+verdict_of_again : (version : Version) (one two n : ℕ) (v : Verdict) (text : Text) → HasVersionText version one two v
+    → verdict_of version one two (lines_before (numbered n (verdict_lines v)) text) ≡ Ok (v, text)
+unfolding verdict_of unknown_item unknown_at next_line next_token
+verdict_of_again Plain one two n (Equal moves) text fits = equal_again n moves text fits
+verdict_of_again Tidy one two n (Equal moves) text fits = tidy_equal_again n moves text fits.0 fits.1
+verdict_of_again Plain one two n (Different q first second) text fits = different_again one two n q first second text fits
+verdict_of_again Tidy one two n (Different q first second) text fits = different_again one two n q first second text fits.0
+verdict_of_again Plain one two n (UnknownBudget budget) text fits = rw (budget_again (n + 1) budget fits) refl
+verdict_of_again Tidy one two n (UnknownBudget budget) text fits = rw (budget_again (n + 1) budget fits.0) refl
+verdict_of_again Plain one two n (UnknownExhausted cap admitted) text fits = rw (exhausted_again (n + 1) cap admitted fits.0 fits.1) refl
+verdict_of_again Tidy one two n (UnknownExhausted cap admitted) text fits = rw (exhausted_again (n + 1) cap admitted fits.0.0 fits.0.1) refl
+
+-- ---- with the head line, or without
+
+version_again : (n : ℕ) → version_at (line_of n head_tokens) ≡ Ok tt
+unfolding version_at
+version_again n =
+    rw (word_again (codes "certificate") n (decimal TIDY_VERSION ∷ []), count_again TIDY_VERSION n (omega arith)) refl
+
+-- no verdict begins with the word of its head line
+no_head : (n : ℕ) (v : Verdict) (text : Text) → begins (codes "certificate") (lines_before (numbered n (verdict_lines v)) text) ≡ false
+no_head n (Equal moves) text = refl
+no_head n (Different q first second) text = refl
+no_head n (UnknownBudget budget) text = refl
+no_head n (UnknownExhausted cap admitted) text = refl
+
+pub versioned_again : (version : Version) (one two n : ℕ) (v : Verdict) (text : Text) → HasVersionText version one two v
+    → versioned_item one two (lines_before (numbered n (version_lines version v)) text) ≡ Ok ((version, v), text)
+unfolding versioned_item tidy_item plain_item next_line
+versioned_again Plain one two n v text fits = rw (no_head n v text, verdict_of_again Plain one two n v text fits) refl
+versioned_again Tidy one two n v text fits = rw (version_again (n + 1), verdict_of_again Tidy one two (n + 1) v text fits) refl
+
+pub verdict_again : (version : Version) (one two n : ℕ) (v : Verdict) (text : Text) → HasVersionText version one two v
+    → verdict_item one two (lines_before (numbered n (version_lines version v)) text) ≡ Ok (v, text)
+unfolding verdict_item
+verdict_again version one two n v text fits = ap (λ r. r >>= λ w. Ok (w.0.1, w.1)) (versioned_again version one two n v text fits)

@@ -31,7 +31,10 @@ use Rattle.verdict_core.specs.declared.verdict.Verdict.TheVariants.{Equal, Diffe
 use Rattle.verdict_core.specs.Names.{Names}
 use Rattle.knot_text.specs.Printed.{grid_lines, kind_word, corner_word, move_tokens, moves_lines, HasMoveText, HaveText, name_tokens}
 use Rattle.knot_text.specs.Printed.{row_tokens, table_lines, quandle_lines, HasFactor, list_lines, verdict_lines, HasListText}
-use Rattle.knot_text.specs.Printed.{HasVerdictText}
+use Rattle.knot_text.specs.Printed.{head_tokens, version_lines, HasVerdictText, HasVersionText}
+use Rattle.knot_text.specs.declared.verdicts.TheConstants.{TIDY_VERSION}
+use Rattle.knot_text.specs.declared.verdicts.Version.{Version}
+use Rattle.knot_text.specs.declared.verdicts.Version.TheVariants.{Plain, Tidy}
 use Rattle.knot_text.proofs.StepsAgain.{IsShort, all_short}
 use Rattle.verdict_core.proofs.Named.{names_order}
 
@@ -186,3 +189,9 @@ verdict_words one two (Different q first second) some more fits =
     (all_both is_line (list_lines first) (list_lines second) (list_words one order first some most fits.1) (list_words two order second more most fits.2))
 verdict_words one two (UnknownBudget budget) some more fits = rw (decimal_word budget fits) refl
 verdict_words one two (UnknownExhausted cap admitted) some more fits = rw (decimal_word cap fits.0, decimal_word admitted fits.1) refl
+
+pub version_words : (version : Version) (one two : ℕ) (v : Verdict) → 1 ≤ one → 1 ≤ two → HasVersionText version one two v
+    → list_all is_line (version_lines version v) ≡ true
+version_words Plain one two v some more fits = verdict_words one two v some more fits
+version_words Tidy one two v some more fits =
+    and_from (is_line head_tokens) (list_all is_line (verdict_lines v)) (rw (decimal_word TIDY_VERSION (omega arith)) refl) (verdict_words one two v some more fits.0)

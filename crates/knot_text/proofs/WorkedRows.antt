@@ -17,8 +17,9 @@ use Rattle.knot_text.specs.Grids.{x_at, o_at, grid_item}
 use Rattle.knot_text.specs.Braids.{braid_at, braid_item}
 use Rattle.knot_text.specs.Colours.{colours_at, colours_item, coloured_item, coloured}
 use Rattle.knot_text.specs.Moves.{last_place, shift, kind_at, corner_at, stabilise, destabilise, move_at, next_move, moves_item}
+use Rattle.knot_text.specs.Moves.{tidy_move_at, tidy_move, tidy_moves}
 use Rattle.knot_text.specs.Quandles.{written_at, table_row, table_rows, table_item, quandle_at, quandle_item, quandles, quandle_list}
-use Rattle.knot_text.specs.Verdicts.{exhausted_at, unknown_at, unknown_item, verdict_item}
+use Rattle.knot_text.specs.Verdicts.{equal_at, exhausted_at, unknown_at, unknown_item, verdict_of, version_at, tidy_item, plain_item, versioned_item, verdict_item}
 use Rattle.knot_text.specs.Shapes.{diagram_item, problem_item, problem_in, check_in, replay_in, close_in, lone_diagram_in, problem_of}
 use Rattle.knot_text.specs.Shapes.{check_of, replay_of, close_of, lone_diagram_of}
 
@@ -160,5 +161,10 @@ exhausted : check_of (codes "x 0 1\no 1 0\nx 0 1\no 1 0\nunknown exhausted 5 2\n
       },
       UnknownExhausted 5 2,
     )
-unfolding check_in problem_item diagram_item grid_item x_at o_at numbers_behind each_token word next_token next_line last_number number line_end quandle_list quandles verdict_item unknown_item unknown_at exhausted_at text_end
+unfolding check_in problem_item diagram_item grid_item x_at o_at numbers_behind each_token word next_token next_line last_number number line_end quandle_list quandles verdict_item versioned_item plain_item verdict_of unknown_item unknown_at exhausted_at text_end
 exhausted = refl
+
+-- of the second version the second shift of rows may not stand behind the first
+untidy : check_of (codes "x 0 1\no 1 0\nx 1 0\no 0 1\ncertificate 2\nequal 3\nshift rows 1\nshift rows 1\nshift rows 1\n") ≡ Err (Malformed 8)
+unfolding check_in problem_item diagram_item grid_item x_at o_at numbers_behind each_token word next_token next_line last_number last_count number line_end quandle_list quandles verdict_item versioned_item tidy_item version_at verdict_of equal_at tidy_moves tidy_move tidy_move_at move_at shift last_place
+untidy = refl

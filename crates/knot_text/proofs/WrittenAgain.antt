@@ -14,29 +14,30 @@ use Rattle.text_lines.specs.Spelled.{numbered}
 use Rattle.knot_text.specs.declared.fault.TextFault.{TextFault}
 use Rattle.verdict_core.specs.declared.verdict.Verdict.{Verdict}
 use Rattle.verdict_core.specs.Names.{NamedQuandle}
-use Rattle.knot_text.specs.Reading.{next_line}
+use Rattle.knot_text.specs.Reading.{◌>>=◌, next_line}
 use Rattle.knot_text.specs.Grids.{grid_item}
 use Rattle.knot_text.specs.Braids.{braid_item}
 use Rattle.knot_text.specs.Moves.{moves_item}
 use Rattle.knot_text.specs.Quandles.{quandle_item}
 use Rattle.knot_text.specs.Colours.{colours_item}
-use Rattle.knot_text.specs.Verdicts.{verdict_item}
+use Rattle.knot_text.specs.Verdicts.{versioned_item, verdict_item}
+use Rattle.knot_text.specs.declared.verdicts.Version.{Version}
 use Rattle.knot_text.specs.Printed.{grid_lines, braid_lines, moves_lines, HaveText, name_tokens, quandle_lines, HasQuandleText}
-use Rattle.knot_text.specs.Printed.{colours_lines, verdict_lines, HasVerdictText}
+use Rattle.knot_text.specs.Printed.{colours_lines, version_lines, HasVersionText}
 use Rattle.knot_text.specs.WrittenThere.{tokens_by_line, StandInFront}
 use Rattle.knot_text.proofs.StepsAgain.{lines_before, word_again}
 use Rattle.knot_text.proofs.GridAgain.{grid_again}
 use Rattle.knot_text.proofs.MovesAgain.{moves_again}
 use Rattle.knot_text.proofs.QuandleAgain.{quandle_again}
-use Rattle.knot_text.proofs.VerdictAgain.{verdict_again}
+use Rattle.knot_text.proofs.VerdictAgain.{versioned_again}
 use Rattle.knot_text.proofs.BraidAgain.{braid_again}
 use Rattle.knot_text.proofs.ColoursAgain.{colours_again}
 use Rattle.knot_text.proofs.Says.{Says}
 use Rattle.knot_text.proofs.ItemsSay.{IsWritten, grid_says, braid_says, moves_say, colours_say}
 use Rattle.knot_text.proofs.QuandleSays.{quandle_says}
-use Rattle.knot_text.proofs.VerdictSays.{verdict_says}
+use Rattle.knot_text.proofs.VerdictSays.{HasText, lines_of, versioned_says}
 use Rattle.knot_text.proofs.Alike.{Alike, SameText, SameLeft}
-use Rattle.knot_text.proofs.ItemsAlike.{grid_alike, braid_alike, moves_alike, quandle_alike, colours_alike, verdict_alike}
+use Rattle.knot_text.proofs.ItemsAlike.{grid_alike, braid_alike, moves_alike, quandle_alike, colours_alike, versioned_alike}
 
 -- ---- lines in front
 
@@ -120,8 +121,14 @@ colours_written width order text c rest fits most are there =
     read_again (λ c. AreColours width order c.items) colours_lines (colours_item width order) (colours_alike width order) (colours_say width order) c text rest
     (colours_again width order 0 c rest fits most are) there
 
-pub verdict_written : (one two : ℕ) (text : Text) (v : Verdict) (rest : Text) → HasVerdictText one two v → StandInFront (verdict_lines v) text rest
-    → verdict_item one two text ≡ Ok (v, rest)
-verdict_written one two text v rest fits there =
-    read_again (HasVerdictText one two) verdict_lines (verdict_item one two) (verdict_alike one two) (verdict_says one two) v text rest
-    (verdict_again one two 0 v rest fits) there
+versioned_written : (version : Version) (one two : ℕ) (text : Text) (v : Verdict) (rest : Text) → HasVersionText version one two v
+    → StandInFront (version_lines version v) text rest → versioned_item one two text ≡ Ok ((version, v), rest)
+versioned_written version one two text v rest fits there =
+    read_again (HasText one two) lines_of (versioned_item one two) (versioned_alike one two) (versioned_says one two) (version, v) text rest
+    (versioned_again version one two 0 v rest fits) there
+
+pub verdict_written : (version : Version) (one two : ℕ) (text : Text) (v : Verdict) (rest : Text) → HasVersionText version one two v
+    → StandInFront (version_lines version v) text rest → verdict_item one two text ≡ Ok (v, rest)
+unfolding verdict_item
+verdict_written version one two text v rest fits there =
+    ap (λ r. r >>= λ w. Ok (w.0.1, w.1)) (versioned_written version one two text v rest fits there)

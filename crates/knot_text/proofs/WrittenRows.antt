@@ -18,7 +18,8 @@ use Rattle.knot_text.specs.Numbers.{numbers_behind}
 use Rattle.knot_text.specs.Grids.{x_at, o_at, grid_item}
 use Rattle.knot_text.specs.Moves.{kind_at, corner_at, stabilise, exchange, move_at, next_move, moves_item}
 use Rattle.knot_text.specs.Shapes.{diagram_item, replay_in, replay_of}
-use Rattle.knot_text.specs.Printed.{grid_lines, braid_lines, moves_text, steps_text, quandle_text, colours_text, verdict_text}
+use Rattle.knot_text.specs.Printed.{grid_lines, braid_lines, moves_text, steps_text, quandle_text, colours_text, version_text}
+use Rattle.knot_text.specs.declared.verdicts.Version.TheVariants.{Plain, Tidy}
 use Rattle.knot_text.specs.WrittenThere.{said_by, cocycle_lines}
 
 zero_is : decimal 0 ≡ codes "0"
@@ -81,17 +82,17 @@ tabled = rw (two_is, zero_is, one_is) refl
 weighed : lines_text (cocycle_lines (record { quandle = trivial 2; modulus = 3; entries = 0 ∷ 1 ∷ 2 ∷ 0 ∷ [] })) ≡ codes "weight 3\n0 1\n2 0\n"
 weighed = rw (three_is, zero_is, one_is, two_is) refl
 
-equal_said : verdict_text (Equal (ShiftRows 2 ∷ [])) ≡ codes "equal 1\nshift rows 2\n"
+equal_said : version_text Tidy (Equal (ShiftRows 2 ∷ [])) ≡ codes "certificate 2\nequal 1\nshift rows 2\n"
 equal_said = rw (one_is, two_is) refl
 
-different_said : verdict_text (Different (called (name.Dihedral 3) (dihedral 3)) (record { items = 0 ∷ 1 ∷ [] } ∷ []) [])
+different_said : version_text Plain (Different (called (name.Dihedral 3) (dihedral 3)) (record { items = 0 ∷ 1 ∷ [] } ∷ []) [])
     ≡ codes "different dihedral 3\nlist 1\n0 1\nlist 0\n"
 different_said = rw (three_is, zero_is, one_is) refl
 
-budget_said : verdict_text (UnknownBudget 3) ≡ codes "unknown budget 3\n"
+budget_said : version_text Plain (UnknownBudget 3) ≡ codes "unknown budget 3\n"
 budget_said = rw three_is refl
 
-exhausted_said : verdict_text (UnknownExhausted 5 2) ≡ codes "unknown exhausted 5 2\n"
+exhausted_said : version_text Plain (UnknownExhausted 5 2) ≡ codes "unknown exhausted 5 2\n"
 exhausted_said = rw (five_is, two_is) refl
 
 some_steps : steps_text (Far 2 ∷ Triple 0 ∷ Cancel 1 ∷ []) ≡ codes "steps 3\nfar 2\ntriple 0\ncancel 1\n"

@@ -6,7 +6,7 @@ use Rattle.text_lines.specs.Lines.{NumberedLine, Text, starts}
 use Rattle.knot_text.specs.declared.fault.TextFault.{TextFault}
 use Rattle.knot_text.specs.declared.fault.TextFault.TheVariants.{Malformed}
 use Rattle.knot_text.specs.Quandles.{table_item}
-use Rattle.knot_text.specs.LineKinds.{LineKind, kind_fault, read_fault, worth, others, below_kind}
+use Rattle.knot_text.specs.LineKinds.{LineKind, kind_fault, read_fault, worth, others, below_kind, tidy_kind}
 
 -- the number behind the word
 abbrev pub count : List (List ℕ) → ℕ
@@ -65,6 +65,15 @@ fault_among kind (suc count) (line ∷ lines) ending = or_later (kind_fault kind
 
 abbrev pub lines_fault : LineKind → ℕ → Text → Option TextFault
 lines_fault kind count text = fault_among kind count text.lines text.ending
+
+-- the same of so many move lines of a tidy list, each by its kind behind the tokens of the one before it
+abbrev pub tidy_among : List (List ℕ) → ℕ → List NumberedLine → ℕ → Option TextFault
+tidy_among before zero lines ending = None
+tidy_among before (suc count) [] ending = Some (Malformed ending)
+tidy_among before (suc count) (line ∷ lines) ending = or_later (kind_fault (tidy_kind before) line) (tidy_among line.tokens count lines ending)
+
+abbrev pub tidy_fault : ℕ → Text → Option TextFault
+tidy_fault count text = tidy_among [] count text.lines text.ending
 
 -- ---- tables
 

@@ -1,5 +1,5 @@
 -- What a line has to be, by its kind, apart from reading: its form, its limits and its content. The first of them that fails decides.
-use Rattle.std.specs.Prelude.{◌≡◌, ◌+◌, ◌*◌, ℕ, ◌==◌, ◌&&◌, ◌||◌, Bool, true, false, List, [], ◌∷◌, codes, length, map, Option, Some, None, Result, Ok, Err}
+use Rattle.std.specs.Prelude.{◌≡◌, ◌+◌, ◌*◌, ℕ, ◌==◌, ◌&&◌, ◌||◌, not, Bool, true, false, List, [], ◌∷◌, codes, length, map, Option, Some, None, Result, Ok, Err}
 use Rattle.std.specs.Prelude.{is_none, nat_le, nat_lt, if◌then◌else◌}
 use Rattle.std.specs.List.{list_all, list_any}
 use Rattle.std.specs.Str.{bytes_eq}
@@ -16,6 +16,7 @@ use Rattle.text_lines.specs.Lines.{NumberedLine, starts}
 use Rattle.text_lines.specs.Numbers.{is_number}
 use Rattle.knot_text.specs.declared.fault.TextFault.{TextFault}
 use Rattle.knot_text.specs.declared.fault.TextFault.TheVariants.{Malformed, Limit}
+use Rattle.knot_text.specs.declared.verdicts.TheConstants.{TIDY_VERSION}
 use Rattle.knot_text.specs.declared.weights.TheConstants.{MAX_MODULUS}
 use Rattle.knot_text.specs.Grids.{are_rows}
 
@@ -252,6 +253,24 @@ abbrev pub others : List (List ℕ) → List (List ℕ)
 others [] = []
 others (token ∷ tokens) = tokens
 
+-- ---- move lines of a tidy list
+
+abbrev pub says_shift : List (List ℕ) → Bool
+says_shift tokens = starts (codes "shift") tokens
+
+-- a shift of columns, or one of rows
+abbrev pub says_shift_of : List ℕ → List (List ℕ) → Bool
+says_shift_of axis tokens = says_shift tokens && starts axis (others tokens)
+
+-- behind the tokens of the move line before it, if there is one: no shift of columns behind a shift, and none of rows behind one of rows
+abbrev pub tidy_kind : List (List ℕ) → LineKind
+tidy_kind before = record {
+  form = move_kind.form;
+  over = move_kind.over;
+  content = λ tokens. not ((says_shift_of (codes "columns") tokens && says_shift before)
+      || (says_shift_of (codes "rows") tokens && says_shift_of (codes "rows") before));
+}
+
 -- this word, and what is of that kind
 abbrev pub behind_word : List ℕ → LineKind → LineKind
 behind_word word kind = record {
@@ -273,6 +292,18 @@ surplus_kind = behind_word (codes "quandle") (record {
 -- a word and a number, of which there is a most
 abbrev pub counted_kind : List ℕ → ℕ → LineKind
 counted_kind word most = worded_kind ((one_of (word ∷ []) ∷ is_number ∷ []) ∷ []) most
+
+-- the number of the version whose lists are tidy
+abbrev pub says_version : List (List ℕ) → Bool
+says_version (word ∷ version ∷ tokens) = worth version == TIDY_VERSION
+says_version tokens = false
+
+abbrev pub certificate_kind : LineKind
+certificate_kind = record {
+  form = (counted_kind (codes "certificate") MAX_NUMBER).form;
+  over = (counted_kind (codes "certificate") MAX_NUMBER).over;
+  content = λ tokens. says_version tokens;
+}
 
 -- the modulus of a cocycle is at least 2
 abbrev pub says_modulus : List (List ℕ) → Bool

@@ -1,5 +1,5 @@
 -- Moves as a text: a line each, behind a line with their number.
-use Rattle.std.specs.Prelude.{ℕ, List, codes, Result, Ok, Err, if◌then◌else◌}
+use Rattle.std.specs.Prelude.{ℕ, zero, suc, List, [], ◌∷◌, Option, Some, None, codes, Result, Ok, Err, if◌then◌else◌}
 use Rattle.std.specs.Str.{bytes_eq}
 use Rattle.grid_core.specs.declared.mark.Kind.{Kind}
 use Rattle.grid_core.specs.declared.mark.Kind.TheVariants.{Cross, Ring}
@@ -8,6 +8,7 @@ use Rattle.grid_core.specs.declared.mark.Corner.TheVariants.{LowLeft, LowRight, 
 use Rattle.grid_moves.specs.declared.step.Move.{Move}
 use Rattle.grid_moves.specs.declared.step.Move.TheVariants.{ShiftColumns, ShiftRows, ExchangeColumns, ExchangeRows, SlideColumns, SlideRows}
 use Rattle.grid_moves.specs.declared.step.Move.TheVariants.{Stabilise, Destabilise}
+use Rattle.grid_moves.specs.Tidy.{may_follow}
 use Rattle.text_lines.specs.Lines.{NumberedLine, Text}
 use Rattle.knot_text.specs.declared.fault.TextFault.{TextFault}
 use Rattle.knot_text.specs.declared.fault.TextFault.TheVariants.{Malformed}
@@ -99,6 +100,26 @@ next_move text = do
 -- so many moves, a line each
 abbrev pub move_lines : ℕ → Text → Result (List Move × Text) TextFault
 move_lines count text = in_turn next_move count text
+
+-- a move line of a tidy list, which may follow on the move before it; its number comes before that
+unfoldable pub tidy_move_at : Option Move → NumberedLine → Result Move TextFault
+tidy_move_at before line = do
+  move ← move_at line
+  if may_follow before move then Ok move else Err (Malformed line.number)
+
+unfoldable pub tidy_move : Option Move → Text → Result (Move × Text) TextFault
+tidy_move before text = do
+  line ← next_line text
+  move ← tidy_move_at before line.0
+  Ok (move, line.1)
+
+-- so many moves of a tidy list, a line each, behind a move or none
+unfoldable pub tidy_moves : Option Move → ℕ → Text → Result (List Move × Text) TextFault
+tidy_moves before zero text = Ok ([], text)
+tidy_moves before (suc count) text = do
+  first ← tidy_move before text
+  others ← tidy_moves (Some first.0) count first.1
+  Ok (first.0 ∷ others.0, others.1)
 
 -- the item `moves`
 unfoldable pub moves_item : Text → Result (List Move × Text) TextFault

@@ -26,6 +26,10 @@ use Rattle.verdict_core.specs.declared.diagrams.Diagram.TheVariants.{Grid, Braid
 use Rattle.verdict_core.specs.declared.verdict.Verdict.{Verdict}
 use Rattle.verdict_core.specs.declared.verdict.Verdict.TheVariants.{Equal, Different, UnknownBudget, UnknownExhausted}
 use Rattle.verdict_core.specs.Names.{NamedQuandle, Names}
+use Rattle.verdict_core.specs.Evidence.{IsTidyVerdict}
+use Rattle.knot_text.specs.declared.verdicts.TheConstants.{TIDY_VERSION}
+use Rattle.knot_text.specs.declared.verdicts.Version.{Version}
+use Rattle.knot_text.specs.declared.verdicts.Version.TheVariants.{Plain, Tidy}
 
 -- ---- grids
 
@@ -185,8 +189,17 @@ verdict_lines (Different q first second) = quandle_lines (codes "different") q +
 verdict_lines (UnknownBudget budget) = (codes "unknown" ∷ codes "budget" ∷ decimal budget ∷ []) ∷ []
 verdict_lines (UnknownExhausted cap admitted) = (codes "unknown" ∷ codes "exhausted" ∷ decimal cap ∷ decimal admitted ∷ []) ∷ []
 
-abbrev pub verdict_text : Verdict → List ℕ
-verdict_text v = lines_text (verdict_lines v)
+-- the line that stands before a verdict whose list of moves is tidy
+abbrev pub head_tokens : List (List ℕ)
+head_tokens = codes "certificate" ∷ decimal TIDY_VERSION ∷ []
+
+-- a verdict of a version
+abbrev pub version_lines : Version → Verdict → List (List (List ℕ))
+version_lines Plain v = verdict_lines v
+version_lines Tidy v = head_tokens ∷ verdict_lines v
+
+abbrev pub version_text : Version → Verdict → List ℕ
+version_text version v = lines_text (version_lines version v)
 
 -- few enough lists, each of so many colours below the order
 pub record HasListText (width order : ℕ) (lists : List (ArrayVec ℕ)) : Type 0 where
@@ -199,6 +212,11 @@ HasVerdictText one two (Equal moves) = HaveText moves
 HasVerdictText one two (Different q first second) = HasQuandleText q × HasListText one q.table.order first × HasListText two q.table.order second
 HasVerdictText one two (UnknownBudget budget) = budget ≤ MAX_NUMBER
 HasVerdictText one two (UnknownExhausted cap admitted) = (cap ≤ MAX_NUMBER) × (admitted ≤ MAX_NUMBER)
+
+-- and one of this version
+abbrev pub HasVersionText : Version → ℕ → ℕ → Verdict → Type 0
+HasVersionText Plain one two v = HasVerdictText one two v
+HasVersionText Tidy one two v = HasVerdictText one two v × IsTidyVerdict v
 
 -- ---- diagrams
 

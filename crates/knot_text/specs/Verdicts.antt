@@ -1,24 +1,33 @@
 -- Verdicts as a text.
-use Rattle.std.specs.Prelude.{ℕ, List, codes, Result, Ok, Err, if◌then◌else◌}
+use Rattle.std.specs.Prelude.{ℕ, ◌==◌, List, None, codes, Result, Ok, Err, if◌then◌else◌}
 use Rattle.std.specs.Str.{bytes_eq}
 use Rattle.arrayvec.specs.ArrayVec.{ArrayVec}
 use Rattle.colour_list.specs.declared.limits.TheConstants.{MAX_COLOURINGS}
-use Rattle.text_lines.specs.Lines.{NumberedLine, Text}
+use Rattle.grid_moves.specs.declared.step.Move.{Move}
+use Rattle.text_lines.specs.Lines.{NumberedLine, Text, begins}
 use Rattle.knot_text.specs.declared.fault.TextFault.{TextFault}
 use Rattle.knot_text.specs.declared.fault.TextFault.TheVariants.{Malformed}
 use Rattle.verdict_core.specs.declared.verdict.Verdict.{Verdict}
 use Rattle.verdict_core.specs.declared.verdict.Verdict.TheVariants.{Equal, Different, UnknownBudget, UnknownExhausted}
 use Rattle.knot_text.specs.declared.reading.TheConstants.{MAX_NUMBER}
+use Rattle.knot_text.specs.declared.verdicts.TheConstants.{TIDY_VERSION}
+use Rattle.knot_text.specs.declared.verdicts.Version.{Version}
+use Rattle.knot_text.specs.declared.verdicts.Version.TheVariants.{Plain, Tidy}
 use Rattle.knot_text.specs.Reading.{◌>>=◌, in_turn, next_line, next_token, word, number, last_number, last_count, at_most}
 use Rattle.knot_text.specs.Numbers.{numbers_below}
-use Rattle.knot_text.specs.Moves.{move_lines}
+use Rattle.knot_text.specs.Moves.{move_lines, tidy_moves}
 use Rattle.knot_text.specs.Quandles.{quandle_at}
 
+-- so many move lines of a version: of the second one the list is tidy
+abbrev pub moves_of : Version → ℕ → Text → Result (List Move × Text) TextFault
+moves_of Plain count text = move_lines count text
+moves_of Tidy count text = tidy_moves None count text
+
 -- `equal`, a number, and so many move lines
-unfoldable pub equal_at : NumberedLine → Text → Result (Verdict × Text) TextFault
-equal_at line text = do
+unfoldable pub equal_at : Version → NumberedLine → Text → Result (Verdict × Text) TextFault
+equal_at version line text = do
   count ← last_count line
-  moves ← move_lines count text
+  moves ← moves_of version count text
   Ok (Equal moves.0, moves.1)
 
 -- a line of colours, one below the order for each column
@@ -71,12 +80,42 @@ unknown_item line text = do
   verdict ← unknown_at line
   Ok (verdict, text)
 
--- a verdict on two diagrams with so many columns
-unfoldable pub verdict_item : ℕ → ℕ → Text → Result (Verdict × Text) TextFault
-verdict_item first second text = do
+-- a verdict of a version, on two diagrams with so many columns
+unfoldable pub verdict_of : Version → ℕ → ℕ → Text → Result (Verdict × Text) TextFault
+verdict_of version first second text = do
   line ← next_line text
   kind ← next_token line.0
-  if bytes_eq kind.0 (codes "equal") then equal_at kind.1 line.1
+  if bytes_eq kind.0 (codes "equal") then equal_at version kind.1 line.1
       else if bytes_eq kind.0 (codes "different") then different_at first second kind.1 line.1
       else if bytes_eq kind.0 (codes "unknown") then unknown_item kind.1 line.1
       else Err (Malformed kind.1.number)
+
+-- the line `certificate 2`
+unfoldable pub version_at : NumberedLine → Result (Unit {0}) TextFault
+version_at line = do
+  rest ← word (codes "certificate") line
+  version ← last_count rest
+  if version == TIDY_VERSION then Ok tt else Err (Malformed line.number)
+
+-- a verdict with its version: of the second one behind its head line, of the first one alone
+unfoldable pub tidy_item : ℕ → ℕ → Text → Result ((Version × Verdict) × Text) TextFault
+tidy_item first second text = do
+  line ← next_line text
+  head ← version_at line.0
+  verdict ← verdict_of Tidy first second line.1
+  Ok ((Tidy, verdict.0), verdict.1)
+
+unfoldable pub plain_item : ℕ → ℕ → Text → Result ((Version × Verdict) × Text) TextFault
+plain_item first second text = do
+  verdict ← verdict_of Plain first second text
+  Ok ((Plain, verdict.0), verdict.1)
+
+-- of the second version where a line that begins with `certificate` is next
+unfoldable pub versioned_item : ℕ → ℕ → Text → Result ((Version × Verdict) × Text) TextFault
+versioned_item first second text = if begins (codes "certificate") text then tidy_item first second text else plain_item first second text
+
+-- a verdict of either version
+unfoldable pub verdict_item : ℕ → ℕ → Text → Result (Verdict × Text) TextFault
+verdict_item first second text = do
+  versioned ← versioned_item first second text
+  Ok (versioned.0.1, versioned.1)

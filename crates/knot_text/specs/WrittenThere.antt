@@ -12,6 +12,7 @@ use Rattle.quandle_core.specs.Quandle.{Table}
 use Rattle.text_lines.specs.Lines.{NumberedLine, Text, text_of}
 use Rattle.verdict_core.specs.declared.verdict.Verdict.{Verdict}
 use Rattle.knot_text.specs.declared.quandles.TheConstants.{MAX_QUANDLES}
+use Rattle.knot_text.specs.declared.verdicts.Version.{Version}
 use Rattle.verdict_core.specs.declared.diagrams.Diagram.{Diagram}
 use Rattle.verdict_core.specs.declared.problem.ProblemText.{ProblemText}
 use Rattle.knot_text.specs.declared.shapes.ReplayText.{ReplayText}
@@ -22,7 +23,7 @@ use Rattle.knot_text.specs.declared.weights.TheConstants.{MAX_MODULUS}
 use Rattle.knot_text.specs.declared.weights.WeightText.{WeightText}
 use Rattle.verdict_core.specs.Names.{NamedQuandle}
 use Rattle.knot_text.specs.Quandles.{or_built_in}
-use Rattle.knot_text.specs.Printed.{moves_lines, HaveText, quandle_lines, HasQuandleText, verdict_lines, HasVerdictText, braid_lines}
+use Rattle.knot_text.specs.Printed.{moves_lines, HaveText, quandle_lines, HasQuandleText, version_lines, HasVersionText, braid_lines}
 use Rattle.knot_text.specs.Printed.{diagram_lines, HasDiagramText, colours_lines, step_tokens, steps_head, HaveStepsText}
 use Rattle.verdict_core.specs.Diagrams.{columns}
 
@@ -93,11 +94,11 @@ problem_lines listed p = diagram_lines p.first ++ (diagram_lines p.second ++ lis
 abbrev pub IsProblemText : List (List (List ℕ)) → ProblemText → Type 0
 IsProblemText lines p = (listed : List NamedQuandle) × HasProblemText listed p × (lines ≡ problem_lines listed p)
 
--- and a verdict on the two diagrams
+-- and a verdict on the two diagrams, of either version
 abbrev pub IsCheckText : List (List (List ℕ)) → ProblemText → Verdict → Type 0
 IsCheckText lines p v =
-    (listed : List NamedQuandle) × HasProblemText listed p × HasVerdictText (columns p.first) (columns p.second) v
-    × (lines ≡ problem_lines listed p ++ verdict_lines v)
+    (listed : List NamedQuandle) × HasProblemText listed p
+    × ((version : Version) × HasVersionText version (columns p.first) (columns p.second) v × (lines ≡ problem_lines listed p ++ version_lines version v))
 
 -- a quandle, and a colour for each of so many columns, or nothing
 abbrev pub given_lines : Option (NamedQuandle × ArrayVec ℕ) → List (List (List ℕ))

@@ -21,29 +21,30 @@ ghost use Rattle.knot_text.specs.Quandles.{built_in};
 ghost use Rattle.knot_text.specs.Numbers.{numbers_below};
 ghost use Rattle.knot_text.specs.Grids.{are_rows, x_at, o_at, grid_item};
 ghost use Rattle.knot_text.specs.Braids.{braid_at, braid_item};
-ghost use Rattle.knot_text.specs.Moves.{move_at, move_lines, moves_item};
+ghost use Rattle.knot_text.specs.Moves.{move_at, move_lines, tidy_moves, moves_item};
 ghost use Rattle.knot_text.specs.declared.quandles.TheConstants.{MAX_QUANDLES};
 ghost use Rattle.knot_text.specs.Quandles.{table_item, quandle_item, surplus_quandle, quandles, quandle_list};
 ghost use Rattle.knot_text.specs.Colours.{colours_at, colours_item, coloured};
-ghost use Rattle.knot_text.specs.Verdicts.{colour_line, list_item, verdict_item};
+ghost use Rattle.knot_text.specs.Verdicts.{moves_of, colour_line, list_item, verdict_of, version_at, verdict_item};
 ghost use Rattle.verdict_core.specs.Diagrams.{grid_of, columns};
 ghost use Rattle.knot_text.specs.Shapes.{diagram_item, problem_item, problem_in, check_in, replay_in, colour_in, close_in, lone_diagram_in, problem_of, check_of, replay_of, colour_of, close_of, lone_diagram_of};
 ghost use Rattle.knot_text.specs.Pairs.{pair_in, pair_of};
 ghost use Rattle.knot_text.specs.BraidSteps.{step_at, step_lines, steps_item};
 ghost use Rattle.knot_text.specs.BraidChecks.{braidcheck_in, braidcheck_of};
 ghost use Rattle.knot_text.specs.Weights.{modulus_at, cochain, cocycle_item, weight_in, weight_of};
-ghost use Rattle.knot_text.specs.Printed.{grid_text, braid_text, moves_text, verdict_lines, verdict_text, HaveText, HasVerdictText};
+ghost use Rattle.knot_text.specs.Printed.{grid_text, braid_text, moves_text, version_lines, version_text, HaveText, HasVersionText};
 ghost use Rattle.knot_text.specs.Printed.{grid_lines, moves_lines, quandle_lines, quandle_text, braid_lines, diagram_lines, colours_lines, colours_text, HasQuandleText, HasDiagramText};
 ghost use Rattle.knot_text.specs.Printed.{steps_text, HaveStepsText};
 ghost use Rattle.knot_text.specs.WrittenThere.{StandInFront, said_by, HasProblemText, problem_lines, IsProblemText, IsCheckText, HasReplayText, replay_lines, IsColourText, IsCloseText, IsPairText};
 ghost use Rattle.knot_text.specs.WrittenThere.{StepsInFront, IsBraidCheckText, HasWeightText, weight_lines};
-ghost use Rattle.knot_text.specs.LineKinds.{FailsByKind, x_kind, o_kind, colours_kind, below_kind, braid_kind, move_kind, step_kind, modulus_kind, read_fault, numbers_of, counted_kind, unknown_kind, name_kind, others, behind_word, surplus_kind};
+ghost use Rattle.knot_text.specs.LineKinds.{FailsByKind, x_kind, o_kind, colours_kind, below_kind, braid_kind, move_kind, step_kind, modulus_kind, certificate_kind, read_fault, numbers_of, counted_kind, unknown_kind, name_kind, others, behind_word, surplus_kind};
 ghost use Rattle.knot_text.specs.FirstLines.{count, table_fault, on_top, BeginsBy, BeginsWith, BeginsElse, FailsWith, FailsElse};
-ghost use Rattle.knot_text.specs.FirstLines.{lines_fault, rows_fault, item_then, end_fault, as_quandle};
+ghost use Rattle.knot_text.specs.FirstLines.{lines_fault, tidy_fault, rows_fault, item_then, end_fault, as_quandle};
 ghost use Rattle.knot_text.specs.FirstBadLine.{put_behind, IsStable, FailsFirst};
 
 use crate::braid_checks::BraidCheckText;
 use crate::shapes::{CloseText, ColourText, ReplayText};
+use crate::verdicts::Version;
 use crate::weights::WeightText;
 use braid_moves::BraidMove;
 use grid_moves::Move;
@@ -75,25 +76,25 @@ pub fn written_steps_are_read()
         → steps_item (text_from n (steps_text steps ++ more)) ≡ Ok (steps, text_from (n + (length steps + 1)) more) }
 {}
 
-/// A printed verdict is read back, whatever stands behind it, if it has a text behind two diagrams of these sizes.
+/// A printed verdict of either version is read back, whatever stands behind it, if it has a text behind two diagrams of these sizes.
 pub fn a_printed_verdict_is_read()
-    ensures { (n one two : ℕ) (v : Verdict) (more : List ℕ) → 1 ≤ one → 1 ≤ two → HasVerdictText one two v
-        → verdict_item one two (text_from n (verdict_text v ++ more)) ≡ Ok (v, text_from (n + length (verdict_lines v)) more) }
+    ensures { (version : Version) (n one two : ℕ) (v : Verdict) (more : List ℕ) → 1 ≤ one → 1 ≤ two → HasVersionText version one two v
+        → verdict_item one two (text_from n (version_text version v ++ more)) ≡ Ok (v, text_from (n + length (version_lines version v)) more) }
 {}
 
 /// A verdict that is printed behind the text of its problem is read with it, behind a line feed where the last line of
 /// the problem lacks one.
 pub fn a_verdict_behind_its_problem_is_read()
-    ensures whole { (bytes : List ℕ) (p : ProblemText) (v : Verdict) → are_whole_lines bytes ≡ true → problem_of bytes ≡ Ok p
-        → HasVerdictText (columns p.first) (columns p.second) v → check_of (bytes ++ verdict_text v) ≡ Ok (p, v) }
-    ensures feed { (bytes : List ℕ) (p : ProblemText) (v : Verdict) → are_whole_lines bytes ≡ false → problem_of bytes ≡ Ok p
-        → HasVerdictText (columns p.first) (columns p.second) v → check_of (bytes ++ (codes "\n" ++ verdict_text v)) ≡ Ok (p, v) }
+    ensures whole { (version : Version) (bytes : List ℕ) (p : ProblemText) (v : Verdict) → are_whole_lines bytes ≡ true → problem_of bytes ≡ Ok p
+        → HasVersionText version (columns p.first) (columns p.second) v → check_of (bytes ++ version_text version v) ≡ Ok (p, v) }
+    ensures feed { (version : Version) (bytes : List ℕ) (p : ProblemText) (v : Verdict) → are_whole_lines bytes ≡ false → problem_of bytes ≡ Ok p
+        → HasVersionText version (columns p.first) (columns p.second) v → check_of (bytes ++ (codes "\n" ++ version_text version v)) ≡ Ok (p, v) }
 {}
 
 /// Two printed grids and a printed verdict are a problem with the built-in list of quandles, and this verdict.
 pub fn a_printed_certificate_is_read()
-    ensures { (a b : Marks) (v : Verdict) → IsGrid a → IsGrid b → HasVerdictText (size a) (size b) v
-        → check_of (grid_text a ++ (grid_text b ++ verdict_text v))
+    ensures { (version : Version) (a b : Marks) (v : Verdict) → IsGrid a → IsGrid b → HasVersionText version (size a) (size b) v
+        → check_of (grid_text a ++ (grid_text b ++ version_text version v))
         ≡ Ok (record { first = diagram.Grid a; second = diagram.Grid b; quandles = built_in }, v) }
 {}
 
@@ -116,8 +117,8 @@ pub fn a_text_has_one_reading()
 pub fn a_printed_text_has_one_value()
     ensures grid { (d e : Marks) → IsGrid d → IsGrid e → grid_text d ≡ grid_text e → d ≡ e }
     ensures moves { (a b : List Move) → HaveText a → HaveText b → moves_text a ≡ moves_text b → a ≡ b }
-    ensures verdict { (one two : ℕ) (v w : Verdict) → 1 ≤ one → 1 ≤ two → HasVerdictText one two v → HasVerdictText one two w
-        → verdict_text v ≡ verdict_text w → v ≡ w }
+    ensures verdict { (one two : ℕ) (a b : Version) (v w : Verdict) → 1 ≤ one → 1 ≤ two → HasVersionText a one two v → HasVersionText b one two w
+        → version_text a v ≡ version_text b w → v ≡ w }
 {}
 
 /// Each fault is that of the first bad line: it names this line, all lines before are good, and no later line changes
@@ -145,6 +146,7 @@ pub fn a_line_fails_by_its_form_then_its_limits_then_its_content()
     ensures move_line { FailsByKind move_kind move_at }
     ensures step { FailsByKind step_kind step_at }
     ensures modulus { FailsByKind modulus_kind modulus_at }
+    ensures version { FailsByKind certificate_kind version_at }
 {}
 
 /// The rows that a line of Xs may have: two or more, and each number below their number once. So it is refused in its own
@@ -154,8 +156,8 @@ pub fn rows_are_each_number_once()
 {}
 
 /// An item fails by its first line, where that is no line of its kind, else by what this line asks for behind it: the other
-/// line of a grid, so many moves, steps or lines of colours, or the lines of a table. Its form, limits and content are
-/// those of `LineKinds`.
+/// line of a grid, so many moves, steps or lines of colours, the lines of a table, or behind `certificate` the verdict. Its form,
+/// limits and content are those of `LineKinds`.
 pub fn an_item_fails_by_its_first_line_first()
     ensures grid { BeginsBy x_kind (λ tokens text. lines_fault (o_kind (numbers_of tokens)) 1 text) grid_item }
     ensures braid { BeginsBy braid_kind (λ tokens text. None) braid_item }
@@ -170,17 +172,24 @@ pub fn an_item_fails_by_its_first_line_first()
     ensures surplus { BeginsBy surplus_kind (λ tokens text. None) surplus_quandle }
     ensures list { (width order : ℕ) → BeginsBy (counted_kind (codes "list") MAX_COLOURINGS)
         (λ tokens text. read_fault (in_turn (colour_line width order) (count tokens) text)) (list_item width order) }
-    ensures equal { (one two : ℕ) → BeginsWith (codes "equal") (counted_kind (codes "equal") MAX_NUMBER)
-        (λ tokens text. read_fault (move_lines (count tokens) text)) (verdict_item one two) }
-    ensures unknown { (one two : ℕ) → BeginsWith (codes "unknown") unknown_kind (λ tokens text. None) (verdict_item one two) }
-    ensures different { (one two : ℕ) → FailsWith (codes "different") (behind_word (codes "different") name_kind) (verdict_item one two) }
-    ensures other { (one two : ℕ) → FailsElse (codes "equal" ∷ codes "different" ∷ codes "unknown" ∷ []) (verdict_item one two) }
+    ensures equal { (version : Version) (one two : ℕ) → BeginsWith (codes "equal") (counted_kind (codes "equal") MAX_NUMBER)
+        (λ tokens text. read_fault (moves_of version (count tokens) text)) (verdict_of version one two) }
+    ensures unknown { (version : Version) (one two : ℕ) → BeginsWith (codes "unknown") unknown_kind (λ tokens text. None) (verdict_of version one two) }
+    ensures different { (version : Version) (one two : ℕ)
+        → FailsWith (codes "different") (behind_word (codes "different") name_kind) (verdict_of version one two) }
+    ensures other { (version : Version) (one two : ℕ)
+        → FailsElse (codes "equal" ∷ codes "different" ∷ codes "unknown" ∷ []) (verdict_of version one two) }
+    ensures certificate { (one two : ℕ) → BeginsWith (codes "certificate") certificate_kind
+        (λ tokens text. read_fault (verdict_of Version.Tidy one two text)) (verdict_item one two) }
+    ensures plain { (one two : ℕ) (line : NumberedLine) (text : Text) → starts (codes "certificate") line.tokens ≡ false
+        → read_fault (verdict_item one two (on_top line text)) ≡ read_fault (verdict_of Version.Plain one two (on_top line text)) }
 {}
 
 /// Lines of one kind, one behind the other, fail by the first of them that is no line of this kind; that a table is one of a
-/// quandle is part of the content of its last line.
+/// quandle is part of the content of its last line, and that a move may follow on the one before it in a tidy list of its own line's.
 pub fn lines_of_a_kind_fail_in_turn()
     ensures moves { (count : ℕ) (text : Text) → read_fault (move_lines count text) ≡ lines_fault move_kind count text }
+    ensures tidy { (count : ℕ) (text : Text) → read_fault (tidy_moves None count text) ≡ tidy_fault count text }
     ensures steps { (count : ℕ) (text : Text) → read_fault (step_lines count text) ≡ lines_fault step_kind count text }
     ensures list { (width order count : ℕ) (text : Text)
         → read_fault (in_turn (colour_line width order) count text) ≡ lines_fault (below_kind width order) count text }
@@ -215,8 +224,8 @@ pub fn a_text_fails_by_its_items_in_turn()
     ensures listed { (room : ℕ) (text : Text) → read_fault (quandles (suc room) text) ≡ (if begins (codes "quandle") text
         then item_then (quandle_item text) (λ q text. read_fault (quandles room text)) else None) }
     ensures full { (text : Text) → read_fault (quandles 0 text) ≡ (if begins (codes "quandle") text then read_fault (surplus_quandle text) else None) }
-    ensures different { (one two : ℕ) (line : NumberedLine) (text : Text) → starts (codes "different") line.tokens ≡ true
-        → read_fault (verdict_item one two (on_top line text)) ≡ item_then (quandle_item (on_top (as_quandle line) text))
+    ensures different { (version : Version) (one two : ℕ) (line : NumberedLine) (text : Text) → starts (codes "different") line.tokens ≡ true
+        → read_fault (verdict_of version one two (on_top line text)) ≡ item_then (quandle_item (on_top (as_quandle line) text))
         (λ q text. item_then (list_item one q.table.order text) (λ list text. read_fault (list_item two q.table.order text))) }
 {}
 
@@ -272,7 +281,8 @@ pub fn what_is_read_is_written_there()
     ensures colours { (width order : ℕ) (text : Text) (c : ArrayVec ℕ) (rest : Text) → width ≤ MAX_SIZE → order ≤ MAX_ORDER
         → colours_item width order text ≡ Ok (c, rest) ↔ (AreColours width order c.items × StandInFront (colours_lines c) text rest) }
     ensures verdict { (one two : ℕ) (text : Text) (v : Verdict) (rest : Text)
-        → verdict_item one two text ≡ Ok (v, rest) ↔ (HasVerdictText one two v × StandInFront (verdict_lines v) text rest) }
+        → verdict_item one two text ≡ Ok (v, rest)
+        ↔ ((version : Version) × (HasVersionText version one two v × StandInFront (version_lines version v) text rest)) }
 {}
 
 /// A text is read as a value exactly where the value has a text and the lines that say something are the lines of this
@@ -307,6 +317,7 @@ pub fn a_printed_replay_is_read()
 pub fn a_printed_problem_is_read()
     ensures problem { (listed : List NamedQuandle) (p : ProblemText) → HasProblemText listed p
         → problem_of (lines_text (problem_lines listed p)) ≡ Ok p }
-    ensures check { (listed : List NamedQuandle) (p : ProblemText) (v : Verdict) → HasProblemText listed p
-        → HasVerdictText (columns p.first) (columns p.second) v → check_of (lines_text (problem_lines listed p ++ verdict_lines v)) ≡ Ok (p, v) }
+    ensures check { (version : Version) (listed : List NamedQuandle) (p : ProblemText) (v : Verdict) → HasProblemText listed p
+        → HasVersionText version (columns p.first) (columns p.second) v
+        → check_of (lines_text (problem_lines listed p ++ version_lines version v)) ≡ Ok (p, v) }
 {}

@@ -34,4 +34,5 @@ pub use shapes::{
     read_problem, read_replay,
 };
 pub use verdict_core::{Diagram, Listed, ProblemText, QuandleName, Verdict};
+pub use verdicts::{TIDY_VERSION, Version};
 pub use weights::{WeightText, read_weights};

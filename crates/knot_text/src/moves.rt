@@ -1,14 +1,14 @@
 //! Moves, a line each, and the item of several.
-ghost use Rattle.std.specs.Prelude.{◌≡◌};
+ghost use Rattle.std.specs.Prelude.{◌≡◌, None};
 ghost use Rattle.knot_text.specs.Reading.{Gives};
-ghost use Rattle.knot_text.specs.Moves.{last_place, shift, exchange, slide, kind_at, corner_at, stabilise, destabilise, move_at, next_move, move_lines, moves_item};
+ghost use Rattle.knot_text.specs.Moves.{last_place, shift, exchange, slide, kind_at, corner_at, stabilise, destabilise, move_at, next_move, move_lines, tidy_move_at, tidy_move, tidy_moves, moves_item};
 
 use crate::fault::TextFault;
 use crate::reading::{
     last_count, last_number, line_end, next_line, next_token, number, place, word,
 };
 use grid_core::{Corner, Kind};
-use grid_moves::Move;
+use grid_moves::{Move, may_follow};
 use std::alloc::Global;
 use text_lines::{Line, Lines};
 
@@ -182,6 +182,47 @@ pub(crate) fn move_lines(
     let mut moves = Vec::new(alloc);
     for _ in 0..count {
         moves.push(next_move(lines)?)?;
+    }
+    Ok(moves)
+}
+
+/// A move of a tidy list, which may follow on the move before it.
+#[tactic(auto, unfolding(crate::specs::Moves::tidy_move_at))]
+fn tidy_move_at(before: Option<Move>, line: &mut Line) -> Result<Move, TextFault>
+    ensures { Gives (λ m. m) result (tidy_move_at before line.old) }
+{
+    let number = line.number();
+    let step = move_at(line)?;
+    if may_follow(before, step) {
+        Ok(step)
+    } else {
+        Err(TextFault::Malformed { line: number })
+    }
+}
+
+/// The next move of a tidy list.
+#[tactic(auto, unfolding(crate::specs::Moves::tidy_move))]
+fn tidy_move(before: Option<Move>, lines: &mut Lines) -> Result<Move, TextFault>
+    ensures { Gives (λ m. (m, lines.new)) result (tidy_move before lines.old) }
+{
+    let mut line = next_line(lines)?;
+    tidy_move_at(before, &mut line)
+}
+
+/// So many moves of a tidy list, a line each.
+pub(crate) fn tidy_moves(
+    alloc: Global,
+    count: u32,
+    lines: &mut Lines,
+) -> Result<Vec<Move>, TextFault>
+    ensures { Gives (λ v. (v.items, lines.new)) result (tidy_moves None count lines.old) }
+{
+    let mut moves = Vec::new(alloc);
+    let mut before = None;
+    for _ in 0..count {
+        let step = tidy_move(before, lines)?;
+        moves.push(step)?;
+        before = Some(step);
     }
     Ok(moves)
 }

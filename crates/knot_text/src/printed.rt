@@ -6,9 +6,11 @@ ghost use Rattle.quandle_core.specs.Quandle.{over};
 ghost use Rattle.text_lines.specs.Spelled.{line_text, lines_text};
 ghost use Rattle.text_lines.specs.Appended.{AppendsPart};
 ghost use Rattle.verdict_core.specs.Names.{NamedQuandle};
-ghost use Rattle.knot_text.specs.Printed.{kind_word, corner_word, grid_text, move_tokens, moves_lines, moves_text, row_tokens, table_lines, quandle_lines, name_tokens, list_lines, verdict_text};
+ghost use Rattle.knot_text.specs.Printed.{kind_word, corner_word, grid_text, move_tokens, moves_lines, moves_text, row_tokens, table_lines, quandle_lines, name_tokens, list_lines, verdict_lines, version_text};
+ghost use Rattle.verdict_core.specs.Evidence.{IsTidyVerdict};
 
 use crate::colour_lines::push_colour_line;
+use crate::verdicts::{TIDY_VERSION, Version};
 use arrayvec::ArrayVec;
 use colour_rows::Colouring;
 use grid_core::{Corner, Grid, Kind};
@@ -40,22 +42,24 @@ pub fn print_moves(alloc: Global, moves: &[Move]) -> Result<Vec<u8>, OutOfMemory
     Ok(out)
 }
 
-/// The text of a verdict, with its evidence; or want of memory.
+/// The text of a verdict, with its evidence, behind the line `certificate 2`; or want of memory. Its list of moves, if it has one, is tidy.
 ///
 /// It is read back behind two diagrams wherever its numbers are at most `MAX_NUMBER`, a list has at most `MAX_COLOURINGS`
 /// members, each with a colour below the order for each column of its diagram, and an Alexander quandle's factor is below
 /// its order.
 pub fn print_verdict(alloc: Global, verdict: &Verdict) -> Result<Vec<u8>, OutOfMemory>
-    ensures { IfOk result (λ v. v.items ≡ verdict_text verdict.now) }
+    requires { IsTidyVerdict verdict.now }
+    ensures { IfOk result (λ v. v.items ≡ version_text Version.Tidy verdict.now) }
 {
     let mut out = Vec::new(alloc);
+    push_counted(&mut out, b"certificate ", u64::from(TIDY_VERSION))?;
     push_verdict(&mut out, verdict)?;
     Ok(out)
 }
 
 /// Appends a verdict.
 fn push_verdict(out: &mut Vec<u8>, verdict: &Verdict) -> Result<(), AllocError>
-    ensures { OnOk result (out.new.items ≡ out.old.items ++ verdict_text verdict.now) }
+    ensures { OnOk result (out.new.items ≡ out.old.items ++ lines_text (verdict_lines verdict.now)) }
 {
     match verdict {
         Verdict::Equal(moves) => push_equal(out, moves.as_slice()),

@@ -2,10 +2,10 @@
 ghost use Rattle.std.specs.Prelude.{◌≡◌, ◌≤◌};
 ghost use Rattle.grid_core.specs.declared.grid.TheConstants.{MAX_SIZE};
 ghost use Rattle.knot_text.specs.Reading.{Gives, in_turn};
-ghost use Rattle.knot_text.specs.Verdicts.{equal_at, colour_line, list_item, different_at, budget_at, exhausted_at, unknown_at, unknown_item, verdict_item};
+ghost use Rattle.knot_text.specs.Verdicts.{moves_of, equal_at, colour_line, list_item, different_at, budget_at, exhausted_at, unknown_at, unknown_item, verdict_of, version_at, tidy_item, plain_item, versioned_item, verdict_item};
 
 use crate::fault::TextFault;
-use crate::moves::move_lines;
+use crate::moves::{move_lines, tidy_moves};
 use crate::numbers::numbers_below;
 use crate::quandles::quandle_at;
 use crate::reading::{
@@ -14,17 +14,50 @@ use crate::reading::{
 use colour_list::MAX_COLOURINGS;
 use colour_rows::Colouring;
 use grid_core::Items;
+use grid_moves::Move;
 use std::alloc::Global;
 use text_lines::{Line, Lines};
 use verdict_core::Verdict;
 
+/// The number in the head line of a verdict whose list of moves is tidy.
+pub const TIDY_VERSION: u32 = 2;
+
+/// The two texts that a verdict has.
+#[derive(Clone, Copy, Debug, PartialEq, Eq)]
+pub enum Version {
+    /// Without a head line: any list of moves may stand in it.
+    Plain,
+    /// Behind the line `certificate 2`: its list of moves is tidy.
+    Tidy,
+}
+
+/// So many moves.
+fn moves_of(
+    alloc: Global,
+    version: Version,
+    count: u32,
+    lines: &mut Lines,
+) -> Result<Vec<Move>, TextFault>
+    ensures { Gives (λ v. (v.items, lines.new)) result (moves_of version count lines.old) }
+{
+    match version {
+        Version::Plain => move_lines(alloc, count, lines),
+        Version::Tidy => tidy_moves(alloc, count, lines),
+    }
+}
+
 /// A number of moves, and the moves.
 #[tactic(auto, unfolding(crate::specs::Verdicts::equal_at))]
-fn equal_at(alloc: Global, line: &mut Line, lines: &mut Lines) -> Result<Verdict, TextFault>
-    ensures { Gives (λ v. (v, lines.new)) result (equal_at line.old lines.old) }
+fn equal_at(
+    alloc: Global,
+    version: Version,
+    line: &mut Line,
+    lines: &mut Lines,
+) -> Result<Verdict, TextFault>
+    ensures { Gives (λ v. (v, lines.new)) result (equal_at version line.old lines.old) }
 {
     let count = last_count(line)?;
-    let moves = move_lines(alloc, count, lines)?;
+    let moves = moves_of(alloc, version, count, lines)?;
     Ok(Verdict::Equal(Items::from_vec(moves)))
 }
 
@@ -137,21 +170,22 @@ fn unknown_at(line: &mut Line) -> Result<Verdict, TextFault>
     }
 }
 
-/// A verdict on two diagrams with so many columns.
-#[tactic(auto, unfolding(crate::specs::Verdicts::verdict_item, crate::specs::Verdicts::unknown_item))]
-pub(crate) fn verdict_item(
+/// A verdict of a version, on two diagrams with so many columns.
+#[tactic(auto, unfolding(crate::specs::Verdicts::verdict_of, crate::specs::Verdicts::unknown_item))]
+fn verdict_of(
     alloc: Global,
+    version: Version,
     first_width: u8,
     second_width: u8,
     lines: &mut Lines,
 ) -> Result<Verdict, TextFault>
     requires { (first_width ≤ MAX_SIZE) × (second_width ≤ MAX_SIZE) }
-    ensures { Gives (λ v. (v, lines.new)) result (verdict_item first_width second_width lines.old) }
+    ensures { Gives (λ v. (v, lines.new)) result (verdict_of version first_width second_width lines.old) }
 {
     let mut line = next_line(lines)?;
     let kind = next_token(&mut line)?;
     if kind == b"equal".as_slice() {
-        equal_at(alloc, &mut line, lines)
+        equal_at(alloc, version, &mut line, lines)
     } else if kind == b"different".as_slice() {
         different_at(alloc, first_width, second_width, &mut line, lines)
     } else if kind == b"unknown".as_slice() {
@@ -161,4 +195,83 @@ pub(crate) fn verdict_item(
             line: line.number(),
         })
     }
+}
+
+/// The line `certificate 2`.
+#[tactic(auto, unfolding(crate::specs::Verdicts::version_at))]
+fn version_at(line: &mut Line) -> Result<(), TextFault>
+    ensures { Gives (λ _. tt) result (version_at line.old) }
+{
+    let number = line.number();
+    word(line, b"certificate")?;
+    if last_count(line)? == TIDY_VERSION {
+        Ok(())
+    } else {
+        Err(TextFault::Malformed { line: number })
+    }
+}
+
+/// A verdict of the second version, behind its head line.
+#[tactic(auto, unfolding(crate::specs::Verdicts::tidy_item))]
+fn tidy_item(
+    alloc: Global,
+    first_width: u8,
+    second_width: u8,
+    lines: &mut Lines,
+) -> Result<(Version, Verdict), TextFault>
+    requires { (first_width ≤ MAX_SIZE) × (second_width ≤ MAX_SIZE) }
+    ensures { Gives (λ v. (v, lines.new)) result (tidy_item first_width second_width lines.old) }
+{
+    let mut line = next_line(lines)?;
+    version_at(&mut line)?;
+    let verdict = verdict_of(alloc, Version::Tidy, first_width, second_width, lines)?;
+    Ok((Version::Tidy, verdict))
+}
+
+/// A verdict of the first version.
+#[tactic(auto, unfolding(crate::specs::Verdicts::plain_item))]
+fn plain_item(
+    alloc: Global,
+    first_width: u8,
+    second_width: u8,
+    lines: &mut Lines,
+) -> Result<(Version, Verdict), TextFault>
+    requires { (first_width ≤ MAX_SIZE) × (second_width ≤ MAX_SIZE) }
+    ensures { Gives (λ v. (v, lines.new)) result (plain_item first_width second_width lines.old) }
+{
+    let verdict = verdict_of(alloc, Version::Plain, first_width, second_width, lines)?;
+    Ok((Version::Plain, verdict))
+}
+
+/// A verdict with its version.
+#[tactic(auto, unfolding(crate::specs::Verdicts::versioned_item))]
+fn versioned_item(
+    alloc: Global,
+    first_width: u8,
+    second_width: u8,
+    lines: &mut Lines,
+) -> Result<(Version, Verdict), TextFault>
+    requires { (first_width ≤ MAX_SIZE) × (second_width ≤ MAX_SIZE) }
+    ensures { Gives (λ v. (v, lines.new)) result (versioned_item first_width second_width lines.old) }
+{
+    if lines.begins(b"certificate") {
+        tidy_item(alloc, first_width, second_width, lines)
+    } else {
+        plain_item(alloc, first_width, second_width, lines)
+    }
+}
+
+/// A verdict of either version, on two diagrams with so many columns.
+#[tactic(auto, unfolding(crate::specs::Verdicts::verdict_item))]
+pub(crate) fn verdict_item(
+    alloc: Global,
+    first_width: u8,
+    second_width: u8,
+    lines: &mut Lines,
+) -> Result<Verdict, TextFault>
+    requires { (first_width ≤ MAX_SIZE) × (second_width ≤ MAX_SIZE) }
+    ensures { Gives (λ v. (v, lines.new)) result (verdict_item first_width second_width lines.old) }
+{
+    let (_, verdict) = versioned_item(alloc, first_width, second_width, lines)?;
+    Ok(verdict)
 }

@@ -2,6 +2,7 @@
 use Rattle.std.specs.Prelude.{◌≡◌, ◌≢◌, ℕ, true, List, length}
 use Rattle.grid_core.specs.Diagram.{Diagram}
 use Rattle.grid_moves.specs.Joining.{Joins, Equivalent}
+use Rattle.grid_moves.specs.Tidy.{is_tidy}
 use Rattle.quandle_core.specs.Quandle.{Table}
 use Rattle.colour_list.specs.Fits.{fits}
 use Rattle.colour_list.specs.Listing.{colourings, lists_of}
@@ -41,3 +42,10 @@ Claims d e (UnknownExhausted cap admitted) = Unit {0}
 abbrev pub HasLists : Verdict → Type 0
 HasLists (Different listed one two) = Unit {0}
 HasLists _ = ⊥
+
+-- the moves of the verdict, if it has any, are a tidy list
+abbrev pub IsTidyVerdict : Verdict → Type 0
+IsTidyVerdict (Equal moves) = is_tidy moves ≡ true
+IsTidyVerdict (Different listed one two) = Unit {0}
+IsTidyVerdict (UnknownBudget budget) = Unit {0}
+IsTidyVerdict (UnknownExhausted cap admitted) = Unit {0}

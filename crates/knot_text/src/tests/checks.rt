@@ -32,6 +32,48 @@ fn a_verdict_is_due(rt: HostRuntime) -> Result<(), Fail> {
     Ok(())
 }
 
+/// Version 2: the line `certificate 2`, and a tidy list of moves.
+#[test]
+fn lists_of_version_2_are_tidy(rt: HostRuntime) -> Result<(), Fail> {
+    let rows: [(&[u8], Option<TextFault>); 16] = [
+        (b"certificate 2\n", malformed(6)),
+        (b"certificate 2\nequal 0\n", None),
+        (b"certificate 2\nunknown budget 2\n", None),
+        (b"certificate 2\ncertificate 2\nequal 0\n", malformed(6)),
+        (b"certificate 2 2\nequal 0\n", malformed(5)),
+        (b"certificate\nequal 0\n", malformed(5)),
+        (b"certificate 1\nequal 0\n", malformed(5)),
+        (b"certificate 3\nequal 0\n", malformed(5)),
+        (b"certificate 999999999\nequal 0\n", malformed(5)),
+        (b"certificate 1000000000\nequal 0\n", limit(5)),
+        (b"certificate 2\nquandle trivial 2\nequal 0\n", malformed(6)),
+        (
+            b"certificate 2\nequal 2\nshift columns 0\nshift rows 0\n",
+            None,
+        ),
+        (
+            b"certificate 2\nequal 2\nshift rows 0\nshift columns 0\n",
+            malformed(8),
+        ),
+        (
+            b"certificate 2\nequal 2\nshift columns 0\nshift columns 0\n",
+            malformed(8),
+        ),
+        (
+            b"certificate 2\nequal 3\nshift rows 0\nslide rows 0\nshift rows 0\n",
+            None,
+        ),
+        (
+            b"certificate 2\nequal 2\nshift rows 1\nshift rows 256\n",
+            limit(8),
+        ),
+    ];
+    for (tail, fault) in rows {
+        assert_eq!(rt; fault_behind(rt.alloc(), tail)?, fault);
+    }
+    Ok(())
+}
+
 #[test]
 fn unknown_verdicts_have_their_numbers(rt: HostRuntime) -> Result<(), Fail> {
     let rows: [(&[u8], Option<TextFault>); 8] = [

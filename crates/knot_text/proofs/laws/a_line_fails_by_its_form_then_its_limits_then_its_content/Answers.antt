@@ -2,7 +2,7 @@ use Rattle.knot_text.proofs.LineFaults.{x_fails, o_fails, colours_fail, below_fa
 use Rattle.knot_text.proofs.BraidFaults.{braid_fails}
 use Rattle.knot_text.proofs.MoveFaults.{move_fails}
 use Rattle.knot_text.proofs.StepFaults.{step_fails}
-use Rattle.knot_text.proofs.FirstItems.{modulus_fails}
+use Rattle.knot_text.proofs.FirstItems.{modulus_fails, version_fails}
 use Rattle.knot_text.proofs.laws.a_line_fails_by_its_form_then_its_limits_then_its_content.Goals as goal
 
 pub returns : goal.returns
@@ -15,4 +15,5 @@ returns c = record {
   move_line = move_fails;
   step = step_fails;
   modulus = modulus_fails;
+  version = version_fails;
 }

@@ -1,6 +1,6 @@
 use Rattle.knot_text.proofs.HeadFaults.{moves_begin, steps_begin, list_begins, equal_begins, unknown_begins}
 use Rattle.knot_text.proofs.NameFaults.{quandle_begins, different_fails, others_fail}
-use Rattle.knot_text.proofs.FirstItems.{grid_begins, braid_begins, braid_diagram_begins, grid_diagram_begins, colours_begin, cocycle_begins}
+use Rattle.knot_text.proofs.FirstItems.{grid_begins, braid_begins, braid_diagram_begins, grid_diagram_begins, colours_begin, cocycle_begins, certificate_begins, plain_begins}
 use Rattle.knot_text.proofs.SurplusFaults.{surplus_begins}
 use Rattle.knot_text.proofs.laws.an_item_fails_by_its_first_line_first.Goals as goal
 
@@ -21,4 +21,6 @@ returns c = record {
   unknown = unknown_begins;
   different = different_fails;
   other = others_fail;
+  certificate = certificate_begins;
+  plain = plain_begins;
 }

@@ -31,4 +31,7 @@ returns-clause-colours c = λ width order text colours rest fits most.
     ((colours_say width order text).of (colours, rest), λ w. colours_written width order text colours rest fits most w.0 w.1)
 
 pub returns-clause-verdict : goal.returns-clause-verdict
-returns-clause-verdict c = λ one two text v rest. ((verdict_says one two text).of (v, rest), λ w. verdict_written one two text v rest w.0 w.1)
+returns-clause-verdict c = λ one two text v rest. (
+  (λ is. let judged = (verdict_says one two text).of (v, rest) is in (judged.version, (judged.has, judged.there))),
+  (λ w. verdict_written w.0 one two text v rest w.1.0 w.1.1),
+)
