@@ -11,7 +11,8 @@ use Rattle.verdict_core.specs.declared.verdict.Verdict.TheVariants.{Equal, Diffe
 use Rattle.knot_text.specs.declared.reading.TheConstants.{MAX_NUMBER}
 use Rattle.verdict_core.specs.Names.{NamedQuandle}
 use Rattle.knot_text.specs.Quandles.{built_in, or_built_in}
-use Rattle.knot_text.specs.Printed.{move_tokens, moves_lines, verdict_text, HasQuandleText, HasVerdictText}
+use Rattle.knot_text.specs.Printed.{move_tokens, version_lines, version_text, HasQuandleText, HasVersionText}
+use Rattle.knot_text.specs.declared.verdicts.Version.TheVariants.{Tidy}
 use Rattle.verdict_core.specs.Diagrams.{grid_of, columns}
 use Rattle.knot_text.specs.Shapes.{problem_of, check_of}
 use Rattle.knot_text.proofs.ShapesSay.{problem_in_says}
@@ -65,11 +66,11 @@ quandles_text bytes p is =
 -- the law that a decision has a text
 abbrev pub HaveTexts : Type 0
 HaveTexts = (p : Problem) (quandles : List NamedQuandle) (workers : ℕ) (v : Verdict) (kept : Option Finding) → IsGrid p.first → IsGrid p.second
-    → AllByRecursion HasQuandleText quandles → Decides p quandles workers v kept → IsShort v → HasVerdictText (size p.first) (size p.second) v
+    → AllByRecursion HasQuandleText quandles → Decides p quandles workers v kept → IsShort v → HasVersionText Tidy (size p.first) (size p.second) v
 
 pub has_text : HaveTexts → (bytes : List ℕ) (asked : Asked) (input : ProblemText) (workers : ℕ) (v : Verdict) (kept : Option Finding) → problem_of bytes ≡ Ok input
     → Decides (problem_for asked (grid_of input.first) (grid_of input.second)) input.quandles workers v kept
-    → IsShort v → HasVerdictText (columns input.first) (columns input.second) v
+    → IsShort v → HasVersionText Tidy (columns input.first) (columns input.second) v
 has_text texts bytes asked input workers v kept read decides short =
     let p = problem_for asked (grid_of input.first) (grid_of input.second) in
     let grids = grids_of_problem bytes input read in
@@ -87,21 +88,21 @@ lines_length (line ∷ lines) =
     omega (arith, rest, all, one, feed)
 
 -- a text that fits into an input has few moves
-pub short : (bytes : List ℕ) (v : Verdict) → IsWithin (limit_of Check) (put_behind bytes (verdict_text v)) → IsShort v
+pub short : (bytes : List ℕ) (v : Verdict) → IsWithin (limit_of Check) (put_behind bytes (version_text Tidy v)) → IsShort v
 short bytes (Equal moves) fits = by (are_whole_lines bytes) fits
   where
-    by : (t : Bool) → IsWithin (limit_of Check) (if t then bytes ++ verdict_text (Equal moves) else bytes ++ (codes "\n" ++ verdict_text (Equal moves)))
+    by : (t : Bool) → IsWithin (limit_of Check) (if t then bytes ++ version_text Tidy (Equal moves) else bytes ++ (codes "\n" ++ version_text Tidy (Equal moves)))
         → length moves ≤ MAX_NUMBER
     by true fits =
-        let lines = lines_length (moves_lines (codes "equal") moves) in
+        let lines = lines_length (version_lines Tidy (Equal moves)) in
         let each = length-map moves move_tokens in
-        let all = length-append bytes (verdict_text (Equal moves)) in
+        let all = length-append bytes (version_text Tidy (Equal moves)) in
         omega (arith, lines, each, all, fits)
     by false fits =
-        let lines = lines_length (moves_lines (codes "equal") moves) in
+        let lines = lines_length (version_lines Tidy (Equal moves)) in
         let each = length-map moves move_tokens in
-        let all = length-append bytes (codes "\n" ++ verdict_text (Equal moves)) in
-        let more = length-append (codes "\n") (verdict_text (Equal moves)) in
+        let all = length-append bytes (codes "\n" ++ version_text Tidy (Equal moves)) in
+        let more = length-append (codes "\n") (version_text Tidy (Equal moves)) in
         omega (arith, lines, each, all, more, fits)
 short bytes (Different listed one two) fits = search rules
 short bytes (UnknownBudget budget) fits = search rules
@@ -118,14 +119,14 @@ accepted_read : (p : ProblemText) (v : Verdict) (read : Result (ProblemText × V
 accepted_read p v read is holds = subst IsAccepted (sym is) (record { ruling = Accepted; rules = holds; is = refl })
 
 by_lines : (bytes : List ℕ) (p : ProblemText) (v : Verdict) (t : Bool) → are_whole_lines bytes ≡ t → problem_of bytes ≡ Ok p
-    → HasVerdictText (columns p.first) (columns p.second) v
-    → check_of (if t then bytes ++ verdict_text v else bytes ++ (codes "\n" ++ verdict_text v)) ≡ Ok (p, v)
-by_lines bytes p v true whole is text = verdict_behind bytes p v whole is text
-by_lines bytes p v false lacks is text = verdict_behind_feed bytes p v lacks is text
+    → HasVersionText Tidy (columns p.first) (columns p.second) v
+    → check_of (if t then bytes ++ version_text Tidy v else bytes ++ (codes "\n" ++ version_text Tidy v)) ≡ Ok (p, v)
+by_lines bytes p v true whole is text = verdict_behind Tidy bytes p v whole is text
+by_lines bytes p v false lacks is text = verdict_behind_feed Tidy bytes p v lacks is text
 
 pub accepted_behind : (bytes : List ℕ) (p : ProblemText) (v : Verdict) → problem_of bytes ≡ Ok p
-    → (IsShort v → HasVerdictText (columns p.first) (columns p.second) v) → Holds (grid_of p.first) (grid_of p.second) v
-    → IsAcceptedBehind bytes (verdict_text v)
+    → (IsShort v → HasVersionText Tidy (columns p.first) (columns p.second) v) → Holds (grid_of p.first) (grid_of p.second) v
+    → IsAcceptedBehind bytes (version_text Tidy v)
 accepted_behind bytes p v is text holds = λ fits.
     let read = by_lines bytes p v (are_whole_lines bytes) refl is (text (short bytes v fits)) in
-    accepted_read p v (check_of (put_behind bytes (verdict_text v))) read holds
+    accepted_read p v (check_of (put_behind bytes (version_text Tidy v))) read holds

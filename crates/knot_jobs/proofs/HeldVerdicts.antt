@@ -6,10 +6,11 @@ use Rattle.verdict_core.specs.declared.problem.ProblemText.{ProblemText}
 use Rattle.verdict_core.specs.declared.verdict.Verdict.{Verdict}
 use Rattle.verdict_core.specs.declared.verdict.Verdict.TheVariants.{Equal, Different, UnknownBudget, UnknownExhausted}
 use Rattle.verdict_core.specs.Diagrams.{grid_of}
-use Rattle.verdict_core.specs.Evidence.{Claims, Holds, HasEvidence}
+use Rattle.verdict_core.specs.Evidence.{Claims, Holds, HasEvidence, IsTidyVerdict}
 use Rattle.verdict_core.proofs.Named.{named_is}
 use Rattle.verdict_core.proofs.ToldApart.{told_apart}
-use Rattle.knot_text.specs.Printed.{verdict_text}
+use Rattle.knot_text.specs.Printed.{version_text}
+use Rattle.knot_text.specs.declared.verdicts.Version.TheVariants.{Tidy}
 use Rattle.knot_text.specs.Shapes.{problem_of}
 use Rattle.knot_jobs.specs.Truth.{IsDecision, IsByWrittenQuandle}
 use Rattle.knot_jobs.proofs.Grids.{grids_of_problem}
@@ -31,8 +32,8 @@ true_of d e (UnknownBudget budget) written holds = absurd holds
 true_of d e (UnknownExhausted cap k) written holds = absurd holds
 
 pub held_decides : FewColourings → (bytes : List ℕ) (p : ProblemText) (v : Verdict) → problem_of bytes ≡ Ok p
-    → Holds (grid_of p.first) (grid_of p.second) v → IsByWrittenQuandle v → IsDecision bytes (verdict_text v)
-held_decides few bytes p v read holds written =
+    → Holds (grid_of p.first) (grid_of p.second) v → IsByWrittenQuandle v → IsTidyVerdict v → IsDecision bytes (version_text Tidy v)
+held_decides few bytes p v read holds written tidy =
     let d = grid_of p.first in
     let e = grid_of p.second in
     let grids = grids_of_problem bytes p read in
@@ -44,5 +45,5 @@ held_decides few bytes p v read holds written =
       evidence = evident d e v holds;
       holds = holds;
       is_true = true_of d e v written holds;
-      accepted = accepted_behind bytes p v read (λ short. held_text few d e v grids.0 grids.1 written holds short) holds;
+      accepted = accepted_behind bytes p v read (λ short. (held_text few d e v grids.0 grids.1 written holds short, tidy)) holds;
     }

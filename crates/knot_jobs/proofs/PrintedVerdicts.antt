@@ -17,7 +17,9 @@ use Rattle.knot_text.specs.declared.reading.TheConstants.{MAX_NUMBER}
 use Rattle.verdict_core.specs.Names.{NamedQuandle}
 use Rattle.verdict_core.specs.declared.verdict.Verdict.{Verdict}
 use Rattle.verdict_core.specs.declared.verdict.Verdict.TheVariants.{Equal, Different, UnknownBudget, UnknownExhausted}
-use Rattle.knot_text.specs.Printed.{HasMoveText, HaveText, HasListText, HasQuandleText, HasVerdictText}
+use Rattle.knot_text.specs.Printed.{HasMoveText, HaveText, HasListText, HasQuandleText, HasVerdictText, HasVersionText}
+use Rattle.knot_text.specs.declared.verdicts.Version.TheVariants.{Tidy}
+use Rattle.pair_verdict.proofs.AnswerKinds.{tidy_where_decided}
 use Rattle.grid_moves.proofs.Within.{within_joins}
 use Rattle.grid_core.specs.declared.grid.TheConstants.{MAX_SIZE}
 use Rattle.search_book.specs.declared.problem.TheConstants.{MAX_BUDGET}
@@ -147,15 +149,18 @@ searched_text p (UnknownExhausted cap k) small most is short =
 
 -- of a decision
 pub decided_text : FewColourings → (p : Problem) (qs : List NamedQuandle) (workers : ℕ) (v : Verdict) (kept : Option Finding) → IsGrid p.first → IsGrid p.second
-    → AllByRecursion HasQuandleText qs → Decides p qs workers v kept → IsShort v → HasVerdictText (size p.first) (size p.second) v
-decided_text few p qs workers v kept first second named decides short = elim decides [
-  | inl told ↦
-      different_text few p.first p.second told.quandle v first second (found HasQuandleText (separated p) qs told.quandle named told.first_that_does)
-      (find_passes (separated p) qs told.quandle told.first_that_does) told.lists
-  | inr was ↦
-      let problem : IsProblem (searched p was.one was.two) = subst IsProblem was.found.problem was.found.sound.problem in
-      searched_text p v problem.cap problem.most was.true_within short
-]
+    → AllByRecursion HasQuandleText qs → Decides p qs workers v kept → IsShort v → HasVersionText Tidy (size p.first) (size p.second) v
+decided_text few p qs workers v kept first second named decides short = (plain, tidy_where_decided p qs workers v kept decides)
   where
     separated : Problem → NamedQuandle → Bool
     separated p q = separates p.first p.second q.table
+
+    plain : HasVerdictText (size p.first) (size p.second) v
+    plain = elim decides [
+      | inl told ↦
+          different_text few p.first p.second told.quandle v first second (found HasQuandleText (separated p) qs told.quandle named told.first_that_does)
+          (find_passes (separated p) qs told.quandle told.first_that_does) told.lists
+      | inr was ↦
+          let problem : IsProblem (searched p was.one was.two) = subst IsProblem was.found.problem was.found.sound.problem in
+          searched_text p v problem.cap problem.most was.true_within short
+    ]

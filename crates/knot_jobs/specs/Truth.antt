@@ -7,7 +7,8 @@ use Rattle.verdict_core.specs.declared.diagrams.Diagram.{Diagram}
 use Rattle.verdict_core.specs.declared.problem.ProblemText.{ProblemText}
 use Rattle.verdict_core.specs.declared.verdict.Verdict.{Verdict}
 use Rattle.verdict_core.specs.declared.verdict.Verdict.TheVariants.{Equal, Different, UnknownBudget, UnknownExhausted}
-use Rattle.knot_text.specs.Printed.{verdict_text, HasQuandleText}
+use Rattle.knot_text.specs.Printed.{version_text, HasQuandleText}
+use Rattle.knot_text.specs.declared.verdicts.Version.TheVariants.{Tidy}
 use Rattle.verdict_core.specs.Diagrams.{grid_of}
 use Rattle.knot_text.specs.Shapes.{problem_of, check_of}
 use Rattle.knot_text.specs.Pairs.{pair_of}
@@ -62,7 +63,7 @@ pub record IsDecision (bytes text : List ℕ) : Type 0 where
   pub problem : ProblemText
   pub read : problem_of bytes ≡ Ok problem
   pub verdict : Verdict
-  pub is : text ≡ verdict_text verdict
+  pub is : text ≡ version_text Tidy verdict
   pub evidence : HasEvidence verdict
   pub holds : Holds (grid_of problem.first) (grid_of problem.second) verdict
   pub is_true : IsTrueVerdict problem verdict

@@ -12,9 +12,9 @@ ghost use Rattle.braid_moves.specs.Ruling.{ruling};
 ghost use Rattle.verdict_core.specs.declared.problem.ProblemText.{ProblemText};
 ghost use Rattle.verdict_core.specs.declared.verdict.Verdict.{Verdict};
 ghost use Rattle.verdict_core.specs.Diagrams.{grid_of};
-ghost use Rattle.verdict_core.specs.Evidence.{Holds};
+ghost use Rattle.verdict_core.specs.Evidence.{Holds, IsTidyVerdict};
 ghost use Rattle.verdict_core.specs.Names.{NamedQuandle};
-ghost use Rattle.knot_text.specs.Printed.{HasQuandleText, HasVerdictText, verdict_text};
+ghost use Rattle.knot_text.specs.Printed.{HasQuandleText, HasVersionText, version_text};
 ghost use Rattle.knot_text.specs.Shapes.{problem_of};
 ghost use Rattle.search_book.specs.declared.problem.Problem.{Problem};
 ghost use Rattle.search_pool.specs.declared.finding.Finding.{Finding};
@@ -35,6 +35,7 @@ use crate::words::Asked;
 use braid_moves::BraidMove;
 use colour_list::laws::no_more_colourings_than_choices;
 use grid_moves::Move;
+use knot_text::Version;
 
 /// Words ask for at most one thing, and no words both ask for something and ask for nothing.
 pub fn words_ask_for_one_thing()
@@ -120,20 +121,22 @@ pub fn a_decision_has_a_text()
         → AllByRecursion HasQuandleText quandles
         → Decides p quandles workers v kept
         → IsShort v
-        → HasVerdictText (size p.first) (size p.second) v }
+        → HasVersionText Version.Tidy (size p.first) (size p.second) v }
 {
     no_more_colourings_than_choices();
 }
 
 /// The quandles of a problem that was read have texts. A verdict that holds of its diagrams, whoever found it, by moves or by a quandle
-/// that has a text, is as it is printed a decision on the input: it is true, and behind the input `check` accepts it.
+/// that has a text, whose moves, if any, are a tidy list, is as it is printed a decision on the input: it is true, and behind the input
+/// `check` accepts it.
 pub fn a_verdict_that_holds_is_a_decision()
     ensures quandles { (bytes : List ℕ) (problem : ProblemText) → problem_of bytes ≡ Ok problem → AllByRecursion HasQuandleText problem.quandles }
     ensures decision { (bytes : List ℕ) (problem : ProblemText) (verdict : Verdict)
         → problem_of bytes ≡ Ok problem
         → Holds (grid_of problem.first) (grid_of problem.second) verdict
         → IsByWrittenQuandle verdict
-        → IsDecision bytes (verdict_text verdict) }
+        → IsTidyVerdict verdict
+        → IsDecision bytes (version_text Version.Tidy verdict) }
 {
     no_more_colourings_than_choices();
 }

@@ -8,7 +8,13 @@ use Rattle.grid_moves.specs.declared.step.Move.{Move}
 use Rattle.grid_moves.specs.Joining.{WithinCap}
 use Rattle.quandle_core.specs.Quandle.{IsQuandle}
 use Rattle.colour_list.specs.Listing.{lists_of}
-use Rattle.verdict_core.specs.Evidence.{Claims, Holds, TellsApart, HasEvidence}
+use Rattle.grid_core.specs.Diagram.{size}
+use Rattle.grid_canon.proofs.Tidied.{tidied_is_tidy}
+use Rattle.mono_simplify.specs.declared.simplified.Simplified.{Simplified}
+use Rattle.search_book.specs.declared.event.End.{End}
+use Rattle.search_book.specs.declared.event.End.TheVariants.{Met, Spent, Exhausted}
+use Rattle.search_book.specs.State.{State}
+use Rattle.verdict_core.specs.Evidence.{IsTidyVerdict, Claims, Holds, TellsApart, HasEvidence}
 use Rattle.verdict_core.proofs.ToldApart.{told_apart}
 use Rattle.verdict_core.specs.Names.{NamedQuandle}
 use Rattle.verdict_core.specs.declared.verdict.Verdict.{Verdict}
@@ -18,7 +24,7 @@ use Rattle.next_moves.proofs.HowMany.{one_number, more_excluded}
 use Rattle.search_book.specs.declared.problem.Problem.{Problem}
 use Rattle.search_pool.specs.declared.finding.Finding.{Finding}
 use Rattle.pair_verdict.specs.Separates.{separates, first_separating, IsDifferentBy}
-use Rattle.pair_verdict.specs.Decided.{Decides, IsToldApart, IsTrueWithin}
+use Rattle.pair_verdict.specs.Decided.{Decides, IsVerdictAt, IsToldApart, IsTrueWithin}
 use Rattle.pair_verdict.proofs.FirstFound.{find_passes, holds_by}
 use Rattle.pair_verdict.proofs.Verdicts.{claims_within, holds_within}
 
@@ -82,6 +88,21 @@ pub apart_beyond : (p : Problem) (qs : List NamedQuandle) (workers : ℕ) (v : V
     → first_separating p.first p.second qs ≡ None → (WithinCap p.first p.second p.cap → ⊥)
     → HasMoreMembers (IsReached p.first p.second p.cap) p.budget → v ≡ UnknownBudget p.budget
 apart_beyond p qs workers v kept decides none = spent_by p v (true_of p qs workers v kept decides none)
+
+-- ---- the moves of a decision are tidy
+
+tidy_at : (p : Problem) (one two : Simplified) (s : State) (end : Option End) (v : Verdict) → IsVerdictAt p one two s end v → IsTidyVerdict v
+tidy_at p one two s (Some (Met meeting)) v at = subst (λ (w : Verdict). IsTidyVerdict w) (sym at.verdict) (tidied_is_tidy at.list (size p.first))
+tidy_at p one two s (Some (Spent refused)) v at = subst (λ (w : Verdict). IsTidyVerdict w) (sym at) tt
+tidy_at p one two s (Some Exhausted) v at = subst (λ (w : Verdict). IsTidyVerdict w) (sym at) tt
+tidy_at p one two s None v at = absurd at
+
+pub tidy_where_decided : (p : Problem) (qs : List NamedQuandle) (workers : ℕ) (v : Verdict) (kept : Option Finding) → Decides p qs workers v kept
+    → IsTidyVerdict v
+tidy_where_decided p qs workers v kept decides = elim decides [
+  | inl told ↦ subst (λ (w : Verdict). IsTidyVerdict w) (sym told.lists.verdict) tt
+  | inr searched ↦ tidy_at p searched.one searched.two searched.finding.book searched.finding.book.end v searched.verdict
+]
 
 -- ---- what a decision is worth
 

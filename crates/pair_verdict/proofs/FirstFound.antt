@@ -7,7 +7,7 @@ use Rattle.std.proofs.lemmas.List.{take-append-drop, take_more, drop_more}
 use Rattle.grid_core.specs.Diagram.{Diagram}
 use Rattle.colour_list.specs.Fits.{fits}
 use Rattle.colour_list.specs.Listing.{colourings}
-use Rattle.verdict_core.specs.Evidence.{Holds}
+use Rattle.verdict_core.specs.Evidence.{Holds, IsTidyVerdict}
 use Rattle.verdict_core.specs.Names.{NamedQuandle}
 use Rattle.verdict_core.specs.declared.verdict.Verdict.{Verdict}
 use Rattle.pair_verdict.specs.Separates.{separates, first_separating, IsDifferentBy, IsSeparation}
@@ -105,6 +105,14 @@ by_found d e qs None v is lists = absurd lists
 
 pub told_holds : (d e : Diagram) (qs : List NamedQuandle) (v : Verdict) → IsSeparation d e (first_separating d e qs) (Some v) → Holds d e v
 told_holds d e qs v lists = by_found d e qs (first_separating d e qs) v refl lists
+
+-- it has no moves
+tidy_by : (d e : Diagram) (o : Option NamedQuandle) (v : Verdict) → IsSeparation d e o (Some v) → IsTidyVerdict v
+tidy_by d e (Some q) v lists = subst (λ (w : Verdict). IsTidyVerdict w) (sym lists.verdict) tt
+tidy_by d e None v lists = absurd lists
+
+pub told_tidy : (d e : Diagram) (qs : List NamedQuandle) (v : Verdict) → IsSeparation d e (first_separating d e qs) (Some v) → IsTidyVerdict v
+told_tidy d e qs v lists = tidy_by d e (first_separating d e qs) v lists
 
 none_by : (d e : Diagram) (o : Option NamedQuandle) → IsSeparation d e o None → o ≡ None
 none_by d e None lists = refl

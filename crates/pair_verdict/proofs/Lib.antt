@@ -2,4 +2,4 @@ pub mod FirstFound
 pub mod SameReach
 pub mod SimplifiedPairs
 mod Verdicts
-mod AnswerKinds
+pub mod AnswerKinds

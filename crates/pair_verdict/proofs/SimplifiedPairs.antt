@@ -5,8 +5,7 @@ use Rattle.grid_moves.specs.declared.step.Move.{Move}
 use Rattle.grid_moves.specs.Joining.{Joins, JoinsWithin, WithinCap}
 use Rattle.grid_moves.specs.Undoing.{Undone}
 use Rattle.grid_moves.proofs.TurnedBack.{undone_within}
-use Rattle.grid_moves.proofs.Within.{within_joins, within_end, within_append}
-use Rattle.next_moves.proofs.Linked.{within_larger}
+use Rattle.grid_moves.proofs.Within.{within_joins, within_end, within_append, within_larger}
 use Rattle.mono_simplify.specs.declared.simplified.Simplified.{Simplified}
 use Rattle.mono_simplify.specs.declared.simplified.SimpleEnd.{SimpleEnd}
 use Rattle.mono_simplify.specs.Simplified.{Simplifies}

@@ -1,7 +1,9 @@
 -- The verdict on two diagrams, and the search that stands behind it.
 use Rattle.std.specs.Prelude.{◌≡◌, ◌≢◌, ◌≤◌, ◌⊎◌, ℕ, List, Option, Some, None, length}
+use Rattle.grid_core.specs.Diagram.{size}
 use Rattle.grid_moves.specs.declared.step.Move.{Move}
 use Rattle.grid_moves.specs.Joining.{JoinsWithin, WithinCap}
+use Rattle.grid_canon.specs.Tidied.{tidied}
 use Rattle.verdict_core.specs.Names.{NamedQuandle}
 use Rattle.verdict_core.specs.declared.verdict.Verdict.{Verdict}
 use Rattle.verdict_core.specs.declared.verdict.Verdict.TheVariants.{Equal, Different, UnknownBudget, UnknownExhausted}
@@ -25,11 +27,12 @@ pub record IsToldApart (p : Problem) (quandles : List NamedQuandle) (v : Verdict
   pub lists : IsDifferentBy p.first p.second quandle v
   pub none_kept : kept ≡ None
 
--- the list of a book whose sides have met joins the simplified diagrams, and with it the whole one the diagrams of the problem
+-- the list of a book whose sides have met joins the simplified diagrams, and with it the whole one the diagrams of the problem; the
+-- verdict has the whole one tidied
 pub record IsEqualBy (p : Problem) (one two : Simplified) (s : State) (v : Verdict) : Type 0 where
   pub between : List Move
   pub list : List Move
-  pub verdict : v ≡ Equal list
+  pub verdict : v ≡ Equal (tidied (size p.first) 0 0 list)
   pub joining : IsJoining s s.end between
   pub whole : IsWholeList p one two between list
 

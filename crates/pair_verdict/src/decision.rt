@@ -2,7 +2,7 @@
 ghost use Rattle.std.specs.Prelude.{◌≡◌, ◌≤◌, ◌≢◌, Some, None, IfOk};
 ghost use Rattle.grid_core.specs.declared.grid.TheConstants.{MAX_SIZE};
 ghost use Rattle.grid_core.specs.Diagram.{size};
-ghost use Rattle.verdict_core.specs.Evidence.{Claims, Holds, HasEvidence};
+ghost use Rattle.verdict_core.specs.Evidence.{Claims, Holds, HasEvidence, IsTidyVerdict};
 ghost use Rattle.search_book.specs.declared.problem.TheConstants.{MAX_BUDGET};
 ghost use Rattle.search_pool.specs.declared.many.TheConstants.{MAX_WORKERS};
 ghost use Rattle.pair_verdict.specs.Searched.{AreSimplified, searched};
@@ -54,7 +54,7 @@ impl Decision {
 /// complete lists of colourings; a quandle that does not fit both is passed over. Where none separates them, each diagram is
 /// simplified with the budget of the problem, and the verdict is what a search between the simplified diagrams comes to, within
 /// the same cap and with the same budget: `Equal` with moves that join the given diagrams (the first simplification's, those that
-/// the search found, the second simplification's undone), no diagram on the way larger than the cap; `UnknownBudget` only where
+/// the search found, the second simplification's undone; the whole list tidied), no diagram on the way larger than the cap; `UnknownBudget` only where
 /// moves within the cap reach more diagrams than the budget; `UnknownExhausted` only where they do not join the two, with the
 /// number that they reach, which is at most the budget. The search is handed out with the verdict.
 ///
@@ -78,6 +78,7 @@ pub fn decide<R: Threads + Wait + Sync, G: Gate + Sync>(
     ensures decides { IfOk result (λ d. Decides problem quandles.now workers d.verdict d.kept) }
     ensures claims { IfOk result (λ d. Claims problem.first problem.second d.verdict) }
     ensures holds { IfOk result (λ d. HasEvidence d.verdict → Holds problem.first problem.second d.verdict) }
+    ensures tidy { IfOk result (λ d. IsTidyVerdict d.verdict) }
 {
     if workers == 1 {
         return decide_alone(alloc, problem, quandles);
@@ -107,6 +108,7 @@ pub fn decide_alone(
     ensures decides { IfOk result (λ d. Decides problem quandles.now 1 d.verdict d.kept) }
     ensures claims { IfOk result (λ d. Claims problem.first problem.second d.verdict) }
     ensures holds { IfOk result (λ d. HasEvidence d.verdict → Holds problem.first problem.second d.verdict) }
+    ensures tidy { IfOk result (λ d. IsTidyVerdict d.verdict) }
 {
     if let Some(verdict) = told_apart(alloc, &problem.first, &problem.second, quandles)? {
         return Ok(Decision {
@@ -137,7 +139,7 @@ fn verdict_of(
     match book.end() {
         Some(End::Met(_)) => match book.joined(alloc)? {
             Some(between) => {
-                let list = pair.whole_list(alloc, given, between.as_slice())?;
+                let list = pair.tidy_list(alloc, given, between.as_slice())?;
                 Ok(Verdict::Equal(Items::from_vec(list)))
             }
             None => unreachable!(),

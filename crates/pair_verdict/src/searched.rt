@@ -1,9 +1,12 @@
 //! What is searched for a list of moves that joins two diagrams: both simplified first.
-ghost use Rattle.std.specs.Prelude.{◌≡◌, ◌≤◌, IfOk};
+ghost use Rattle.std.specs.Prelude.{◌≡◌, ◌≤◌, List, IfOk};
 ghost use Rattle.grid_core.specs.Diagram.{size};
+ghost use Rattle.grid_moves.specs.declared.step.Move.{Move};
 ghost use Rattle.grid_moves.specs.Joining.{JoinsWithin};
+ghost use Rattle.grid_canon.specs.Tidied.{tidied};
 ghost use Rattle.pair_verdict.specs.Searched.{AreSimplified, searched, IsWholeList};
 
+use grid_canon::tidy;
 use grid_moves::{Move, push_undone};
 use memory_core::OutOfMemory;
 use mono_simplify::{Simplified, simplify};
@@ -44,6 +47,25 @@ impl SimplifiedPair {
             cap: given.cap,
             budget: given.budget,
         }
+    }
+
+    /// The whole list, tidied.
+    pub(crate) fn tidy_list(
+        self,
+        alloc: Global,
+        given: &Problem,
+        between: &[Move],
+    ) -> Result<Vec<Move>, OutOfMemory>
+        requires simplified { AreSimplified given.now self.first self.second }
+        requires first_fits { size given.now.first ≤ given.now.cap }
+        requires second_fits { size given.now.second ≤ given.now.cap }
+        requires between { JoinsWithin given.now.cap self.first.grid between.now self.second.grid }
+        ensures whole { IfOk result (λ list. (whole : List Move)
+            × (IsWholeList given.now self.first self.second between.now whole × (list.items ≡ tidied (size given.now.first) 0 0 whole))) }
+        ensures joins { IfOk result (λ list. JoinsWithin given.now.cap given.now.first list.items given.now.second) }
+    {
+        let whole = self.whole_list(alloc, given, between)?;
+        tidy(alloc, &given.first, whole.as_slice())
     }
 
     /// The list of the given diagrams with a list of the simplified ones: the first simplification's moves, that list, and the

@@ -7,7 +7,8 @@ use Rattle.verdict_core.specs.declared.problem.ProblemText.{ProblemText}
 use Rattle.verdict_core.specs.declared.verdict.Verdict.{Verdict}
 use Rattle.verdict_core.specs.declared.verdict.Verdict.TheVariants.{Equal, Different, UnknownBudget, UnknownExhausted}
 use Rattle.knot_text.specs.declared.reading.TheConstants.{MAX_NUMBER}
-use Rattle.knot_text.specs.Printed.{verdict_text}
+use Rattle.knot_text.specs.Printed.{version_text}
+use Rattle.knot_text.specs.declared.verdicts.Version.TheVariants.{Tidy}
 use Rattle.verdict_core.specs.Diagrams.{grid_of}
 use Rattle.pair_verdict.specs.Decided.{Decides}
 use Rattle.knot_jobs.specs.declared.reply.Reply.{Reply}
@@ -53,4 +54,4 @@ pub record AnswersDecide (asked : Asked) (input : ProblemText) (reply : Reply) :
   pub verdict : Verdict
   pub decides : Decides (problem_for asked (grid_of input.first) (grid_of input.second)) input.quandles asked.workers verdict reply.kept
   pub status_is : reply.status ≡ verdict_status verdict
-  pub text_is : reply.text ≡ verdict_text verdict
+  pub text_is : reply.text ≡ version_text Tidy verdict

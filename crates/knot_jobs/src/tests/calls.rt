@@ -49,13 +49,25 @@ fn a_row_too_many_is_over_a_limit(rt: HostRuntime) -> Result<(), Fail> {
 /// Evidence that two diagrams are equal or different, and its first cause where it does not hold.
 #[test]
 fn certificates_are_ruled_on(rt: HostRuntime) -> Result<(), Fail> {
-    let rows: [Row; 15] = [
+    let rows: [Row; 17] = [
         ("knot check", SHIFTED, Status::Done, b"accepted\n"),
         (
             "knot check",
             b"x 0 1\no 1 0\nx 0 1\no 1 0\n",
             Status::Malformed,
             b"malformed line 5\n",
+        ),
+        (
+            "knot check",
+            b"x 0 1\no 1 0\nx 1 0\no 0 1\nequal 3\nshift rows 1\nshift rows 1\nshift rows 1\n",
+            Status::Done,
+            b"accepted\n",
+        ),
+        (
+            "knot check",
+            b"x 0 1\no 1 0\nx 1 0\no 0 1\ncertificate 2\nequal 3\nshift rows 1\nshift rows 1\nshift rows 1\n",
+            Status::Malformed,
+            b"malformed line 8\n",
         ),
         (
             "knot check",

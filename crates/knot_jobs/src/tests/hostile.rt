@@ -13,6 +13,10 @@ use std::test::Fail;
 const EQUAL: &[u8] =
     b"braid 2 -1\nx 0 1\no 1 0\nequal 3\ndestabilise 2 2\ndestabilise 1 1\ndestabilise 0 0\n";
 
+/// A tidy list of moves that leads there, in version 2.
+const TIDY: &[u8] =
+    b"braid 2 -1\nx 0 1\no 1 0\ncertificate 2\nequal 5\ndestabilise 2 2\nshift columns 2\nshift rows 2\ndestabilise 1 1\ndestabilise 0 0\n";
+
 /// Both lists of colourings of the right trefoil and the unknot.
 const DIFFERENT: &[u8] =
     b"x 4 3 2 1 0\no 2 1 0 4 3\nx 0 1\no 1 0\ndifferent dihedral 3\nlist 9\n0 0 0 0 0\n0 1 2 0 2\n0 2 1 0 1\n1 0 2 1 2\n1 1 1 1 1\n1 2 0 1 0\n2 0 1 2 1\n2 1 0 2 0\n2 2 2 2 2\nlist 3\n0 0\n1 1\n2 2\n";
@@ -35,7 +39,7 @@ fn is_cut(alloc: Global, certificate: &[u8], length: usize) -> Result<bool, Fail
 
 #[test]
 fn certificates_cut_at_each_byte_are_malformed(rt: HostRuntime) -> Result<(), Fail> {
-    for certificate in [EQUAL, DIFFERENT] {
+    for certificate in [EQUAL, TIDY, DIFFERENT] {
         for length in 0..certificate.len() {
             assert!(rt;
                 is_cut(rt.alloc(), certificate, length)?,
@@ -85,7 +89,7 @@ fn is_altered(alloc: Global, certificate: &[u8], place: usize) -> Result<bool, F
 fn certificates_altered_at_each_byte_are_malformed_in_its_line(
     rt: HostRuntime,
 ) -> Result<(), Fail> {
-    for certificate in [EQUAL, DIFFERENT] {
+    for certificate in [EQUAL, TIDY, DIFFERENT] {
         for place in 0..certificate.len() {
             assert!(rt;
                 is_altered(rt.alloc(), certificate, place)?,
@@ -110,7 +114,7 @@ fn decisions_end_at_each_fault(rt: HostRuntime) -> Result<(), Fail> {
         assert_eq!(rt; status, Status::ReadFault, "call {failing}");
         assert_eq!(rt; written.as_slice(), b"".as_slice());
     }
-    let fronts: [(u64, &[u8]); 3] = [(0, b""), (1, b"equ"), (2, b"equal ")];
+    let fronts: [(u64, &[u8]); 3] = [(0, b""), (1, b"cer"), (2, b"certif")];
     for (failing, front) in fronts {
         let outside = Outside {
             reading: &[],
@@ -210,7 +214,7 @@ fn quandles_are_taken_up_to_their_limit(rt: HostRuntime) -> Result<(), Fail> {
     let most = listed(rt.alloc(), 64)?;
     let (status, written) = run_line(rt.alloc(), "knot decide", &most, &CALM)?;
     assert_eq!(rt; status, Status::Done);
-    assert_eq!(rt; written.as_slice(), b"equal 0\n".as_slice());
+    assert_eq!(rt; written.as_slice(), b"certificate 2\nequal 0\n".as_slice());
     let over = listed(rt.alloc(), 65)?;
     let (status, written) = run_line(rt.alloc(), "knot decide", &over, &CALM)?;
     assert_eq!(rt; status, Status::Limit);

@@ -5,7 +5,8 @@ use Rattle.search_book.specs.declared.problem.Problem.{Problem}
 use Rattle.search_pool.specs.Finding.{IsFinding}
 use Rattle.pair_verdict.specs.Separates.{first_separating, IsSeparation}
 use Rattle.pair_verdict.specs.Decided.{IsSearched}
-use Rattle.pair_verdict.proofs.FirstFound.{told_holds}
+use Rattle.pair_verdict.proofs.FirstFound.{told_holds, told_tidy}
+use Rattle.pair_verdict.proofs.AnswerKinds.{tidy_where_decided}
 use Rattle.pair_verdict.proofs.Verdicts.{claims_within, holds_within, made}
 use Rattle.pair_verdict.proofs.decision.decide_alone.Goals as goal
 use Rattle.pair_verdict.proofs.decision.decide_alone.Goals.{After-searched}
@@ -33,3 +34,14 @@ returns-clause-claims c = IfOk-weaker c.searched.result _ _ (λ d is. claims_wit
 
 pub returns-clause-holds : goal.returns-clause-holds
 returns-clause-holds c = IfOk-weaker c.searched.result _ _ (λ d is. holds_within c.args.problem d.verdict is.true_within) (by_search c)
+
+pub returns-clause-tidy : goal.returns-clause-tidy
+returns-clause-tidy c =
+    IfOk-weaker c.searched.result _ _ (λ d is. tidy_where_decided c.args.problem c.args.quandles.now 1 d.verdict d.kept (inr is)) (by_search c)
+
+pub returns-in-Some-clause-tidy : goal.returns-in-Some-clause-tidy
+returns-in-Some-clause-tidy c =
+    let p = c.args.problem in
+    let qs = c.args.quandles.now in
+    told_tidy p.first p.second qs c.in-Some.verdict
+    (subst (λ (o : Option Verdict). IsSeparation p.first p.second (first_separating p.first p.second qs) o) c.in-Some.is c.in_ok-verdict.ensures.verdict)

@@ -1,7 +1,7 @@
 use Rattle.std.proofs.Common.{sym, ◌∙◌, subst}
 use Rattle.std.proofs.lemmas.Result.{IfOk-at_ok}
 use Rattle.verdict_core.specs.Diagrams.{grid_of}
-use Rattle.verdict_core.specs.Evidence.{Claims, Holds, HasEvidence}
+use Rattle.verdict_core.specs.Evidence.{Claims, Holds, HasEvidence, IsTidyVerdict}
 use Rattle.pair_verdict.specs.declared.decision.Decision.{Decision}
 use Rattle.pair_verdict.specs.Decided.{Decides}
 use Rattle.knot_jobs.specs.Jobs.Decide.{problem_for}
@@ -9,6 +9,9 @@ use Rattle.knot_jobs.specs.Truth.{IsAcceptedBehind}
 use Rattle.knot_jobs.proofs.Decisions.{has_evidence}
 use Rattle.knot_jobs.proofs.AcceptedBehind.{has_text, accepted_behind}
 use Rattle.knot_jobs.proofs.jobs.decide.answer_decision.Goals as goal
+
+pub print_verdict-requires : goal.print_verdict-requires
+print_verdict-requires c = IfOk-at_ok (λ (d : Decision). IsTidyVerdict d.verdict) c.in-Ok.is c.requires.tidy
 
 pub returns-clause-claim : goal.returns-clause-claim
 returns-clause-claim c = λ bytes read done.
