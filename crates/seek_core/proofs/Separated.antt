@@ -1,10 +1,10 @@
 -- What is found of two diagrams: by the first quandle that separates them, or by moves.
-use Rattle.std.proofs.Common.{rules, ◌≡◌, ◌∙◌, refl, ap, sym, subst, ℕ, List, Option, Some, None, Ok, IfSome, All}
+use Rattle.std.proofs.Common.{rules, ◌≡◌, ◌∙◌, refl, ap, sym, subst, ℕ, List, [], ◌++◌, Option, Some, None, Ok, IfSome, All}
 use Rattle.std.proofs.lemmas.List.Elements.{All-append, All-filter, recursion_from_All}
 use Rattle.grid_core.specs.Diagram.{Diagram}
 use Rattle.verdict_core.specs.Names.{NamedQuandle}
 use Rattle.verdict_core.specs.Diagrams.{grid_of, columns}
-use Rattle.verdict_core.specs.Evidence.{Holds}
+use Rattle.verdict_core.specs.Evidence.{Holds, IsTidyVerdict}
 use Rattle.verdict_core.specs.declared.problem.ProblemText.{ProblemText}
 use Rattle.verdict_core.specs.declared.verdict.Verdict.{Verdict}
 use Rattle.knot_text.specs.Printed.{HasQuandleText}
@@ -14,6 +14,7 @@ use Rattle.pair_verdict.proofs.FirstFound.{find_passes, holds_by}
 use Rattle.knot_jobs.specs.Truth.{IsByWrittenQuandle}
 use Rattle.knot_jobs.proofs.PrintedVerdicts.{found}
 use Rattle.seek_core.specs.Candidates.{fitting, candidates}
+use Rattle.seek_core.specs.Formulas.{formula_quandles}
 use Rattle.seek_core.specs.declared.finding.Search.{Search}
 use Rattle.seek_core.specs.declared.answer.Tried.{Tried}
 use Rattle.seek_core.specs.Found.{IsFoundWhere, IsSearchOf, IsFindingOf}
@@ -28,6 +29,14 @@ fitting_texts d e others qs all = All-filter _ HasQuandleText qs all
 pub candidate_texts : (d e : Diagram) (qs : List NamedQuandle) → All HasQuandleText qs → All HasQuandleText (candidates d e qs)
 candidate_texts d e qs all =
     search (All-append HasQuandleText, fitting_texts, formula_texts, all)
+
+-- those that were appended, in both turns
+pub candidates_are : (d e : Diagram) (listed formulas start mid end : List NamedQuandle) → start ≡ [] → mid ≡ start ++ fitting d e [] listed
+    → formulas ≡ formula_quandles → end ≡ mid ++ fitting d e listed formulas → end ≡ candidates d e listed
+candidates_are d e listed formulas start mid end none first same second =
+    second
+    ∙ ap (λ (qs : List NamedQuandle). qs ++ fitting d e listed formulas) (first ∙ ap (λ (qs : List NamedQuandle). qs ++ fitting d e [] listed) none)
+    ∙ ap (λ (qs : List NamedQuandle). fitting d e [] listed ++ fitting d e listed qs) same
 
 -- ---- what is found
 
@@ -49,17 +58,20 @@ found_of d e d' e' qs qs' o first second tried found =
 
 -- ---- what it is worth
 
-abbrev HoldsWritten : Diagram → Diagram → Verdict → Type 0
-HoldsWritten d e v = Holds d e v × IsByWrittenQuandle v
+record IsWorth (d e : Diagram) (v : Verdict) : Type 0 where
+  holds : Holds d e v
+  written : IsByWrittenQuandle v
+  tidy : IsTidyVerdict v
 
 worth_by : (d e : Diagram) (qs : List NamedQuandle) (first : Option NamedQuandle) (v : Verdict) → All HasQuandleText qs → first_separating d e qs ≡ first
-    → IsFoundWhere d e first (Some v) → HoldsWritten d e v
-worth_by d e qs (Some q) v all is lists = (
-  holds_by d e q v (find_passes (λ (r : NamedQuandle). separates d e r.table) qs q is) lists,
-  subst IsByWrittenQuandle (sym lists.verdict)
-      (found HasQuandleText (λ (r : NamedQuandle). separates d e r.table) qs q (recursion_from_All HasQuandleText qs all) is),
-)
-worth_by d e qs None v all is equal = subst (HoldsWritten d e) (sym equal.verdict) (equal.joins, search rules)
+    → IsFoundWhere d e first (Some v) → IsWorth d e v
+worth_by d e qs (Some q) v all is lists = record {
+  holds = holds_by d e q v (find_passes (λ (r : NamedQuandle). separates d e r.table) qs q is) lists;
+  written = subst IsByWrittenQuandle (sym lists.verdict)
+      (found HasQuandleText (λ (r : NamedQuandle). separates d e r.table) qs q (recursion_from_All HasQuandleText qs all) is);
+  tidy = subst IsTidyVerdict (sym lists.verdict) tt;
+}
+worth_by d e qs None v all is equal = subst (IsWorth d e) (sym equal.verdict) (record { holds = equal.joins; written = tt; tidy = equal.tidy })
 
 -- of the diagrams of a problem
 finding_of : (p : ProblemText) (qs : List NamedQuandle) (v : Verdict) → All HasQuandleText qs
@@ -68,7 +80,7 @@ finding_of p qs v all found =
     let d = grid_of p.first in
     let e = grid_of p.second in
     let worth = worth_by d e qs (first_separating d e qs) v all refl found in
-    record { holds = worth.0; written = worth.1 }
+    record { holds = worth.holds; written = worth.written; tidy = worth.tidy }
 
 pub finding_if : (p : ProblemText) (qs : List NamedQuandle) (o : Option Verdict) → All HasQuandleText qs
     → IsFoundWhere (grid_of p.first) (grid_of p.second) (first_separating (grid_of p.first) (grid_of p.second) qs) o → IfSome o (λ v. IsFindingOf p v)

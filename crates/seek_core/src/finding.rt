@@ -7,6 +7,7 @@ ghost use Rattle.seek_core.specs.Found.{IsEqualBy, IsFoundWhere, IsSearchOf, IsF
 
 use crate::bounds::Bounds;
 use crate::candidates::candidates;
+use grid_canon::tidy;
 use grid_core::{Grid, Items};
 use meeting_walks::{Watch, find_joining_by};
 use memory_core::OutOfMemory;
@@ -73,8 +74,8 @@ fn verdict_on<R: Threads + Sync, W: Watch>(
     equal(rt, alloc, first, second, bounds, watch)
 }
 
-/// The verdict `equal` by a list of moves, if the walks find one. The list joins the diagrams as given: it was made move by move at the
-/// end.
+/// The verdict `equal` by a tidy list of moves, if the walks find a list. It joins the diagrams as given: the list that was found was made
+/// move by move at the end.
 fn equal<R: Threads + Sync, W: Watch>(
     rt: &R,
     alloc: Global,
@@ -91,7 +92,10 @@ fn equal<R: Threads + Sync, W: Watch>(
         room: bounds.room,
     };
     match find_joining_by(rt, alloc, first, second, of_each, bounds.workers, watch)? {
-        Some(moves) => Ok(Some(Verdict::Equal(Items::from_vec(moves)))),
+        Some(moves) => {
+            let list = tidy(alloc, first, moves.as_slice())?;
+            Ok(Some(Verdict::Equal(Items::from_vec(list))))
+        }
         None => Ok(None),
     }
 }

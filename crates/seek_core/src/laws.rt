@@ -25,10 +25,10 @@ pub fn quandles_by_formula_have_texts()
     ensures { All HasQuandleText formula_quandles }
 {}
 
-/// There are 66 quandles by formula: as many as trivial 2, tetrahedral, and the orders from 3 to `MAX_ORDER` have dihedral and Alexander
+/// There are 294 quandles by formula: as many as trivial 2, tetrahedral, and the orders from 3 to `MAX_ORDER` have dihedral and Alexander
 /// ones that are not trivial.
 pub fn there_are_so_many_quandles_by_formula()
-    ensures { length formula_quandles ≡ 66 }
+    ensures { length formula_quandles ≡ 294 }
 {}
 
 /// No two of the quandles by formula have one table.

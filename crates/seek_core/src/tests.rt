@@ -156,7 +156,7 @@ fn a_sink_that_fails_ends_the_call(rt: HostRuntime) -> Result<(), Fail> {
     let mut sink = MemSink::new(rt.alloc(), 10, 25, Vec::new(rt.alloc()))?;
     let ending = run_on(&rt, rt.alloc(), TREFOIL_UNKNOT, STILL, &mut sink)?;
     assert_eq!(rt; ending.status(), Status::WriteFault);
-    assert_eq!(rt; sink.bytes(), b"different dihedral 3\nlist".as_slice());
+    assert_eq!(rt; sink.bytes(), b"certificate 2\ndifferent d".as_slice());
     Ok(())
 }
 

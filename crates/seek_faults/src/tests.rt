@@ -75,7 +75,7 @@ const NUMBERS: [Row; 4] = [
     ),
 ];
 
-const BRAIDS: [Row; 9] = [
+const BRAIDS: [Row; 8] = [
     (
         b"braid\n",
         1,
@@ -83,12 +83,6 @@ const BRAIDS: [Row; 9] = [
     ),
     (b"braid two 1\n", 1, "`two` is not a number"),
     (b"braid 0\n", 1, "a braid has one strand or more"),
-    // A limit is passed, which comes before what the line says.
-    (
-        b"braid 0 1 1 1 1 1 1 1 1 1 1 1 1 1 1 1 1 1 1 1 1 1 1 1 1 1\n",
-        1,
-        "the closure of 25 letters on 0 strands has more than the 24 columns that a diagram may have: one a letter and two a strand",
-    ),
     (
         b"braid 3 5 1234567890\n",
         1,
@@ -260,6 +254,14 @@ fn each_limit_has_its_sentence(rt: HostRuntime) -> Result<(), Fail> {
             1,
             format!(in rt.alloc();
                 "the closure of {MAX_SIZE} letters on 2 strands has more than the {MAX_SIZE} columns that a diagram may have: one a letter and two a strand"
+            )?,
+        ),
+        // The limit comes before what the line says.
+        (
+            repeated(rt.alloc(), "braid 0", " 1", columns)?,
+            1,
+            format!(in rt.alloc();
+                "the closure of {columns} letters on 0 strands has more than the {MAX_SIZE} columns that a diagram may have: one a letter and two a strand"
             )?,
         ),
         (
