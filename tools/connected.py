@@ -1,13 +1,28 @@
 """Connected quandles up to the largest order: how they are made, and which are isomorphic. quandles.py writes them."""
 import itertools
+import math
+import os
 from collections import namedtuple
 
 import linear
 from cohomology import classes_of_cocycles, covering
-from diagrams import MAX_ORDER, alexander, quandle_fault, quandle_of, tetrahedral
+from diagrams import alexander, quandle_fault, quandle_of, tetrahedral
+from extensions import classes_of_twisted_cocycles, extension, twisted_sums
+from fields import fields, is_irreducible, polynomial_name, times_t
+from groups import conjugacy_class, cycle_lengths, element_name, group_of, groups, inverse, larger_groups, permutation_of, reflection_groups, times
+
+# The largest order whose tables are made.
+LARGEST = 32
+
+# Up to this order the larger groups, the extensions and the stored translations aren't wanted.
+SMALL = 16
+
+# The quandles that nothing else makes, by some of their translations.
+TRANSLATIONS = os.path.join(os.path.dirname(os.path.abspath(__file__)), "translations.txt")
 
 # How many connected quandles there are of each order, up to isomorphism (Vendramin 2012; Hulpke, Stanovský and Vojtěchovský 2016).
-KNOWN = {1: 1, 2: 0, 3: 1, 4: 1, 5: 3, 6: 2, 7: 5, 8: 3, 9: 8, 10: 1, 11: 9, 12: 10, 13: 11, 14: 0, 15: 7, 16: 9}
+KNOWN = {1: 1, 2: 0, 3: 1, 4: 1, 5: 3, 6: 2, 7: 5, 8: 3, 9: 8, 10: 1, 11: 9, 12: 10, 13: 11, 14: 0, 15: 7, 16: 9,
+         17: 15, 18: 12, 19: 17, 20: 10, 21: 9, 22: 0, 23: 21, 24: 42, 25: 34, 26: 0, 27: 65, 28: 13, 29: 27, 30: 24, 31: 29, 32: 17}
 
 # A table, and what it is; `short` is a name that the program knows, or None.
 Found = namedtuple("Found", "table comment short")
@@ -31,37 +46,31 @@ def is_connected(table):
     return len(orbit(table)) == len(table)
 
 
-def cycle_lengths(permutation):
-    seen, lengths = set(), []
-    for start in range(len(permutation)):
-        length = 0
-        while start not in seen:
-            seen.add(start)
-            start = permutation[start]
-            length += 1
-        if length:
-            lengths.append(length)
-    return tuple(sorted(lengths))
+def colour_marks(table):
+    """What a bijection that keeps the operation and colour 0 keeps of each colour: the cycles of both translations' product, and how many both span."""
+    columns = list(zip(*table))
+    return [(cycle_lengths([column[place] for place in columns[0]]), len(spanned(table, (0, y)))) for y, column in enumerate(columns)]
 
 
 def invariant(table):
     """Numbers that isomorphic connected quandles share."""
-    order = len(table)
-    columns = [tuple(table[x][y] for x in range(order)) for y in range(order)]
     # In a connected quandle all colours look alike, so what is seen from colour 0 is enough.
-    products = tuple(sorted(cycle_lengths([columns[y][columns[0][x]] for x in range(order)]) for y in range(order)))
-    spans = tuple(sorted(len(spanned(table, (0, y))) for y in range(order)))
-    return order, cycle_lengths(columns[0]), len(set(columns)), products, spans
+    columns = list(zip(*table))
+    return len(table), cycle_lengths(columns[0]), len(set(columns)), tuple(sorted(colour_marks(table)))
 
 
 def spanned(table, colours):
     """The colours that products make of some."""
     found = list(dict.fromkeys(colours))
+    known = set(found)
     for x in found:
         for y in list(found):
             for z in (table[x][y], table[y][x]):
-                if z not in found:
+                if z not in known:
+                    known.add(z)
                     found.append(z)
+        if len(found) == len(table):
+            break
     return found
 
 
@@ -93,9 +102,9 @@ def are_isomorphic(first, second):
     """Whether some bijection of connected quandles keeps the operation. One that does can be had with the image 0 of 0."""
     if len(first) != len(second):
         return False
-    chosen = generators(first)
-    return any(extended(first, second, dict(zip(chosen, (0, *rest)))) is not None
-               for rest in itertools.permutations(range(1, len(first)), len(chosen) - 1))
+    chosen, marks, others = generators(first), colour_marks(first), colour_marks(second)
+    images = [[y for y, mark in enumerate(others) if mark == marks[colour]] for colour in chosen[1:]]
+    return any(extended(first, second, dict(zip(chosen, (0, *rest)))) is not None for rest in itertools.product(*images))
 
 
 def dual(table):
@@ -112,24 +121,6 @@ def alexander_tables(order):
         if not quandle_fault(quandle.over) and is_connected(quandle.over):
             name = f"dihedral {order}" if factor == order - 1 else f"alexander {order} {factor}"
             yield Found(quandle.over, f"Alexander over the integers mod {order} with t = {factor}", name)
-
-
-def polynomial_name(coefficients):
-    """Of t^d + ... by the coefficients from the lowest, the leading 1 left out."""
-    degree = len(coefficients)
-    terms = [f"t^{degree}"]
-    for power in range(degree - 1, -1, -1):
-        entry = coefficients[power]
-        if entry:
-            symbol = {0: "", 1: "t"}.get(power, f"t^{power}")
-            terms.append((str(entry) if entry > 1 or not power else "") + symbol)
-    return " + ".join(terms)
-
-
-def times_t(vector, coefficients, modulus):
-    """t times a polynomial below the degree, by t^d = -(c0 + c1 t + ...)."""
-    top = vector[-1]
-    return tuple(((vector[power - 1] if power else 0) - top * coefficients[power]) % modulus for power in range(len(vector)))
 
 
 def polynomial_tables(modulus, degree):
@@ -157,71 +148,15 @@ def polynomial_comment(modulus, degree, coefficients):
     return f"Alexander over the integers mod {modulus} with a root t of {name}"
 
 
-def is_irreducible(prime, coefficients):
-    """Whether no polynomial of at most half the degree divides t^d + ... mod a prime."""
-    degree = len(coefficients)
-    for low in range(1, degree // 2 + 1):
-        for divisor in itertools.product(range(prime), repeat=low):
-            rest = list(coefficients) + [1]
-            while len(rest) > low:
-                lead = rest.pop()
-                for place, entry in enumerate(divisor):
-                    rest[len(rest) - low + place] = (rest[len(rest) - low + place] - lead * entry) % prime
-            if not any(rest):
-                return False
-    return True
+# Classes of groups
 
-
-# Classes of groups: elements are permutations, as tuples
-
-def times(first, second):
-    """The first and then the second."""
-    return tuple(second[place] for place in first)
-
-
-def inverse(element):
-    back = [0] * len(element)
-    for place, image in enumerate(element):
-        back[image] = place
-    return tuple(back)
-
-
-def group_of(gens):
-    """All elements, and the order of a group by its generators."""
-    one = tuple(range(len(gens[0])))
-    seen, waiting = {one}, [one]
-    while waiting:
-        element = waiting.pop()
-        for generator in gens:
-            new = times(element, generator)
-            if new not in seen:
-                seen.add(new)
-                waiting.append(new)
-    return sorted(seen)
-
-
-def conjugacy_class(element, gens, most):
-    """The class, or None where it has more than `most` elements."""
-    found = [element]
-    known = {element}
-    for x in found:
-        for generator in gens:
-            new = times(times(inverse(generator), x), generator)
-            if new not in known:
-                if len(found) == most:
-                    return None
-                known.add(new)
-                found.append(new)
-    return found
-
-
-def class_tables(name, gens):
-    """The connected quandles among the classes of a group: x ▷ y = y^-1 x y."""
+def class_tables(name, gens, elements=None):
+    """The connected quandles among the classes of a group, or of some of its elements: x ▷ y = y^-1 x y."""
     done = set()
-    for element in group_of(gens):
+    for element in elements or group_of(gens):
         if element in done:
             continue
-        found = conjugacy_class(element, gens, MAX_ORDER)
+        found = conjugacy_class(element, gens, LARGEST)
         if found is None:
             continue
         done.update(found)
@@ -231,93 +166,34 @@ def class_tables(name, gens):
             yield Found(table, f"class of {element_name(element)} in {name}", None)
 
 
-def element_name(element):
-    cycles, seen = [], set()
-    for start in range(len(element)):
-        cycle = []
-        while start not in seen:
-            seen.add(start)
-            cycle.append(start)
-            start = element[start]
-        if len(cycle) > 1:
-            cycles.append("(" + " ".join(map(str, cycle)) + ")")
-    return "".join(cycles) or "1"
+# By translations
+
+def translation_table(translations):
+    """The quandle of the translations of colours that span it: that of x ▷ y is the conjugate of that of x by that of y."""
+    known = dict(translations)
+    waiting = list(known)
+    for x in waiting:
+        for y in list(known):
+            for a, b in ((x, y), (y, x)):
+                if known[b][a] not in known:
+                    known[known[b][a]] = times(times(inverse(known[b]), known[a]), known[b])
+                    waiting.append(known[b][a])
+    return [[known[y][x] for y in range(len(known))] for x in range(len(known))]
 
 
-def swap(size, *pairs):
-    image = list(range(size))
-    for a, b in pairs:
-        image[a], image[b] = image[b], image[a]
-    return tuple(image)
-
-
-def cycle(size, *places):
-    image = list(range(size))
-    for a, b in zip(places, places[1:] + places[:1]):
-        image[a] = b
-    return tuple(image)
-
-
-def matrix_group(prime, matrices, shifts=()):
-    """Generators that act on the vectors of the plane mod a prime: matrices (a, b, c, d), and translations."""
-    vectors = list(itertools.product(range(prime), repeat=2))
-    index = {vector: place for place, vector in enumerate(vectors)}
-    gens = [tuple(index[(a * x + b * y) % prime, (c * x + d * y) % prime] for x, y in vectors) for a, b, c, d in matrices]
-    return gens + [tuple(index[(x + a) % prime, (y + b) % prime] for x, y in vectors) for a, b in shifts]
-
-
-def field_group(prime, degree):
-    """The maps x to a x + b of the field of p^d elements, and its size."""
-    size = prime ** degree
-    for coefficients in itertools.product(range(prime), repeat=degree):
-        vectors = list(itertools.product(range(prime), repeat=degree))
-        index = {vector: place for place, vector in enumerate(vectors)}
-        if degree == 1:
-            turn = [tuple(a * x % prime for x in range(prime)) for a in range(1, prime)]
-            return [cycle(size, *range(size)), *turn[1:]]
-        turned = tuple(index[times_t(vector, coefficients, prime)] for vector in vectors)
-        # t generates the field's units where its powers lead from each vector but 0 to each other one.
-        if coefficients[0] and cycle_lengths(turned) == (1, size - 1):
-            shift = tuple(index[((vector[0] + 1) % prime, *vector[1:])] for vector in vectors)
-            return [turned, shift]
-    raise AssertionError("each finite field has such a t")
-
-
-def prism_group(copies):
-    """Permutations of three axes with turns of their products 1, on 3 m points: the reflection group G(m, m, 3)."""
-    def point(axis, turn):
-        return axis * copies + turn % copies
-    turned = tuple(point(axis, turn + (1, -1, 0)[axis]) for axis in range(3) for turn in range(copies))
-    shifted = tuple(point(axis + 1 if axis < 2 else 0, turn) for axis in range(3) for turn in range(copies))
-    swapped = tuple(point((1, 0, 2)[axis], turn) for axis in range(3) for turn in range(copies))
-    return [turned, shifted, swapped]
-
-
-def signed_group():
-    """Permutations of four axes with evenly many signs: the Weyl group of type D4, on 8 points."""
-    def point(axis, sign):
-        return 2 * axis + sign
-    swaps = [swap(8, (point(a, 0), point(a + 1, 0)), (point(a, 1), point(a + 1, 1))) for a in range(3)]
-    return swaps + [swap(8, (point(2, 0), point(3, 1)), (point(2, 1), point(3, 0)))]
-
-
-def groups():
-    """Names of groups, and generators."""
-    for size in range(3, 7):
-        yield f"the symmetric group of {size}", [swap(size, (0, 1)), cycle(size, *range(size))]
-    for size in range(4, 7):
-        yield f"the alternating group of {size}", [cycle(size, 0, 1, place) for place in range(2, size)]
-    for size in range(3, MAX_ORDER + 1):
-        mirrored = tuple(-place % size for place in range(size))
-        yield f"the dihedral group of the {size}-gon", [cycle(size, *range(size)), mirrored]
-    yield "SL(2,3) on the plane mod 3", matrix_group(3, [(1, 1, 0, 1), (1, 0, 1, 1)])
-    for prime, degree in ((2, 2), (5, 1), (7, 1), (2, 3), (3, 2), (11, 1), (13, 1), (2, 4)):
-        yield f"the affine group of the line over the field of {prime ** degree}", field_group(prime, degree)
-    yield "GL(2,3) on the plane mod 3", matrix_group(3, [(1, 1, 0, 1), (1, 0, 1, 1), (2, 0, 0, 1)])
-    yield "the affine group with SL(2,3) of the plane mod 3", matrix_group(3, [(1, 1, 0, 1), (1, 0, 1, 1)], [(1, 0), (0, 1)])
-    yield "the Weyl group of type D4 on the 8 ends of its axes", signed_group()
-    for copies in range(3, 6):
-        yield f"the reflection group G({copies},{copies},3) on {3 * copies} points", prism_group(copies)
+def stored_tables():
+    """The quandles of the file of translations."""
+    with open(TRANSLATIONS, encoding="utf-8") as text:
+        lines = [line for line in text.read().splitlines() if line and not line.startswith("#")]
+    for line in lines:
+        head, *parts = line.split("; ")
+        order, number, size = (int(word) for word in head.split())
+        translations = {}
+        for part in parts:
+            colour, cycles = part.split(" ", 1)
+            translations[int(colour)] = permutation_of(order, cycles)
+        comment = f"by translations of order {math.lcm(*cycle_lengths(translations[0]))} in the transitive group {order}T{number} of order {size}"
+        yield Found(translation_table(translations), comment, None)
 
 
 # What is made of smaller ones
@@ -381,6 +257,22 @@ def coverings(base, name, modulus):
             yield Found(table, f"covering of {name} by a cocycle mod {modulus}", None)
 
 
+def extensions(base, name, size):
+    """The connected ones among the extensions by a field that are not products."""
+    spanning = generators(base)
+    for prime, coefficients in fields(size):
+        comment = f"extension of {name} by the field of {size} elements, t a root of {polynomial_name(coefficients)} mod {prime}"
+        if len(coefficients) == 1:
+            comment = f"extension of {name} by the integers mod {prime} with t = {-coefficients[0] % prime}"
+            if coefficients == (prime - 1,):
+                comment = f"covering of {name} by a cocycle mod {prime}"
+        classes = classes_of_twisted_cocycles(base, spanning, prime, coefficients)
+        for vector in twisted_sums(classes, prime):
+            table = extension(base, vector, prime, coefficients)
+            if is_connected(table):
+                yield Found(table, comment, None)
+
+
 # All of them
 
 def candidates(order, smaller):
@@ -390,8 +282,8 @@ def candidates(order, smaller):
     yield from alexander_tables(order)
     if order == 4:
         yield Found(tetrahedral().over, "tetrahedral: class of (0 1 2) in the alternating group of 4", "tetrahedral")
-    for modulus in (2, 3, 4):
-        for degree in (2, 3, 4):
+    for modulus in (2, 3, 4, 5):
+        for degree in (2, 3, 4, 5):
             if modulus ** degree == order:
                 yield from polynomial_tables(modulus, degree)
     yield from smaller.classes.get(order, [])
@@ -402,36 +294,52 @@ def candidates(order, smaller):
             for (a, first), (b, second) in itertools.product(enumerate(smaller.found[low], 1), enumerate(smaller.found[order // low], 1)):
                 yield Found(products(first, second), f"product of number {a} of order {low} and number {b} of order {order // low}", None)
     for base in range(3, order // 2 + 1):
-        if order % base == 0 and order // base <= 5:
+        if order % base == 0:
             for number, found in enumerate(smaller.found[base], 1):
-                yield from coverings(found.table, f"number {number} of order {base}", order // base)
-
-
+                if order > SMALL:
+                    yield from extensions(found.table, f"number {number} of order {base}", order // base)
+                elif order // base <= 5:
+                    yield from coverings(found.table, f"number {number} of order {base}", order // base)
     if order == 12:
         yield Found(galkin_table((2, 2), (0, 1)), "Galkin's quandle of the sum of two groups of order 2 and its element (0, 1)", None)
+    yield from smaller.stored.get(order, [])
+
+
+def by_order(every):
+    """Lists of what was found, by order."""
+    lists = {}
+    for found in every:
+        lists.setdefault(len(found.table), []).append(found)
+    return lists
 
 
 class Collection:
     """`found[order]`: the connected quandles of an order, no two isomorphic."""
 
-    def __init__(self, largest=MAX_ORDER):
-        self.classes = {}
-        for name, gens in groups():
-            for found in class_tables(name, gens):
-                self.classes.setdefault(len(found.table), []).append(found)
-        self.found = {}
+    def __init__(self, largest=LARGEST):
+        made = [class_tables(name, gens) for name, gens in groups()]
+        stored = []
+        if largest > SMALL:
+            made += [class_tables(name, gens) for name, gens in larger_groups()]
+            made += [class_tables(name, gens, gens[:1]) for name, gens in reflection_groups(SMALL + 1, LARGEST)]
+            stored = stored_tables()
+        self.classes, self.stored = by_order(itertools.chain(*made)), by_order(stored)
+        self.found, self.marks = {}, {}
         for order in range(1, largest + 1):
-            self.found[order] = []
-            kept = []
+            self.found[order], self.marks[order] = [], []
             for found in candidates(order, self):
-                mark = invariant(found.table)
-                if not any(mark == other and are_isomorphic(found.table, table) for other, table in kept):
+                if self.place_of(found.table) is None:
                     fault = quandle_fault(found.table)
                     assert fault is None, (found.comment, fault)
-                    kept.append((mark, found.table))
+                    self.marks[order].append(invariant(found.table))
                     self.found[order].append(found)
+
+    def place_of(self, table):
+        """The place of the quandle in its order that is isomorphic to a connected one, or None."""
+        mark, order = invariant(table), len(table)
+        return next((place for place, (other, found) in enumerate(zip(self.marks[order], self.found[order]))
+                     if mark == other and are_isomorphic(found.table, table)), None)
 
     def dual_of(self, order, place):
         """The place of the dual of a quandle in its order."""
-        table = dual(self.found[order][place].table)
-        return next(other for other, found in enumerate(self.found[order]) if are_isomorphic(found.table, table))
+        return self.place_of(dual(self.found[order][place].table))

@@ -20,6 +20,9 @@ from connected import Collection, KNOWN, is_connected
 from diagrams import (BadText, Braid, Lines, MAX_COLOURINGS, MAX_QUANDLES, braid_fault, built_in_list, fixed_points, quandle_of, quandle_text,
                       read_quandles)
 
+# The largest orders of the ready lists: of the short one, and of the others.
+SHORT, LISTED = 9, 16
+
 
 def say_count(collection):
     print("order  found  there are")
@@ -87,17 +90,17 @@ def write_lists(collection, folder):
             (duals if is_later else entries).append((order, place, one))
     made = "Made by tools/quandles.py lists. Append it to a problem: cat problem.txt quandles/{}"
     common = "Each pair of duals is here once: they count alike on a knot that is the same as itself run through backwards."
-    short = [entry for entry in entries if entry[0] <= 9]
+    short = [entry for entry in entries if entry[0] <= SHORT]
     write(os.path.join(folder, "list-short.txt"),
-          list_text([f"trivial 2 and {len(short)} connected quandles up to order 9, the small ones first.", common,
+          list_text([f"trivial 2 and {len(short)} connected quandles up to order {SHORT}, the small ones first.", common,
                      made.format("list-short.txt")], short))
     write(os.path.join(folder, "list-one-of-each-pair.txt"),
-          list_text([f"trivial 2 and {len(entries)} connected quandles up to order 16, the small ones first.", common,
+          list_text([f"trivial 2 and {len(entries)} connected quandles up to order {LISTED}, the small ones first.", common,
                      made.format("list-one-of-each-pair.txt")], entries))
     full = sorted(entries + duals[:MAX_QUANDLES - 1 - len(entries)], key=lambda entry: entry[0])
     left_out = [f"{order} number {place + 1}" for order, place in sorted(entry[:2] for entry in entries + duals if entry not in full)]
     write(os.path.join(folder, "list-64.txt"),
-          list_text([f"trivial 2 and {len(full)} connected quandles up to order 16, duals too, the small ones first: the {MAX_QUANDLES} that a problem takes.",
+          list_text([f"trivial 2 and {len(full)} connected quandles up to order {LISTED}, duals too, the small ones first: the {MAX_QUANDLES} that a problem takes.",
                      f"Left out: {', '.join(left_out) or 'none'}.", made.format("list-64.txt")], full))
 
 
@@ -188,8 +191,10 @@ def main():
             say_count(Collection())
         elif not os.path.isdir(words.folder):
             parser.error(f"there is no folder {words.folder}")
+        elif words.job == "tables":
+            write_tables(Collection(), words.folder)
         else:
-            (write_tables if words.job == "tables" else write_lists)(Collection(), words.folder)
+            write_lists(Collection(LISTED), words.folder)
     except (OSError, BadText) as fault:
         sys.exit(f"quandles.py: {fault}")
 

@@ -1,6 +1,7 @@
 """The tables of connected quandles, the table of knots, and how many of its pairs the lists tell apart."""
 import itertools
 import os
+import re
 import subprocess
 import tempfile
 import unittest
@@ -8,6 +9,9 @@ import unittest
 import common
 import connected
 import diagrams
+import extensions
+import fields
+import groups
 import knot_invariants
 import quandles
 
@@ -23,9 +27,191 @@ DETERMINANTS = [3, 5, 5, 7, 9, 11, 13, 7, 11, 13, 15, 17, 19, 21, 13, 17, 17, 19
 NOT_ALTERNATING = ("8_19", "8_20", "8_21")
 
 
+# How many connected quandles there are, by order from 1 (Vendramin 2012).
+HOW_MANY = [1, 0, 1, 1, 3, 2, 5, 3, 8, 1, 9, 10, 11, 0, 7, 9, 15, 12, 17, 10, 9, 0, 21, 42, 34, 0, 65, 13, 27, 24, 29, 17]
+
+
 def polynomial(name):
     half = [int(entry) for entry in ALEXANDER[name].split()]
     return half + half[-2::-1]
+
+
+def cycle_type(table, colour):
+    """How often each length of cycle is there in a translation, counted by colours."""
+    lengths = []
+    for start in range(len(table)):
+        length, x = 1, table[start][colour]
+        while x != start:
+            length, x = length + 1, table[x][colour]
+        lengths.append(length)
+    return sorted(lengths)
+
+
+def derived_from(table, spanning):
+    """The colours that some span as (z, x, y), z = x ▷ y, with x and y before z."""
+    known, seen, steps = list(spanning), set(spanning), []
+    for y in known:
+        for x in list(known):
+            for z, step in ((table[x][y], (x, y)), (table[y][x], (y, x))):
+                if z not in seen:
+                    seen.add(z)
+                    known.append(z)
+                    steps.append((z, *step))
+    return steps
+
+
+def derivation(table):
+    """Colours that span a connected quandle, 0 first, and how the others come from them."""
+    spanning, steps = (0,), []
+    while len(spanning) + len(steps) < len(table):
+        tried = {}
+        for y in set(range(len(table))) - set(spanning):
+            tried[y] = derived_from(table, (*spanning, y))
+            if len(spanning) + 1 + len(tried[y]) == len(table):
+                break
+        best = max(tried, key=lambda y: len(tried[y]))
+        spanning, steps = (*spanning, best), tried[best]
+    return spanning, steps
+
+
+def bijections(table, derived, other):
+    """Bijections from a connected quandle to another one that keep the operation and take 0 to 0, by the images of the spanning colours."""
+    order, (spanning, steps) = len(table), derived
+    for images in itertools.permutations(range(1, order), len(spanning) - 1):
+        image = dict(zip(spanning, (0, *images)))
+        taken = set(image.values())
+        for z, x, y in steps:
+            image[z] = other[image[x]][image[y]]
+            if image[z] in taken:
+                break
+            taken.add(image[z])
+        else:
+            if all(image[table[x][y]] == other[image[x]][image[y]] for x in range(order) for y in range(order)):
+                yield image
+
+
+class Files(unittest.TestCase):
+    """The stored tables, by means that are not those of the scripts."""
+
+    @classmethod
+    def setUpClass(cls):
+        cls.tables, cls.comments, cls.derived = {}, {}, {}
+        for order, many in enumerate(HOW_MANY, 1):
+            if order > 1 and many:
+                text = common.read("quandles", f"connected-{order:02}.txt")
+                lines = diagrams.Lines(text)
+                cls.tables[order] = [[list(row) for row in quandle.over] for quandle in diagrams.read_quandles(lines)]
+                lines.done()
+                cls.comments[order] = re.findall(r"^# (\d+), number (\d+): .*; (?:its own dual|dual of number (\d+))$", text, re.MULTILINE)
+                cls.derived[order] = [derivation(table) for table in cls.tables[order]]
+
+    def alike(self, order, place, other):
+        return next(bijections(self.tables[order][place], self.derived[order][place], other), None) is not None
+
+    def test_there_are_as_many_as_are_known(self):
+        self.assertEqual(connected.KNOWN, dict(enumerate(HOW_MANY, 1)))
+        self.assertEqual(len(HOW_MANY), connected.LARGEST)
+        self.assertEqual({order: len(tables) for order, tables in self.tables.items()},
+                         {order: many for order, many in enumerate(HOW_MANY, 1) if order > 1 and many})
+
+    def test_each_is_a_connected_quandle_of_its_order(self):
+        for order, tables in self.tables.items():
+            for table in tables:
+                self.assertEqual(len(table), order)
+                self.assertIsNone(diagrams.quandle_fault(table))
+                reached = {0}
+                while not reached >= {z for x in reached for z in table[x]}:
+                    reached |= {z for x in reached for z in table[x]}
+                self.assertEqual(len(reached), order)
+
+    def test_no_two_of_an_order_are_isomorphic(self):
+        for order, tables in self.tables.items():
+            types = [cycle_type(table, 0) for table in tables]
+            for one, two in itertools.combinations(range(len(tables)), 2):
+                if types[one] == types[two]:
+                    self.assertFalse(self.alike(order, one, tables[two]), (order, one + 1, two + 1))
+
+    def test_the_comments_name_the_duals(self):
+        for order, tables in self.tables.items():
+            self.assertEqual([comment[:2] for comment in self.comments[order]], [(str(order), str(place + 1)) for place in range(len(tables))])
+            for place, comment in enumerate(self.comments[order]):
+                dual = [[0] * order for _ in range(order)]
+                for x, y in itertools.product(range(order), repeat=2):
+                    dual[tables[place][x][y]][y] = x
+                self.assertTrue(self.alike(order, int(comment[2] or place + 1) - 1, dual), (order, place + 1))
+
+    def test_the_program_takes_the_large_ones_and_counts_alike(self):
+        program = common.built_program()
+        if program is None:
+            self.skipTest("no program: set KNOT")
+        braid = diagrams.Braid(3, (1, -2, 1, -2))
+        for order, tables in self.tables.items():
+            if order > 16:
+                taken = [diagrams.quandle_of(f"table {order}", table) for table in tables[:diagrams.MAX_QUANDLES]]
+                text = "braid 3 1 -2 1 -2\n" + "".join(map(diagrams.quandle_text, taken))
+                run = subprocess.run([program, "close"], input=text, capture_output=True, text=True, check=False)
+                counted = [int(line.split()[1]) for line in run.stdout.splitlines() if line.startswith("list")]
+                self.assertEqual(counted, [quandles.count_of(quandle, braid) for quandle in taken], order)
+
+
+class Constructions(unittest.TestCase):
+    def test_cycles_are_read_as_they_are_written(self):
+        for element in groups.group_of([groups.swap(5, (0, 1)), groups.cycle(5, 0, 1, 2, 3, 4)])[1:]:
+            self.assertEqual(groups.permutation_of(5, groups.element_name(element)), element)
+
+    def test_orders_of_the_larger_groups(self):
+        self.assertEqual([len(groups.group_of(gens)) for _, gens in groups.larger_groups()], [168, 336, 168])
+
+    def test_reflection_groups_have_their_orders_and_reflections(self):
+        # G(m, m, n) has m^(n-1) n! elements (Shephard and Todd 1954).
+        for copies, axes, order in ((1, 4, 24), (2, 3, 24), (3, 3, 54), (5, 3, 150), (2, 4, 192)):
+            gens = groups.reflection_group(copies, axes)
+            self.assertEqual(len(groups.group_of(gens)), order)
+            self.assertEqual(len(groups.conjugacy_class(gens[0], gens, 99)), copies * axes * (axes - 1) // 2)
+
+    def test_roots_in_fields_are_counted(self):
+        # As many polynomials without a factor as Gauss's formula says, less t itself.
+        self.assertEqual([len(list(fields.fields(size))) for size in (2, 3, 4, 5, 6, 7, 8, 9, 16, 25, 27, 32)], [1, 2, 1, 4, 0, 6, 2, 3, 3, 10, 8, 6])
+
+    def test_translations_of_spanning_colours_give_the_table_back(self):
+        for found in connected.Collection(9).found[9]:
+            columns = list(zip(*found.table))
+            spanning = connected.generators(found.table)
+            self.assertEqual(connected.translation_table({colour: columns[colour] for colour in spanning}), [list(row) for row in found.table])
+
+    def test_stored_translations_are_all_wanted(self):
+        stored = connected.by_order(connected.stored_tables())
+        self.assertEqual(list(stored), [18, 20, 21, 24, 28, 30])
+        for order, every in stored.items():
+            text = common.read("quandles", f"connected-{order:02}.txt")
+            self.assertEqual(re.findall(r": (by translations of order .*); ", text), [found.comment for found in every])
+
+    def test_twisted_cocycles_make_quandles_and_coboundaries_are_among_them(self):
+        collection = connected.Collection(6)
+        for order, prime, coefficients in ((3, 2, (1, 1)), (4, 2, (1, 1)), (4, 3, (1,)), (5, 2, (1,)), (6, 3, (1,)), (6, 3, (2,))):
+            for found in collection.found[order]:
+                spanning = connected.generators(found.table)
+                cocycles = extensions.twisted_cocycles(found.table, spanning, prime, coefficients)
+                span = extensions.linear.Span(prime)
+                for vector in cocycles:
+                    table = extensions.extension(found.table, vector, prime, coefficients)
+                    self.assertIsNone(diagrams.quandle_fault(table))
+                    span.put(vector)
+                for vector in extensions.twisted_coboundaries(found.table, prime, coefficients):
+                    self.assertTrue(span.has(vector))
+
+    def test_a_coboundary_makes_what_no_cocycle_makes(self):
+        base = connected.Collection(6).found[6][0].table
+        plain = extensions.extension(base, {}, 3, (1,))
+        for vector in itertools.islice(extensions.twisted_coboundaries(base, 3, (1,)), 3):
+            self.assertTrue(connected.are_isomorphic(plain, extensions.extension(base, vector, 3, (1,))))
+
+    def test_classes_of_twisted_cocycles_with_t_1_are_those_of_cocycles(self):
+        collection = connected.Collection(8)
+        for order in (4, 6, 8):
+            for found in collection.found[order]:
+                twisted = extensions.classes_of_twisted_cocycles(found.table, connected.generators(found.table), 2, (1,))
+                self.assertEqual(len(twisted), len(connected.classes_of_cocycles(found.table, 2)))
 
 
 class Tables(unittest.TestCase):
