@@ -267,7 +267,7 @@ def limits():
         number = (size - 60) // 13
         text = filled(SHIFTED + b"equal %d\n" % number + b"shift rows 1\n" * number, b"#\n", size)
         yield Case("limits", f"check: {size} bytes of moves", [b"check"], text)
-    for columns in (2, 3, 23, 24, 25, 26, 100, 1000):
+    for columns in (2, 3, 24, 25, 47, 48, 49, 50, 100, 1000):
         grid = b"x " + b" ".join(b"%d" % row for row in range(columns)) + b"\no " + b" ".join(b"%d" % ((row + 1) % columns) for row in range(columns)) + b"\n"
         yield Case("limits", f"code: {columns} columns", [b"code"], grid)
         yield Case("limits", f"colour: {columns} columns", [b"colour"], grid)
@@ -275,17 +275,17 @@ def limits():
         for last in (b"o 1 0 2", b"stabilise 0 x lowleft", b"stabilise 255 x lowleft"):
             yield Case("limits", f"replay: {columns} columns, {last}", [b"replay"], grid + b"moves 1\n" + last + b"\n")
     for strands in range(11):
-        for letters in range(0, 27):
+        for letters in range(0, 51):
             word = b"".join(b" %d" % (1 + place % max(1, strands - 1)) for place in range(letters))
             yield Case("limits", f"close: {strands} strands, {letters} letters", [b"close"], b"braid %d" % strands + word + b"\nquandle trivial 1\n")
-    for order in (0, 1, 2, 15, 16, 17, 100):
+    for order in (0, 1, 2, 16, 17, 31, 32, 33, 100):
         for name in (b"trivial %d", b"dihedral %d", b"alexander %d 1", b"alexander %d 0", b"table %d"):
             rows = b"".join(b" ".join([b"%d" % x] * order) + b"\n" for x in range(order)) if name.startswith(b"table") else b""
             line = name % order + b"\n" + rows
             yield Case("limits", f"colour: {name} {order}", [b"colour"], UNKNOT + b"quandle " + line)
             yield Case("limits", f"check: {name} {order}", [b"check"], UNKNOT + UNKNOT + b"different " + line + b"list 0\nlist 0\n")
-    for first in range(1, 17):
-        for second in range(0, 18):
+    for first in range(1, 33):
+        for second in range(0, 34):
             yield Case("limits", f"colour: alexander {first} {second}", [b"colour"], UNKNOT + b"quandle alexander %d %d\n" % (first, second))
     for number in (63, 64, 65, 66):
         for last in (b"", b"quandle foo\n", b"quandle trivial 0\n", b"quandle trivial 17\n", b"quandle alexander 4 2\n", b"quandle\n", b"foo\n",
@@ -323,11 +323,12 @@ def numbers_in_places():
         (b"check", TREFOIL + UNKNOT + b"quandle alexander 5 2\ndifferent table 2\n0 0\n1 1\nlist 1\n0 1 0 1 0\nlist 1\n0 0\n"),
         (b"check", TREFOIL + b"braid 2 1 -1\n" + b"equal 7\n" + moves.split(b"\n", 1)[1]),
         (b"check", SHIFTED + b"unknown exhausted 5 2\n"), (b"check", SHIFTED + b"unknown budget 5\n"),
+        (b"check", SHIFTED + b"certificate 2\nequal 2\nshift columns 2\nshift rows 1\n"),
         (b"close", b"braid 3 1 -2 1\nquandle dihedral 3\nquandle tetrahedral\n"),
         (b"braid", TREFOIL + b"quandle dihedral 3\n"), (b"linking", GOOD[b"linking"]),
         (b"braidcheck", GOOD[b"braidcheck"]), (b"weights", GOOD[b"weights"]),
     ]
-    values = [b"0", b"-0", b"1", b"-1", b"7", b"15", b"16", b"17", b"23", b"24", b"25", b"254", b"255", b"256", b"65535", b"65536", b"65537", b"999999999",
+    values = [b"0", b"-0", b"1", b"-1", b"7", b"15", b"16", b"17", b"23", b"24", b"25", b"31", b"32", b"33", b"47", b"48", b"49", b"254", b"255", b"256", b"65535", b"65536", b"65537", b"999999999",
               b"1000000000", b"-999999999", b"-1000000000", b"4294967295", b"4294967296", b"18446744073709551616", b"00", b"+1", b"1.", b"a", b""]
     for job, text in inputs:
         if job not in reader.JOBS:
@@ -363,7 +364,7 @@ def loud():
 
 
 def streams(bases):
-    calls = [([job], GOOD[job]) for job in jobs()] + [([b"check"], SHIFTED + b"equal 0\n"), ([b"colour"], b"x 0\n"), ([b"colour"], b"x 1000000000\n"),
+    calls = [([job], GOOD[job]) for job in jobs()] + [([b"check"], SHIFTED + b"certificate 2\nequal 0\n"), ([b"colour"], b"x 0\n"), ([b"colour"], b"x 1000000000\n"),
                                                      ([], UNKNOT), ([b"--help"], UNKNOT), ([b"decide", b"--spare=0"], bases[0][3])]
     for words_, data in calls:
         name = b" ".join(words_).decode()
@@ -421,8 +422,8 @@ def memory():
 def stack():
     for name, words_, data in wanting():
         # Of the same limit a worker's thread has less for itself than the first thread.
-        enough = 256 if b"--workers=8" in words_ else 128
-        for size in (4, 16, 64, 96, 128, 160, 192, 256, 512, 1024, 8192):
+        enough = 2048 if b"--workers=8" in words_ else 512
+        for size in (4, 16, 64, 128, 256, 384, 512, 768, 1024, 2048, 4096, 8192):
             way = "stack" if size >= enough else "tiny stack"
             yield Case("stack", f"{name}: {size} KB", words_, data, way=way, need=size * KIBIBYTE)
 

@@ -5,10 +5,10 @@ import re
 from glob import glob
 
 SPELLINGS = [b"00", b"+1", b"-1", b"-0", b"--1", b"1.0", b"0x1", b"1e1", b"", b"a", b"X", b"-", b"\xff", b"\x00", b"#",
-             b"999999999", b"1000000000", b"4294967296", b"18446744073709551616", b"65536", b"65537", b"256", b"255", b"24", b"16", b"17"]
+             b"999999999", b"1000000000", b"4294967296", b"18446744073709551616", b"65536", b"65537", b"256", b"255", b"24", b"16", b"17", b"48", b"49", b"32", b"33"]
 WORDS = [b"x", b"o", b"braid", b"quandle", b"trivial", b"dihedral", b"tetrahedral", b"alexander", b"table", b"moves", b"shift", b"exchange",
          b"slide", b"stabilise", b"destabilise", b"columns", b"rows", b"lowleft", b"highright", b"colours", b"equal", b"different", b"list",
-         b"unknown", b"budget", b"exhausted", b"weight"]
+         b"unknown", b"budget", b"exhausted", b"certificate", b"weight"]
 CORNERS = ["lowleft", "lowright", "highleft", "highright"]
 
 
@@ -36,7 +36,7 @@ def examples(folder, jobs):
 # ---------------------------------------------------------------- whole items
 
 def random_grid(dice, size=None):
-    size = size or dice.choice([2, 2, 3, 3, 4, 4, 5, 5, 6, 7, 8, 12, 24])
+    size = size or dice.choice([2, 2, 3, 3, 4, 4, 5, 5, 6, 7, 8, 12, 24, 48])
     xs, os_ = list(range(size)), list(range(size))
     dice.shuffle(xs)
     while True:
@@ -63,7 +63,7 @@ def random_braid(dice):
 
 def random_quandle(dice, word="quandle"):
     name = dice.choice(["trivial", "dihedral", "tetrahedral", "alexander", "table"])
-    order = dice.randint(1, 5) if dice.random() < 0.8 else dice.randint(1, 16)
+    order = dice.randint(1, 5) if dice.random() < 0.8 else dice.randint(1, 32)
     if name == "tetrahedral":
         return [spell(word, name)]
     if name == "alexander":
@@ -195,7 +195,7 @@ def fresh_diagram(dice, lines, _others):
 
 def fresh_size(dice, lines, _others):
     """Another diagram of the same size in the place of one."""
-    places = [place for place, line in enumerate(lines) if line.startswith(b"x ") and 2 <= len(line.split()) - 1 <= 24]
+    places = [place for place, line in enumerate(lines) if line.startswith(b"x ") and 2 <= len(line.split()) - 1 <= 48]
     if places:
         place = dice.choice(places)
         lines[place:place + 2] = random_grid(dice, len(lines[place].split()) - 1)

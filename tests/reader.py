@@ -15,9 +15,9 @@ from functools import lru_cache
 from itertools import product
 from math import gcd
 
-MAX_SIZE = 24
+MAX_SIZE = 48
 MAX_STRANDS = 8
-MAX_ORDER = 16
+MAX_ORDER = 32
 MAX_QUANDLES = 64
 MAX_LIST = 65_536
 MAX_IN_MOVE = 255
@@ -290,12 +290,18 @@ def move_of(tokens):
     return tuple(int(token) if is_number(token) else token.decode() for token in tokens)
 
 
-def read_move_lines(lines, number):
+def may_follow(before, move):
+    """Whether a move may stand in a tidy list directly behind another one."""
+    return move[0] != "shift" or before[0] != "shift" or (before[1], move[1]) == ("columns", "rows")
+
+
+def read_move_lines(lines, number, tidy=False):
     moves = []
     for _ in range(number):
         move = move_of(lines.due())
         lines.form(move != MALFORMED)
         lines.limits(move != LIMIT)
+        lines.content(not tidy or not moves or may_follow(moves[-1], move))
         moves.append(move)
         lines.advance()
     return moves
@@ -367,10 +373,23 @@ def read_list(lines, size, order):
     return colourings
 
 
+def read_version(lines):
+    """2 behind the line `certificate 2`, and 1 where no such line stands."""
+    if not lines.begins_with(b"certificate"):
+        return 1
+    tokens = lines.due()
+    lines.form(len(tokens) == 2 and is_number(tokens[1]))
+    lines.limits(is_short(tokens[1]))
+    lines.content(int(tokens[1]) == 2)
+    lines.advance()
+    return 2
+
+
 def read_verdict(lines, first, second):
+    tidy = read_version(lines) == 2
     tokens = lines.due()
     if tokens[0] == b"equal":
-        return "equal", read_move_lines(lines, read_count(lines, b"equal"))
+        return "equal", read_move_lines(lines, read_count(lines, b"equal"), tidy)
     if tokens[0] == b"different":
         quandle = read_name(lines, b"different")
         return "different", quandle, [read_list(lines, len(grid[0]), quandle.order) for grid in (first, second)]
@@ -1017,12 +1036,15 @@ def print_move(move):
 
 
 def print_verdict(verdict):
+    """The text of version 2."""
     if verdict[0] == "equal":
-        return "\n".join([f"equal {len(verdict[1])}", *map(print_move, verdict[1])]).encode() + b"\n"
-    if verdict[0] == "different":
+        text = "\n".join([f"equal {len(verdict[1])}", *map(print_move, verdict[1])]) + "\n"
+    elif verdict[0] == "different":
         _, quandle, lists = verdict
-        return (f"different {quandle.printed}" + "".join(map(print_list, lists))).encode()
-    return " ".join(map(str, verdict)).encode() + b"\n"
+        text = f"different {quandle.printed}" + "".join(map(print_list, lists))
+    else:
+        text = " ".join(map(str, verdict)) + "\n"
+    return b"certificate 2\n" + text.encode()
 
 
 def answer_decide(options, first, second, quandles):

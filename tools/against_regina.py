@@ -153,7 +153,7 @@ def random_grid(dice, size):
 
 def random_word(dice):
     strands = dice.randint(2, 5)
-    letters = [dice.choice((1, -1)) * dice.randint(1, strands - 1) for _ in range(dice.randint(1, 24 - 2 * strands))]
+    letters = [dice.choice((1, -1)) * dice.randint(1, strands - 1) for _ in range(dice.randint(1, 48 - 2 * strands))]
     return f"braid {strands} " + " ".join(map(str, letters)) + "\n"
 
 

@@ -165,9 +165,15 @@ def read_answer(path, problem, job):
     return Answer(tried, body)
 
 
+def without_head_line(body):
+    """An answer without the line that tells the version of a verdict."""
+    head, _, rest = body.partition(b"\n")
+    return rest if head == b"certificate 2" else body
+
+
 def says(body):
-    """The first line of an answer; of a quandle by a table, the table too."""
-    lines = body.decode("utf-8", "replace").splitlines()
+    """The first line of an answer behind its head line; of a quandle by a table, the table too."""
+    lines = without_head_line(body).decode("utf-8", "replace").splitlines()
     if not lines:
         return ""
     words = lines[0].split()
@@ -367,7 +373,7 @@ class Batch:
         problem, answer = self.answer(name)
         if self.job == "check" or answer is None or answer.tried[-1].status != ANSWERED:
             return None
-        if answer.body.split(b" ", 1)[0] not in (b"equal", b"different"):
+        if without_head_line(answer.body).split(b" ", 1)[0] not in (b"equal", b"different"):
             return None
         return ended_line(problem) + answer.body
 

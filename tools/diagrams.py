@@ -4,9 +4,9 @@ Nothing here is proved. What a script finds is to be checked by `./knot check`.
 """
 from collections import namedtuple
 
-MAX_SIZE = 24
+MAX_SIZE = 48
 MAX_STRANDS = 8
-MAX_ORDER = 16
+MAX_ORDER = 32
 MAX_COLOURINGS = 65536
 MAX_QUANDLES = 64
 

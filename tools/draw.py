@@ -6,7 +6,7 @@
 INPUT is a file, or standard input where none is given. It holds one of these, as ./knot reads them:
   a diagram                               one picture
   a diagram and moves                     a frame for the diagram and one behind each move
-  two diagrams, quandles, `equal N`       the same, for a certificate
+  two diagrams, quandles, `equal N`       the same, for a certificate; the line `certificate 2` may stand before `equal`
   any of the first two, then a quandle and colours: each strand in its colour, carried along the moves
 The picture goes to standard output where no FILE is given. Verticals pass over horizontals, and a horizontal has a gap where it
 passes under. Arrows lead from X to O along the columns and from O to X along the rows. The colours' numbers stand below the columns.
@@ -37,6 +37,10 @@ def read_frames(text):
         read_diagram(lines)
         while lines.peek() == "quandle":
             read_quandle(lines)
+        if lines.peek() == "certificate":
+            line, tokens = lines.take("the line 'certificate 2'")
+            if tokens[1:] != ["2"]:
+                raise BadText("the line 'certificate 2' is due", line)
         if lines.peek() != "equal":
             raise BadText("behind two diagrams and quandles a verdict 'equal' is due", lines.take("a verdict 'equal'")[0])
     if lines.peek() in ("moves", "equal"):

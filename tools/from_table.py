@@ -31,7 +31,7 @@ exit status:
   3  a file can't be written; those before it are
 """
 
-MAX_COLUMNS = 24
+MAX_COLUMNS = 48
 MAX_STRANDS = 8
 
 # Bounds of what an entry may look like at all.

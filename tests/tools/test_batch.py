@@ -95,6 +95,15 @@ class StagesTest(BatchTest):
         # The answer with its comments behind the problem does as well.
         self.assertEqual([line for line in self.read("answers", "a.txt").splitlines() if not line.startswith("#")], ["equal 0"])
 
+    def test_the_head_line_of_a_verdict_is_passed_over(self):
+        self.problem("a", "# at 100: 0 certificate 2 / equal 1 / shift rows 1\n")
+        self.problem("b", "# at 100: 1 certificate 2 / unknown exhausted 5 2\n# at 200: 1 certificate 2 / unknown exhausted 5 2\n")
+        self.assertEqual(self.batch()[0], 1)
+        rows = self.rows()
+        self.assertEqual([(rows[name]["verdict"], rows[name]["evidence"], rows[name]["check"]) for name in "ab"],
+                         [("equal", "1", "accepted"), ("unknown", "exhausted 5 2", "")])
+        self.assertTrue(self.read("certificates", "a.txt").endswith("\ncertificate 2\nequal 1\nshift rows 1\n"))
+
     def test_another_call_does_nothing_again(self):
         self.problem("a", "# at 100: 0 equal 0\n")
         self.problem("b", "")

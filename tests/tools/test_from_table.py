@@ -102,12 +102,12 @@ class BraidTest(TableTest):
         self.assertEqual(self.one("{1,2,-1}", "--reverse"), "braid 3 -1 2 1\n")
 
     def test_limits_are_those_of_today(self):
-        self.assertEqual(self.one("{" + ",".join(["1"] * 20) + "}"), "braid 2" + " 1" * 20 + "\n")
+        self.assertEqual(self.one("{" + ",".join(["1"] * 44) + "}"), "braid 2" + " 1" * 44 + "\n")
         self.assertEqual(self.one("{7}"), "braid 8 7\n")
 
     def test_words_that_cannot_be_had(self):
         for entry, reason in (
-                ("{" + ",".join(["1"] * 21) + "}", "21 letters on 2 strands make 25 columns, and a grid has at most 24"),
+                ("{" + ",".join(["1"] * 45) + "}", "45 letters on 2 strands make 49 columns, and a grid has at most 48"),
                 ("{8}", "9 strands, and a braid has at most 8"),
                 ("{1,0}", "letter 2 is 0, and 2 strands have the letters 1 to 1 and their negatives"),
                 ("{2,{1,-2}}", "letter 2 is -2, and 2 strands have the letters 1 to 1 and their negatives"),
@@ -194,9 +194,9 @@ class ArcsTest(TableTest):
         self.assertEqual(self.made("k"), "# k\n# turned, so that each row has one X and one O: pair 2, 4\n" + RIGHT_TREFOIL)
 
     def test_arcs_that_cannot_be_had(self):
-        wide = "{" + ",".join("{%d,%d}" % (k, k % 25 + 1) for k in range(1, 26)) + "}"
+        wide = "{" + ",".join("{%d,%d}" % (k, k % 49 + 1) for k in range(1, 50)) + "}"
         for entry, reason in (
-                (wide, "25 pairs, and a grid has at most 24 columns"),
+                (wide, "49 pairs, and a grid has at most 48 columns"),
                 ("{{1,2}}", "one pair alone, and a grid has two columns or more"),
                 ("{{1,2},{2,2}}", "pair 2 has the number 2 twice"),
                 ("{{1,2},{1,3},{1,2}}", "the number 1 stands 3 times, and not twice"),
@@ -344,7 +344,7 @@ class ExampleTest(TableTest):
     def test_braids_and_arcs_of_the_example_are_the_same_knots_but_for_one(self):
         status, _, errors = self.call(EXAMPLE, self.out, "--diagram", "braid_notation", "--second", "arc_notation")
         self.assertEqual(status, 1)
-        self.assertRegex(errors, r"^\S+knots\.csv:10: T\(2,21\): column 2: 21 letters [^\n]*\n$")
+        self.assertRegex(errors, r"^\S+knots\.csv:10: T\(2,45\): column 2: 45 letters [^\n]*\n$")
         self.assertEqual(len(self.files()), 8)
         for name in self.files():
             lines = self.made(name[:-len(".txt")]).splitlines()
