@@ -23,7 +23,7 @@ def turned(grid):
 
 def rows():
     """A name, the columns, and the input."""
-    for size, order in ((2, 16), (4, 16), (6, 16), (8, 16), (8, 8), (8, 4), (16, 4), (24, 2)):
+    for size, order in ((2, 16), (4, 16), (6, 16), (8, 16), (8, 8), (8, 4), (16, 4), (24, 2), (6, 32), (32, 2)):
         yield f"{size // 2} unknots, trivial {order}", size, grid_text(pairs(size)) + f"quandle trivial {order}\n"
     for size, order in ((8, 16), (16, 4)):
         yield f"{size // 2} unknots turned, trivial {order}", size, grid_text(turned(pairs(size))) + f"quandle trivial {order}\n"
@@ -31,6 +31,8 @@ def rows():
         yield f"trefoil, {name}", 5, grid_text(torus(5)) + f"quandle {name}\n"
     yield "24 columns, dihedral 15", 24, grid_text(torus(24)) + "quandle dihedral 15\n"
     yield "24 columns, trivial 16", 24, grid_text(torus(24)) + "quandle trivial 16\n"
+    yield "48 columns, trivial 32", 48, grid_text(torus(48)) + "quandle trivial 32\n"
+    yield "48 columns, dihedral 31", 48, grid_text(torus(48)) + "quandle dihedral 31\n"
 
 
 def listed(written):

@@ -37,8 +37,8 @@ def words_of(spare, budget):
 
 
 def admitted(verdict):
-    """How many diagrams a search has admitted, by its verdict; one of `equal` doesn't tell."""
-    first = verdict.splitlines()[0].split()
+    """How many diagrams a search has admitted, by the first line of its verdict; `equal` doesn't tell."""
+    first = verdict.split()
     return int(first[-1]) if first[0] == "unknown" else None
 
 
@@ -49,12 +49,13 @@ def time_all(path, with_instructions):
         put(path, diagrams + NO_QUANDLE)
         words = words_of(spare, budget)
         seconds, _, written = best([PROGRAM, "decide", *words], path, turns)
-        entries = admitted(written)
+        verdict = written.splitlines()[1]
+        entries = admitted(verdict)
         line = f"{name:30} {spare:5} {budget:7} {entries or '':7} {seconds:8.4f} " + (f"{entries / seconds:9.0f}" if entries else " " * 9)
         if with_instructions:
             count = instructions("decide", path, *words) if seconds < 0.5 else None
             line += f" {count or '':13} " + (f"{count / entries:9.0f}" if count and entries else " " * 9)
-        print(f"{line}  {written.splitlines()[0]}", flush=True)
+        print(f"{line}  {verdict}", flush=True)
 
 
 def workers_all(path):
@@ -67,7 +68,7 @@ def workers_all(path):
             words = words_of(spare, 500_000) + ["--workers", str(workers)]
             seconds, _, written = best([PROGRAM, "decide", *words], path, 3)
             one = one or seconds
-            print(f"{name:30} {spare:5} {500_000:7} {workers:7} {seconds:8.4f} {one / seconds:9.2f}  {written.splitlines()[0]}", flush=True)
+            print(f"{name:30} {spare:5} {500_000:7} {workers:7} {seconds:8.4f} {one / seconds:9.2f}  {written.splitlines()[1]}", flush=True)
 
 
 def memory_all(path):

@@ -1,11 +1,12 @@
 #!/usr/bin/env python3
 """Finds numbers that are said twice: turns the two limits, MAX_SIZE and MAX_ORDER, in a copy of the repository, and proves and tests it.
 
-    python3 bench/limits.py                    24 becomes 20 and 16 becomes 12, in every crate
-    python3 bench/limits.py 20 12 NAME..       in these crates and those below them
+    python3 bench/limits.py                    32 becomes 12 and 48 stays, in every crate
+    python3 bench/limits.py 48 12 NAME..       in these crates and those below them
 
 A proof, a worked row or a test that fails there says one of the two numbers where it should name the constant.
-A number of columns up to 24 and an order up to 16 still fit in the key of a grid and in the tables, so nothing else can fail.
+A number of columns up to 48 and an order up to 32 still fit in the key of a grid and in the tables. The words of a key have sixteen columns each,
+and are as many as the greatest size: so the key itself fails at any number of columns but 48, and what stands on it can't be tried.
 The examples, the stored run and must-fail edits are not tried. From nothing it takes as long as the proofs of the gate do."""
 
 import os
@@ -15,7 +16,7 @@ import sys
 import tempfile
 
 TOP = os.path.dirname(os.path.dirname(os.path.abspath(__file__)))
-LIMITS = (("grid_core", "MAX_SIZE: usize = 24;"), ("quandle_core", "MAX_ORDER: usize = 16;"))
+LIMITS = (("grid_core", "MAX_SIZE: usize = 48;"), ("quandle_core", "MAX_ORDER: usize = 32;"))
 
 
 def turn(top, crate, line, value):
@@ -58,7 +59,7 @@ def wanted(found, names):
 def main():
     values = [word for word in sys.argv[1:] if word.isdigit()]
     names = [word for word in sys.argv[1:] if not word.isdigit()]
-    values = values if len(values) == 2 else ["20", "12"]
+    values = values if len(values) == 2 else ["48", "12"]
     failed = []
     with tempfile.TemporaryDirectory(prefix="knot-limits-") as top:
         shutil.copytree(f"{TOP}/crates", f"{top}/crates", ignore=shutil.ignore_patterns("out"))

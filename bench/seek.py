@@ -35,6 +35,8 @@ from diagrams import CORNERS, MAX_SIZE, Braid, Grid, grid_of, grid_text
 from moves import Illegal, made
 
 SEEK = os.path.join(CRATES, "seek", "out", "seek")
+# The line before a verdict.
+HEAD = "certificate 2\n"
 UNKNOT = Grid((0, 1), (1, 0))
 MOVES = 3_000
 SIZES = (12, 14, 16, 18, 20, 22, 24)
@@ -255,11 +257,11 @@ def run_family(name, seed, with_each, workers):
         problem = text_of(first) + text_of(second)
         one = sought(problem, seed)
         seconds.append(one.processor)
-        is_list = one.verdict.startswith("equal ")
+        is_list = one.verdict.startswith(HEAD + "equal ")
         if is_list and not is_accepted(problem, one.verdict):
             sys.exit(f"not accepted: {name}, {pair}\n{problem}{one.verdict}")
         if is_list:
-            lengths.append(int(one.verdict.split(maxsplit=2)[1]))
+            lengths.append(int(one.verdict.removeprefix(HEAD).split(maxsplit=2)[1]))
         else:
             missed += 1
         if workers > 1:

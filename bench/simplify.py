@@ -53,7 +53,7 @@ def count_joined(program, path):
         for seed in range(15):
             put(path, grid_text(UNKNOT) + grid_text(walked(UNKNOT, size, seed)) + "quandle trivial 1\n")
             seconds, _, text = best([program, "decide"], path, 1)
-            joined += text.startswith("equal")
+            joined += text.startswith("certificate 2\nequal")
             spent += seconds
         print(f"{size:7} {joined:6} {15:3} {spent / 15:12.4f}", flush=True)
 

@@ -26,6 +26,8 @@ from measure import PROGRAM, built
 ALL = 5_616
 # The default budget, which is never spent within six columns.
 AMPLE = 20_000
+# Stands before each verdict.
+HEAD = "certificate 2\n"
 # A quandle that tells nothing apart: what is soaked is the search.
 NO_QUANDLE = "quandle trivial 1\n"
 
@@ -65,13 +67,13 @@ def decide(given, spare, budget, workers):
 
 def is_lawful(whole, cap, budget, written, status, given):
     """Whether an answer is lawful, by that of one worker with an ample budget."""
-    if written.startswith("equal "):
-        return whole.startswith("equal ") and status == 0 and answer("check", [], given + written) == ("accepted\n", 0)
-    if whole.startswith("equal "):
-        return budget < ALL and (written, status) == (f"unknown budget {budget}\n", 1)
+    if written.startswith(HEAD + "equal "):
+        return whole.startswith(HEAD + "equal ") and status == 0 and answer("check", [], given + written) == ("accepted\n", 0)
+    if whole.startswith(HEAD + "equal "):
+        return budget < ALL and (written, status) == (HEAD + f"unknown budget {budget}\n", 1)
     reached = int(whole.split()[-1])
     wanted = f"unknown exhausted {cap} {reached}\n" if reached <= budget else f"unknown budget {budget}\n"
-    return (written, status) == (wanted, 1)
+    return (written, status) == (HEAD + wanted, 1)
 
 
 def main():
@@ -90,7 +92,7 @@ def main():
             written, status = decide(given, spare, budget, workers)
             if not is_lawful(whole, larger + spare, budget, written, status, given):
                 sys.exit(f"not lawful: --spare {spare} --budget {budget} --workers {workers}, status {status}\n{given}{written}one worker: {whole}")
-            kinds[next(kind for kind in kinds if written.startswith(kind))] += 1
+            kinds[next(kind for kind in kinds if written.startswith(HEAD + kind))] += 1
     print(f"{sum(kinds.values())} searches, each answer lawful: " + ", ".join(f"{count} {kind}" for kind, count in kinds.items()))
 
 
