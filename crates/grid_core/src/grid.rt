@@ -68,6 +68,15 @@ impl Grid {
         Grid { x, o }
     }
 
+    /// Puts these rows by column, which are known to make a grid, in the place of its own.
+    pub fn set_rows(&mut self, x: Rows, o: Rows)
+        requires { IsGrid (record { x = x.items; o = o.items }) }
+        ensures { self.new ≡ record { x = x.items; o = o.items } }
+    {
+        self.x = x;
+        self.o = o;
+    }
+
     /// The same grid again. Takes no memory.
     pub fn copy(&self) -> Self
         ensures { result ≡ self.now }
