@@ -1,3 +1,4 @@
+pub mod InPlace
 pub mod Renumbering
 pub mod Exchanged
 pub mod Slid

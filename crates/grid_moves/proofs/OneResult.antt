@@ -1,5 +1,5 @@
 -- A step has one result, and is there exactly where the move has no fault.
-use Rattle.std.proofs.Common.{◌≡◌, ◌<◌, ◌+◌, ◌∙◌, ◌||◌, ◌&&◌, ◌==◌, ℕ, Bool, true, false, cond, nat_lt, arith, sym, refl, ap, Option, Some, None, Result, Ok, Err, IfOk}
+use Rattle.std.proofs.Common.{◌≡◌, ◌<◌, ◌+◌, ◌∙◌, ◌||◌, ◌&&◌, ◌==◌, ℕ, Bool, true, false, cond, nat_lt, arith, sym, refl, ap, Option, Some, None, Result, Ok, Err, OnOk}
 use Rattle.std.specs.Result.{result_err}
 use Rattle.std.proofs.lemmas.Bool.{lt-ltb, eq-eqb, ltb-true, eqb-true, and_parts, and_from, cond-true, cond-false}
 use Rattle.grid_core.specs.declared.grid.TheConstants.{MAX_SIZE}
@@ -164,8 +164,8 @@ step_exists d move grid e = (moved move d, moved_step d move grid e)
 pub step_moved : (d : Diagram) (move : Move) (e : Diagram) → Step d move e → e ≡ moved move d
 step_moved d move e step = step_once d move e (moved move d) step (moved_step d move step.before (step_legal d move e step))
 
--- who answers the result of each step or the fault answers each step
-pub answers_each : (d : Diagram) (move : Move) (answer : Result Diagram MoveFault) → result_err answer ≡ first_fault d move → IfOk answer (λ f. Step d move f)
-    → (e : Diagram) → Step d move e → answer ≡ Ok e
-answers_each d move (Ok f) fault moved e step = ap (λ z. Ok z) (step_once d move f e moved step)
-answers_each d move (Err f) fault moved e step = absurd (let no : ◌≡◌ {A = Option MoveFault} (Some f) None = fault ∙ step_legal d move e step in cc)
+-- who makes the result of each step, or answers the fault, leaves what each step leads to
+pub answers_in_place : {A : Type 0} (d : Diagram) (move : Move) (answer : Result A MoveFault) (f : Diagram) → result_err answer ≡ first_fault d move
+    → OnOk answer (Step d move f) → (e : Diagram) → Step d move e → f ≡ e
+answers_in_place d move (Ok x) f fault moved e step = step_once d move f e moved step
+answers_in_place d move (Err z) f fault moved e step = absurd (let no : ◌≡◌ {A = Option MoveFault} (Some z) None = fault ∙ step_legal d move e step in cc)

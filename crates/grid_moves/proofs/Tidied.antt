@@ -1,5 +1,5 @@
 -- Lists of moves that are tidy so far.
-use Rattle.std.proofs.Common.{◌≡◌, ◌<◌, ◌≤◌, ◌+◌, ◌&&◌, ◌∷◌, ◌∙◌, ℕ, Bool, true, false, List, length, drop, get_or, Option, Some, sym, ap}
+use Rattle.std.proofs.Common.{◌≡◌, ◌<◌, ◌≤◌, ◌+◌, ◌&&◌, ◌∙◌, ℕ, Bool, true, false, List, length, drop, get_or, Option, Some, ap}
 use Rattle.std.proofs.lemmas.List.{drop_more, drop_all}
 use Rattle.grid_moves.specs.declared.step.Move.{Move}
 use Rattle.grid_moves.specs.Tidy.{may_follow, are_tidy_behind}

@@ -1,4 +1,4 @@
--- Tidy lists of moves: no two shifts in a row that could be one, and those of columns before those of rows.
+-- Tidy lists of moves: of shifts that stand side by side there are two at most, the one of columns before the one of rows.
 use Rattle.std.specs.Prelude.{◌&&◌, ◌||◌, not, Bool, true, false, List, [], ◌∷◌, Option, Some, None}
 use Rattle.grid_moves.specs.declared.step.Move.{Move}
 use Rattle.grid_moves.specs.declared.step.Move.TheVariants.{ShiftColumns, ShiftRows, ExchangeColumns, ExchangeRows, SlideColumns, SlideRows, Stabilise, Destabilise}

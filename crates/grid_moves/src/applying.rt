@@ -1,5 +1,5 @@
 //! Moves applied one by one, and undone.
-ghost use Rattle.std.specs.Prelude.{◌≡◌, ◌<◌, IfOk, IfErr, Ok, None};
+ghost use Rattle.std.specs.Prelude.{◌≡◌, ◌<◌, IfOk, IfErr, OnOk, OnErr, Ok, None};
 ghost use Rattle.std.specs.Result.{result_err};
 ghost use Rattle.grid_core.specs.Diagram.{Diagram};
 ghost use Rattle.grid_moves.specs.Inverse.{inverse_of};
@@ -21,6 +21,19 @@ pub fn apply(grid: &Grid, step: Move) -> Result<Grid, MoveFault>
     ensures fault { result_err result ≡ first_fault grid.now step }
     ensures moved { IfOk result (λ e. Step grid.now step e) }
     ensures complete { (e : Diagram) → Step grid.now step e → result ≡ Ok e }
+{
+    let mut next = grid.copy();
+    apply_in_place(&mut next, step)?;
+    Ok(next)
+}
+
+/// Makes the grid the one after a move, or answers the first reason why the move is not legal, as `apply` does, and leaves the grid as it
+/// is. Takes no memory, and time in proportion to the size.
+pub fn apply_in_place(grid: &mut Grid, step: Move) -> Result<(), MoveFault>
+    ensures fault { result_err result ≡ first_fault grid.old step }
+    ensures moved { OnOk result (Step grid.old step grid.new) }
+    ensures complete { (e : Diagram) → Step grid.old step e → grid.new ≡ e }
+    ensures kept { OnErr result (grid.new ≡ grid.old) }
 {
     match step {
         Move::ShiftColumns(k) => shift_columns(grid, k),
@@ -77,9 +90,8 @@ pub fn apply_all(grid: &Grid, steps: &[Move]) -> Result<Grid, (usize, MoveFault)
 {
     let mut here = grid.copy();
     for (place, step) in steps.iter().enumerate() {
-        match apply(&here, *step) {
-            Ok(next) => here = next,
-            Err(fault) => return Err((place, fault)),
+        if let Err(fault) = apply_in_place(&mut here, *step) {
+            return Err((place, fault));
         }
     }
     Ok(here)

@@ -1,5 +1,5 @@
 //! Destabilisation: the row of a block that holds two marks is taken out, and with it a column for each kind.
-ghost use Rattle.std.specs.Prelude.{◌≡◌, ◌<◌, ◌≤◌, ◌+◌, ◌++◌, IfOk, map, length};
+ghost use Rattle.std.specs.Prelude.{◌≡◌, ◌<◌, ◌≤◌, ◌+◌, ◌++◌, OnOk, OnErr, map, length};
 ghost use Rattle.std.specs.List.{remove};
 ghost use Rattle.std.specs.Result.{result_err};
 ghost use Rattle.grid_core.specs.declared.grid.TheConstants.{MAX_SIZE};
@@ -15,10 +15,11 @@ use crate::step::{Move, MoveFault};
 use arrayvec::ArrayVec;
 use grid_core::{Corner, Grid, Kind, Rows};
 
-/// The grid of which a stabilisation makes the block at a column and a row.
-pub(crate) fn destabilise(grid: &Grid, column: u8, row: u8) -> Result<Grid, MoveFault>
-    ensures fault { result_err result ≡ first_fault grid.now (Move.Destabilise column row) }
-    ensures moved { IfOk result (λ e. Step grid.now (Move.Destabilise column row) e) }
+/// Makes a grid the one of which a stabilisation makes the block at a column and a row.
+pub(crate) fn destabilise(grid: &mut Grid, column: u8, row: u8) -> Result<(), MoveFault>
+    ensures fault { result_err result ≡ first_fault grid.old (Move.Destabilise column row) }
+    ensures moved { OnOk result (Step grid.old (Move.Destabilise column row) grid.new) }
+    ensures kept { OnErr result (grid.new ≡ grid.old) }
 {
     let last = grid.size() - 1;
     if column >= last || row >= last {
@@ -31,10 +32,10 @@ pub(crate) fn destabilise(grid: &Grid, column: u8, row: u8) -> Result<Grid, Move
     let doubled = double_row(grid, column);
     let cross = column_in_double_row(grid, column, Kind::Cross);
     let ring = column_in_double_row(grid, column, Kind::Ring);
-    Ok(Grid::of_rows(
-        narrowed(grid, Kind::Cross, cross, doubled),
-        narrowed(grid, Kind::Ring, ring, doubled),
-    ))
+    let crosses = narrowed(grid, Kind::Cross, cross, doubled);
+    let rings = narrowed(grid, Kind::Ring, ring, doubled);
+    grid.set_rows(crosses, rings);
+    Ok(())
 }
 
 /// How many of the four marks of two neighbouring columns lie in two neighbouring rows.

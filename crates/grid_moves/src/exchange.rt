@@ -1,5 +1,5 @@
 //! Exchanges of neighbouring columns and rows.
-ghost use Rattle.std.specs.Prelude.{◌≡◌, ◌<◌, ◌+◌, IfOk, map};
+ghost use Rattle.std.specs.Prelude.{◌≡◌, ◌<◌, ◌+◌, OnOk, OnErr, map};
 ghost use Rattle.std.specs.List.{swap};
 ghost use Rattle.std.specs.Result.{result_err};
 ghost use Rattle.grid_core.specs.Diagram.{size, rows_of};
@@ -11,34 +11,36 @@ use crate::step::{Move, MoveFault};
 use arrayvec::ArrayVec;
 use grid_core::{Grid, Kind, Rows, Span};
 
-/// The grid with columns c and c + 1 in each other's place.
-pub(crate) fn exchange_columns(grid: &Grid, c: u8) -> Result<Grid, MoveFault>
-    ensures fault { result_err result ≡ first_fault grid.now (Move.ExchangeColumns c) }
-    ensures moved { IfOk result (λ e. Step grid.now (Move.ExchangeColumns c) e) }
+/// Puts columns c and c + 1 in each other's place.
+pub(crate) fn exchange_columns(grid: &mut Grid, c: u8) -> Result<(), MoveFault>
+    ensures fault { result_err result ≡ first_fault grid.old (Move.ExchangeColumns c) }
+    ensures moved { OnOk result (Step grid.old (Move.ExchangeColumns c) grid.new) }
+    ensures kept { OnErr result (grid.new ≡ grid.old) }
 {
     if c >= grid.size() - 1 {
         return Err(MoveFault::Range);
     }
     exchange_fault(grid.column_span(c), grid.column_span(c + 1))?;
-    Ok(Grid::of_rows(
-        swapped_columns(grid, Kind::Cross, c),
-        swapped_columns(grid, Kind::Ring, c),
-    ))
+    let crosses = swapped_columns(grid, Kind::Cross, c);
+    let rings = swapped_columns(grid, Kind::Ring, c);
+    grid.set_rows(crosses, rings);
+    Ok(())
 }
 
-/// The grid with rows r and r + 1 in each other's place.
-pub(crate) fn exchange_rows(grid: &Grid, r: u8) -> Result<Grid, MoveFault>
-    ensures fault { result_err result ≡ first_fault grid.now (Move.ExchangeRows r) }
-    ensures moved { IfOk result (λ e. Step grid.now (Move.ExchangeRows r) e) }
+/// Puts rows r and r + 1 in each other's place.
+pub(crate) fn exchange_rows(grid: &mut Grid, r: u8) -> Result<(), MoveFault>
+    ensures fault { result_err result ≡ first_fault grid.old (Move.ExchangeRows r) }
+    ensures moved { OnOk result (Step grid.old (Move.ExchangeRows r) grid.new) }
+    ensures kept { OnErr result (grid.new ≡ grid.old) }
 {
     if r >= grid.size() - 1 {
         return Err(MoveFault::Range);
     }
     exchange_fault(grid.row_span(r), grid.row_span(r + 1))?;
-    Ok(Grid::of_rows(
-        exchanged_rows(grid, Kind::Cross, r),
-        exchanged_rows(grid, Kind::Ring, r),
-    ))
+    let crosses = exchanged_rows(grid, Kind::Cross, r);
+    let rings = exchanged_rows(grid, Kind::Ring, r);
+    grid.set_rows(crosses, rings);
+    Ok(())
 }
 
 /// The first fault of two neighbours.
@@ -73,10 +75,20 @@ pub(crate) fn exchanged_rows(grid: &Grid, kind: Kind, r: u8) -> Rows
 {
     let _size = grid.size();
     let mut rows = ArrayVec::new();
-    for row in grid.rows(kind) {
-        rows.push(exchanged(*row, r));
-    }
+    rows.try_extend_from_slice(grid.rows(kind)).unwrap();
+    exchange_all(rows.as_mut_slice(), r);
     rows
+}
+
+/// Gives each of some rows its number after r and r + 1 exchanged theirs: in their places, of which the compiler makes code that
+/// changes many at once.
+fn exchange_all(rows: &mut [u8], r: u8)
+    requires { r < 255 }
+    ensures { rows.new ≡ map (exchanged r) rows.old }
+{
+    for place in 0..rows.len() {
+        rows[place] = exchanged(rows[place], r);
+    }
 }
 
 /// The number of a row after r and r + 1 exchanged theirs.

@@ -15,7 +15,7 @@ mod tests;
 mod tidy;
 mod undoing;
 
-pub use applying::{apply, apply_all, inverse};
+pub use applying::{apply, apply_all, apply_in_place, inverse};
 pub use stabilisation::{Widening, widening_of};
 pub use step::{Move, MoveFault};
 pub use tidy::{is_tidy, may_follow};

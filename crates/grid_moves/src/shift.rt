@@ -1,5 +1,5 @@
 //! Cyclic shifts of columns and rows.
-ghost use Rattle.std.specs.Prelude.{◌≡◌, ◌<◌, ◌++◌, IfOk, map, take, drop};
+ghost use Rattle.std.specs.Prelude.{◌≡◌, ◌<◌, ◌++◌, OnOk, OnErr, map, take, drop};
 ghost use Rattle.std.specs.Result.{result_err};
 ghost use Rattle.grid_core.specs.Diagram.{size, rows_of};
 ghost use Rattle.grid_moves.specs.Shift.{shifted};
@@ -10,29 +10,34 @@ use crate::step::{Move, MoveFault};
 use arrayvec::ArrayVec;
 use grid_core::{Grid, Kind, Rows};
 
-/// The grid with the k leftmost columns, in order, at the right end.
-pub(crate) fn shift_columns(grid: &Grid, k: u8) -> Result<Grid, MoveFault>
-    ensures fault { result_err result ≡ first_fault grid.now (Move.ShiftColumns k) }
-    ensures moved { IfOk result (λ e. Step grid.now (Move.ShiftColumns k) e) }
+/// Puts the k leftmost columns, in order, at the right end.
+pub(crate) fn shift_columns(grid: &mut Grid, k: u8) -> Result<(), MoveFault>
+    ensures fault { result_err result ≡ first_fault grid.old (Move.ShiftColumns k) }
+    ensures moved { OnOk result (Step grid.old (Move.ShiftColumns k) grid.new) }
+    ensures kept { OnErr result (grid.new ≡ grid.old) }
 {
     if k == 0 || k >= grid.size() {
         return Err(MoveFault::Range);
     }
-    Ok(Grid::of_rows(rotated(grid, Kind::Cross, k), rotated(grid, Kind::Ring, k)))
+    let crosses = rotated(grid, Kind::Cross, k);
+    let rings = rotated(grid, Kind::Ring, k);
+    grid.set_rows(crosses, rings);
+    Ok(())
 }
 
-/// The grid with the k lowest rows, in order, at the top.
-pub(crate) fn shift_rows(grid: &Grid, k: u8) -> Result<Grid, MoveFault>
-    ensures fault { result_err result ≡ first_fault grid.now (Move.ShiftRows k) }
-    ensures moved { IfOk result (λ e. Step grid.now (Move.ShiftRows k) e) }
+/// Puts the k lowest rows, in order, at the top.
+pub(crate) fn shift_rows(grid: &mut Grid, k: u8) -> Result<(), MoveFault>
+    ensures fault { result_err result ≡ first_fault grid.old (Move.ShiftRows k) }
+    ensures moved { OnOk result (Step grid.old (Move.ShiftRows k) grid.new) }
+    ensures kept { OnErr result (grid.new ≡ grid.old) }
 {
     if k == 0 || k >= grid.size() {
         return Err(MoveFault::Range);
     }
-    Ok(Grid::of_rows(
-        shifted_rows(grid, Kind::Cross, k),
-        shifted_rows(grid, Kind::Ring, k),
-    ))
+    let crosses = shifted_rows(grid, Kind::Cross, k);
+    let rings = shifted_rows(grid, Kind::Ring, k);
+    grid.set_rows(crosses, rings);
+    Ok(())
 }
 
 /// The rows of a kind, with those of the k leftmost columns at the end.

@@ -1,5 +1,5 @@
 //! Slides of neighbouring columns and rows.
-ghost use Rattle.std.specs.Prelude.{◌≡◌, IfOk};
+ghost use Rattle.std.specs.Prelude.{◌≡◌, OnOk, OnErr};
 ghost use Rattle.std.specs.Result.{result_err};
 ghost use Rattle.grid_moves.specs.Step.{Step};
 ghost use Rattle.grid_moves.specs.MoveFault.{first_fault, slide_fault};
@@ -8,34 +8,36 @@ use crate::exchange::{exchanged_rows, swapped_columns};
 use crate::step::{Move, MoveFault};
 use grid_core::{Grid, Kind, Span};
 
-/// The grid with columns c and c + 1, which share one row, in each other's place.
-pub(crate) fn slide_columns(grid: &Grid, c: u8) -> Result<Grid, MoveFault>
-    ensures fault { result_err result ≡ first_fault grid.now (Move.SlideColumns c) }
-    ensures moved { IfOk result (λ e. Step grid.now (Move.SlideColumns c) e) }
+/// Puts columns c and c + 1, which share one row, in each other's place.
+pub(crate) fn slide_columns(grid: &mut Grid, c: u8) -> Result<(), MoveFault>
+    ensures fault { result_err result ≡ first_fault grid.old (Move.SlideColumns c) }
+    ensures moved { OnOk result (Step grid.old (Move.SlideColumns c) grid.new) }
+    ensures kept { OnErr result (grid.new ≡ grid.old) }
 {
     if c >= grid.size() - 1 {
         return Err(MoveFault::Range);
     }
     slide_fault(grid.column_span(c), grid.column_span(c + 1))?;
-    Ok(Grid::of_rows(
-        swapped_columns(grid, Kind::Cross, c),
-        swapped_columns(grid, Kind::Ring, c),
-    ))
+    let crosses = swapped_columns(grid, Kind::Cross, c);
+    let rings = swapped_columns(grid, Kind::Ring, c);
+    grid.set_rows(crosses, rings);
+    Ok(())
 }
 
-/// The grid with rows r and r + 1, which share one column, in each other's place.
-pub(crate) fn slide_rows(grid: &Grid, r: u8) -> Result<Grid, MoveFault>
-    ensures fault { result_err result ≡ first_fault grid.now (Move.SlideRows r) }
-    ensures moved { IfOk result (λ e. Step grid.now (Move.SlideRows r) e) }
+/// Puts rows r and r + 1, which share one column, in each other's place.
+pub(crate) fn slide_rows(grid: &mut Grid, r: u8) -> Result<(), MoveFault>
+    ensures fault { result_err result ≡ first_fault grid.old (Move.SlideRows r) }
+    ensures moved { OnOk result (Step grid.old (Move.SlideRows r) grid.new) }
+    ensures kept { OnErr result (grid.new ≡ grid.old) }
 {
     if r >= grid.size() - 1 {
         return Err(MoveFault::Range);
     }
     slide_fault(grid.row_span(r), grid.row_span(r + 1))?;
-    Ok(Grid::of_rows(
-        exchanged_rows(grid, Kind::Cross, r),
-        exchanged_rows(grid, Kind::Ring, r),
-    ))
+    let crosses = exchanged_rows(grid, Kind::Cross, r);
+    let rings = exchanged_rows(grid, Kind::Ring, r);
+    grid.set_rows(crosses, rings);
+    Ok(())
 }
 
 /// The first fault of two neighbours.

@@ -1,5 +1,5 @@
 //! Stabilisation: one row and, for the marks of each kind, one column are put in.
-ghost use Rattle.std.specs.Prelude.{◌≡◌, ◌<◌, ◌≤◌, ◌+◌, ◌++◌, IfOk, map, length};
+ghost use Rattle.std.specs.Prelude.{◌≡◌, ◌<◌, ◌≤◌, ◌+◌, ◌++◌, OnOk, OnErr, map, length};
 ghost use Rattle.std.specs.List.{All, insert};
 ghost use Rattle.std.specs.Result.{result_err};
 ghost use Rattle.grid_core.specs.declared.grid.TheConstants.{MAX_SIZE};
@@ -14,15 +14,16 @@ use crate::step::{Move, MoveFault};
 use arrayvec::ArrayVec;
 use grid_core::{Corner, Grid, Kind, MAX_SIZE, Rows};
 
-/// The grid with the block of three marks in place of the mark of a kind in a column.
+/// Puts a block of three marks in the place of the mark of a kind in a column.
 pub(crate) fn stabilise(
-    grid: &Grid,
+    grid: &mut Grid,
     column: u8,
     kind: Kind,
     corner: Corner,
-) -> Result<Grid, MoveFault>
-    ensures fault { result_err result ≡ first_fault grid.now (Move.Stabilise column kind corner) }
-    ensures moved { IfOk result (λ e. Step grid.now (Move.Stabilise column kind corner) e) }
+) -> Result<(), MoveFault>
+    ensures fault { result_err result ≡ first_fault grid.old (Move.Stabilise column kind corner) }
+    ensures moved { OnOk result (Step grid.old (Move.Stabilise column kind corner) grid.new) }
+    ensures kept { OnErr result (grid.new ≡ grid.old) }
 {
     let size = grid.size();
     if column >= size {
@@ -31,20 +32,11 @@ pub(crate) fn stabilise(
     if size as usize >= MAX_SIZE {
         return Err(MoveFault::Full);
     }
-    Ok(after_stabilisation(grid, column, kind, corner))
-}
-
-/// The grid after a stabilisation that is known to be legal.
-fn after_stabilisation(grid: &Grid, column: u8, kind: Kind, corner: Corner) -> Grid
-    requires column { column < size grid.now }
-    requires room { size grid.now < MAX_SIZE }
-    ensures { Step grid.now (Move.Stabilise column kind corner) result }
-{
     let widening = widening_of(grid, column, kind, corner);
-    Grid::of_rows(
-        widened(grid, Kind::Cross, widening.crosses, widening.row),
-        widened(grid, Kind::Ring, widening.rings, widening.row),
-    )
+    let crosses = widened(grid, Kind::Cross, widening.crosses, widening.row);
+    let rings = widened(grid, Kind::Ring, widening.rings, widening.row);
+    grid.set_rows(crosses, rings);
+    Ok(())
 }
 
 /// What a stabilisation puts into a grid of size n: one row, and for the marks of each kind one column, whose mark stands in that row.

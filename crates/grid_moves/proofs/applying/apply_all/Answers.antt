@@ -9,8 +9,8 @@ use Rattle.grid_moves.proofs.applying.apply_all.Goals as goal
 
 pub loop-place-preserved : goal.loop-place-preserved
 loop-place-preserved c =
-    joins_more c.args.steps.now c.loop-place.place (ShiftColumns 0) c.args.grid.now c.loop-place.here c.in-Ok.next
-    (omega arith) c.loop-place.invariant c.in-Ok.ensures.moved
+    joins_more c.args.steps.now c.loop-place.place (ShiftColumns 0) c.args.grid.now c.loop-place.here c.apply_in_place.new.grid
+    (omega arith) c.loop-place.invariant c.in_default.ensures.moved
 
 pub returns-clause-complete : goal.returns-clause-complete
 returns-clause-complete c =

@@ -2,11 +2,11 @@ use Rattle.std.proofs.Common.{◌∙◌, arith, sym}
 use Rattle.grid_moves.proofs.Destabilised.{destabilised-grid, destabilised-step}
 use Rattle.grid_moves.proofs.destabilisation.destabilise.Goals as goal
 
-pub of_rows-requires : goal.of_rows-requires
-of_rows-requires c =
+pub set_rows-requires : goal.set_rows-requires
+set_rows-requires c =
     rw (
-      c.narrowed.ensures,
-      c.narrowed-2.ensures,
+      c.narrowed-crosses.ensures,
+      c.narrowed-rings.ensures,
       c.column_in_double_row-cross.ensures.place,
       c.column_in_double_row-ring.ensures.place,
       c.double_row-doubled.ensures,
@@ -16,9 +16,9 @@ of_rows-requires c =
 pub returns-clause-moved : goal.returns-clause-moved
 returns-clause-moved c =
     rw (
-      c.of_rows.ensures,
-      c.narrowed.ensures,
-      c.narrowed-2.ensures,
+      c.set_rows.ensures,
+      c.narrowed-crosses.ensures,
+      c.narrowed-rings.ensures,
       c.column_in_double_row-cross.ensures.place,
       c.column_in_double_row-ring.ensures.place,
       c.double_row-doubled.ensures,

@@ -2,12 +2,12 @@ use Rattle.std.proofs.Common.{arith, sym}
 use Rattle.grid_moves.proofs.Exchanged.{rows_exchanged-grid, rows_exchanged-step}
 use Rattle.grid_moves.proofs.exchange.exchange_rows.Goals as goal
 
-pub of_rows-requires : goal.of_rows-requires
-of_rows-requires c =
-    rw (c.exchanged_rows.ensures, c.exchanged_rows-2.ensures) (rows_exchanged-grid c.args.r c.args.grid.now c.size.ensures.grid (omega arith))
+pub set_rows-requires : goal.set_rows-requires
+set_rows-requires c =
+    rw (c.exchanged_rows-crosses.ensures, c.exchanged_rows-rings.ensures) (rows_exchanged-grid c.args.r c.args.grid.now c.size.ensures.grid (omega arith))
 
 pub returns-clause-moved : goal.returns-clause-moved
 returns-clause-moved c =
-    rw (c.of_rows.ensures, c.exchanged_rows.ensures, c.exchanged_rows-2.ensures)
+    rw (c.set_rows.ensures, c.exchanged_rows-crosses.ensures, c.exchanged_rows-rings.ensures)
     (rows_exchanged-step c.args.r c.args.grid.now c.size.ensures.grid (omega arith)
     (rw (← c.row_span.ensures.span, ← c.row_span-2.ensures.span) (sym c.in_ok-exchange_fault.ensures)))
