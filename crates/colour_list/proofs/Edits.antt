@@ -3,7 +3,7 @@ use Rattle.std.proofs.Common.{◌≡◌, ◌<◌, ◌≤◌, ◌+◌, ◌++◌, 
 use Rattle.std.specs.List.{flat_map, filter, All, range_with_len}
 use Rattle.std.proofs.lemmas.List.{map-append, length-map, flat_map_more, get_or-append_right, get_or-drop, length-take, length-drop, length-append, take_more, take_all, drop_all, get_or_default}
 use Rattle.std.proofs.lemmas.List.Edits.{map_over_more}
-use Rattle.std.proofs.lemmas.List.Filters.{FiltersInPlace, FiltersInPlace-more_no, FiltersInPlace-more_set, FiltersInPlace-all}
+use Rattle.std.proofs.lemmas.List.Filters.{FiltersInPlace, FiltersInPlace-more_no, FiltersInPlace-more_set, FiltersInPlace-more_here, FiltersInPlace-all}
 use Rattle.std.proofs.lemmas.List.FromFn.{map-range_with_len_more}
 use Rattle.arrayvec.specs.ArrayVec.{ArrayVec}
 use Rattle.colour_list.specs.Listing.{lists_of}
@@ -74,6 +74,13 @@ pub kept_next : (p : List ℕ → Bool) (xs ys : List (List ℕ)) (k i : ℕ) (x
 kept_next p xs ys k i x copy filters lt is passes same =
     let long : length ys ≡ length xs = filters.long in
     subst (λ (y : List ℕ). FiltersInPlace p xs (set ys k y) (k + 1) (i + 1)) (sym same) (FiltersInPlace-more_set {x = x} filters (omega arith) passes is)
+
+-- a list kept that has its place already
+pub kept_here : (p : List ℕ → Bool) (xs ys : List (List ℕ)) (k i : ℕ) (x : List ℕ) → FiltersInPlace p xs ys k i → i < length xs → x ≡ get_or ys i x
+    → p x ≡ true → k ≡ i → FiltersInPlace p xs ys (k + 1) (i + 1)
+kept_here p xs ys k i x filters lt is passes same =
+    let long : length ys ≡ length xs = filters.long in
+    FiltersInPlace-more_here {x = x} filters (omega arith) passes is same
 
 -- a list read again
 pub read_again : (ys : List (List ℕ)) (i : ℕ) (x y : List ℕ) → i < length ys → x ≡ get_or ys i x → y ≡ get_or ys i y → y ≡ x

@@ -10,7 +10,8 @@ ghost use Rattle.colour_list.specs.Level.{with_right, with_left, with_both};
 use colour_rows::{Colouring, Row};
 use grid_core::MAX_SIZE;
 use quandle_core::Quandle;
-use std::alloc::{AllocError, AllocFailed, Global};
+use std::alloc::{AllocError, Global};
+use std::slice;
 
 /// A list of colours in the making, 0 in each column that no row so far has reached.
 pub(crate) type Colours = [u8; MAX_SIZE];
@@ -35,17 +36,15 @@ fn close_left(colours: &mut Colours, row: &Row, quandle: &Quandle)
     colours[row.left() as usize] = last;
 }
 
-/// The list with a colour at the left end and the walk's last colour at the right end.
-fn with_both(colours: &Colours, row: &Row, quandle: &Quandle, colour: u8) -> Colours
+/// Gives the left end a colour, and the right end the walk's last colour.
+fn open(colours: &mut Colours, row: &Row, quandle: &Quandle, colour: u8)
     requires within { (row.now.left_end < row.now.right_end) × (row.now.right_end < MAX_SIZE) }
-    requires colours { AreColours MAX_SIZE quandle.now.order colours.now }
+    requires colours { AreColours MAX_SIZE quandle.now.order colours.old }
     requires below { colour < quandle.now.order }
-    ensures { result ≡ with_right quandle.now row.now (slice_set colours.now row.now.left_end colour) }
+    ensures { colours.new ≡ with_right quandle.now row.now (slice_set colours.old row.now.left_end colour) }
 {
-    let mut begun = *colours;
-    begun[row.left() as usize] = colour;
-    close_right(&mut begun, row, quandle);
-    begun
+    colours[row.left() as usize] = colour;
+    close_right(colours, row, quandle);
 }
 
 /// Puts the list with each colour in turn at the left end behind others.
@@ -54,13 +53,15 @@ fn push_each(
     colours: &Colours,
     row: &Row,
     quandle: &Quandle,
-) -> Result<(), AllocFailed<Colours>>
+) -> Result<(), AllocError>
     requires within { (row.now.left_end < row.now.right_end) × (row.now.right_end < MAX_SIZE) }
     requires colours { AreColours MAX_SIZE quandle.now.order colours.now }
     ensures { OnOk result (next.new.items ≡ next.old.items ++ with_both quandle.now row.now colours.now) }
 {
     for colour in 0..quandle.order() {
-        next.push(with_both(colours, row, quandle, colour))?;
+        let mut begun = *colours;
+        open(&mut begun, row, quandle, colour);
+        next.extend_from_slice(slice::from_ref(&begun))?;
     }
     Ok(())
 }
@@ -124,20 +125,13 @@ pub(crate) fn keep_closed(level: &mut Vec<Colours>, row: &Row, quandle: &Quandle
     let mut kept = 0;
     for i in 0..level.len() {
         if closes(&level[i], row, quandle) {
-            level[kept] = level[i];
+            if kept < i {
+                level[kept] = level[i];
+            }
             kept += 1;
         }
     }
     level.truncate(kept);
-}
-
-/// The colours of the first columns.
-fn colouring_of(colours: &Colours, size: u8) -> Colouring
-    ensures { result.items ≡ take size colours.now }
-{
-    let mut colouring = Colouring::from(*colours);
-    colouring.truncate(size as usize);
-    colouring
 }
 
 /// The colours of the first columns of each list.
@@ -150,7 +144,9 @@ pub(crate) fn colourings_of(
 {
     let mut list = Vec::with_capacity(alloc, level.len())?;
     for colours in level {
-        list.push(colouring_of(colours, size))?;
+        let mut colouring = Colouring::from(*colours);
+        colouring.truncate(size as usize);
+        list.push(colouring)?;
     }
     Ok(list)
 }
