@@ -1,12 +1,12 @@
 -- The rows of the translates of a short grid, as the digits of numbers.
-use Rattle.std.proofs.Common.{true, false, IsTrue, nat_lt, ◌↔◌, inl, inr, ◌≡◌, ◌≢◌, ◌<◌, ◌≤◌, ◌+◌, ◌-◌, ◌/◌, ◌^◌, ◌++◌, ◌∷◌, [], ◌∙◌, ℕ, List, length, take, drop, map, get_or, arith, refl, sym, ap, ap₂, subst, length-append, append-nil}
+use Rattle.std.proofs.Common.{true, false, IsTrue, nat_lt, ◌↔◌, inl, inr, ◌≡◌, ◌≢◌, ◌<◌, ◌≤◌, ◌+◌, ◌-◌, ◌/◌, ◌^◌, ◌++◌, ◌∷◌, ◌∙◌, ℕ, List, length, take, drop, map, get_or, arith, refl, sym, ap, ap₂, subst, length-append, append-nil}
 use Rattle.std.specs.List.{All}
 use Rattle.std.specs.declared.cmp.Ordering.TheVariants.{Less, Equal, Greater}
 use Rattle.std.specs.Ordering.{nat_cmp, ordering_then}
 use Rattle.std.specs.Cmp.Lexicographic.{slice_cmp}
 use Rattle.std.proofs.lemmas.Bool.{cases_order, lt-ltb, ltb-true}
 use Rattle.std.proofs.lemmas.Nat.{div-mul-add}
-use Rattle.std.proofs.lemmas.List.{append_assoc, drop_more, take_more, length-take, length-drop}
+use Rattle.std.proofs.lemmas.List.{drop_more, length-take, length-drop}
 use Rattle.std.proofs.lemmas.List.Elements.{All-append, All-take, All-drop, All-tail, All-map}
 use Rattle.grid_core.specs.Diagram.{Diagram, IsGrid, size}
 use Rattle.grid_core.proofs.OneEach.{each_below}
@@ -36,13 +36,6 @@ cut_inside n c rows inside = All-append (λ r. r < n) (drop c rows) (take c rows
 
 pub cut_none : (rows : List ℕ) → rows ≡ drop 0 rows ++ take 0 rows
 cut_none rows = sym (append-nil rows)
-
-pub cut_once_more : (c : ℕ) (rows : List ℕ) → c < length rows
-    → drop 1 (drop c rows ++ take c rows) ++ take 1 (drop c rows ++ take c rows) ≡ drop (c + 1) rows ++ take (c + 1) rows
-cut_once_more c rows lt =
-    ap (λ zs. drop 1 (zs ++ take c rows) ++ take 1 (zs ++ take c rows)) (drop_more rows c 0 lt)
-    ∙ append_assoc (drop (c + 1) rows) (take c rows) (get_or rows c 0 ∷ [])
-    ∙ ap (λ zs. drop (c + 1) rows ++ zs) (sym (take_more rows c 0 lt))
 
 -- what is known of the number with these digits
 pub record IsCut (n c value : ℕ) (rows : List ℕ) : Type 0 where
@@ -75,14 +68,6 @@ cut_known n c value rows long most lt inside is =
           (ap (λ zs. zs ++ take c rows) (drop_more rows c 0 (omega (arith, long, lt)))) whole all;
       inside = subst (λ zs. All (λ r. r < n) zs) (sym list) within;
     }
-
--- the next one, from a number that is cut
-pub next_cut : (n c value next : ℕ) (rows : List ℕ) → length rows ≡ n → c < n → IsCut n c value rows
-    → next ≡ short_number (drop 1 (digits n value) ++ take 1 (digits n value)) → next ≡ short_number (drop (c + 1) rows ++ take (c + 1) rows)
-next_cut n c value next rows long lt known is =
-    is
-    ∙ ap (λ zs. short_number (drop 1 zs ++ take 1 zs)) known.list
-    ∙ ap short_number (cut_once_more c rows (omega (arith, long, lt)))
 
 -- a cut number, lowered, has the rows of a translate
 pub translated_number : (n c b value lowered : ℕ) (rows : List ℕ) → IsCut n c value rows → lowered ≡ short_number (map (shifted n b) (digits n value))
@@ -132,12 +117,6 @@ pub crosses_uncut : (n crosses rings : ℕ) (d : Diagram) → of_digits n crosse
     → crosses ≡ short_number (drop 0 d.x ++ take 0 d.x)
 crosses_uncut n crosses rings d is short =
     sym (short_number-digits n crosses short.crosses_fit) ∙ ap short_number (crosses_are n crosses rings d is ∙ cut_none d.x)
-
-pub next_crosses : (n c value next : ℕ) (d : Diagram) → IsFew n d → 1 ≤ c → c < n → value ≡ short_number (drop (c - 1) d.x ++ take (c - 1) d.x)
-    → next ≡ short_number (drop 1 (digits n value) ++ take 1 (digits n value)) → next ≡ short_number (drop c d.x ++ take c d.x)
-next_crosses n c value next d f least lt is step =
-    next_cut n (c - 1) value next d.x f.columns (omega (arith, lt)) (crosses_cut n (c - 1) value d f (omega (arith, lt)) is) step
-    ∙ ap (λ (z : ℕ). short_number (drop z d.x ++ take z d.x)) (let e : c - 1 + 1 ≡ c = omega (arith, least) in e)
 
 -- and the first row
 pub first_row : (n c value row : ℕ) (d : Diagram) → IsFew n d → c < n → IsCut n c value d.x → row ≡ value / SHORT_BASE ^ (n - 1)

@@ -2,7 +2,7 @@
 use Rattle.std.proofs.Common.{◌≡◌, ◌<◌, ◌≤◌, ◌+◌, ◌-◌, ◌*◌, ◌/◌, ◌%◌, ◌^◌, ◌++◌, ◌∷◌, ◌∙◌, ℕ, List, length, get_or, take, drop, arith, sym, ap, ap₂, subst}
 use Rattle.std.specs.List.{insert}
 use Rattle.std.proofs.Math.Nat.{pow-succ', pow-le-pow_right}
-use Rattle.std.proofs.lemmas.Nat.{pow-add, mul-add-lt, shl_whole, shr_high, shr_split}
+use Rattle.std.proofs.lemmas.Nat.{pow-add, mul-add-lt, shl_whole, shr_high}
 use Rattle.std.proofs.lemmas.List.{take-append-drop, length-take-le, length-drop, take_more, length-take}
 use Rattle.std.proofs.lemmas.List.Elements.{All-take, All-drop}
 use Rattle.grid_canon.specs.declared.digits.TheConstants.{SHORT_BASE, SHORT_BITS, MAX_SHORT_SIZE}
@@ -153,19 +153,4 @@ inserted_word value digit place n le lt low inside =
         word-below (p + SHORT_BITS) q (head * SHORT_BASE + digit) tail
             (one_more-below p head digit both.front_below inside) both.back_below (omega (arith, fits)),
       ),
-    )
-
--- the first digit behind the others
-pub cut_next_word : (value first n : ℕ) → 2 ≤ n → n ≤ MAX_SHORT_SIZE → value < SHORT_BASE ^ n → first ≡ value / SHORT_BASE ^ (n - 1)
-    → ((value - first * 2 ^ (SHORT_BITS * (n - 1)) % 2 ^ 64) * 2 ^ SHORT_BITS % 2 ^ 64 + first ≡ short_number
-    (drop 1 (digits n value) ++ take 1 (digits n value)))
-    × (short_number (drop 1 (digits n value) ++ take 1 (digits n value)) < 2 ^ 64)
-    × (first * 2 ^ (SHORT_BITS * (n - 1)) % 2 ^ 64 ≤ value)
-cut_next_word value first n least most lt is =
-    let q = SHORT_BITS * (n - 1) in
-    let same : first ≡ value / 2 ^ q = is ∙ ap (λ (z : ℕ). value / z) (short_bits (n - 1)) in
-    let word = cut_word value 1 n (omega (arith, least)) most lt in (
-      ap (λ (z : ℕ). (value - z * 2 ^ q % 2 ^ 64) * 2 ^ SHORT_BITS % 2 ^ 64 + z) same ∙ word.0,
-      word.1,
-      omega (arith, ap (λ (z : ℕ). z * 2 ^ q) same, shr_split value q),
     )

@@ -1,18 +1,20 @@
 -- All digits of a number changed at once, with the highest bit of each digit as its guard.
-use Rattle.std.proofs.Common.{◌≡◌, ◌<◌, ◌≤◌, ◌+◌, ◌-◌, ◌*◌, ◌/◌, ◌^◌, ◌∷◌, [], ◌∙◌, ℕ, zero, suc, List, All, length, get_or, map, replicate, bit_and, nat_lt, arith, refl, sym, ap, ap₂, subst, inl, inr}
+use Rattle.std.proofs.Common.{◌≡◌, ◌<◌, ◌≤◌, ◌+◌, ◌-◌, ◌*◌, ◌/◌, ◌^◌, ◌∷◌, [], ◌∙◌, ℕ, zero, suc, List, All, length, get_or, map, replicate, bit_and, nat_lt, arith, refl, sym, ap, ap₂, subst, inl, inr, zero-add}
 use Rattle.std.specs.Prelude.{if◌then◌else◌}
+use Rattle.std.specs.List.{range_with_len}
 use Rattle.std.proofs.Math.Nat.{pow-succ', pow-le-pow_right, mul-le-mul_right}
 use Rattle.std.proofs.lemmas.Nat.{pow-add, div-mul-add, and_block}
 use Rattle.std.proofs.lemmas.Nat.Bits.{and_pow}
 use Rattle.std.proofs.lemmas.Bool.{cases_lt}
 use Rattle.std.proofs.lemmas.Bool.Decides.{nat_tests}
-use Rattle.std.proofs.lemmas.List.{length-map, length-replicate, map-id}
+use Rattle.std.proofs.lemmas.List.{ext_get_or, length-map, length-replicate, map-id}
+use Rattle.std.proofs.lemmas.List.FromFn.{get_or-range_with_len, length-range_with_len, get_or-map-range_with_len, length-map-range_with_len}
 use Rattle.std.proofs.lemmas.List.Elements.{All-tail, All-map}
 use Rattle.grid_core.specs.Places.{lifted}
 use Rattle.grid_moves.specs.Shift.{shifted}
 use Rattle.grid_moves.proofs.Shifted.{shifted_low, shifted_high, shifted_below}
 use Rattle.grid_canon.specs.declared.digits.TheConstants.{SHORT_BASE, SHORT_BITS, MAX_SHORT_SIZE, GUARD}
-use Rattle.grid_canon.specs.Digits.{short_number, digits}
+use Rattle.grid_canon.specs.Digits.{short_number, digits, lowered_each, mark, AreLowDigits}
 use Rattle.grid_canon.proofs.ShortNumbers.{AreShortDigits, short_number-below, short_bits}
 use Rattle.grid_canon.proofs.NumbersOfDigits.{length-digits, short_number-digits}
 
@@ -92,27 +94,33 @@ guard_of : (by r : ℕ) → by ≤ GUARD → r < GUARD → bit_and (raised by r)
 guard_of by r le lt = and_pow (raised by r) (SHORT_BITS - 1) ∙ grind (arith, nat_tests)
 
 -- the guards that are left
-guards_left : (by : ℕ) (xs : List ℕ) → by ≤ GUARD → All (λ r. r < GUARD) xs
-    → bit_and (number_by (raised by) xs) (GUARD * ones_of (length xs)) ≡ GUARD * number_by (over by) xs
-guards_left by [] le low = refl
-guards_left by (x ∷ xs) le low =
-    let rest = All-tail (λ r. r < GUARD) x xs low in
+guards_by : (f g : ℕ → ℕ) (xs : List ℕ) → All (λ r. (f r < SHORT_BASE) × (bit_and (f r) GUARD ≡ GUARD * g r)) xs
+    → bit_and (number_by f xs) (GUARD * ones_of (length xs)) ≡ GUARD * number_by g xs
+guards_by f g [] each = refl
+guards_by f g (x ∷ xs) each =
+    let rest = All-tail (λ r. (f r < SHORT_BASE) × (bit_and (f r) GUARD ≡ GUARD * g r)) x xs each in
     let n : ℕ = length xs in
     let power : SHORT_BASE ^ n ≡ 2 ^ (SHORT_BITS * n) = short_bits n in
     let long : SHORT_BASE ^ length (replicate {A = ℕ} n 1) ≡ SHORT_BASE ^ n = ap (λ (z : ℕ). SHORT_BASE ^ z) (length-replicate {A = ℕ} n 1) in
     ap₂ bit_and
-    (number_by-cons (raised by) x xs ∙ ap (λ (z : ℕ). raised by x * z + number_by (raised by) xs) power)
+    (number_by-cons f x xs ∙ ap (λ (z : ℕ). f x * z + number_by f xs) power)
     (let e : GUARD * ones_of (suc n) ≡ GUARD * 2 ^ (SHORT_BITS * n) + GUARD * ones_of n = omega (arith, power, long) in e)
-    ∙ and_block (SHORT_BITS * n) (raised by x) GUARD (number_by (raised by) xs) (GUARD * ones_of n)
-    (omega (arith, power, number_by-below (raised by) xs (λ k d inside. omega (arith, rest k d inside))))
+    ∙ and_block (SHORT_BITS * n) (f x) GUARD (number_by f xs) (GUARD * ones_of n)
+    (omega (arith, power, number_by-below f xs (λ k d inside. (rest k d inside).0)))
     (omega (arith, power, ones_exact n))
-    ∙ ap₂ (λ (z w : ℕ). z * 2 ^ (SHORT_BITS * n) + w) (guard_of by x le (low 0 0 (omega arith))) (guards_left by xs le rest)
-    ∙ ap (λ (z : ℕ). GUARD * over by x * z + GUARD * number_by (over by) xs) (sym power)
-    ∙ regrouped (over by x) (SHORT_BASE ^ n) (number_by (over by) xs)
-    ∙ ap (λ (z : ℕ). GUARD * z) (sym (number_by-cons (over by) x xs))
+    ∙ ap₂ (λ (z w : ℕ). z * 2 ^ (SHORT_BITS * n) + w) (each 0 0 (omega arith)).1 (guards_by f g xs rest)
+    ∙ ap (λ (z : ℕ). GUARD * g x * z + GUARD * number_by g xs) (sym power)
+    ∙ regrouped (g x) (SHORT_BASE ^ n) (number_by g xs)
+    ∙ ap (λ (z : ℕ). GUARD * z) (sym (number_by-cons g x xs))
   where
     regrouped : (a p b : ℕ) → GUARD * a * p + GUARD * b ≡ GUARD * (a * p + b)
     regrouped a p b = omega arith
+
+guards_left : (by : ℕ) (xs : List ℕ) → by ≤ GUARD → All (λ r. r < GUARD) xs
+    → bit_and (number_by (raised by) xs) (GUARD * ones_of (length xs)) ≡ GUARD * number_by (over by) xs
+guards_left by xs le low =
+    guards_by (raised by) (over by) xs
+    (λ k d inside. (omega (arith, low k d inside), guard_of by (get_or xs k d) le (low k d inside)))
 
 -- the sums of the digits
 abbrev same : ℕ → ℕ
@@ -127,29 +135,29 @@ raised_sum by xs le =
     ∙ number_by-sums by GUARD (raised by) one same one xs (λ k d inside. omega (arith, le))
     ∙ ap₂ (λ (z w : ℕ). z + GUARD * w) (number_by-same xs) (number_by-one xs)
 
+sides : (by r : ℕ) → under by r + 1 * over by r ≡ 1 + 0 * 1
+sides by r = grind (arith, nat_tests)
+
 sides_sum : (by : ℕ) (xs : List ℕ) → number_by (under by) xs + number_by (over by) xs ≡ ones_of (length xs)
 sides_sum by xs =
-    let sums = number_by-sums 1 0 (under by) (over by) one one xs (λ k d inside. sides (get_or xs k d)) in
+    let sums = number_by-sums 1 0 (under by) (over by) one one xs (λ k d inside. sides by (get_or xs k d)) in
     omega (arith, sums, number_by-one xs)
-  where
-    sides : (r : ℕ) → under by r + 1 * over by r ≡ 1 + 0 * 1
-    sides r = grind (arith, nat_tests)
+
+lowered_digit : (size by r : ℕ) → size ≤ GUARD → by < size → r < size → raised by r + size * under by r ≡ shifted size by r + GUARD * 1
+lowered_digit size by r le lt small = elim (cases_lt r by) [
+  | inl low ↦
+      ap (λ (z : ℕ). raised by r + size * z) (let e : under by r ≡ 1 = grind (arith, nat_tests) in e)
+      ∙ omega (arith, shifted_low size by r low lt)
+  | inr high ↦
+      ap (λ (z : ℕ). raised by r + size * z) (let e : under by r ≡ 0 = grind (arith, nat_tests) in e)
+      ∙ omega (arith, shifted_high size by r high small)
+]
 
 lowered_sum : (size by : ℕ) (xs : List ℕ) → size ≤ GUARD → by < size → All (λ r. r < size) xs
     → number_by (raised by) xs + size * number_by (under by) xs ≡ number_by (shifted size by) xs + GUARD * ones_of (length xs)
 lowered_sum size by xs le lt inside =
-    number_by-sums size GUARD (raised by) (under by) (shifted size by) one xs (λ k d within. digit (get_or xs k d) (inside k d within))
+    number_by-sums size GUARD (raised by) (under by) (shifted size by) one xs (λ k d within. lowered_digit size by (get_or xs k d) le lt (inside k d within))
     ∙ ap (λ (z : ℕ). number_by (shifted size by) xs + GUARD * z) (number_by-one xs)
-  where
-    digit : (r : ℕ) → r < size → raised by r + size * under by r ≡ shifted size by r + GUARD * 1
-    digit r small = elim (cases_lt r by) [
-      | inl low ↦
-          ap (λ (z : ℕ). raised by r + size * z) (let e : under by r ≡ 1 = grind (arith, nat_tests) in e)
-          ∙ omega (arith, shifted_low size by r low lt)
-      | inr high ↦
-          ap (λ (z : ℕ). raised by r + size * z) (let e : under by r ≡ 0 = grind (arith, nat_tests) in e)
-          ∙ omega (arith, shifted_high size by r high small)
-    ]
 
 lifted_sum : (row : ℕ) (xs : List ℕ) → short_number xs + number_by (over row) xs ≡ number_by (lifted row) xs
 lifted_sum row xs =
@@ -251,3 +259,136 @@ lifted_digits size value row units most lt small inside count =
       whole = ap₂ (λ (z w : ℕ). z + w) is left ∙ lifted_sum row xs;
       left = omega (arith, left, sides_sum row xs, ones);
     }
+
+-- the rows of n columns as a list
+listed : (rows : List ℕ) (n : ℕ) → length rows ≡ n → map (λ c. get_or rows c 0) (range_with_len 0 n) ≡ rows
+listed rows n long =
+    let count = length-map-range_with_len (λ c. get_or rows c 0) 0 n in
+    ext_get_or 0 (map (λ c. get_or rows c 0) (range_with_len 0 n)) rows (count ∙ sym long)
+    (λ i lt. get_or-map-range_with_len (λ c. get_or rows c 0) 0 n i i 0 (omega (arith, lt, count)) (zero-add i))
+
+-- each row lowered by that of another number in its column
+pub record LowersEach (size value by units times : ℕ) : Type 0 where
+  pub digits_room : value < 2 ^ FULL_BITS
+  pub guards : GUARD * units < 2 ^ FULL_BITS
+  pub taken : by ≤ value + GUARD * units
+  pub left : bit_and (value + GUARD * units - by) (GUARD * units) ≤ GUARD * units
+  pub whole : value + times * ((GUARD * units - bit_and (value + GUARD * units - by) (GUARD * units)) / GUARD) ≡ short_number
+      (lowered_each size (digits size value) (digits size by)) + by
+  pub below : short_number (lowered_each size (digits size value) (digits size by)) + by < 2 ^ FULL_BITS + 2 ^ FULL_BITS
+
+pub lowered_each_digits : (size value by units times : ℕ) → size ≤ MAX_SHORT_SIZE → value < SHORT_BASE ^ size → by < SHORT_BASE ^ size
+    → All (λ r. r < size) (digits size value) → All (λ r. r < size) (digits size by) → units ≡ ones_of size → times ≡ size
+    → LowersEach size value by units times
+lowered_each_digits size value by units times most lt by_lt inside by_inside count turns =
+    let xs : List ℕ = range_with_len 0 size in
+    let v : ℕ → ℕ = λ c. get_or (digits size value) c 0 in
+    let b : ℕ → ℕ = λ c. get_or (digits size by) c 0 in
+    let long : length xs ≡ size = length-range_with_len 0 size in
+    let small : (c : ℕ) → c < size → v c < size = λ c within. inside c 0 (omega (arith, within, length-digits size value)) in
+    let by_small : (c : ℕ) → c < size → b c < size = λ c within. by_inside c 0 (omega (arith, within, length-digits size by)) in
+    let column : (k d : ℕ) → k < length xs → get_or xs k d < size =
+    λ k d within. omega (arith, within, long, get_or-range_with_len 0 size k d (omega (arith, within, long))) in
+    let value_is : number_by v xs ≡ value =
+    ap short_number (listed (digits size value) size (length-digits size value)) ∙ short_number-digits size value lt in
+    let by_is : number_by b xs ≡ by = ap short_number (listed (digits size by) size (length-digits size by)) ∙ short_number-digits size by by_lt in
+    let ones : ones_of (length xs) ≡ units = ap ones_of long ∙ sym count in
+    let raises : ℕ → ℕ = λ c. raised (b c) (v c) in
+    let overs : ℕ → ℕ = λ c. over (b c) (v c) in
+    let unders : ℕ → ℕ = λ c. under (b c) (v c) in
+    let lowers : ℕ → ℕ = λ c. shifted size (b c) (v c) in
+    let raise_sum =
+    number_by-sums 1 GUARD raises b v one xs
+    (λ k d within. raised_digit (b (get_or xs k d)) (v (get_or xs k d)) (omega (arith, by_small (get_or xs k d) (column k d within), most))) in
+    let lower_sum =
+    number_by-sums size GUARD raises unders lowers one xs
+    (λ k d within. lowered_digit size (b (get_or xs k d)) (v (get_or xs k d)) (omega (arith, most)) (by_small (get_or xs k d) (column k d within))
+    (small (get_or xs k d) (column k d within))) in
+    let side_sum = number_by-sums 1 0 unders overs one one xs (λ k d within. sides (b (get_or xs k d)) (v (get_or xs k d))) in
+    let one_sum = number_by-one xs in
+    let guarded_sum : value + GUARD * units - by ≡ number_by raises xs = omega (arith, raise_sum, value_is, by_is, one_sum, ones) in
+    let kept_sum : bit_and (value + GUARD * units - by) (GUARD * units) ≡ GUARD * number_by overs xs =
+    ap₂ (λ (z w : ℕ). bit_and z (GUARD * w)) guarded_sum (sym ones)
+    ∙ guards_by raises overs xs
+    (λ k d within. (
+      omega (arith, small (get_or xs k d) (column k d within), most),
+      guard_of (b (get_or xs k d)) (v (get_or xs k d)) (omega (arith, by_small (get_or xs k d) (column k d within), most))
+          (omega (arith, small (get_or xs k d) (column k d within), most)),
+    )) in
+    let under_sum : (GUARD * units - bit_and (value + GUARD * units - by) (GUARD * units)) / GUARD ≡ number_by unders xs =
+    omega (arith, kept_sum, side_sum, one_sum, ones) in
+    let power : SHORT_BASE ^ size ≤ 2 ^ FULL_BITS = pow-le-pow_right {n = SHORT_BASE} (omega arith) {i = size} {j = MAX_SHORT_SIZE} most in
+    let lowers_below : number_by lowers xs < SHORT_BASE ^ length xs =
+    number_by-below lowers xs
+    (λ k d within. omega (
+      arith,
+      shifted_below size (b (get_or xs k d)) (v (get_or xs k d)) (by_small (get_or xs k d) (column k d within))
+          (small (get_or xs k d) (column k d within)),
+      most,
+    )) in
+    record {
+      digits_room = omega (arith, lt, power);
+      guards = omega (arith, ones_exact size, count, power);
+      taken = omega (arith, raise_sum, value_is, by_is, one_sum, ones);
+      left = omega (arith, kept_sum, side_sum, one_sum, ones);
+      whole =
+          ap₂ (λ (z w : ℕ). value + z * w) turns under_sum
+          ∙ omega (arith, lower_sum, raise_sum, value_is, by_is, one_sum, ones);
+      below = omega (arith, lowers_below, ap (λ (z : ℕ). SHORT_BASE ^ z) long, power, by_lt);
+    }
+  where
+    raised_digit : (by r : ℕ) → by ≤ GUARD → raised by r + 1 * by ≡ r + GUARD * 1
+    raised_digit by r le = omega arith
+
+-- the digits below a bound, marked
+marks_sum : (bound : ℕ) (xs : List ℕ) → number_by (mark bound) xs ≡ GUARD * number_by (under bound) xs
+marks_sum bound [] = refl
+marks_sum bound (x ∷ xs) =
+    number_by-cons (mark bound) x xs
+    ∙ ap₂ (λ (z w : ℕ). z * SHORT_BASE ^ length xs + w) (digit x) (marks_sum bound xs)
+    ∙ regrouped (under bound x) (SHORT_BASE ^ length xs) (number_by (under bound) xs)
+    ∙ ap (λ (z : ℕ). GUARD * z) (sym (number_by-cons (under bound) x xs))
+  where
+    digit : (r : ℕ) → mark bound r ≡ GUARD * under bound r
+    digit r = grind (arith, nat_tests)
+
+    regrouped : (a p b : ℕ) → GUARD * a * p + GUARD * b ≡ GUARD * (a * p + b)
+    regrouped a p b = omega arith
+
+pub record Marks (size value bound units : ℕ) : Type 0 where
+  pub room : Room value bound units
+  pub left : kept value bound units ≤ GUARD * units
+  pub marked : GUARD * units - kept value bound units ≡ short_number (map (mark bound) (digits size value))
+
+pub marks_of : (size value bound units : ℕ) → size ≤ MAX_SHORT_SIZE → value < SHORT_BASE ^ size → bound ≤ size → All (λ r. r < size) (digits size value)
+    → units ≡ ones_of size → Marks size value bound units
+marks_of size value bound units most lt small inside count =
+    let xs : List ℕ = digits size value in
+    let long : length xs ≡ size = length-digits size value in
+    let is : value ≡ short_number xs = sym (short_number-digits size value lt) in
+    let ones : units ≡ ones_of (length xs) = count ∙ ap ones_of (sym long) in
+    let le : bound ≤ GUARD = omega arith in
+    let low : All (λ r. r < GUARD) xs = λ k d within. omega (arith, inside k d within) in
+    let known = kept_is value bound units xs le low is ones in
+    record {
+      room = room value bound units xs (omega arith) le low is ones;
+      left = omega (arith, known, sides_sum bound xs, ones);
+      marked = omega (arith, known, sides_sum bound xs, ones, marks_sum bound xs);
+    }
+
+-- all of them
+pub all_marked : (size value units : ℕ) → 0 < size → size ≤ MAX_SHORT_SIZE → value < SHORT_BASE ^ size → All (λ r. r < size) (digits size value)
+    → units ≡ ones_of size → AreLowDigits size value (GUARD * units)
+all_marked size value units pos most lt inside count =
+    let xs : List ℕ = digits size value in
+    let long : length xs ≡ size = length-digits size value in
+    let sums = number_by-sums 0 0 (under size) one one one xs (λ k d within. every (get_or xs k d) (inside k d within)) in
+    let power : SHORT_BASE ^ 1 ≤ SHORT_BASE ^ size = pow-le-pow_right {n = SHORT_BASE} (omega arith) {i = 1} {j = size} (omega (arith, pos)) in
+    record {
+      bound = size;
+      some = omega (arith, ones_exact size, count, power);
+      marked = omega (arith, marks_sum size xs, sums, number_by-one xs, ap ones_of long, count);
+    }
+  where
+    every : (r : ℕ) → r < size → under size r + 0 * 1 ≡ 1 + 0 * 1
+    every r small = grind (arith, nat_tests)

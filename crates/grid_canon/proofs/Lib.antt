@@ -11,9 +11,12 @@ pub mod CutNumbers
 pub mod Words
 pub mod Keys
 mod ShortGrids
+mod LowColumns
 pub mod ShortKeys
+mod SpreadHalves
 pub mod Joined
 pub mod CanonicalForms
 pub mod Tidied
+mod TidiedRuns
 pub mod Making
 mod WorkedRows

@@ -12,7 +12,7 @@ use Rattle.grid_core.proofs.OneEach.{range_more}
 use Rattle.grid_core.specs.declared.grid.TheConstants.{MAX_SIZE}
 use Rattle.grid_moves.specs.Shift.{shifted}
 use Rattle.grid_moves.proofs.Shifted.{shifted_below}
-use Rattle.grid_canon.specs.declared.key.TheConstants.{BASE, DIGIT_BITS, WORD_COLUMNS}
+use Rattle.grid_canon.specs.declared.key.TheConstants.{BASE, DIGIT_BITS, WORD_COLUMNS, WORDS}
 use Rattle.grid_canon.specs.Key.{number, filled}
 use Rattle.grid_canon.proofs.Ordered.{nat_cmp_same}
 use Rattle.grid_canon.proofs.NumbersTo.{AreDigitsTo, number_to-append, number_to-below, number_to-push, number_to-filled, number_to-order, power_of_two}
@@ -52,13 +52,15 @@ number-digit xs i k all long =
     ∙ mod-mul-add (number (take i xs)) BASE (get_or xs i 0) (all i 0 lt)
 
 -- filled lists
-pub length-filled : (rows : List ℕ) → length rows ≤ MAX_SIZE → length (filled rows) ≡ MAX_SIZE
-length-filled rows le = omega (arith, length-append rows (replicate (MAX_SIZE - length rows) 0), length-replicate {A = ℕ} (MAX_SIZE - length rows) 0, le)
+pub length-filled : (rows : List ℕ) → length rows ≤ MAX_SIZE → length (filled rows) ≡ WORDS * WORD_COLUMNS
+length-filled rows le =
+    let more : ℕ = WORDS * WORD_COLUMNS - length rows in
+    omega (arith, length-append rows (replicate more 0), length-replicate {A = ℕ} more 0, le)
 
 pub filled-digits : (rows : List ℕ) → AreDigits rows → AreDigits (filled rows)
 filled-digits rows all =
-    All-append (λ digit. digit < BASE) rows (replicate (MAX_SIZE - length rows) 0) all
-    (All-replicate (λ digit. digit < BASE) (MAX_SIZE - length rows) 0 (omega arith))
+    let more : ℕ = WORDS * WORD_COLUMNS - length rows in
+    All-append (λ digit. digit < BASE) rows (replicate more 0) all (All-replicate (λ digit. digit < BASE) more 0 (omega arith))
 
 -- one more row in the making
 pub number_more : (rows : List ℕ) (i : ℕ) → i < length rows → number (take (i + 1) rows) ≡ number (take i rows) * BASE + get_or rows i 0

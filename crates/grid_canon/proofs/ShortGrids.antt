@@ -24,7 +24,7 @@ pair x o = record { x = x; o = o }
 pub read_digits : (n value : ℕ) (rows : List ℕ) → length rows ≡ n → AreShortDigits rows → value ≡ short_number rows → digits n value ≡ rows
 read_digits n value rows long all is = ap₂ digits (sym long) is ∙ digits-short_number rows all
 
-digits_fit : (n value : ℕ) (rows : List ℕ) → length rows ≡ n → AreShortDigits rows → value ≡ short_number rows → value < SHORT_BASE ^ n
+pub digits_fit : (n value : ℕ) (rows : List ℕ) → length rows ≡ n → AreShortDigits rows → value ≡ short_number rows → value < SHORT_BASE ^ n
 digits_fit n value rows long all is =
     subst (λ (z : ℕ). z < SHORT_BASE ^ n) (sym is) (subst (λ (z : ℕ). short_number rows < SHORT_BASE ^ z) long (short_number-below rows all))
 

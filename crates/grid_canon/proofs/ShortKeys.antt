@@ -1,10 +1,9 @@
 -- Keys made of short numbers: each digit goes from the base of short grids to that of keys.
-use Rattle.std.proofs.Common.{◌≡◌, ◌<◌, ◌≤◌, ◌+◌, ◌-◌, ◌*◌, ◌/◌, ◌%◌, ◌^◌, ◌++◌, ◌∷◌, [], ◌∙◌, ℕ, List, length, take, drop, replicate, arith, refl, sym, ap, ap₂, subst, length-append}
+use Rattle.std.proofs.Common.{◌≡◌, ◌<◌, ◌≤◌, ◌+◌, ◌-◌, ◌*◌, ◌/◌, ◌%◌, ◌^◌, ◌++◌, ◌∙◌, ℕ, List, length, take, drop, replicate, arith, sym, ap, ap₂, subst, length-append}
 use Rattle.std.proofs.lemmas.Nat.{pow-add, div-mul-add, mod-mul-add, shl_whole, shl_below}
 use Rattle.std.proofs.lemmas.List.{take_all, take-append-drop, length-take, length-drop, length-replicate}
 use Rattle.std.proofs.lemmas.List.Elements.{All-append, All-replicate, All-take, All-drop}
-use Rattle.grid_core.specs.declared.grid.TheConstants.{MAX_SIZE}
-use Rattle.grid_core.specs.Diagram.{Diagram, size}
+use Rattle.grid_core.specs.Diagram.{Diagram}
 use Rattle.grid_canon.specs.declared.key.TheConstants.{BASE, WORD_COLUMNS}
 use Rattle.grid_canon.specs.declared.digits.TheConstants.{MAX_SHORT_SIZE, SHORT_BASE, SHORT_BITS}
 use Rattle.grid_canon.specs.Key.{number, filled, words_of, key_of}
@@ -14,7 +13,7 @@ use Rattle.grid_canon.proofs.NumbersTo.{number_to-filled}
 use Rattle.grid_canon.proofs.Numbers.{AreDigits, number-append, number-below, number-filled}
 use Rattle.grid_canon.proofs.ShortNumbers.{AreShortDigits, short_number-append, short_number-below, short_bits}
 use Rattle.grid_canon.proofs.NumbersOfDigits.{length-digits, digits-below, short_number-digits}
-use Rattle.grid_canon.proofs.Words.{words_three, word_behind, piece_filled}
+use Rattle.grid_canon.proofs.Words.{piece_filled}
 use Rattle.grid_canon.proofs.ShortGrids.{read_digits}
 use Rattle.grid_canon.proofs.Keys.{key_from}
 use Rattle.grid_canon.proofs.CutNumbers.{IsFew, cornered_digits}
@@ -84,7 +83,7 @@ full_short value n le lt =
 -- the word of such a number
 pub full_word : (value n full word : ℕ) → n ≤ MAX_SHORT_SIZE → value < SHORT_BASE ^ n → full ≡ value * SHORT_BASE ^ (MAX_SHORT_SIZE - n)
     → word ≡ number (digits MAX_SHORT_SIZE full) * BASE ^ (WORD_COLUMNS - MAX_SHORT_SIZE)
-    → word ≡ number (take WORD_COLUMNS (drop 0 (filled (digits n value))))
+    → word ≡ number (take WORD_COLUMNS (filled (digits n value)))
 full_word value n full word le lt is_full is =
     let xs : List ℕ = digits n value in
     let more : ℕ = MAX_SHORT_SIZE - n in
@@ -111,15 +110,6 @@ full_word value n full word le lt is_full is =
   where
     regrouped : (a b c : ℕ) → a * b * c ≡ a * (b * c)
     regrouped a b c = omega arith
-
--- it is the first of the words, and no further column has a row
-pub words_by_first : (value n word : ℕ) → n ≤ MAX_SHORT_SIZE → word ≡ number (take WORD_COLUMNS (drop 0 (filled (digits n value))))
-    → word ∷ 0 ∷ 0 ∷ [] ≡ words_of (digits n value)
-words_by_first value n word le is =
-    let xs : List ℕ = digits n value in
-    let long : length xs ≡ n = length-digits n value in
-    words_three xs word 0 0 is (sym (word_behind xs WORD_COLUMNS (omega (arith, long, le)) (omega arith)))
-    (sym (word_behind xs (2 * WORD_COLUMNS) (omega (arith, long, le)) (omega arith)))
 
 -- the key of a translate with an X in the lower left cell
 pub cornered_key : (n size_is c crosses rings : ℕ) (x o : List ℕ) (d : Diagram) → IsFew n d → c < n → size_is ≡ n → crosses ≡ short_number (cornered d c).x

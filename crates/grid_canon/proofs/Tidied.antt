@@ -1,6 +1,8 @@
 -- Lists of moves, tidied: they are tidy, and lead where the given ones lead, within the same cap.
 use Rattle.std.proofs.Common.{◌≡◌, ◌<◌, ◌≤◌, ◌+◌, ◌-◌, ◌%◌, ◌++◌, ◌∷◌, [], ◌∙◌, ◌&&◌, ◌||◌, not, ℕ, zero, suc, Bool, true, false, List, Option, Some, None, arith, sym, refl, ap, ap₂, subst, append-nil}
+use Rattle.std.specs.List.{filter}
 use Rattle.std.proofs.lemmas.Bool.{not-true}
+use Rattle.std.proofs.lemmas.List.Elements.{filter-append}
 use Rattle.grid_core.specs.declared.grid.TheConstants.{MAX_SIZE}
 use Rattle.grid_core.specs.Diagram.{Diagram, IsGrid, size}
 use Rattle.grid_moves.specs.declared.step.Move.{Move}
@@ -15,7 +17,7 @@ use Rattle.grid_moves.proofs.Within.{within_append, within_joins, within_larger,
 use Rattle.grid_canon.specs.Shifts.{shift_moves}
 use Rattle.grid_canon.specs.Tidied.{tidied}
 use Rattle.grid_canon.specs.Translation.{translate}
-use Rattle.grid_canon.proofs.Translated.{origin, origin-below, size-translate, translate-grid, translate-translate}
+use Rattle.grid_canon.proofs.Translated.{origin-below, size-translate, translate-grid, translate-translate}
 use Rattle.grid_canon.proofs.Joined.{translate_none, at_origin, column_shift_step, row_shift_step, shifts_joined_within}
 
 -- ---- tidy
@@ -112,6 +114,41 @@ tidied_tidy (Stabilise c kind corner ∷ moves) n a b before is =
 tidied_tidy (Destabilise c r ∷ moves) n a b before is =
     shifts_tidy a b before (Destabilise c r ∷ tidied (n - 1) 0 0 moves) is
     (move_tidy (Destabilise c r) (tidied (n - 1) 0 0 moves) refl (tidied_tidy moves (n - 1) 0 0 (Some (Destabilise c r)) refl))
+
+-- ---- what else is written
+
+abbrev is_other : Move → Bool
+is_other move = not (is_shift move)
+
+no_others : (a b : ℕ) → filter is_other (shift_moves a b) ≡ []
+no_others zero zero = refl
+no_others zero (suc b) = refl
+no_others (suc a) zero = refl
+no_others (suc a) (suc b) = refl
+
+behind_shifts : (a b : ℕ) (moves others : List Move) → filter is_other moves ≡ others → filter is_other (shift_moves a b ++ moves) ≡ others
+behind_shifts a b moves others is =
+    filter-append is_other (shift_moves a b) moves ∙ ap₂ (λ (xs ys : List Move). xs ++ ys) (no_others a b) is
+
+-- the moves that are no shifts stay, in order
+pub others_kept : (moves : List Move) (n a b : ℕ)
+    → filter (λ (move : Move). not (is_shift move)) (tidied n a b moves) ≡ filter (λ (move : Move). not (is_shift move)) moves
+others_kept [] n a b = no_others a b
+others_kept (ShiftColumns k ∷ moves) n a b = others_kept moves n ((a + k) % n) b
+others_kept (ShiftRows k ∷ moves) n a b = others_kept moves n a ((b + k) % n)
+others_kept (ExchangeColumns c ∷ moves) n a b =
+    behind_shifts a b (ExchangeColumns c ∷ tidied n 0 0 moves) _ (ap (λ (ms : List Move). ExchangeColumns c ∷ ms) (others_kept moves n 0 0))
+others_kept (ExchangeRows r ∷ moves) n a b =
+    behind_shifts a b (ExchangeRows r ∷ tidied n 0 0 moves) _ (ap (λ (ms : List Move). ExchangeRows r ∷ ms) (others_kept moves n 0 0))
+others_kept (SlideColumns c ∷ moves) n a b =
+    behind_shifts a b (SlideColumns c ∷ tidied n 0 0 moves) _ (ap (λ (ms : List Move). SlideColumns c ∷ ms) (others_kept moves n 0 0))
+others_kept (SlideRows r ∷ moves) n a b =
+    behind_shifts a b (SlideRows r ∷ tidied n 0 0 moves) _ (ap (λ (ms : List Move). SlideRows r ∷ ms) (others_kept moves n 0 0))
+others_kept (Stabilise c kind corner ∷ moves) n a b =
+    behind_shifts a b (Stabilise c kind corner ∷ tidied (n + 1) 0 0 moves) _
+    (ap (λ (ms : List Move). Stabilise c kind corner ∷ ms) (others_kept moves (n + 1) 0 0))
+others_kept (Destabilise c r ∷ moves) n a b =
+    behind_shifts a b (Destabilise c r ∷ tidied (n - 1) 0 0 moves) _ (ap (λ (ms : List Move). Destabilise c r ∷ ms) (others_kept moves (n - 1) 0 0))
 
 -- ---- where it leads
 

@@ -1,5 +1,5 @@
 -- The words of the rows of a kind.
-use Rattle.std.proofs.Common.{◌≡◌, ◌<◌, ◌≤◌, ◌+◌, ◌-◌, ◌*◌, ◌/◌, ◌%◌, ◌^◌, ◌++◌, ◌∷◌, [], ◌∙◌, ℕ, zero, suc, List, All, length, get_or, take, drop, map, replicate, fold, arith, sym, refl, ap, ap₂, subst, inl, inr, length-append, zero-add, min}
+use Rattle.std.proofs.Common.{◌≡◌, ◌<◌, ◌≤◌, ◌+◌, ◌-◌, ◌*◌, ◌/◌, ◌%◌, ◌^◌, ◌++◌, ◌∷◌, [], ◌∙◌, ℕ, zero, suc, List, All, length, get_or, take, drop, map, replicate, slice_set, fold, arith, sym, refl, ap, ap₂, inl, inr, length-append, add-one, zero-add, min}
 use Rattle.std.proofs.Math.Nat.{mul_comm, mod-eq_of_lt}
 use Rattle.std.proofs.lemmas.Nat.{pow-add, pow_pos, mul-add-lt}
 use Rattle.std.proofs.lemmas.Bool.{cases_lt}
@@ -17,7 +17,7 @@ use Rattle.grid_core.specs.declared.grid.TheConstants.{MAX_SIZE}
 use Rattle.grid_canon.specs.Translation.{translated_rows}
 use Rattle.grid_canon.specs.declared.key.TheConstants.{BASE, DIGIT_BITS, WORD_COLUMNS, WORDS}
 use Rattle.grid_canon.specs.Key.{number, filled, words, words_of, digit_at}
-use Rattle.grid_canon.proofs.Numbers.{AreDigits, number-append, number-below, number-digit, number-filled, number-order, length-filled, filled-digits, base_bits, lowered_rows, slice_cmp-append}
+use Rattle.grid_canon.proofs.Numbers.{AreDigits, number-below, number-digit, number-filled, number-order, length-filled, filled-digits, base_bits, lowered_rows, slice_cmp-append}
 
 -- behind the end of a list nothing is read
 past_end : (xs : List ℕ) (i : ℕ) → length xs ≤ i → get_or xs i 0 ≡ 0
@@ -39,7 +39,7 @@ zeros_read xs k i = elim (cases_lt i (length xs)) [
 ]
 
 -- a piece of a filled list is that of the list, filled
-pub piece_filled : (rows : List ℕ) (from count : ℕ) → length rows ≤ MAX_SIZE → from + count ≤ MAX_SIZE
+pub piece_filled : (rows : List ℕ) (from count : ℕ) → length rows ≤ MAX_SIZE → from + count ≤ WORDS * WORD_COLUMNS
     → take count (drop from (filled rows)) ≡ take count (drop from rows) ++ replicate (count - length (take count (drop from rows))) 0
 piece_filled rows from count le fits =
     let piece : List ℕ = take count (drop from rows) in
@@ -55,7 +55,7 @@ piece_filled rows from count le fits =
     let lt : i < count = omega (arith, inside, long) in
     get_or-take count (drop from (filled rows)) i 0 lt
     ∙ get_or-drop from (filled rows) i 0
-    ∙ zeros_read rows (MAX_SIZE - length rows) (from + i)
+    ∙ zeros_read rows (WORDS * WORD_COLUMNS - length rows) (from + i)
     ∙ sym (zeros_read piece (count - length piece) i ∙ get_or-take count (drop from rows) i 0 lt ∙ get_or-drop from rows i 0))
 
 -- at most as many as there are
@@ -66,7 +66,7 @@ take_at_most n m xs is = elim (cases_lt n (length xs)) [
 ]
 
 -- the number of a piece, filled by a shift
-pub word_by_shift : (rows : List ℕ) (from : ℕ) (piece : List ℕ) (value : ℕ) → length rows ≤ MAX_SIZE → from + WORD_COLUMNS ≤ MAX_SIZE → AreDigits piece
+pub word_by_shift : (rows : List ℕ) (from : ℕ) (piece : List ℕ) (value : ℕ) → length rows ≤ MAX_SIZE → from + WORD_COLUMNS ≤ WORDS * WORD_COLUMNS → AreDigits piece
     → piece ≡ take WORD_COLUMNS (drop from rows) → value ≡ number piece
     → value * 2 ^ (DIGIT_BITS * (WORD_COLUMNS - length piece)) % 2 ^ 128 ≡ number (take WORD_COLUMNS (drop from (filled rows)))
 word_by_shift rows from piece value le fits all is e =
@@ -87,7 +87,7 @@ word_by_shift rows from piece value le fits all is e =
         omega (arith, here, all)
 
 -- a word behind the rows is 0
-pub word_behind : (rows : List ℕ) (from : ℕ) → length rows ≤ from → from + WORD_COLUMNS ≤ MAX_SIZE
+pub word_behind : (rows : List ℕ) (from : ℕ) → length rows ≤ from → from + WORD_COLUMNS ≤ WORDS * WORD_COLUMNS
     → number (take WORD_COLUMNS (drop from (filled rows))) ≡ 0
 word_behind rows from past fits =
     let piece : List ℕ = take WORD_COLUMNS (drop from rows) in
@@ -104,22 +104,49 @@ word_behind rows from past fits =
     empty [] is = refl
     empty (x ∷ xs) is = absurd (omega (arith, is))
 
--- the words one by one
-pub words_three : (rows : List ℕ) (a b c : ℕ) → a ≡ number (take WORD_COLUMNS (drop 0 (filled rows)))
-    → b ≡ number (take WORD_COLUMNS (drop WORD_COLUMNS (filled rows))) → c ≡ number (take WORD_COLUMNS (drop (2 * WORD_COLUMNS) (filled rows)))
-    → a ∷ b ∷ c ∷ [] ≡ words_of rows
-words_three rows a b c ea eb ec =
-    ap₂ (λ (z : ℕ) zs. z ∷ zs) ea
-    (ap₂ (λ (z : ℕ) zs. z ∷ zs) eb
-    (ap (λ (z : ℕ). z ∷ []) (ec ∙ ap (λ zs. number (take WORD_COLUMNS zs)) (sym (drop-drop WORD_COLUMNS WORD_COLUMNS (filled rows))))))
+-- the digits of the word behind a number of words
+next_word : (n : ℕ) (xs : List ℕ) → drop (WORD_COLUMNS * suc n) xs ≡ drop (WORD_COLUMNS * n) (drop WORD_COLUMNS xs)
+next_word n xs =
+    ap (λ (z : ℕ). drop z xs) (let e : WORD_COLUMNS * suc n ≡ WORD_COLUMNS + WORD_COLUMNS * n = omega arith in e)
+    ∙ sym (drop-drop (WORD_COLUMNS * n) WORD_COLUMNS xs)
 
 word_at : (n w : ℕ) (xs : List ℕ) (d : ℕ) → w < n → get_or (words n xs) w d ≡ number (take WORD_COLUMNS (drop (WORD_COLUMNS * w) xs))
 word_at zero w xs d lt = absurd (omega (arith, lt))
 word_at (suc n) zero xs d lt = refl
 word_at (suc n) (suc w) xs d lt =
-    word_at n w (drop WORD_COLUMNS xs) d (omega (arith, lt))
-    ∙ ap (λ zs. number (take WORD_COLUMNS zs)) (drop-drop (WORD_COLUMNS * w) WORD_COLUMNS xs
-    ∙ ap (λ (z : ℕ). drop z xs) (let e : WORD_COLUMNS + WORD_COLUMNS * w ≡ WORD_COLUMNS * suc w = omega arith in e))
+    word_at n w (drop WORD_COLUMNS xs) d (omega (arith, lt)) ∙ ap (λ zs. number (take WORD_COLUMNS zs)) (sym (next_word w xs))
+
+-- one more word in front of zeros
+one_more : (n k word : ℕ) (xs : List ℕ) → word ≡ number (take WORD_COLUMNS (drop (WORD_COLUMNS * n) xs))
+    → slice_set (words n xs ++ replicate (suc k) 0) n word ≡ words (suc n) xs ++ replicate k 0
+one_more zero k word xs is = ap (λ (z : ℕ). z ∷ replicate k 0) is
+one_more (suc n) k word xs is =
+    ap (λ zs. number (take WORD_COLUMNS xs) ∷ zs) (one_more n k word (drop WORD_COLUMNS xs) (is ∙ ap (λ zs. number (take WORD_COLUMNS zs)) (next_word n xs)))
+
+pub word_more : (rows ws : List ℕ) (place word : ℕ) → place < WORDS → ws ≡ words place (filled rows) ++ replicate (WORDS - place) 0
+    → word ≡ number (take WORD_COLUMNS (drop (place * WORD_COLUMNS) (filled rows)))
+    → slice_set ws place word ≡ words (place + 1) (filled rows) ++ replicate (WORDS - (place + 1)) 0
+word_more rows ws place word lt is same =
+    ap (λ zs. slice_set zs place word) (is ∙ ap (λ (k : ℕ). words place (filled rows) ++ replicate k 0) left)
+    ∙ one_more place (WORDS - (place + 1)) word (filled rows)
+    (same ∙ ap (λ (k : ℕ). number (take WORD_COLUMNS (drop k (filled rows)))) (mul_comm place WORD_COLUMNS))
+    ∙ ap (λ (n : ℕ). words n (filled rows) ++ replicate (WORDS - (place + 1)) 0) (sym (add-one place))
+  where
+    left : WORDS - place ≡ suc (WORDS - (place + 1))
+    left = omega (arith, lt)
+
+-- the words behind the rows are 0, so short rows have no word but the first
+none_behind : (n from : ℕ) (rows : List ℕ) → length rows ≤ from → from + WORD_COLUMNS * n ≤ WORDS * WORD_COLUMNS
+    → words n (drop from (filled rows)) ≡ replicate n 0
+none_behind zero from rows past fits = refl
+none_behind (suc n) from rows past fits =
+    ap₂ (λ (z : ℕ) zs. z ∷ zs) (word_behind rows from past (omega (arith, fits)))
+    (ap (λ zs. words n zs) (drop-drop WORD_COLUMNS from (filled rows))
+    ∙ none_behind n (from + WORD_COLUMNS) rows (omega (arith, past)) (omega (arith, fits)))
+
+pub first_word : (rows : List ℕ) (word : ℕ) → length rows ≤ WORD_COLUMNS → word ≡ number (take WORD_COLUMNS (filled rows))
+    → slice_set (replicate WORDS 0) 0 word ≡ words_of rows
+first_word rows word le is = ap₂ (λ (z : ℕ) zs. z ∷ zs) is (sym (none_behind (WORDS - 1) WORD_COLUMNS rows le (omega arith)))
 
 -- the digits of the words are the rows
 pub digit_of_row : (rows : List ℕ) (c : ℕ) → length rows ≤ MAX_SIZE → AreDigits rows → c < length rows → digit_at (words_of rows) c ≡ get_or rows c 0
@@ -140,7 +167,7 @@ digit_of_row rows c le all inside =
     ∙ get_or-take WORD_COLUMNS behind i 0 here
     ∙ get_or-drop (WORD_COLUMNS * w) (filled rows) i 0
     ∙ ap (λ (z : ℕ). get_or (filled rows) z 0) back
-    ∙ get_or_append_left rows (replicate (MAX_SIZE - length rows) 0) 0 c inside
+    ∙ get_or_append_left rows (replicate (WORDS * WORD_COLUMNS - length rows) 0) 0 c inside
 
 pub digits_are_rows : (rows : List ℕ) → length rows ≤ MAX_SIZE → AreDigits rows → map (digit_at (words_of rows)) (range_with_len 0 (length rows)) ≡ rows
 digits_are_rows rows le all =
@@ -192,8 +219,8 @@ pub words_order : (xs ys : List ℕ) → length xs ≡ length ys → length xs �
     → slice_cmp nat_cmp (words_of xs) (words_of ys) ≡ slice_cmp nat_cmp xs ys
 words_order xs ys same le ax ay =
     words_in_order WORDS (filled xs) (filled ys) (length-filled xs le) (length-filled ys (omega (arith, same, le))) (filled-digits xs ax) (filled-digits ys ay)
-    ∙ ap (λ (n : ℕ). slice_cmp nat_cmp (filled xs) (ys ++ replicate (MAX_SIZE - n) 0)) (sym same)
-    ∙ slice_cmp-append xs ys (replicate (MAX_SIZE - length xs) 0) same
+    ∙ ap (λ (n : ℕ). slice_cmp nat_cmp (filled xs) (ys ++ replicate (WORDS * WORD_COLUMNS - n) 0)) (sym same)
+    ∙ slice_cmp-append xs ys (replicate (WORDS * WORD_COLUMNS - length xs) 0) same
 
 -- the rows of a translate are digits
 pub translated_digits : (n a b : ℕ) (rows : List ℕ) → n ≤ MAX_SIZE → b < n → All (λ r. r < n) rows → AreDigits (translated_rows n a b rows)

@@ -1,5 +1,5 @@
--- Worked examples: the two trefoils, a diagram of four columns, and keys.
-use Rattle.std.proofs.Common.{◌≡◌, ◌<◌, ◌≤◌, ◌+◌, ◌-◌, ◌*◌, ◌^◌, ◌∷◌, ◌∙◌, ◌⊎◌, ◌==◌, ◌&&◌, ◌||◌, not, [], ℕ, List, Bool, true, false, length, get_or, nat_lt, nat_le, arith, sym, refl, ap, subst, inl, inr, zero-add}
+-- Worked examples: the two trefoils, a diagram of four columns, keys, and tidied lists.
+use Rattle.std.proofs.Common.{◌≡◌, ◌<◌, ◌≤◌, ◌+◌, ◌-◌, ◌*◌, ◌^◌, ◌∷◌, ◌∙◌, ◌⊎◌, ◌==◌, ◌&&◌, ◌||◌, not, [], ℕ, List, Bool, true, false, length, get_or, replicate, nat_lt, nat_le, arith, sym, refl, ap, subst, inl, inr, zero-add}
 use Rattle.std.specs.List.{Contains, list_all, range_with_len}
 use Rattle.std.specs.Ordering.{is_le, is_eq}
 use Rattle.std.proofs.lemmas.Bool.{ltb-true, eqb-true, leb-true, or_cases, and_parts, not-true}
@@ -7,11 +7,15 @@ use Rattle.std.proofs.lemmas.List.Folds.{list_all_at}
 use Rattle.std.proofs.lemmas.List.FromFn.{get_or-range_with_len, length-range_with_len}
 use Rattle.grid_core.specs.Diagram.{Diagram, size}
 use Rattle.grid_core.proofs.WorkedRows.{right_trefoil, left_trefoil}
+use Rattle.grid_core.specs.declared.mark.Kind.TheVariants.{Cross}
+use Rattle.grid_core.specs.declared.mark.Corner.TheVariants.{LowLeft}
+use Rattle.grid_moves.specs.declared.step.Move.TheVariants.{ShiftColumns, ShiftRows, ExchangeColumns, ExchangeRows, SlideColumns, SlideRows, Stabilise, Destabilise}
+use Rattle.grid_canon.specs.Tidied.{tidied}
 use Rattle.grid_canon.specs.declared.canonical_form.LeastForm.{LeastForm}
 use Rattle.grid_canon.specs.Translation.{translate, translates}
 use Rattle.grid_canon.specs.Order.{compare}
 use Rattle.grid_canon.specs.CanonicalForm.{IsLeastForm}
-use Rattle.grid_canon.specs.declared.key.TheConstants.{BASE}
+use Rattle.grid_canon.specs.declared.key.TheConstants.{WORDS}
 use Rattle.grid_canon.specs.Key.{key_of}
 use Rattle.grid_canon.proofs.Ordered.{compare_self}
 use Rattle.grid_canon.proofs.LeastTranslates.{translates_contains}
@@ -97,7 +101,23 @@ by_columns_alone = refl
 -- the key of the left trefoil
 left_key : key_of left_trefoil ≡ record {
   size = 5;
-  x = (0 * BASE ^ 15 + 1 * BASE ^ 14 + 2 * BASE ^ 13 + 3 * BASE ^ 12 + 4 * BASE ^ 11) ∷ 0 ∷ 0 ∷ [];
-  o = (2 * BASE ^ 15 + 3 * BASE ^ 14 + 4 * BASE ^ 13 + 0 * BASE ^ 12 + 1 * BASE ^ 11) ∷ 0 ∷ 0 ∷ [];
+  x = (0 * 64 ^ 15 + 1 * 64 ^ 14 + 2 * 64 ^ 13 + 3 * 64 ^ 12 + 4 * 64 ^ 11) ∷ replicate (WORDS - 1) 0;
+  o = (2 * 64 ^ 15 + 3 * 64 ^ 14 + 4 * 64 ^ 13 + 0 * 64 ^ 12 + 1 * 64 ^ 11) ∷ replicate (WORDS - 1) 0;
 }
 left_key = refl
+
+-- of five columns shifts by 2 and 3 are none, and each run of shifts becomes one of columns and then one of rows
+tidied_runs : tidied 5 0 0
+    (ShiftRows 2 ∷ ShiftColumns 1 ∷ ShiftRows 3 ∷ ExchangeColumns 0 ∷ ShiftColumns 4 ∷ ShiftRows 1 ∷ ShiftColumns 2 ∷ SlideRows 2 ∷ ShiftRows 1 ∷ [])
+    ≡ ShiftColumns 1 ∷ ExchangeColumns 0 ∷ ShiftColumns 1 ∷ ShiftRows 1 ∷ SlideRows 2 ∷ ShiftRows 1 ∷ []
+tidied_runs = refl
+
+-- behind a stabilisation they go round six columns, and behind its end round five
+tidied_sizes : tidied 5 0 0 (Stabilise 0 Cross LowLeft ∷ ShiftColumns 5 ∷ ShiftColumns 2 ∷ Destabilise 1 1 ∷ ShiftRows 4 ∷ ShiftRows 2 ∷ [])
+    ≡ Stabilise 0 Cross LowLeft ∷ ShiftColumns 1 ∷ Destabilise 1 1 ∷ ShiftRows 1 ∷ []
+tidied_sizes = refl
+
+-- shifts of columns end before an exchange of rows, and shifts of rows before a slide of columns
+tidied_kinds : tidied 5 0 0 (ShiftColumns 2 ∷ ExchangeRows 1 ∷ ShiftRows 3 ∷ SlideColumns 2 ∷ ShiftRows 2 ∷ ShiftColumns 3 ∷ [])
+    ≡ ShiftColumns 2 ∷ ExchangeRows 1 ∷ ShiftRows 3 ∷ SlideColumns 2 ∷ ShiftColumns 3 ∷ ShiftRows 2 ∷ []
+tidied_kinds = refl

@@ -1,10 +1,11 @@
 -- Keys: a grid as its size and the words of its rows.
-use Rattle.std.specs.Prelude.{ℕ, zero, suc, ◌+◌, ◌-◌, ◌*◌, ◌/◌, ◌%◌, ◌^◌, List, [], ◌∷◌, ◌++◌, Bool, ◌==◌, ◌&&◌, fold, length, replicate, take, drop, slice_index}
+use Rattle.std.specs.Prelude.{ℕ, zero, suc, ◌+◌, ◌-◌, ◌*◌, ◌/◌, ◌%◌, ◌^◌, List, [], ◌∷◌, ◌++◌, Bool, ◌==◌, ◌&&◌, if◌then◌else◌, nat_lt, fold, length, replicate, take, drop, slice_index}
+use Rattle.std.specs.Hash as fed
+use Rattle.std.specs.Hash.{HashWrites}
 use Rattle.std.specs.Str.{bytes_eq}
 use Rattle.std.specs.Ordering.{nat_cmp, ordering_then}
 use Rattle.std.specs.Cmp.Lexicographic.{slice_cmp}
 use Rattle.std.specs.declared.cmp.Ordering.{Ordering}
-use Rattle.grid_core.specs.declared.grid.TheConstants.{MAX_SIZE}
 use Rattle.grid_core.specs.Diagram.{Diagram, size}
 use Rattle.grid_canon.specs.declared.key.Packed.{Packed}
 use Rattle.grid_canon.specs.declared.key.TheConstants.{BASE, WORD_COLUMNS, WORDS}
@@ -14,9 +15,9 @@ use Rattle.grid_canon.specs.Digits.{number_to}
 abbrev pub number : List ℕ → ℕ
 number digits = number_to BASE digits
 
--- the rows by column, with 0 for each column from their number to the greatest size
+-- the rows by column, with 0 for each further column that the words of a key have
 abbrev pub filled : List ℕ → List ℕ
-filled rows = rows ++ replicate (MAX_SIZE - length rows) 0
+filled rows = rows ++ replicate (WORDS * WORD_COLUMNS - length rows) 0
 
 -- the first words of some digits: each is the number of as many digits as a word has columns
 abbrev pub words : ℕ → List ℕ → List ℕ
@@ -56,3 +57,7 @@ checksum_after before key = fold added (fold added (mixed before key.size) key.x
 -- the digit of column c in the words of a kind; only private clauses and proofs cite it
 abbrev pub digit_at : List ℕ → ℕ → ℕ
 digit_at ws c = slice_index ws (c / WORD_COLUMNS) / BASE ^ (WORD_COLUMNS - 1 - c % WORD_COLUMNS) % BASE
+
+-- what is hashed of a key behind its size and the first words: of more columns than a word has, one number of all words of each kind
+abbrev pub more_hashed : Packed → HashWrites
+more_hashed key = if nat_lt WORD_COLUMNS key.size then fed.u128 (fold mixed 0 key.x) ++ fed.u128 (fold mixed 0 key.o) else []

@@ -16,3 +16,26 @@ tidied n a b (SlideColumns c ∷ moves) = shift_moves a b ++ SlideColumns c ∷ 
 tidied n a b (SlideRows r ∷ moves) = shift_moves a b ++ SlideRows r ∷ tidied n 0 0 moves
 tidied n a b (Stabilise c kind corner ∷ moves) = shift_moves a b ++ Stabilise c kind corner ∷ tidied (n + 1) 0 0 moves
 tidied n a b (Destabilise c r ∷ moves) = shift_moves a b ++ Destabilise c r ∷ tidied (n - 1) 0 0 moves
+
+-- by how many columns the shifts of columns in a list move a diagram, and by how many rows those of rows
+abbrev pub column_sum : List Move → ℕ
+column_sum [] = 0
+column_sum (ShiftColumns k ∷ moves) = k + column_sum moves
+column_sum (ShiftRows k ∷ moves) = column_sum moves
+column_sum (ExchangeColumns c ∷ moves) = column_sum moves
+column_sum (ExchangeRows r ∷ moves) = column_sum moves
+column_sum (SlideColumns c ∷ moves) = column_sum moves
+column_sum (SlideRows r ∷ moves) = column_sum moves
+column_sum (Stabilise c kind corner ∷ moves) = column_sum moves
+column_sum (Destabilise c r ∷ moves) = column_sum moves
+
+abbrev pub row_sum : List Move → ℕ
+row_sum [] = 0
+row_sum (ShiftColumns k ∷ moves) = row_sum moves
+row_sum (ShiftRows k ∷ moves) = k + row_sum moves
+row_sum (ExchangeColumns c ∷ moves) = row_sum moves
+row_sum (ExchangeRows r ∷ moves) = row_sum moves
+row_sum (SlideColumns c ∷ moves) = row_sum moves
+row_sum (SlideRows r ∷ moves) = row_sum moves
+row_sum (Stabilise c kind corner ∷ moves) = row_sum moves
+row_sum (Destabilise c r ∷ moves) = row_sum moves

@@ -15,7 +15,7 @@ ghost use Rattle.grid_canon.specs.Cornered.{cornered, IsFirstLeast};
 use crate::digits::MAX_SHORT_SIZE;
 use crate::key::{Packed, translated_key};
 use crate::short_grid::ShortGrid;
-use crate::translation::{lowered_wide, translate};
+use crate::translation::{lowered_wide, pushed_rows};
 use grid_core::{Grid, Kind};
 use std::cmp::Ordering;
 
@@ -51,11 +51,14 @@ pub fn canonical(grid: &Grid) -> LeastForm
     ensures form { IsLeastForm grid.now result }
     ensures own { IsCanonical result.grid }
 {
-    let _size = grid.size();
+    let size = grid.size();
     let columns = least_column(grid.rows(Kind::Cross), grid.rows(Kind::Ring)) as u8;
     let rows = grid.row_of(Kind::Cross, columns);
     LeastForm {
-        grid: translate(grid, columns, rows),
+        grid: Grid::of_rows(
+            pushed_rows(grid.rows(Kind::Cross), columns, rows, size),
+            pushed_rows(grid.rows(Kind::Ring), columns, rows, size),
+        ),
         columns,
         rows,
     }
@@ -83,7 +86,9 @@ pub fn canonical_key(grid: &Grid) -> LeastKey
     }
 }
 
-/// The key of the canonical form of a grid of any size, by the rows of its Xs and of its Os.
+/// The key of the canonical form of a grid of any size, by the rows of its Xs and of its Os. Kept out of `canonical_key`, where a short
+/// grid so needs no room for its lists.
+#[inline(never)]
 fn long_key(x: &[u8], o: &[u8]) -> LeastKey
     requires { IsGrid (record { x = x.now; o = o.now }) }
     ensures { IsLeastKey (record { x = x.now; o = o.now }) result }

@@ -3,7 +3,7 @@ ghost use Rattle.std.specs.Prelude.{◌≡◌, ◌<◌, ◌≤◌, ◌+◌, ◌-
 ghost use Rattle.std.specs.List.{All, insert};
 ghost use Rattle.grid_core.specs.Places.{lifted};
 ghost use Rattle.grid_moves.specs.Shift.{shifted};
-ghost use Rattle.grid_canon.specs.Digits.{short_number, digits};
+ghost use Rattle.grid_canon.specs.Digits.{short_number, digits, lowered_each, AreLowDigits};
 
 /// The greatest size of a short grid: its rows of a kind fit into 64 bits.
 pub const MAX_SHORT_SIZE: usize = 12;
@@ -19,7 +19,7 @@ const ONES: u64 = ((1 << (SHORT_BITS * MAX_SHORT_SIZE as u32)) - 1) / (SHORT_BAS
 
 /// The highest bit of a digit, which no row below `MAX_SHORT_SIZE` has: a digit with it can be lowered by any row, and borrows nothing from the
 /// digit before it.
-const GUARD: u64 = SHORT_BASE / 2;
+pub(crate) const GUARD: u64 = SHORT_BASE / 2;
 
 /// The number with these rows as its digits.
 pub(crate) fn number_of(rows: &[u8]) -> u64
@@ -63,17 +63,6 @@ pub(crate) fn cut(value: u64, place: u32, size: u32) -> u64
     ((value - (front << behind)) << (SHORT_BITS * place)) + front
 }
 
-/// The digits from the second one on, and then the first, which is known: `cut` at the second place.
-pub(crate) fn cut_next(value: u64, first: u64, size: u32) -> u64
-    requires least { 2 ≤ size }
-    requires most { size ≤ MAX_SHORT_SIZE }
-    requires value { value < SHORT_BASE ^ size }
-    requires first { first ≡ value / SHORT_BASE ^ (size - 1) }
-    ensures { result ≡ short_number (drop 1 (digits size value) ++ take 1 (digits size value)) }
-{
-    ((value - (first << (SHORT_BITS * (size - 1)))) << SHORT_BITS) + first
-}
-
 /// Each digit lower by as many, round the circle of `size`: lowered with its guard, a digit lacks it where it was below.
 pub(crate) fn lowered(value: u64, by: u64, size: u32) -> u64
     requires most { size ≤ MAX_SHORT_SIZE }
@@ -87,6 +76,49 @@ pub(crate) fn lowered(value: u64, by: u64, size: u32) -> u64
     let taken = by * ones;
     let below = (guards - ((value + guards - taken) & guards)) / GUARD;
     value + u64::from(size) * below - taken
+}
+
+/// Each digit lower by the one of another number in its place, likewise.
+pub(crate) fn lowered_each(value: u64, by: u64, size: u32) -> u64
+    requires most { size ≤ MAX_SHORT_SIZE }
+    requires value { value < SHORT_BASE ^ size }
+    requires by { by < SHORT_BASE ^ size }
+    requires inside { All (λ r. r < size) (digits size value) }
+    requires by_inside { All (λ r. r < size) (digits size by) }
+    ensures { result ≡ short_number (lowered_each size (digits size value) (digits size by)) }
+{
+    let guards = GUARD * ones(size);
+    let below = (guards - ((value + guards - by) & guards)) / GUARD;
+    value + u64::from(size) * below - by
+}
+
+/// The guards of the digits that are below some bound, the least one from 2 on for which there are any: lowered by it with their guards,
+/// these digits lack them. That it is the least bound only spares work: no clause says it.
+pub(crate) fn low_digits(value: u64, size: u32) -> u64
+    requires least { 2 ≤ size }
+    requires most { size ≤ MAX_SHORT_SIZE }
+    requires value { value < SHORT_BASE ^ size }
+    requires inside { All (λ r. r < size) (digits size value) }
+    ensures { AreLowDigits size value result }
+{
+    let ones = ones(size);
+    let guards = GUARD * ones;
+    for bound in 2..u64::from(size) {
+        let marks = guards - ((value + guards - bound * ones) & guards);
+        if marks != 0 {
+            return marks;
+        }
+    }
+    guards
+}
+
+/// How many digits stand behind the first one that isn't 0.
+pub(crate) fn digits_behind(value: u64) -> u32
+    requires { 0 < value }
+    ensures least { SHORT_BASE ^ result ≤ value }
+    ensures most { value < SHORT_BASE ^ (result + 1) }
+{
+    value.ilog2() / SHORT_BITS
 }
 
 /// Each digit one higher that is at or above a row: lowered by the row with its guard, it has it still.

@@ -1,15 +1,19 @@
 //! Keys: a grid as its size and the words of its rows.
-ghost use Rattle.std.specs.Prelude.{◌≡◌, ◌≢◌, ◌<◌, ◌≤◌, ◌+◌, ◌*◌, ◌-◌, ◌^◌, IfSome, IfNone, fold, length, map, take, drop};
+ghost use Rattle.std.specs.Prelude.{◌≡◌, ◌≢◌, ◌<◌, ◌≤◌, ◌+◌, ◌*◌, ◌-◌, ◌^◌, ◌++◌, IfSome, IfNone, fold, length, map, take, drop, slice_index};
 ghost use Rattle.std.specs.List.{All, range_with_len};
+ghost use Rattle.std.specs.Hash as fed;
+ghost use Rattle.std.specs.Cmp.Rules.{hashing};
+ghost use Rattle.std.proofs.Common.{rules};
 ghost use Rattle.grid_core.specs.declared.grid.TheConstants.{MAX_SIZE};
 ghost use Rattle.grid_core.specs.Diagram.{Diagram, IsGrid};
 ghost use Rattle.grid_canon.specs.Translation.{translate};
-ghost use Rattle.grid_canon.specs.Key.{number, filled, words_of, key_of, size_of, compare_keys, mixed, added, checksum_after, digit_at};
+ghost use Rattle.grid_canon.specs.Key.{number, filled, words_of, key_of, size_of, compare_keys, mixed, more_hashed, added, checksum_after, digit_at};
 
 use crate::translation::translated_rows;
 use arrayvec::ArrayVec;
 use grid_core::{Grid, Kind, MAX_SIZE, Rows};
 use std::cmp::Ordering;
+use std::hash::{Hash, Hasher};
 
 /// A row of a grid is a digit to this base in a word of a key: it is above every row.
 pub const BASE: u128 = 64;
@@ -20,16 +24,16 @@ pub(crate) const DIGIT_BITS: u32 = 6;
 /// The columns whose rows stand in one word of a key.
 pub const WORD_COLUMNS: usize = 16;
 
-/// The words of a key for the rows of a kind: with a column for each of the greatest size.
-pub const WORDS: usize = 3;
+/// The words of a key for the rows of a kind: as many as have a column for each of the greatest size.
+pub const WORDS: usize = (MAX_SIZE + WORD_COLUMNS - 1) / WORD_COLUMNS;
 
 /// The key of a grid. Keys are equal exactly for equal grids; they are ordered by size, then as the Xs, then as the Os:
 /// so the fields stand in this order.
-#[derive(Clone, Copy, Debug, Default, PartialEq, Eq, PartialOrd, Ord, Hash)]
+#[derive(Clone, Copy, Debug, Default, PartialEq, Eq, PartialOrd, Ord)]
 pub struct Packed {
     /// The size of the grid.
     pub size: u8,
-    /// The words with the rows of the Xs by column as their digits, the first column's as the highest, filled with 0 up to the greatest size.
+    /// The words with the rows of the Xs by column as their digits, the first column's as the highest, filled with 0 behind the last column's.
     pub x: [u128; WORDS],
     /// The words of the Os, likewise.
     pub o: [u128; WORDS],
@@ -51,6 +55,35 @@ impl Packed {
         let sum = mixed(before, u128::from(self.size));
         added_words(added_words(sum, &self.x), &self.o)
     }
+}
+
+/// Hashed are the size and the first word of each kind, which tell grids of up to `WORD_COLUMNS` columns apart, and of larger grids for each
+/// kind one number more that all words are counted into.
+impl Hash for Packed {
+    ghost hash_input = { λ p. fed.u8 p.size ++ fed.u128 (slice_index p.x 0) ++ fed.u128 (slice_index p.o 0) ++ more_hashed p };
+
+    ghost respects_eq = { Prim.search (hashing, rules) };
+
+    fn hash<H: Hasher>(&self, state: &mut H) {
+        self.size.hash(state);
+        self.x[0].hash(state);
+        self.o[0].hash(state);
+        if self.size as usize > WORD_COLUMNS {
+            mixed_words(&self.x).hash(state);
+            mixed_words(&self.o).hash(state);
+        }
+    }
+}
+
+/// Some words counted into one number.
+fn mixed_words(words: &[u128]) -> u128
+    ensures { result ≡ fold mixed 0 words.now }
+{
+    let mut sum = 0;
+    for word in words {
+        sum = mixed(sum, *word);
+    }
+    sum
 }
 
 /// A checksum with one more number counted in.
@@ -119,17 +152,17 @@ fn words_of(rows: &[u8]) -> [u128; WORDS]
     requires inside { All (λ r. r < BASE) rows.now }
     ensures { result ≡ words_of rows.now }
 {
-    [
-        word_at(rows, 0),
-        word_at(rows, WORD_COLUMNS),
-        word_at(rows, 2 * WORD_COLUMNS),
-    ]
+    let mut words = [0; WORDS];
+    for place in 0..WORDS {
+        words[place] = word_at(rows, place * WORD_COLUMNS);
+    }
+    words
 }
 
 /// The word of the rows from a column on.
 fn word_at(rows: &[u8], from: usize) -> u128
     requires count { length rows.now ≤ MAX_SIZE }
-    requires from { from + WORD_COLUMNS ≤ MAX_SIZE }
+    requires from { from + WORD_COLUMNS ≤ WORDS * WORD_COLUMNS }
     requires inside { All (λ r. r < BASE) rows.now }
     ensures { result ≡ number (take WORD_COLUMNS (drop from (filled rows.now))) }
 {

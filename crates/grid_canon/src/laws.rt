@@ -1,18 +1,22 @@
 //! Laws of translates, canonical forms and keys, over the definitions alone.
-ghost use Rattle.std.specs.Prelude.{◌≡◌, ◌<◌, ◌↔◌, ℕ};
-ghost use Rattle.std.specs.List.{Contains};
+ghost use Rattle.std.specs.Prelude.{◌≡◌, ◌<◌, ◌↔◌, ◌%◌, ◌++◌, ◌∷◌, ℕ, true, false, not, List};
+ghost use Rattle.std.specs.List.{Contains, filter, list_all};
 ghost use Rattle.std.specs.Ordering.{nat_cmp, ordering_then};
 ghost use Rattle.grid_core.specs.Diagram.{Diagram, IsGrid, size};
 ghost use Rattle.grid_moves.specs.Shift.{shifted};
 ghost use Rattle.grid_moves.specs.Renumbered.{Renumbered};
 ghost use Rattle.grid_moves.specs.Joining.{Joins, JoinsWithin};
+ghost use Rattle.grid_moves.specs.SizeAfter.{size_after};
+ghost use Rattle.grid_moves.specs.Tidy.{is_shift, is_tidy};
 ghost use Rattle.grid_canon.specs.Translation.{translate, translates};
 ghost use Rattle.grid_canon.specs.Shifts.{shift_moves};
+ghost use Rattle.grid_canon.specs.Tidied.{tidied, column_sum, row_sum};
 ghost use Rattle.grid_canon.specs.Order.{compare};
 ghost use Rattle.grid_canon.specs.CanonicalForm.{IsCanonicalForm, IsCanonical, IsLeastForm};
 ghost use Rattle.grid_canon.specs.Key.{key_of, size_of, compare_keys};
 
 use crate::canonical_form::LeastForm;
+use grid_moves::Move;
 
 /// A translate has each mark at its new column and its new row, both counted round the circle, and is a grid.
 pub fn a_translate_moves_each_mark()
@@ -98,4 +102,26 @@ pub fn keys_are_ordered_by_size_and_then_as_the_diagrams()
         → IsGrid d
         → IsGrid e
         → compare_keys (key_of d) (key_of e) ≡ ordering_then (nat_cmp (size d) (size e)) (compare d e) }
+{}
+
+/// A tidied list is tidy. It leads from a grid where the list leads, within each cap within which the list does, and has the same moves
+/// that are no shifts, in order: of what is written only shifts change. On n columns a run of shifts becomes the shift of columns by the
+/// sum of those of columns, mod n, and then that of rows, where 0 is left out; behind the move that ends the run it begins anew.
+pub fn a_tidied_list_leads_where_the_list_leads()
+    ensures tidy { (n : ℕ) (moves : List Move) → is_tidy (tidied n 0 0 moves) ≡ true }
+    ensures joins { (d e : Diagram) (moves : List Move) → IsGrid d → Joins d moves e → Joins d (tidied (size d) 0 0 moves) e }
+    ensures within { (cap : ℕ) (d e : Diagram) (moves : List Move)
+        → IsGrid d
+        → JoinsWithin cap d moves e
+        → JoinsWithin cap d (tidied (size d) 0 0 moves) e }
+    ensures others { (n : ℕ) (moves : List Move)
+        → filter (λ (move : Move). not (is_shift move)) (tidied n 0 0 moves) ≡ filter (λ (move : Move). not (is_shift move)) moves }
+    ensures run { (n : ℕ) (run : List Move)
+        → list_all is_shift run ≡ true
+        → tidied n 0 0 run ≡ shift_moves (column_sum run % n) (row_sum run % n) }
+    ensures runs { (n : ℕ) (run moves : List Move) (move : Move)
+        → list_all is_shift run ≡ true
+        → is_shift move ≡ false
+        → tidied n 0 0 (run ++ move ∷ moves)
+        ≡ shift_moves (column_sum run % n) (row_sum run % n) ++ move ∷ tidied (size_after move n) 0 0 moves }
 {}

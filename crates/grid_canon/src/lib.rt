@@ -1,4 +1,4 @@
-//! One name for all translates of a grid diagram: the least of them, with the shifts that reach it, and its key, the size and six words.
+//! One name for all translates of a grid diagram: the least of them, with the shifts that reach it, and its key, the size and the words of its rows.
 //! Two diagrams are translates of each other exactly where their canonical forms have one key.
 #![tactic(auto)]
 

@@ -5,12 +5,13 @@ ghost use Rattle.grid_core.specs.Diagram.{IsGrid, size};
 ghost use Rattle.grid_moves.specs.Widening.{widened};
 ghost use Rattle.grid_canon.specs.Digits.{short_number};
 ghost use Rattle.grid_canon.specs.Order.{compare};
-ghost use Rattle.grid_canon.specs.Cornered.{cornered, IsFirstLeast, IsCornered};
+ghost use Rattle.grid_canon.specs.Cornered.{cornered, IsFirstLeast, IsCornered, AreLowColumns};
 ghost use Rattle.grid_canon.specs.CanonicalForm.{IsLeastKey};
 
 use crate::canonical_form::LeastKey;
 use crate::digits::{
-    MAX_SHORT_SIZE, cut, cut_next, first_digit, lifted, lowered, number_of, with_digit,
+    GUARD, MAX_SHORT_SIZE, SHORT_BITS, cut, digits_behind, first_digit, lifted, low_digits,
+    lowered, lowered_each, number_of, with_digit,
 };
 use crate::key::Packed;
 use crate::spread::short_words;
@@ -73,7 +74,9 @@ impl ShortGrid {
         }
     }
 
-    /// The key of the canonical form with its least shifts, as `canonical_key` answers it for a grid. Takes no memory.
+    /// The key of the canonical form with its least shifts, as `canonical_key` answers it for a grid. Takes no memory. It is put into its
+    /// callers, which so write the key into its place at once.
+    #[inline(always)]
     pub fn canonical_key(&self) -> LeastKey
         ensures { IsLeastKey self.now result }
     {
@@ -91,32 +94,54 @@ impl ShortGrid {
         }
     }
 
-    /// The least translate with an X in its lower left cell, by the first column that gives it.
+    /// The least translate with an X in its lower left cell, by the first column that gives it. Mostly few of the columns are marked.
+    #[inline(always)]
     fn least_translate(&self) -> Cornered
         ensures first { IsFirstLeast self.now (size self.now) result.column }
         ensures found { IsCornered self.now result.column result.row result.crosses }
     {
         let size = self.size;
-        let mut crosses = self.crosses;
-        let mut row = first_digit(crosses, size);
-        let mut best = Cornered {
-            column: 0,
-            row,
-            crosses: lowered(crosses, row, size),
-        };
-        for column in 1..size {
-            crosses = cut_next(crosses, row, size);
-            row = first_digit(crosses, size);
-            let next = Cornered {
-                column,
-                row,
-                crosses: lowered(crosses, row, size),
-            };
+        let mut marks = self.low_columns();
+        let behind = digits_behind(marks);
+        marks -= GUARD << (SHORT_BITS * behind);
+        let mut best = self.cornered_at(size - 1 - behind);
+        while marks != 0 {
+            let behind = digits_behind(marks);
+            marks -= GUARD << (SHORT_BITS * behind);
+            let next = self.cornered_at(size - 1 - behind);
             if self.comes_before(&next, &best) {
                 best = next;
             }
         }
         best
+    }
+
+    /// Marks of columns, as guards of their digits: the least translate is that of a marked column, for the X of the second column in it is
+    /// lower than in those of the others.
+    fn low_columns(&self) -> u64
+        ensures { AreLowColumns self.now result }
+    {
+        let size = self.size;
+        low_digits(
+            lowered_each(cut(self.crosses, 1, size), self.crosses, size),
+            size,
+        )
+    }
+
+    /// The translate with the X of a column in its lower left cell.
+    fn cornered_at(&self, column: u32) -> Cornered
+        requires { column < size self.now }
+        ensures column { result.column ≡ column }
+        ensures found { IsCornered self.now column result.row result.crosses }
+    {
+        let size = self.size;
+        let crosses = cut(self.crosses, column, size);
+        let row = first_digit(crosses, size);
+        Cornered {
+            column,
+            row,
+            crosses: lowered(crosses, row, size),
+        }
     }
 
     /// Whether one translate comes before another.

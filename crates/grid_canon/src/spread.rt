@@ -24,6 +24,12 @@ const SHORT_QUARTER: u64 = 1 << (SHORT_BITS * QUARTER as u32);
 /// And for a quarter to the base of keys.
 const LONG_QUARTER: u64 = 1 << (DIGIT_BITS * QUARTER as u32);
 
+/// The bits of the last digit of each of two quarters that are set apart.
+const LAST_DIGITS: u64 = (SHORT_BASE - 1) * (LONG_QUARTER + 1);
+
+/// And of their last two digits.
+const LAST_TWO_DIGITS: u64 = (SHORT_BASE * SHORT_BASE - 1) * (LONG_QUARTER + 1);
+
 /// What one is worth as the last digit of the first half in a word.
 const FRONT_PLACE: u128 = 1 << (DIGIT_BITS * (WORD_COLUMNS - HALF) as u32);
 
@@ -37,7 +43,9 @@ pub(crate) fn short_words(value: u64, size: u32) -> [u128; WORDS]
     ensures { result ≡ words_of (digits size value) }
 {
     let full = value << (SHORT_BITS * (MAX_SHORT_SIZE as u32 - size));
-    [spread_word(full), 0, 0]
+    let mut words = [0; WORDS];
+    words[0] = spread_word(full);
+    words
 }
 
 /// The word of as many digits as a short number has at most.
@@ -50,20 +58,12 @@ fn spread_word(full: u64) -> u128
     u128::from(front) * FRONT_PLACE + u128::from(back) * BACK_PLACE
 }
 
-/// Half as many digits to the base of keys.
+/// Half as many digits to the base of keys. First both quarters are set apart; then of the three digits of each the second is to be worth
+/// twice as much, and the first four times as much, at once in both.
 fn spread_half(value: u64) -> u64
     requires { value < SHORT_BASE ^ HALF }
     ensures { result ≡ number (digits HALF value) }
 {
-    spread_quarter(value / SHORT_QUARTER) * LONG_QUARTER + spread_quarter(value % SHORT_QUARTER)
-}
-
-/// A quarter as many: of three digits the second is worth twice as much to the base of keys, and the first four times as much.
-fn spread_quarter(value: u64) -> u64
-    requires { value < SHORT_BASE ^ QUARTER }
-    ensures { result ≡ number (digits QUARTER value) }
-{
-    value
-        + value / SHORT_BASE * SHORT_BASE
-        + value / (SHORT_BASE * SHORT_BASE) * (2 * SHORT_BASE * SHORT_BASE)
+    let apart = value + value / SHORT_QUARTER * (LONG_QUARTER - SHORT_QUARTER);
+    4 * apart - (apart & LAST_DIGITS) - 2 * (apart & LAST_TWO_DIGITS)
 }

@@ -1,5 +1,6 @@
 //! Canonical forms and keys on worked examples, and the plain search over all translates beside them.
-ghost use Rattle.std.specs.Prelude.{◌≤◌};
+ghost use Rattle.std.specs.Prelude.{◌<◌, ◌≤◌};
+ghost use Rattle.grid_canon.specs.declared.key.TheConstants.{WORDS};
 
 use crate::{
     LeastForm, LeastKey, Packed, ShortGrid, WORD_COLUMNS, WORDS, canonical, canonical_key,
@@ -214,29 +215,14 @@ fn what_is_no_key_is_refused(rt: HostRuntime) -> Result<(), Fail> {
         return Err(Fail::from("no grid"));
     };
     let key = pack(&unknot);
-    let [x, more, most] = key.x;
-    let [o, _, _] = key.o;
     let wrong = [
         // a row out of range, a row twice
         Packed {
-            x: [x + SECOND_ROW, more, most],
+            x: with_word(key.x, 0, key.x[0] + SECOND_ROW),
             ..key
         },
         Packed {
-            x: [x - SECOND_ROW, more, most],
-            ..key
-        },
-        // a digit behind the last column, in each word
-        Packed {
-            x: [x + 1, more, most],
-            ..key
-        },
-        Packed {
-            x: [x, 1, most],
-            ..key
-        },
-        Packed {
-            o: [o, 0, 1],
+            x: with_word(key.x, 0, key.x[0] - SECOND_ROW),
             ..key
         },
         // another size
@@ -255,7 +241,23 @@ fn what_is_no_key_is_refused(rt: HostRuntime) -> Result<(), Fail> {
     for other in wrong {
         assert!(rt; unpack(other).is_none(), "{other:?}");
     }
+    // a digit behind the last column, in each word
+    for place in 0..WORDS {
+        let x = with_word(key.x, place, key.x[place] + 1);
+        let o = with_word(key.o, place, key.o[place] + 1);
+        assert!(rt; unpack(Packed { x, ..key }).is_none(), "{place}");
+        assert!(rt; unpack(Packed { o, ..key }).is_none(), "{place}");
+    }
     Ok(())
+}
+
+/// These words, with another one in a place.
+fn with_word(words: [u128; WORDS], place: usize, word: u128) -> [u128; WORDS]
+    requires { place < WORDS }
+{
+    let mut changed = words;
+    changed[place] = word;
+    changed
 }
 
 #[test]
@@ -271,7 +273,8 @@ fn a_key_has_the_columns_of_the_greatest_size(rt: HostRuntime) -> Result<(), Fai
     };
     let key = pack(&grid);
     assert_eq!(rt; key.size as usize, MAX_SIZE);
-    assert_eq!(rt; key.x[WORDS - 1] % 64, MAX_SIZE as u128 - 1);
+    let last_row = key.x[WORDS - 1] >> (6 * (WORDS * WORD_COLUMNS - MAX_SIZE) as u32) & 63;
+    assert_eq!(rt; last_row, MAX_SIZE as u128 - 1);
     assert!(rt; is_plain(&grid));
     Ok(())
 }

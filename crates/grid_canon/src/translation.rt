@@ -18,13 +18,13 @@ pub fn translate(grid: &Grid, columns: u8, rows: u8) -> Grid
 {
     let size = grid.size();
     Grid::of_rows(
-        translated_rows(grid.rows(Kind::Cross), columns, rows, size),
-        translated_rows(grid.rows(Kind::Ring), columns, rows, size),
+        pushed_rows(grid.rows(Kind::Cross), columns, rows, size),
+        pushed_rows(grid.rows(Kind::Ring), columns, rows, size),
     )
 }
 
 /// The rows of a kind after both shifts.
-pub(crate) fn translated_rows(list: &[u8], columns: u8, rows: u8, size: u8) -> Rows
+pub(crate) fn pushed_rows(list: &[u8], columns: u8, rows: u8, size: u8) -> Rows
     requires size { size ≤ MAX_SIZE }
     requires list { length list.now ≡ size }
     requires inside { All (λ r. r < size) list.now }
@@ -48,6 +48,35 @@ fn push_lowered(list: &mut Rows, rows: &[u8], by: u8, size: u8)
 {
     for row in rows {
         list.push(lowered(*row, by, size));
+    }
+}
+
+/// The rows of a kind after both shifts, in a form for many columns: they are copied, and then lowered in
+/// their places, of which the compiler makes code that lowers many at once.
+pub(crate) fn translated_rows(list: &[u8], columns: u8, rows: u8, size: u8) -> Rows
+    requires size { size ≤ MAX_SIZE }
+    requires list { length list.now ≡ size }
+    requires inside { All (λ r. r < size) list.now }
+    requires of_columns { columns < size }
+    requires of_rows { rows < size }
+    ensures { result.items ≡ translated_rows size columns rows list.now }
+{
+    let (front, back) = list.split_at(columns as usize);
+    let mut rows_after = ArrayVec::new();
+    rows_after.try_extend_from_slice(back).unwrap();
+    rows_after.try_extend_from_slice(front).unwrap();
+    lower_all(rows_after.as_mut_slice(), rows, size);
+    rows_after
+}
+
+/// Makes each of some rows lower by a number, round the circle of as many as the size.
+fn lower_all(rows: &mut [u8], by: u8, size: u8)
+    requires by { by < size }
+    requires inside { All (λ r. r < size) rows.old }
+    ensures { rows.new ≡ map (shifted size by) rows.old }
+{
+    for place in 0..rows.len() {
+        rows[place] = lowered(rows[place], by, size);
     }
 }
 

@@ -1,5 +1,6 @@
-use Rattle.grid_canon.proofs.Words.{words_three}
+use Rattle.grid_canon.proofs.Words.{word_more}
 use Rattle.grid_canon.proofs.key.words_of.Goals as goal
 
-pub returns : goal.returns
-returns c = words_three c.args.rows.now c.word_at.result c.word_at-2.result c.word_at-3.result c.word_at.ensures c.word_at-2.ensures c.word_at-3.ensures
+pub loop-place-preserved : goal.loop-place-preserved
+loop-place-preserved c =
+    word_more c.args.rows.now c.loop-place.words c.loop-place.place c.word_at.result c.loop-place-test.true c.loop-place.invariant c.word_at.ensures

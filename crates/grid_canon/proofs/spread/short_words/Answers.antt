@@ -1,6 +1,9 @@
-use Rattle.std.proofs.Common.{◌<◌, ◌^◌, ℕ, subst, sym}
+use Rattle.std.proofs.Common.{◌<◌, ◌^◌, ℕ, arith, subst, sym}
 use Rattle.grid_canon.specs.declared.digits.TheConstants.{MAX_SHORT_SIZE, SHORT_BASE}
-use Rattle.grid_canon.proofs.ShortKeys.{full_short, full_word, words_by_first}
+use Rattle.grid_canon.specs.Digits.{digits}
+use Rattle.grid_canon.proofs.NumbersOfDigits.{length-digits}
+use Rattle.grid_canon.proofs.Words.{first_word}
+use Rattle.grid_canon.proofs.ShortKeys.{full_short, full_word}
 use Rattle.grid_canon.proofs.spread.short_words.Goals as goal
 
 pub spread_word-requires : goal.spread_word-requires
@@ -11,5 +14,6 @@ spread_word-requires c =
 pub returns : goal.returns
 returns c =
     let full = full_short c.args.value c.args.size c.requires.most c.requires.value in
-    words_by_first c.args.value c.args.size c.spread_word.result c.requires.most
+    first_word (digits c.args.size c.args.value) c.spread_word.result
+    (omega (arith, length-digits c.args.size c.args.value, c.requires.most))
     (full_word c.args.value c.args.size _ c.spread_word.result c.requires.most c.requires.value full.0 c.spread_word.ensures)

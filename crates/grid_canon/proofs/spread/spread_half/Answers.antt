@@ -1,15 +1,21 @@
-use Rattle.std.proofs.Common.{◌+◌, ◌*◌, ◌∙◌, ℕ, sym, ap₂}
-use Rattle.grid_canon.specs.declared.spread.TheConstants.{QUARTER, LONG_QUARTER}
-use Rattle.grid_canon.proofs.ShortKeys.{cut_in_two}
+use Rattle.std.proofs.Common.{arith}
+use Rattle.grid_canon.proofs.SpreadHalves.{spread_known}
 use Rattle.grid_canon.proofs.spread.spread_half.Goals as goal
 
-pub spread_quarter-requires : goal.spread_quarter-requires
-spread_quarter-requires c = (cut_in_two QUARTER QUARTER c.args.value c.requires).front_below
+pub overflow_add-apart : goal.overflow_add-apart
+overflow_add-apart c = let known = spread_known c.args.value c.requires in omega (arith, known.apart_below, known.taken)
 
-pub spread_quarter-requires-2 : goal.spread_quarter-requires-2
-spread_quarter-requires-2 c = (cut_in_two QUARTER QUARTER c.args.value c.requires).back_below
+pub overflow_mul-result : goal.overflow_mul-result
+overflow_mul-result c = let known = spread_known c.args.value c.requires in omega (arith, known.apart_below, known.taken)
+
+pub overflow_sub-result : goal.overflow_sub-result
+overflow_sub-result c = let known = spread_known c.args.value c.requires in omega (arith, known.apart_below, known.taken)
+
+pub overflow_sub-result-2 : goal.overflow_sub-result-2
+overflow_sub-result-2 c = let known = spread_known c.args.value c.requires in omega (arith, known.apart_below, known.taken)
+
+pub overflow_mul-result-2 : goal.overflow_mul-result-2
+overflow_mul-result-2 c = let known = spread_known c.args.value c.requires in omega (arith, known.apart_below, known.taken)
 
 pub returns : goal.returns
-returns c =
-    ap₂ (λ (z w : ℕ). z * LONG_QUARTER + w) c.spread_quarter.ensures c.spread_quarter-2.ensures
-    ∙ sym (cut_in_two QUARTER QUARTER c.args.value c.requires).spread
+returns c = (spread_known c.args.value c.requires).whole

@@ -1,171 +1,210 @@
-use Rattle.std.proofs.Common.{◌≡◌, ◌<◌, ◌+◌, ◌-◌, ◌∙◌, ◌++◌, ℕ, take, drop, arith, sym, ap, subst}
+use Rattle.std.proofs.Common.{◌≡◌, ◌-◌, ◌*◌, ◌^◌, ◌∙◌, ℕ, arith, sym, subst}
+use Rattle.std.specs.declared.cmp.Ordering.TheVariants.{Less}
 use Rattle.std.proofs.lemmas.Bool.{both_ways}
-use Rattle.grid_core.specs.Diagram.{size}
-use Rattle.grid_canon.specs.Digits.{short_number}
-use Rattle.grid_canon.specs.Cornered.{IsFirstLeast, IsCornered}
-use Rattle.grid_canon.specs.declared.short_grid.Cornered.{Cornered}
-use Rattle.grid_canon.proofs.LeastTranslates.{first_least_one, first_least_takes, first_least_keeps}
-use Rattle.grid_canon.proofs.CutNumbers.{few, crosses_uncut, crosses_cut, next_crosses, first_row, cornered_crosses}
-use Rattle.grid_canon.proofs.short_grid.ShortGrid.least_translate.Goals.{then-comes_before, else-comes_before}
+use Rattle.grid_canon.specs.declared.digits.TheConstants.{SHORT_BASE, GUARD}
+use Rattle.grid_canon.specs.Order.{compare}
+use Rattle.grid_canon.specs.Cornered.{cornered, IsCornered}
+use Rattle.grid_canon.proofs.CutNumbers.{few}
+use Rattle.grid_canon.proofs.LowColumns.{IsLeft, begins, goes, ends, mark_in}
 use Rattle.grid_canon.proofs.short_grid.ShortGrid.least_translate.Goals as goal
 
-pub lowered-requires-clause-by : goal.lowered-requires-clause-by
-lowered-requires-clause-by c =
+pub overflow_mul-marks : goal.overflow_mul-marks
+overflow_mul-marks c =
     let s = c.self.inside in
     let d = c.args.self.now in
     let f = few s.size s.crosses s.rings d c.self.view_is c.self.invariant in
-    let pos : 0 < s.size = omega (arith, f.columns, f.grid.least) in
-    let whole = crosses_uncut s.size s.crosses s.rings d c.self.view_is c.self.invariant in
-    let cut = crosses_cut s.size 0 s.crosses d f pos whole in
-    let row = first_row s.size 0 s.crosses c.first_digit-row.result d f pos cut c.first_digit-row.ensures in
-    row.1
+    let p = c.digits_behind-behind.result in
+    let b =
+    begins d c.low_columns-marks.result p f.grid c.low_columns-marks.ensures c.digits_behind-behind.ensures.least c.digits_behind-behind.ensures.most in
+    let m = mark_in s.size p b.column c.low_columns-marks.result f.most (b.inside ∙ f.columns) b.taken in
+    record { fits = omega (arith, m.bits) }
 
-pub lowered-requires-clause-inside : goal.lowered-requires-clause-inside
-lowered-requires-clause-inside c =
+pub overflow_shl-marks : goal.overflow_shl-marks
+overflow_shl-marks c =
     let s = c.self.inside in
     let d = c.args.self.now in
     let f = few s.size s.crosses s.rings d c.self.view_is c.self.invariant in
-    let pos : 0 < s.size = omega (arith, f.columns, f.grid.least) in
-    let whole = crosses_uncut s.size s.crosses s.rings d c.self.view_is c.self.invariant in
-    let cut = crosses_cut s.size 0 s.crosses d f pos whole in
-    let row = first_row s.size 0 s.crosses c.first_digit-row.result d f pos cut c.first_digit-row.ensures in
-    cut.inside
+    let p = c.digits_behind-behind.result in
+    let b =
+    begins d c.low_columns-marks.result p f.grid c.low_columns-marks.ensures c.digits_behind-behind.ensures.least c.digits_behind-behind.ensures.most in
+    let m = mark_in s.size p b.column c.low_columns-marks.result f.most (b.inside ∙ f.columns) b.taken in
+    m.bits
 
-pub loop-column-init : goal.loop-column-init
-loop-column-init c =
+pub overflow_sub-marks : goal.overflow_sub-marks
+overflow_sub-marks c =
     let s = c.self.inside in
     let d = c.args.self.now in
     let f = few s.size s.crosses s.rings d c.self.view_is c.self.invariant in
-    let pos : 0 < s.size = omega (arith, f.columns, f.grid.least) in
-    let whole = crosses_uncut s.size s.crosses s.rings d c.self.view_is c.self.invariant in
-    let cut = crosses_cut s.size 0 s.crosses d f pos whole in
-    let row = first_row s.size 0 s.crosses c.first_digit-row.result d f pos cut c.first_digit-row.ensures in
+    let p = c.digits_behind-behind.result in
+    let b =
+    begins d c.low_columns-marks.result p f.grid c.low_columns-marks.ensures c.digits_behind-behind.ensures.least c.digits_behind-behind.ensures.most in
+    let m = mark_in s.size p b.column c.low_columns-marks.result f.most (b.inside ∙ f.columns) b.taken in
+    m.taken
+
+pub overflow_sub-size-2 : goal.overflow_sub-size-2
+overflow_sub-size-2 c =
+    let s = c.self.inside in
+    let d = c.args.self.now in
+    let f = few s.size s.crosses s.rings d c.self.view_is c.self.invariant in
+    let p = c.digits_behind-behind.result in
+    let b =
+    begins d c.low_columns-marks.result p f.grid c.low_columns-marks.ensures c.digits_behind-behind.ensures.least c.digits_behind-behind.ensures.most in
+    let m = mark_in s.size p b.column c.low_columns-marks.result f.most (b.inside ∙ f.columns) b.taken in
+    omega (arith, m.inside)
+
+pub cornered_at-best-requires : goal.cornered_at-best-requires
+cornered_at-best-requires c =
+    let s = c.self.inside in
+    let d = c.args.self.now in
+    let f = few s.size s.crosses s.rings d c.self.view_is c.self.invariant in
+    let p = c.digits_behind-behind.result in
+    let b =
+    begins d c.low_columns-marks.result p f.grid c.low_columns-marks.ensures c.digits_behind-behind.ensures.least c.digits_behind-behind.ensures.most in
+    let m = mark_in s.size p b.column c.low_columns-marks.result f.most (b.inside ∙ f.columns) b.taken in
+    omega (arith, m.inside, f.columns)
+
+pub loop-marks-init : goal.loop-marks-init
+loop-marks-init c =
+    let s = c.self.inside in
+    let d = c.args.self.now in
+    let f = few s.size s.crosses s.rings d c.self.view_is c.self.invariant in
+    let p = c.digits_behind-behind.result in
+    let b =
+    begins d c.low_columns-marks.result p f.grid c.low_columns-marks.ensures c.digits_behind-behind.ensures.least c.digits_behind-behind.ensures.most in
+    let m = mark_in s.size p b.column c.low_columns-marks.result f.most (b.inside ∙ f.columns) b.taken in
+    let best = c.cornered_at-best.result in
+    let at : b.column ≡ best.column = omega (arith, c.cornered_at-best.ensures.column, b.inside, f.columns) in
     record {
-      crosses = whole;
-      row = c.first_digit-row.ensures;
-      first = first_least_one d;
-      found = record {
-        inside = omega (arith, pos, f.columns);
-        row_is = row.0;
-        crosses_are = cornered_crosses s.size 0 c.first_digit-row.result s.crosses c.lowered.result d f cut row.0 c.lowered.ensures;
-      };
+      left = subst (λ (z : ℕ). IsLeft d best.column (c.low_columns-marks.result - z)) (sym m.power)
+          (subst (λ (z : ℕ). IsLeft d z (c.low_columns-marks.result - GUARD * SHORT_BASE ^ p)) at b.left);
+      found = subst (λ (z : ℕ). IsCornered d z best.row best.crosses) (sym c.cornered_at-best.ensures.column) c.cornered_at-best.ensures.found;
     }
 
-pub cut_next-crosses-requires-clause-value : goal.cut_next-crosses-requires-clause-value
-cut_next-crosses-requires-clause-value c =
+pub overflow_mul-marks-in-loop-marks : goal.overflow_mul-marks-in-loop-marks
+overflow_mul-marks-in-loop-marks c =
     let s = c.self.inside in
     let d = c.args.self.now in
     let f = few s.size s.crosses s.rings d c.self.view_is c.self.invariant in
-    (crosses_cut s.size (c.loop-column.column - 1) c.loop-column.crosses d f (omega arith) c.loop-column.invariant.crosses).fits
+    let p = c.digits_behind-behind-in-loop-marks.result in
+    let g =
+    goes d c.loop-marks.best.column c.loop-marks.marks p f.grid c.loop-marks.invariant.left c.digits_behind-behind-in-loop-marks.ensures.least
+    c.digits_behind-behind-in-loop-marks.ensures.most in
+    let m = mark_in s.size p g.column c.loop-marks.marks f.most (g.inside ∙ f.columns) g.taken in
+    record { fits = omega (arith, m.bits) }
 
-pub lowered-requires-in-loop-column-clause-value : goal.lowered-requires-in-loop-column-clause-value
-lowered-requires-in-loop-column-clause-value c =
+pub overflow_shl-marks-in-loop-marks : goal.overflow_shl-marks-in-loop-marks
+overflow_shl-marks-in-loop-marks c =
     let s = c.self.inside in
     let d = c.args.self.now in
     let f = few s.size s.crosses s.rings d c.self.view_is c.self.invariant in
-    let k = c.loop-column.column in
-    let next =
-    next_crosses s.size k c.loop-column.crosses c.cut_next-crosses.result d f (omega arith)
-    (omega arith) c.loop-column.invariant.crosses c.cut_next-crosses.ensures in
-    let cut = crosses_cut s.size k c.cut_next-crosses.result d f (omega arith) next in
-    let row =
-    first_row s.size k c.cut_next-crosses.result c.first_digit-row-in-loop-column.result d f (omega arith) cut c.first_digit-row-in-loop-column.ensures in
-    cut.fits
+    let p = c.digits_behind-behind-in-loop-marks.result in
+    let g =
+    goes d c.loop-marks.best.column c.loop-marks.marks p f.grid c.loop-marks.invariant.left c.digits_behind-behind-in-loop-marks.ensures.least
+    c.digits_behind-behind-in-loop-marks.ensures.most in
+    let m = mark_in s.size p g.column c.loop-marks.marks f.most (g.inside ∙ f.columns) g.taken in
+    m.bits
 
-pub lowered-requires-in-loop-column-clause-by : goal.lowered-requires-in-loop-column-clause-by
-lowered-requires-in-loop-column-clause-by c =
+pub overflow_sub-marks-in-loop-marks : goal.overflow_sub-marks-in-loop-marks
+overflow_sub-marks-in-loop-marks c =
     let s = c.self.inside in
     let d = c.args.self.now in
     let f = few s.size s.crosses s.rings d c.self.view_is c.self.invariant in
-    let k = c.loop-column.column in
-    let next =
-    next_crosses s.size k c.loop-column.crosses c.cut_next-crosses.result d f (omega arith)
-    (omega arith) c.loop-column.invariant.crosses c.cut_next-crosses.ensures in
-    let cut = crosses_cut s.size k c.cut_next-crosses.result d f (omega arith) next in
-    let row =
-    first_row s.size k c.cut_next-crosses.result c.first_digit-row-in-loop-column.result d f (omega arith) cut c.first_digit-row-in-loop-column.ensures in
-    row.1
+    let p = c.digits_behind-behind-in-loop-marks.result in
+    let g =
+    goes d c.loop-marks.best.column c.loop-marks.marks p f.grid c.loop-marks.invariant.left c.digits_behind-behind-in-loop-marks.ensures.least
+    c.digits_behind-behind-in-loop-marks.ensures.most in
+    let m = mark_in s.size p g.column c.loop-marks.marks f.most (g.inside ∙ f.columns) g.taken in
+    m.taken
 
-pub lowered-requires-in-loop-column-clause-inside : goal.lowered-requires-in-loop-column-clause-inside
-lowered-requires-in-loop-column-clause-inside c =
+pub overflow_sub-size-in-loop-marks-2 : goal.overflow_sub-size-in-loop-marks-2
+overflow_sub-size-in-loop-marks-2 c =
     let s = c.self.inside in
     let d = c.args.self.now in
     let f = few s.size s.crosses s.rings d c.self.view_is c.self.invariant in
-    let k = c.loop-column.column in
-    let next =
-    next_crosses s.size k c.loop-column.crosses c.cut_next-crosses.result d f (omega arith)
-    (omega arith) c.loop-column.invariant.crosses c.cut_next-crosses.ensures in
-    let cut = crosses_cut s.size k c.cut_next-crosses.result d f (omega arith) next in
-    let row =
-    first_row s.size k c.cut_next-crosses.result c.first_digit-row-in-loop-column.result d f (omega arith) cut c.first_digit-row-in-loop-column.ensures in
-    cut.inside
+    let p = c.digits_behind-behind-in-loop-marks.result in
+    let g =
+    goes d c.loop-marks.best.column c.loop-marks.marks p f.grid c.loop-marks.invariant.left c.digits_behind-behind-in-loop-marks.ensures.least
+    c.digits_behind-behind-in-loop-marks.ensures.most in
+    let m = mark_in s.size p g.column c.loop-marks.marks f.most (g.inside ∙ f.columns) g.taken in
+    omega (arith, m.inside)
 
-pub comes_before-requires-clause-near : goal.comes_before-requires-clause-near
-comes_before-requires-clause-near c =
+pub cornered_at-next-requires : goal.cornered_at-next-requires
+cornered_at-next-requires c =
     let s = c.self.inside in
     let d = c.args.self.now in
     let f = few s.size s.crosses s.rings d c.self.view_is c.self.invariant in
-    let k = c.loop-column.column in
-    let next =
-    next_crosses s.size k c.loop-column.crosses c.cut_next-crosses.result d f (omega arith)
-    (omega arith) c.loop-column.invariant.crosses c.cut_next-crosses.ensures in
-    let cut = crosses_cut s.size k c.cut_next-crosses.result d f (omega arith) next in
-    let row =
-    first_row s.size k c.cut_next-crosses.result c.first_digit-row-in-loop-column.result d f (omega arith) cut c.first_digit-row-in-loop-column.ensures in
+    let p = c.digits_behind-behind-in-loop-marks.result in
+    let g =
+    goes d c.loop-marks.best.column c.loop-marks.marks p f.grid c.loop-marks.invariant.left c.digits_behind-behind-in-loop-marks.ensures.least
+    c.digits_behind-behind-in-loop-marks.ensures.most in
+    let m = mark_in s.size p g.column c.loop-marks.marks f.most (g.inside ∙ f.columns) g.taken in
+    omega (arith, m.inside, f.columns)
+
+pub loop-marks-smaller-then-comes_before : goal.loop-marks-smaller-then-comes_before
+loop-marks-smaller-then-comes_before c =
+    let s = c.self.inside in
+    let d = c.args.self.now in
+    let f = few s.size s.crosses s.rings d c.self.view_is c.self.invariant in
+    let p = c.digits_behind-behind-in-loop-marks.result in
+    let g =
+    goes d c.loop-marks.best.column c.loop-marks.marks p f.grid c.loop-marks.invariant.left c.digits_behind-behind-in-loop-marks.ensures.least
+    c.digits_behind-behind-in-loop-marks.ensures.most in
+    let m = mark_in s.size p g.column c.loop-marks.marks f.most (g.inside ∙ f.columns) g.taken in
+    m.fewer
+
+pub loop-marks-smaller : goal.loop-marks-smaller
+loop-marks-smaller c =
+    let s = c.self.inside in
+    let d = c.args.self.now in
+    let f = few s.size s.crosses s.rings d c.self.view_is c.self.invariant in
+    let p = c.digits_behind-behind-in-loop-marks.result in
+    let g =
+    goes d c.loop-marks.best.column c.loop-marks.marks p f.grid c.loop-marks.invariant.left c.digits_behind-behind-in-loop-marks.ensures.least
+    c.digits_behind-behind-in-loop-marks.ensures.most in
+    let m = mark_in s.size p g.column c.loop-marks.marks f.most (g.inside ∙ f.columns) g.taken in
+    m.fewer
+
+pub loop-marks-preserved-then-comes_before : goal.loop-marks-preserved-then-comes_before
+loop-marks-preserved-then-comes_before c =
+    let s = c.self.inside in
+    let d = c.args.self.now in
+    let f = few s.size s.crosses s.rings d c.self.view_is c.self.invariant in
+    let p = c.digits_behind-behind-in-loop-marks.result in
+    let g =
+    goes d c.loop-marks.best.column c.loop-marks.marks p f.grid c.loop-marks.invariant.left c.digits_behind-behind-in-loop-marks.ensures.least
+    c.digits_behind-behind-in-loop-marks.ensures.most in
+    let m = mark_in s.size p g.column c.loop-marks.marks f.most (g.inside ∙ f.columns) g.taken in
+    let next = c.cornered_at-next.result in
+    let at : g.column ≡ next.column = omega (arith, c.cornered_at-next.ensures.column, g.inside, f.columns) in
+    let less : compare (cornered d g.column) (cornered d c.loop-marks.best.column) ≡ Less =
+    subst (λ (z : ℕ). compare (cornered d z) (cornered d c.loop-marks.best.column) ≡ Less) (sym at) (c.comes_before.ensures.0 c.if-comes_before.true) in
     record {
-      inside = omega (arith, f.columns);
-      row_is = row.0;
-      crosses_are =
-          cornered_crosses s.size k c.first_digit-row-in-loop-column.result c.cut_next-crosses.result c.lowered-in-loop-column.result d f cut row.0
-          c.lowered-in-loop-column.ensures;
+      left = subst (λ (z : ℕ). IsLeft d next.column (c.loop-marks.marks - z)) (sym m.power) (subst (λ (z : ℕ). IsLeft d z (c.loop-marks.marks - GUARD * SHORT_BASE ^ p)) at (g.takes less));
+      found = subst (λ (z : ℕ). IsCornered d z next.row next.crosses) (sym c.cornered_at-next.ensures.column) c.cornered_at-next.ensures.found;
     }
 
-pub loop-column-preserved : goal.loop-column-preserved
-loop-column-preserved c =
+pub loop-marks-preserved : goal.loop-marks-preserved
+loop-marks-preserved c =
     let s = c.self.inside in
     let d = c.args.self.now in
     let f = few s.size s.crosses s.rings d c.self.view_is c.self.invariant in
-    let k = c.loop-column.column in
-    let next =
-    next_crosses s.size k c.loop-column.crosses c.cut_next-crosses.result d f (omega arith)
-    (omega arith) c.loop-column.invariant.crosses c.cut_next-crosses.ensures in
-    let cut = crosses_cut s.size k c.cut_next-crosses.result d f (omega arith) next in
-    let row =
-    first_row s.size k c.cut_next-crosses.result c.first_digit-row-in-loop-column.result d f (omega arith) cut c.first_digit-row-in-loop-column.ensures in
-    let known : IsCornered d k c.first_digit-row-in-loop-column.result c.lowered-in-loop-column.result =
+    let p = c.digits_behind-behind-in-loop-marks.result in
+    let g =
+    goes d c.loop-marks.best.column c.loop-marks.marks p f.grid c.loop-marks.invariant.left c.digits_behind-behind-in-loop-marks.ensures.least
+    c.digits_behind-behind-in-loop-marks.ensures.most in
+    let m = mark_in s.size p g.column c.loop-marks.marks f.most (g.inside ∙ f.columns) g.taken in
+    let next = c.cornered_at-next.result in
+    let at : g.column ≡ next.column = omega (arith, c.cornered_at-next.ensures.column, g.inside, f.columns) in
     record {
-      inside = omega (arith, f.columns);
-      row_is = row.0;
-      crosses_are =
-          cornered_crosses s.size k c.first_digit-row-in-loop-column.result c.cut_next-crosses.result c.lowered-in-loop-column.result d f cut row.0
-          c.lowered-in-loop-column.ensures;
-    } in
-    let crosses : c.cut_next-crosses.result ≡ short_number (drop (k + 1 - 1) d.x ++ take (k + 1 - 1) d.x) =
-    next ∙ ap (λ (z : ℕ). short_number (drop z d.x ++ take z d.x)) (let e : k ≡ k + 1 - 1 = omega arith in e) in
-    elim c.if-comes_before.branch [
-      | then-comes_before w ↦ record {
-        crosses = crosses;
-        row = c.first_digit-row-in-loop-column.ensures;
-        first =
-            subst (λ (t : Cornered). IsFirstLeast d (k + 1) t.column) (sym w.best-is)
-            (first_least_takes d k c.loop-column.best.column c.loop-column.invariant.first (c.comes_before.ensures.0 w.if-comes_before.true));
-        found = subst (λ (t : Cornered). IsCornered d t.column t.row t.crosses) (sym w.best-is) known;
-      }
-      | else-comes_before w ↦ record {
-        crosses = crosses;
-        row = c.first_digit-row-in-loop-column.ensures;
-        first =
-            subst (λ (t : Cornered). IsFirstLeast d (k + 1) t.column) (sym w.best-is)
-            (first_least_keeps d k c.loop-column.best.column c.loop-column.invariant.first
-            (λ e. both_ways c.comes_before.result w.if-comes_before.false (c.comes_before.ensures.1 e)));
-        found = subst (λ (t : Cornered). IsCornered d t.column t.row t.crosses) (sym w.best-is) c.loop-column.invariant.found;
-      }
-    ]
+      left = subst (λ (z : ℕ). IsLeft d c.loop-marks.best.column (c.loop-marks.marks - z)) (sym m.power)
+          (g.keeps (λ less. both_ways c.comes_before.result c.if-comes_before.false
+          (c.comes_before.ensures.1 (subst (λ (z : ℕ). compare (cornered d z) (cornered d c.loop-marks.best.column) ≡ Less) at less))));
+      found = c.loop-marks.invariant.found;
+    }
 
 pub returns-clause-first : goal.returns-clause-first
 returns-clause-first c =
     let s = c.self.inside in
     let d = c.args.self.now in
     let f = few s.size s.crosses s.rings d c.self.view_is c.self.invariant in
-    subst (λ (n : ℕ). IsFirstLeast d n c.loop-column.best.column)
-    (let e : c.loop-column.column ≡ size d = omega (arith, f.columns, f.grid.least) in e) c.loop-column.invariant.first
+    ends d c.loop-marks.best.column c.loop-marks.marks f.grid c.loop-marks.invariant.left (omega arith)

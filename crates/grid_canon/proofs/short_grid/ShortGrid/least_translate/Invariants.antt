@@ -1,13 +1,12 @@
-use Rattle.std.proofs.Common.{◌≡◌, ◌-◌, ◌/◌, ◌^◌, ◌++◌, take, drop}
-use Rattle.grid_canon.specs.Digits.{short_number}
-use Rattle.grid_canon.specs.Cornered.{IsFirstLeast, IsCornered}
-use Rattle.grid_canon.specs.declared.digits.TheConstants.{SHORT_BASE}
+use Rattle.grid_canon.specs.Cornered.{IsCornered}
+use Rattle.grid_canon.proofs.LowColumns.{IsLeft}
 use Rattle.grid_canon.proofs.short_grid.ShortGrid.least_translate.Given as goal
 
-abbrev pub invariant-loop-column : goal.invariant-loop-column
-invariant-loop-column l = record {
-  crosses : l.crosses ≡ short_number (drop (l.column - 1) l.self.x ++ take (l.column - 1) l.self.x);
-  row : l.row ≡ l.crosses / SHORT_BASE ^ (l.size - 1);
-  first : IsFirstLeast l.self l.column l.best.column;
+abbrev pub invariant-loop-marks : goal.invariant-loop-marks
+invariant-loop-marks l = record {
+  left : IsLeft l.self l.best.column l.marks;
   found : IsCornered l.self l.best.column l.best.row l.best.crosses;
 }
+
+abbrev pub decreases-loop-marks : goal.decreases-loop-marks
+decreases-loop-marks l = l.marks
