@@ -8,6 +8,10 @@ use Rattle.next_moves.specs.declared.links.Offer.{Offer}
 use Rattle.next_moves.specs.Tries.{Try}
 use Rattle.next_moves.specs.Offers.{AreOffersOf}
 
+-- what contracts see of a list of offers in the making: the offers
+pub record Listed : Type 0 where
+  pub items : List Offer
+
 -- the new list is the old one, followed by the offers of these tries
 pub record Extends (d : Diagram) (cap : ℕ) (list : List Try) (old new : List Offer) : Type 0 where
   pub more : List Offer

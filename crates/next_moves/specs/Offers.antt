@@ -1,5 +1,5 @@
 -- The ordered list of offers: one way to each neighbour of a diagram within a cap, or several.
-use Rattle.std.specs.Prelude.{◌≡◌, ◌<◌, ◌≤◌, ◌+◌, ◌-◌, ◌*◌, ◌&&◌, ℕ, List, Bool, map, filter, nat_le, length}
+use Rattle.std.specs.Prelude.{◌≡◌, ◌<◌, ◌≤◌, ◌*◌, ◌&&◌, ℕ, List, Bool, map, filter, nat_le, length}
 use Rattle.std.specs.List.{All}
 use Rattle.std.specs.Option.{is_none}
 use Rattle.grid_core.specs.declared.grid.TheConstants.{MAX_SIZE}

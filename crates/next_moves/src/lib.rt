@@ -4,6 +4,7 @@
 
 pub mod laws;
 mod links;
+mod offer_list;
 mod offers;
 mod side_by_side;
 mod spans;

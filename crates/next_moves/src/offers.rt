@@ -7,8 +7,8 @@ ghost use Rattle.grid_canon.specs.Key.{key_of};
 ghost use Rattle.next_moves.specs.Offers.{IsOfferList};
 
 use crate::links::Offer;
-use crate::tries::{OfferList, Tries};
-use arrayvec::ArrayVec;
+use crate::offer_list::OfferList;
+use crate::tries::Tries;
 use grid_canon::{LeastForm, Packed, pack};
 use grid_core::{Grid, MAX_SIZE};
 use std::marker::Model;
@@ -51,7 +51,7 @@ impl Offers {
         let mut offers = Offers {
             origin: pack(grid),
             cap,
-            list: ArrayVec::new(),
+            list: OfferList::new(),
         };
         fill(&mut offers.list, grid, cap);
         offers

@@ -12,18 +12,14 @@ ghost use Rattle.lane_spans.specs.Columns.{has_bit, trades};
 ghost use Rattle.next_moves.specs.Extends.{Extends, row_of_both, if_below};
 
 use crate::links::{Link, Offer};
-use crate::offers::MAX_OFFERS;
+use crate::offer_list::OfferList;
 use crate::side_by_side::{next, shift_before};
 use crate::spans::Spans;
-use arrayvec::ArrayVec;
 use grid_canon::{LeastKey, MAX_SHORT_SIZE, ShortGrid, canonical_key, translate};
 use grid_core::{Corner, Grid, Kind};
-use grid_moves::{Move, apply, widening_of};
+use grid_moves::{Move, apply_in_place, widening_of};
 use lane_spans::has_bit;
 use std::marker::Model;
-
-/// Offers in the making.
-pub(crate) type OfferList = ArrayVec<Offer, MAX_OFFERS>;
 
 /// A grid that is tried within a cap, with all that the tries share: its translates by 1, and its short grid where one more column is
 /// within the cap and a short grid has room for it. Contracts see the grid and the cap.
@@ -121,8 +117,9 @@ impl<'a> Tries<'a> {
         ensures fits { length list.new.items ≤ length list.old.items + 1 }
     {
         let _size = self.size();
-        match apply(self.translated(before), step) {
-            Ok(moved) => {
+        let mut moved = self.translated(before).copy();
+        match apply_in_place(&mut moved, step) {
+            Ok(()) => {
                 if moved.size() <= self.cap() {
                     list.push(offer_of(canonical_key(&moved), before, step));
                 }
