@@ -31,7 +31,7 @@ fn main(rt: HostRuntime) -> ExitCode {
     };
     let Some(task) = task::task_of(words.as_slice()) else {
         let written = println!(rt;
-            "usage: form_bench forms|keys|offers|renewed|nothing SIZE COUNT"
+            "usage: form_bench forms|keys|offers|renewed|within|nothing SIZE COUNT"
         );
         return ended(written, USAGE);
     };

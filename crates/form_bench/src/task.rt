@@ -15,6 +15,8 @@ pub enum Work {
     Offers,
     /// The canonical form and its offers, in the list of the turn before.
     Renewed,
+    /// The same within a cap of the size, so that no stabilisation is offered.
+    Within,
     /// Nothing but the grid of the turn, which the others make too.
     Nothing,
 }
@@ -53,6 +55,7 @@ fn work_of(name: &str) -> Option<Work> {
         "keys" => Some(Work::Keys),
         "offers" => Some(Work::Offers),
         "renewed" => Some(Work::Renewed),
+        "within" => Some(Work::Within),
         "nothing" => Some(Work::Nothing),
         _ => None,
     }

@@ -30,7 +30,8 @@ impl Made {
 /// All turns of a task.
 pub fn make(task: Task, grid: Grid) -> Made {
     match task.work {
-        Work::Renewed => make_renewed(task.count, grid),
+        Work::Renewed => make_renewed(task.count, grid, true),
+        Work::Within => make_renewed(task.count, grid, false),
         _ => make_new(task, grid),
     }
 }
@@ -46,26 +47,26 @@ fn make_new(task: Task, grid: Grid) -> Made {
             Work::Keys => add_key(&mut made, &here),
             Work::Offers => {
                 let form = canonical(&here);
-                add_offers(&mut made, &Offers::of(&form, cap_of(&form)), turn);
+                add_offers(&mut made, &Offers::of(&form, cap_of(&form, true)), turn);
             }
             // `make` gives it no renewed ones.
-            Work::Renewed | Work::Nothing => {}
+            Work::Renewed | Work::Within | Work::Nothing => {}
         }
         made.add(picked(&here, turn));
     }
     made
 }
 
-/// All turns, each of which puts its offers in the place of those before.
-fn make_renewed(count: u32, grid: Grid) -> Made {
+/// All turns, each of which puts its offers in the place of those before, with a spare column or without one.
+fn make_renewed(count: u32, grid: Grid, spare: bool) -> Made {
     let mut made = Made { sum: 0, offers: 0 };
     let mut here = grid;
     let first = canonical(&here);
-    let mut offers = Offers::of(&first, cap_of(&first));
+    let mut offers = Offers::of(&first, cap_of(&first, spare));
     for turn in 0..count {
         here = next(&here);
         let form = canonical(&here);
-        offers.renew(&form, cap_of(&form));
+        offers.renew(&form, cap_of(&form, spare));
         add_offers(&mut made, &offers, turn);
         made.add(picked(&here, turn));
     }
@@ -78,13 +79,13 @@ fn next(grid: &Grid) -> Grid {
     translate(grid, 1, 0)
 }
 
-/// A cap of one more than the size, where there is one.
-fn cap_of(form: &LeastForm) -> u8
+/// A cap of the size, or with a spare column of one more, where there is one.
+fn cap_of(form: &LeastForm, spare: bool) -> u8
     ensures least { size form.now.grid ≤ result }
     ensures most { result ≤ MAX_SIZE }
 {
     let size = form.grid.size();
-    if (size as usize) < MAX_SIZE {
+    if spare && (size as usize) < MAX_SIZE {
         size + 1
     } else {
         size
