@@ -29,7 +29,13 @@ pub enum Explored {
 }
 
 /// Lists the class of a grid until a destabilisation is offered, or all members, at most as many as the budget, have had their turn.
-pub fn explore(alloc: Global, grid: &Grid, budget: u32) -> Result<Explored, OutOfMemory>
+/// The list of offers is renewed for each member.
+pub fn explore(
+    alloc: Global,
+    grid: &Grid,
+    budget: u32,
+    offers: &mut Offers,
+) -> Result<Explored, OutOfMemory>
     requires { 1 ≤ budget }
     ensures { IfOk result (λ e. IsExploredTo grid.now budget e) }
 {
@@ -40,7 +46,7 @@ pub fn explore(alloc: Global, grid: &Grid, budget: u32) -> Result<Explored, OutO
     let mut place = 0;
     while place < class.len() {
         let form = form_of(class.key_at(place));
-        let offers = Offers::of(&form, size);
+        offers.renew(&form, size);
         if let Some(offer) = first_destabilisation(offers.offers()) {
             let moves = way_to(alloc, grid, &class, place, offer.link)?;
             return Ok(Explored::Smaller {

@@ -3,9 +3,11 @@ ghost use Rattle.std.specs.Prelude.{◌≡◌, ◌≤◌, ◌++◌, IfOk};
 ghost use Rattle.mono_simplify.specs.Simplified.{Simplifies};
 
 use crate::explore::{Explored, explore};
+use grid_canon::canonical;
 use grid_core::{Grid, Items};
 use grid_moves::Move;
 use memory_core::OutOfMemory;
+use next_moves::Offers;
 use std::alloc::Global;
 
 /// Why no more was done.
@@ -37,10 +39,12 @@ pub fn simplify(alloc: Global, grid: &Grid, budget: u32) -> Result<Simplified, O
     requires { 1 ≤ budget }
     ensures { IfOk result (λ s. Simplifies grid.now budget s.grid s.moves s.end) }
 {
+    let first = canonical(grid);
+    let mut offers = Offers::of(&first, first.grid.size());
     let mut here = grid.copy();
     let mut moves = Vec::new(alloc);
     loop {
-        match explore(alloc, &here, budget)? {
+        match explore(alloc, &here, budget, &mut offers)? {
             Explored::Smaller {
                 grid: smaller,
                 moves: way,
