@@ -54,8 +54,8 @@ impl Decision {
 /// complete lists of colourings; a quandle that does not fit both is passed over. Where none separates them, each diagram is
 /// simplified with the budget of the problem, and the verdict is what a search between the simplified diagrams comes to, within
 /// the same cap and with the same budget: `Equal` with moves that join the given diagrams (the first simplification's, those that
-/// the search found, the second simplification's undone; the whole list tidied), no diagram on the way larger than the cap; `UnknownBudget` only where
-/// moves within the cap reach more diagrams than the budget; `UnknownExhausted` only where they do not join the two, with the
+/// the search found, the second simplification's undone; the whole list tidied), no diagram on the way larger than the cap;
+/// `UnknownBudget` only where moves within the cap reach more diagrams than the budget; `UnknownExhausted` only where they do not join the two, with the
 /// number that they reach, which is at most the budget. The search is handed out with the verdict.
 ///
 /// One worker searches by `alone` and passes no gate, 2 to `MAX_WORKERS` by `pool`, and all this holds however they

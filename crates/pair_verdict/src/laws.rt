@@ -7,7 +7,7 @@ ghost use Rattle.grid_moves.specs.Joining.{JoinsWithin, WithinCap};
 ghost use Rattle.quandle_core.specs.Quandle.{IsQuandle};
 ghost use Rattle.verdict_core.specs.Names.{NamedQuandle};
 ghost use Rattle.verdict_core.specs.declared.verdict.Verdict.{Verdict};
-ghost use Rattle.verdict_core.specs.Evidence.{Claims, Holds, HasEvidence};
+ghost use Rattle.verdict_core.specs.Evidence.{Claims, Holds, HasEvidence, IsTidyVerdict};
 ghost use Rattle.next_moves.specs.Reach.{IsReached, HasMembers, HasMoreMembers};
 ghost use Rattle.mono_simplify.specs.declared.simplified.Simplified.{Simplified};
 ghost use Rattle.search_book.specs.declared.problem.Problem.{Problem};
@@ -98,7 +98,7 @@ pub fn reach_and_budget_decide_the_kind()
 {}
 
 /// What a decision says of the diagrams is true: diagrams said to be equal are equivalent, and no list of moves joins diagrams
-/// that are told apart. Its evidence holds, so a checker accepts it.
+/// that are told apart. Its evidence holds, so a checker accepts it, and its moves, if any, are a tidy list.
 pub fn a_decision_is_true()
     ensures claims { (p : Problem) (quandles : List NamedQuandle) (workers : ℕ) (v : Verdict) (kept : Option Finding)
         → All (λ (q : NamedQuandle). IsQuandle q.table) quandles
@@ -108,4 +108,7 @@ pub fn a_decision_is_true()
         → Decides p quandles workers v kept
         → HasEvidence v
         → Holds p.first p.second v }
+    ensures tidy { (p : Problem) (quandles : List NamedQuandle) (workers : ℕ) (v : Verdict) (kept : Option Finding)
+        → Decides p quandles workers v kept
+        → IsTidyVerdict v }
 {}
