@@ -185,8 +185,9 @@ pub fn an_item_fails_by_its_first_line_first()
         → read_fault (verdict_item one two (on_top line text)) ≡ read_fault (verdict_of Version.Plain one two (on_top line text)) }
 {}
 
-/// Lines of one kind, one behind the other, fail by the first of them that is no line of this kind; that a table is one of a
-/// quandle is part of the content of its last line, and that a move may follow on the one before it in a tidy list of its own line's.
+/// Lines of one kind, one behind the other, fail by the first of them that is no line of this kind. That a table is one of a
+/// quandle is part of the content of its last line; that a move of a tidy list may follow on the one before it is part of the content
+/// of its own line.
 pub fn lines_of_a_kind_fail_in_turn()
     ensures moves { (count : ℕ) (text : Text) → read_fault (move_lines count text) ≡ lines_fault move_kind count text }
     ensures tidy { (count : ℕ) (text : Text) → read_fault (tidy_moves None count text) ≡ tidy_fault count text }

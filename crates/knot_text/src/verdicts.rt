@@ -243,7 +243,7 @@ fn plain_item(
     Ok((Version::Plain, verdict))
 }
 
-/// A verdict with its version.
+/// A verdict, and the version of its text, which the verdict doesn't keep.
 #[tactic(auto, unfolding(crate::specs::Verdicts::versioned_item))]
 fn versioned_item(
     alloc: Global,

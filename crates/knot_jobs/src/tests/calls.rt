@@ -4,6 +4,7 @@ use crate::call::run_alone;
 use crate::status::Status;
 use grid_core::MAX_SIZE;
 use knot_ports::{QuietSink, QuietSource};
+use quandle_core::MAX_ORDER;
 use std::alloc::{AllocError, Global};
 use std::process::Abort;
 use std::test::Fail;
@@ -41,6 +42,44 @@ fn a_row_too_many_is_over_a_limit(rt: HostRuntime) -> Result<(), Fail> {
     }
     let (status, written) = run_line(rt.alloc(), "knot check", &input, &CALM)?;
     let text: &[u8] = b"limit line 1\n";
+    assert_eq!(rt; status, Status::Limit);
+    assert_eq!(rt; written.as_slice(), text);
+    Ok(())
+}
+
+/// A row for each column of the largest size, from this one on and round.
+fn push_rows(input: &mut Vec<u8>, kind: u8, first: u8) -> Result<(), AllocError> {
+    input.push(kind)?;
+    for column in 0..MAX_SIZE {
+        input.push(b' ')?;
+        push_number(input, ((usize::from(first) + column) % MAX_SIZE) as u64)?;
+    }
+    input.push(b'\n')?;
+    Ok(())
+}
+
+/// A grid of the largest size has no room for a stabilisation.
+#[test]
+fn the_largest_grid_is_full(rt: HostRuntime) -> Result<(), Fail> {
+    let mut input = Vec::new(rt.alloc());
+    push_rows(&mut input, b'x', 0)?;
+    push_rows(&mut input, b'o', 1)?;
+    input.extend_from_slice(b"moves 1\nstabilise 0 x lowleft\n")?;
+    let (status, written) = run_line(rt.alloc(), "knot replay", &input, &CALM)?;
+    let text: &[u8] = b"rejected step 0 full\n";
+    assert_eq!(rt; status, Status::Rejected);
+    assert_eq!(rt; written.as_slice(), text);
+    Ok(())
+}
+
+/// One order more than the largest is over a limit.
+#[test]
+fn an_order_too_large_is_over_a_limit(rt: HostRuntime) -> Result<(), Fail> {
+    let mut input = Vec::from_slice(rt.alloc(), b"x 0 1\no 1 0\nquandle dihedral ")?;
+    push_number(&mut input, MAX_ORDER as u64 + 1)?;
+    input.push(b'\n')?;
+    let (status, written) = run_line(rt.alloc(), "knot colour", &input, &CALM)?;
+    let text: &[u8] = b"limit line 3\n";
     assert_eq!(rt; status, Status::Limit);
     assert_eq!(rt; written.as_slice(), text);
     Ok(())
