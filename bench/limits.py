@@ -1,14 +1,15 @@
 #!/usr/bin/env python3
 """Finds numbers that are said twice: turns the two limits, MAX_SIZE and MAX_ORDER, in a copy of the repository, and proves and tests it.
 
-    python3 bench/limits.py                    32 becomes 12 and 48 stays, in every crate
-    python3 bench/limits.py 48 12 NAME..       in these crates and those below them
+    python3 bench/limits.py                    48 becomes 20 and 32 becomes 12, in every crate
+    python3 bench/limits.py 20 12 NAME..       in these crates and those below them
 
 A proof, a worked row or a test that fails there says one of the two numbers where it should name the constant.
-A number of columns up to 48 and an order up to 32 still fit in the key of a grid and in the tables. The words of a key have sixteen columns each,
-and are as many as the greatest size: so the key itself fails at any number of columns but 48, and what stands on it can't be tried.
+A number of columns up to 48 and an order up to 32 still fit in the digits of a key and in the tables. The one worked row of grid_core
+and of quandle_core that spells its limit on purpose is turned with it.
 The examples, the stored run and must-fail edits are not tried. From nothing it takes as long as the proofs of the gate do."""
 
+import glob
 import os
 import shutil
 import subprocess
@@ -16,22 +17,23 @@ import sys
 import tempfile
 
 TOP = os.path.dirname(os.path.dirname(os.path.abspath(__file__)))
-LIMITS = (("grid_core", "MAX_SIZE: usize = 48;"), ("quandle_core", "MAX_ORDER: usize = 32;"))
+LIMITS = (("grid_core", "MAX_SIZE", 48), ("quandle_core", "MAX_ORDER", 32))
 
 
-def turn(top, crate, line, value):
-    """Gives the constant of a crate another value."""
-    source = f"{top}/crates/{crate}/src"
-    for name in sorted(os.listdir(source)):
-        path = f"{source}/{name}"
-        if name.endswith(".rt"):
+def turn(top, crate, name, old, new):
+    """Gives the constant of a crate another value, in its one line and in the worked row that spells it."""
+    for folder, ending, sign in (("src", ".rt", ": usize ="), ("proofs", ".antt", " ≡")):
+        was, now = (f"{name}{sign} {value}" for value in (old, new))
+        turned = 0
+        for path in sorted(glob.glob(f"{top}/crates/{crate}/{folder}/*{ending}")):
             with open(path, encoding="utf-8") as file:
                 text = file.read()
-            if text.count(line) == 1:
+            if was in text:
                 with open(path, "w", encoding="utf-8") as file:
-                    file.write(text.replace(line, f"{line.rpartition('=')[0]}= {value};"))
-                return
-    sys.exit(f"{crate} has no line with {line}")
+                    file.write(text.replace(was, now))
+                turned += text.count(was)
+        if turned != 1:
+            sys.exit(f"{crate} says {was} {turned} times in {folder}")
 
 
 def floors(top):
@@ -59,14 +61,14 @@ def wanted(found, names):
 def main():
     values = [word for word in sys.argv[1:] if word.isdigit()]
     names = [word for word in sys.argv[1:] if not word.isdigit()]
-    values = values if len(values) == 2 else ["48", "12"]
+    values = values if len(values) == 2 else ["20", "12"]
     failed = []
     with tempfile.TemporaryDirectory(prefix="knot-limits-") as top:
         shutil.copytree(f"{TOP}/crates", f"{top}/crates", ignore=shutil.ignore_patterns("out"))
         for name in ("crates.txt", "HANDLES"):
             shutil.copy(f"{TOP}/{name}", top)
-        for (crate, line), value in zip(LIMITS, values):
-            turn(top, crate, line, value)
+        for (crate, name, old), value in zip(LIMITS, values):
+            turn(top, crate, name, old, value)
         for crate in wanted(floors(top), names):
             for words in (["rt", "check"], ["rt", "try", "--test"]):
                 ran = subprocess.run(words, cwd=f"{top}/crates/{crate}", capture_output=True, text=True)
