@@ -422,7 +422,7 @@ def memory():
 def stack():
     for name, words_, data in wanting():
         # Of the same limit a worker's thread has less for itself than the first thread.
-        enough = 2048 if b"--workers=8" in words_ else 512
+        enough = 2048 if b"--workers=8" in words_ else 384
         for size in (4, 16, 64, 128, 256, 384, 512, 768, 1024, 2048, 4096, 8192):
             way = "stack" if size >= enough else "tiny stack"
             yield Case("stack", f"{name}: {size} KB", words_, data, way=way, need=size * KIBIBYTE)
