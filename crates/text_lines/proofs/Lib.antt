@@ -1,4 +1,5 @@
 mod FirstLine
+mod FirstPlace
 mod FirstToken
 mod Ends
 mod Steps

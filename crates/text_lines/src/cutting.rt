@@ -5,6 +5,8 @@ ghost use Rattle.text_lines.specs.Tokens.{is_blank};
 ghost use Rattle.text_lines.specs.Lines.{trimmed, is_skipped};
 ghost use Rattle.text_lines.specs.Cut.{is_feed, first_line, behind_line, after_blanks, first_token, behind_token};
 
+use memchr::memchr;
+
 /// Whether a byte is a space or a tab.
 fn is_blank(byte: u8) -> bool
     ensures { result ≡ is_blank byte }
@@ -16,7 +18,7 @@ fn is_blank(byte: u8) -> bool
 fn feed_place(bytes: &[u8]) -> Option<usize>
     ensures { result ≡ position is_feed bytes.now }
 {
-    bytes.iter().position(|byte| *byte == b'\n')
+    memchr(b'\n', bytes)
 }
 
 /// The place of the first blank.
