@@ -1,5 +1,5 @@
 -- Exchanges of neighbours.
-use Rattle.std.proofs.Common.{Bool, true, false, cond, Option, Some, None, ◌||◌, ◌≡◌, ◌<◌, ◌+◌, ◌∙◌, ℕ, List, length, get_or, map, arith, sym, refl, ap, inl, inr}
+use Rattle.std.proofs.Common.{Bool, true, false, cond, Option, Some, None, ◌||◌, ◌≡◌, ◌<◌, ◌+◌, ◌∙◌, ℕ, List, length, get_or, arith, sym, refl, ap, inl, inr}
 use Rattle.std.specs.List.{swap}
 use Rattle.std.proofs.lemmas.Bool.{cases_eq}
 use Rattle.std.proofs.lemmas.Bool.Decides.{nat_tests}
@@ -10,6 +10,7 @@ use Rattle.grid_core.specs.declared.mark.Kind.TheVariants.{Cross, Ring}
 use Rattle.grid_core.specs.Diagram.{Diagram, IsGrid, size, row_of}
 use Rattle.grid_moves.specs.Renumbered.{Renumbered, unchanged}
 use Rattle.grid_moves.specs.Exchange.{exchanged}
+use Rattle.grid_moves.specs.Exchanged.{columns_exchanged, rows_exchanged}
 use Rattle.grid_core.specs.declared.span.Span.{Span}
 use Rattle.grid_core.specs.Span.{share_an_end, are_disjoint, are_nested}
 use Rattle.grid_core.specs.Parts.{column_span, ends}
@@ -33,13 +34,6 @@ exchanged-permutes i n inside = record {
   same = λ b c hb hc e. sym (exchanged-twice i b) ∙ ap (exchanged i) e ∙ exchanged-twice i c;
   onto = λ c lt. (exchanged i c, exchanged-below i n c inside lt, exchanged-twice i c);
 }
-
--- the diagrams as lists
-abbrev pub columns_exchanged : ℕ → Diagram → Diagram
-columns_exchanged c d = record { x = swap d.x c (c + 1); o = swap d.o c (c + 1) }
-
-abbrev pub rows_exchanged : ℕ → Diagram → Diagram
-rows_exchanged r d = record { x = map (exchanged r) d.x; o = map (exchanged r) d.o }
 
 swap_exchanged : (xs : List ℕ) (c b : ℕ) → c + 1 < length xs → get_or (swap xs c (c + 1)) (exchanged c b) 0 ≡ get_or xs b 0
 swap_exchanged xs c b inside =

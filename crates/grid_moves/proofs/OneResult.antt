@@ -17,6 +17,7 @@ use Rattle.grid_moves.specs.declared.step.MoveFault.TheVariants.{Range, Touching
 use Rattle.grid_moves.specs.Renumbered.{unchanged}
 use Rattle.grid_moves.specs.Shift.{shifted}
 use Rattle.grid_moves.specs.Exchange.{exchanged, MayExchange}
+use Rattle.grid_moves.specs.Exchanged.{columns_exchanged, rows_exchanged}
 use Rattle.grid_moves.specs.Slide.{MaySlide}
 use Rattle.grid_moves.specs.Stabilisation.{Stabilises}
 use Rattle.grid_moves.specs.Destabilisation.{Destabilises, marks_in_block}
@@ -24,7 +25,7 @@ use Rattle.grid_moves.specs.DoubleRows.{column_in_new_row}
 use Rattle.grid_moves.specs.Step.{Step, Moves}
 use Rattle.grid_moves.specs.MoveFault.{first_fault, shift_fault, exchange_fault, slide_fault, block_fault}
 use Rattle.grid_moves.proofs.Renumbering.{unchanged-permutes, renumbered_once}
-use Rattle.grid_moves.proofs.Exchanged.{exchanged-permutes, columns_exchanged, rows_exchanged, columns_exchanged-step, rows_exchanged-step}
+use Rattle.grid_moves.proofs.Exchanged.{exchanged-permutes, columns_exchanged-step, rows_exchanged-step}
 use Rattle.grid_moves.proofs.Slid.{columns_slid-step, rows_slid-step}
 use Rattle.grid_moves.proofs.Shifted.{shifted-permutes, columns_shifted, rows_shifted, columns_shifted-step, rows_shifted-step}
 use Rattle.grid_moves.proofs.Widened.{widened_along, widened_from_stabilises}

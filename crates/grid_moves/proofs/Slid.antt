@@ -10,7 +10,8 @@ use Rattle.grid_moves.specs.declared.step.MoveFault.TheVariants.{Touching, Apart
 use Rattle.grid_moves.specs.Slide.{MaySlide}
 use Rattle.grid_moves.specs.MoveFault.{slide_fault}
 use Rattle.grid_moves.specs.Step.{Step}
-use Rattle.grid_moves.proofs.Exchanged.{columns_exchanged, rows_exchanged, columns_exchanged-grid, rows_exchanged-grid, columns_exchanged-renumbered, rows_exchanged-renumbered}
+use Rattle.grid_moves.specs.Exchanged.{columns_exchanged, rows_exchanged}
+use Rattle.grid_moves.proofs.Exchanged.{columns_exchanged-grid, rows_exchanged-grid, columns_exchanged-renumbered, rows_exchanged-renumbered}
 
 may_slide_by : (a b : Bool) → cond a (Some Touching) (cond b None (Some Apart)) ≡ None → (a ≡ false) × (b ≡ true)
 may_slide_by true b e = absurd (let no : ◌≡◌ {A = Option MoveFault} (Some Touching) None = e in cc)

@@ -1,6 +1,7 @@
 pub mod Renumbered
 pub mod Shift
 pub mod Exchange
+pub mod Exchanged
 pub mod Slide
 pub mod Different
 pub mod Stabilisation

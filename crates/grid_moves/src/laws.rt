@@ -4,6 +4,7 @@ ghost use Rattle.grid_core.specs.Diagram.{Diagram, IsGrid, size, row_of};
 ghost use Rattle.grid_core.specs.Parts.{column_span, column_of, ends};
 ghost use Rattle.grid_moves.specs.Different.{how_many_different};
 ghost use Rattle.grid_moves.specs.Exchange.{MayExchange};
+ghost use Rattle.grid_moves.specs.Exchanged.{columns_exchanged, rows_exchanged};
 ghost use Rattle.grid_moves.specs.Inverse.{inverse_of};
 ghost use Rattle.grid_moves.specs.Joining.{Joins, JoinsWithin, StopsAt, Equivalent, WithinCap};
 ghost use Rattle.grid_moves.specs.MoveFault.{first_fault};
@@ -38,6 +39,14 @@ pub fn an_exchange_undoes_itself()
 pub fn a_slide_undoes_itself()
     ensures columns { (c : ℕ) (d e : Diagram) → Step d (Move.SlideColumns c) e → Step e (Move.SlideColumns c) d }
     ensures rows { (r : ℕ) (d e : Diagram) → Step d (Move.SlideRows r) e → Step e (Move.SlideRows r) d }
+{}
+
+/// An exchange, and a slide, leads to the diagram in whose lists the two columns, or rows, are in each other's place.
+pub fn what_trades_places_is_in_the_others_place()
+    ensures columns { (d e : Diagram) (c : ℕ) → Step d (Move.ExchangeColumns c) e → e ≡ columns_exchanged c d }
+    ensures rows { (d e : Diagram) (r : ℕ) → Step d (Move.ExchangeRows r) e → e ≡ rows_exchanged r d }
+    ensures slid_columns { (d e : Diagram) (c : ℕ) → Step d (Move.SlideColumns c) e → e ≡ columns_exchanged c d }
+    ensures slid_rows { (d e : Diagram) (r : ℕ) → Step d (Move.SlideRows r) e → e ≡ rows_exchanged r d }
 {}
 
 /// Two neighbouring columns may slide exactly where their four marks lie in three different rows, and two neighbouring rows

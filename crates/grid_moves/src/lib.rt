@@ -16,6 +16,7 @@ mod tidy;
 mod undoing;
 
 pub use applying::{apply, apply_all, apply_in_place, inverse};
+pub use shift::number_after_shift;
 pub use stabilisation::{Widening, widening_of};
 pub use step::{Move, MoveFault};
 pub use tidy::{is_tidy, may_follow};

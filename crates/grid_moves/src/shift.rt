@@ -61,16 +61,20 @@ fn shifted_rows(grid: &Grid, kind: Kind, k: u8) -> Rows
     let size = grid.size();
     let mut rows = ArrayVec::new();
     for row in grid.rows(kind) {
-        rows.push(shifted(*row, k, size));
+        rows.push(number_after_shift(*row, k, size));
     }
     rows
 }
 
-/// The new number of a row, of as many as the size, when the k lowest go to the top.
-fn shifted(row: u8, k: u8, size: u8) -> u8
+/// The new number of a row, of as many as the size, when the k lowest go to the top; and of a column, when the k leftmost go to the right end.
+pub fn number_after_shift(number: u8, k: u8, size: u8) -> u8
     requires most { k < size }
-    requires inside { row < size }
-    ensures { result ≡ shifted size k row }
+    requires inside { number < size }
+    ensures { result ≡ shifted size k number }
 {
-    if row < k { row + (size - k) } else { row - k }
+    if number < k {
+        number + (size - k)
+    } else {
+        number - k
+    }
 }
