@@ -154,3 +154,18 @@ inserted_word value digit place n le lt low inside =
             (one_more-below p head digit both.front_below inside) both.back_below (omega (arith, fits)),
       ),
     )
+
+-- the digit at a place
+last_digit : (high digit : ℕ) → digit < SHORT_BASE → (high * SHORT_BASE + digit) % SHORT_BASE ≡ digit
+last_digit high digit inside = omega (arith, inside)
+
+pub digit_word : (value place n : ℕ) → place < n → value < SHORT_BASE ^ n
+    → value / 2 ^ (SHORT_BITS * (n - (place + 1))) % SHORT_BASE ≡ get_or (digits n value) place 0
+digit_word value place n lt low =
+    let both = pieces n (place + 1) value (omega (arith, lt)) low in
+    let rows : List ℕ = digits n value in
+    let inside : place < length rows = omega (arith, lt, length-digits n value) in
+    ap (λ (z : ℕ). z % SHORT_BASE)
+    (high_of value (SHORT_BITS * (n - (place + 1))) (short_number (front n (place + 1) value)) (short_number (back n (place + 1) value)) both.back_below both.whole
+    ∙ ap short_number (take_more rows place 0 inside) ∙ short_number-push (take place rows) (get_or rows place 0))
+    ∙ last_digit (short_number (take place rows)) (get_or rows place 0) (digits-below n value low place 0 inside)

@@ -12,6 +12,7 @@ use Rattle.std.proofs.lemmas.List.FromFn.{get_or-range_with_len, length-range_wi
 use Rattle.std.proofs.lemmas.List.Elements.{All-tail, All-map}
 use Rattle.grid_core.specs.Places.{lifted}
 use Rattle.grid_moves.specs.Shift.{shifted}
+use Rattle.grid_moves.specs.Exchange.{exchanged}
 use Rattle.grid_moves.proofs.Shifted.{shifted_low, shifted_high, shifted_below}
 use Rattle.grid_canon.specs.declared.digits.TheConstants.{SHORT_BASE, SHORT_BITS, MAX_SHORT_SIZE, GUARD}
 use Rattle.grid_canon.specs.Digits.{short_number, digits, lowered_each, mark, AreLowDigits}
@@ -392,3 +393,16 @@ all_marked size value units pos most lt inside count =
   where
     every : (r : ℕ) → r < size → under size r + 0 * 1 ≡ 1 + 0 * 1
     every r small = grind (arith, nat_tests)
+
+-- two neighbouring rows exchange their numbers
+exchanged_digit : (row r : ℕ) → r + lifted row r + 1 * lifted (row + 2) r ≡ exchanged row r + 2 * lifted (row + 1) r
+exchanged_digit row r = grind (arith, nat_tests)
+
+pub exchanged_sum : (row : ℕ) (xs : List ℕ)
+    → short_number xs + (short_number (map (lifted row) xs) + short_number (map (lifted (row + 2)) xs))
+    ≡ short_number (map (exchanged row) xs) + 2 * short_number (map (lifted (row + 1)) xs)
+exchanged_sum row xs =
+    let first = number_by-sums 1 0 same (lifted row) (λ r. r + lifted row r) one xs (λ k d inside. omega arith) in
+    let both =
+    number_by-sums 1 2 (λ r. r + lifted row r) (lifted (row + 2)) (exchanged row) (lifted (row + 1)) xs (λ k d inside. exchanged_digit row (get_or xs k d)) in
+    omega (arith, first, both, number_by-same xs)

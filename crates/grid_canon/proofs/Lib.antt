@@ -14,6 +14,7 @@ mod ShortGrids
 mod LowColumns
 pub mod ShortKeys
 mod SpreadHalves
+mod SwappedDigits
 pub mod Joined
 pub mod CanonicalForms
 pub mod Tidied

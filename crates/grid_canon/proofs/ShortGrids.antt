@@ -1,6 +1,7 @@
 -- Short grids from their numbers, wider ones, and their keys.
-use Rattle.std.proofs.Common.{◌≡◌, ◌<◌, ◌≤◌, ◌+◌, ◌^◌, ◌∙◌, ℕ, List, length, map, get_or, arith, sym, ap, ap₂, subst}
+use Rattle.std.proofs.Common.{◌≡◌, ◌<◌, ◌≤◌, ◌+◌, ◌*◌, ◌^◌, ◌∙◌, ℕ, List, length, map, get_or, arith, sym, ap, ap₂, subst}
 use Rattle.std.specs.List.{All, insert}
+use Rattle.std.proofs.Math.Nat.{pow-le-pow_right}
 use Rattle.std.proofs.lemmas.List.{length-map}
 use Rattle.std.proofs.lemmas.List.Elements.{All-map}
 use Rattle.std.proofs.lemmas.List.Edits.{length-insert}
@@ -10,11 +11,13 @@ use Rattle.grid_core.proofs.Gaps.{lifted-below}
 use Rattle.grid_core.proofs.OneEach.{each_below}
 use Rattle.grid_moves.specs.declared.stabilisation.Widening.{Widening}
 use Rattle.grid_moves.specs.Widening.{widened}
+use Rattle.grid_moves.specs.Exchange.{exchanged}
 use Rattle.grid_canon.specs.declared.digits.TheConstants.{SHORT_BASE, MAX_SHORT_SIZE}
 use Rattle.grid_canon.specs.Digits.{short_number, digits}
 use Rattle.grid_canon.specs.ShortGrid.{of_digits, IsShort}
 use Rattle.grid_canon.proofs.ShortNumbers.{AreShortDigits, short_number-below}
-use Rattle.grid_canon.proofs.NumbersOfDigits.{digits-short_number}
+use Rattle.grid_canon.proofs.Guards.{exchanged_sum}
+use Rattle.grid_canon.proofs.NumbersOfDigits.{length-digits, short_number-digits, digits-short_number}
 use Rattle.grid_canon.proofs.CutNumbers.{rows_digits}
 
 abbrev pair : List ℕ → List ℕ → Diagram
@@ -68,3 +71,29 @@ pub size-widened : (w : Widening) (d : Diagram) → w.crosses ≤ size d → siz
 size-widened w d le =
     length-insert (map (lifted w.row) d.x) w.crosses w.row (omega (arith, length-map d.x (lifted w.row), le))
     ∙ ap (λ (z : ℕ). z + 1) (length-map d.x (lifted w.row))
+
+-- two rows that exchange their numbers, in a word of 64 bits
+pub exchanged_sums : (n row value first third : ℕ) → n < MAX_SHORT_SIZE → value < SHORT_BASE ^ n → row + 1 < n → All (λ r. r < n) (digits n value)
+    → first ≡ short_number (map (lifted row) (digits n value)) → third ≡ short_number (map (lifted (row + 2)) (digits n value))
+    → (value < 2 ^ 62) × (first + third < 2 ^ 63)
+exchanged_sums n row value first third most low lt inside e1 e3 =
+    let f = lifted_known n row first (digits n value) (length-digits n value) most (omega (arith, lt)) inside e1 in
+    let t = lifted_known n (row + 2) third (digits n value) (length-digits n value) most (omega (arith, lt)) inside e3 in
+    let word = pow-le-pow_right {n = SHORT_BASE} (omega arith) {i = n} {j = MAX_SHORT_SIZE} (omega (arith, most)) in
+    (omega (arith, low, word), omega (arith, f.fits, t.fits, word))
+
+pub record IsExchanged (n row value first second third : ℕ) : Type 0 where
+  pub sum : value + (first + third) ≡ short_number (map (exchanged row) (digits n value)) + 2 * second
+  pub twice : 2 * second < 2 ^ 64
+
+pub exchanged_word : (n row value first second third : ℕ) → n < MAX_SHORT_SIZE → value < SHORT_BASE ^ n → row + 1 < n → All (λ r. r < n) (digits n value)
+    → first ≡ short_number (map (lifted row) (digits n value)) → second ≡ short_number (map (lifted (row + 1)) (digits n value))
+    → third ≡ short_number (map (lifted (row + 2)) (digits n value)) → IsExchanged n row value first second third
+exchanged_word n row value first second third most low lt inside e1 e2 e3 =
+    let rows : List ℕ = digits n value in
+    let s = lifted_known n (row + 1) second rows (length-digits n value) most (omega (arith, lt)) inside e2 in
+    let word = pow-le-pow_right {n = SHORT_BASE} (omega arith) {i = n} {j = MAX_SHORT_SIZE} (omega (arith, most)) in
+    record {
+      sum = omega (arith, exchanged_sum row rows, short_number-digits n value low, e1, e2, e3);
+      twice = omega (arith, s.fits, word);
+    }

@@ -1,12 +1,12 @@
 -- Keys: a grid as its size and the words of its rows.
-use Rattle.std.specs.Prelude.{ℕ, zero, suc, ◌+◌, ◌-◌, ◌*◌, ◌/◌, ◌%◌, ◌^◌, List, [], ◌∷◌, ◌++◌, Bool, ◌==◌, ◌&&◌, if◌then◌else◌, nat_lt, fold, length, replicate, take, drop, slice_index}
+use Rattle.std.specs.Prelude.{◌≡◌, ℕ, zero, suc, ◌+◌, ◌-◌, ◌*◌, ◌/◌, ◌%◌, ◌^◌, List, [], ◌∷◌, ◌++◌, Bool, ◌==◌, ◌&&◌, if◌then◌else◌, nat_lt, fold, length, replicate, take, drop, slice_index}
 use Rattle.std.specs.Hash as fed
 use Rattle.std.specs.Hash.{HashWrites}
 use Rattle.std.specs.Str.{bytes_eq}
 use Rattle.std.specs.Ordering.{nat_cmp, ordering_then}
 use Rattle.std.specs.Cmp.Lexicographic.{slice_cmp}
 use Rattle.std.specs.declared.cmp.Ordering.{Ordering}
-use Rattle.grid_core.specs.Diagram.{Diagram, size}
+use Rattle.grid_core.specs.Diagram.{Diagram, IsGrid, size}
 use Rattle.grid_canon.specs.declared.key.Packed.{Packed}
 use Rattle.grid_canon.specs.declared.key.TheConstants.{BASE, WORD_COLUMNS, WORDS}
 use Rattle.grid_canon.specs.Digits.{number_to}
@@ -31,6 +31,11 @@ words_of rows = words WORDS (filled rows)
 -- the key of a diagram: its size, the words of the rows of its Xs, and those of its Os
 abbrev pub key_of : Diagram → Packed
 key_of d = record { size = size d; x = words_of d.x; o = words_of d.o }
+
+-- the key is that of the grid d
+pub record IsKeyOf (name : Packed) (d : Diagram) : Type 0 where
+  pub grid : IsGrid d
+  pub key : key_of d ≡ name
 
 -- the size of the diagram with this key
 abbrev pub size_of : Packed → ℕ

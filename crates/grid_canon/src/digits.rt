@@ -1,8 +1,9 @@
 //! Numbers of 64 bits as lists of at most `MAX_SHORT_SIZE` digits to the base `SHORT_BASE`, the highest first: each digit is the row of a column.
-ghost use Rattle.std.specs.Prelude.{◌≡◌, ◌<◌, ◌≤◌, ◌+◌, ◌-◌, ◌*◌, ◌/◌, ◌^◌, ◌++◌, ◌∷◌, length, map, take, drop, replicate};
-ghost use Rattle.std.specs.List.{All, insert};
+ghost use Rattle.std.specs.Prelude.{◌≡◌, ◌<◌, ◌≤◌, ◌+◌, ◌-◌, ◌*◌, ◌/◌, ◌^◌, ◌++◌, ◌∷◌, length, map, take, drop, replicate, slice_index};
+ghost use Rattle.std.specs.List.{All, insert, swap};
 ghost use Rattle.grid_core.specs.Places.{lifted};
 ghost use Rattle.grid_moves.specs.Shift.{shifted};
+ghost use Rattle.grid_moves.specs.Exchange.{exchanged};
 ghost use Rattle.grid_canon.specs.Digits.{short_number, digits, lowered_each, AreLowDigits};
 
 /// The greatest size of a short grid: its rows of a kind fit into 64 bits.
@@ -145,4 +146,40 @@ pub(crate) fn with_digit(value: u64, digit: u64, place: u32, size: u32) -> u64
     let behind = SHORT_BITS * (size - place);
     let front = value >> behind;
     (((front << SHORT_BITS) + digit) << behind) + (value - (front << behind))
+}
+
+/// The digit at a place.
+fn nth_digit(value: u64, place: u32, size: u32) -> u64
+    requires place { place < size }
+    requires most { size ≤ MAX_SHORT_SIZE }
+    requires value { value < SHORT_BASE ^ size }
+    ensures { result ≡ slice_index (digits size value) place }
+{
+    (value >> (SHORT_BITS * (size - place - 1))) % SHORT_BASE
+}
+
+/// The digits with that of a place and the next one in each other's place.
+pub(crate) fn swapped(value: u64, place: u32, size: u32) -> u64
+    requires place { place + 1 < size }
+    requires most { size ≤ MAX_SHORT_SIZE }
+    requires value { value < SHORT_BASE ^ size }
+    ensures { result ≡ short_number (swap (digits size value) place (place + 1)) }
+{
+    let near = nth_digit(value, place, size);
+    let far = nth_digit(value, place + 1, size);
+    let behind = SHORT_BITS * (size - place - 2);
+    value + ((far * SHORT_BASE + near) << behind) - ((near * SHORT_BASE + far) << behind)
+}
+
+/// Each digit after two neighbouring rows have exchanged their numbers: as a digit, what it is when lifted at the first of them, and what
+/// it is when lifted behind both, together are the new digit and twice what it is when lifted at the second.
+pub(crate) fn exchanged(value: u64, row: u64, size: u32) -> u64
+    requires most { size < MAX_SHORT_SIZE }
+    requires value { value < SHORT_BASE ^ size }
+    requires row { row + 1 < size }
+    requires inside { All (λ r. r < size) (digits size value) }
+    ensures { result ≡ short_number (map (exchanged row) (digits size value)) }
+{
+    let both = lifted(value, row, size) + lifted(value, row + 2, size);
+    value + both - 2 * lifted(value, row + 1, size)
 }

@@ -7,7 +7,7 @@ ghost use Rattle.std.proofs.Common.{rules};
 ghost use Rattle.grid_core.specs.declared.grid.TheConstants.{MAX_SIZE};
 ghost use Rattle.grid_core.specs.Diagram.{Diagram, IsGrid};
 ghost use Rattle.grid_canon.specs.Translation.{translate};
-ghost use Rattle.grid_canon.specs.Key.{number, filled, words_of, key_of, size_of, compare_keys, mixed, more_hashed, added, checksum_after, digit_at};
+ghost use Rattle.grid_canon.specs.Key.{number, filled, words_of, key_of, size_of, IsKeyOf, compare_keys, mixed, more_hashed, added, checksum_after, digit_at};
 
 use crate::translation::translated_rows;
 use arrayvec::ArrayVec;
@@ -136,6 +136,14 @@ pub fn unpack(key: Packed) -> Option<Grid>
         Ok(grid) => if_key(grid, key),
         Err(_) => None,
     }
+}
+
+/// The grid that has this key, which must be that of a grid: `unpack` is the test. Takes no memory.
+pub fn grid_of(key: Packed) -> Grid
+    requires { (d : Diagram) × IsKeyOf key d }
+    ensures { (d : Diagram) → IsKeyOf key d → result ≡ d }
+{
+    Grid::of_rows(rows_of_key(&key.x, key.size), rows_of_key(&key.o, key.size))
 }
 
 /// The grid where it has this key.

@@ -16,7 +16,7 @@ mod translation;
 
 pub use canonical_form::{LeastForm, LeastKey, canonical, canonical_key};
 pub use digits::MAX_SHORT_SIZE;
-pub use key::{BASE, Packed, WORD_COLUMNS, WORDS, compare_keys, pack, unpack};
+pub use key::{BASE, Packed, WORD_COLUMNS, WORDS, compare_keys, grid_of, pack, unpack};
 pub use shifts::{push_shifts, push_shifts_back};
 pub use short_grid::ShortGrid;
 pub use tidying::tidy;

@@ -1,8 +1,10 @@
 //! Short grids: the rows of at most `MAX_SHORT_SIZE` columns as the digits of two numbers.
-ghost use Rattle.std.specs.Prelude.{◌≡◌, ◌<◌, ◌≤◌, ◌↔◌, slice_index, nat_lt, IsTrue};
+ghost use Rattle.std.specs.Prelude.{◌≡◌, ◌<◌, ◌≤◌, ◌+◌, ◌↔◌, slice_index, nat_lt, IsTrue};
 ghost use Rattle.std.specs.declared.cmp.Ordering.TheVariants.{Less};
 ghost use Rattle.grid_core.specs.Diagram.{IsGrid, size};
 ghost use Rattle.grid_moves.specs.Widening.{widened};
+ghost use Rattle.grid_moves.specs.Exchanged.{columns_exchanged, rows_exchanged};
+ghost use Rattle.grid_canon.specs.Translation.{translate};
 ghost use Rattle.grid_canon.specs.Digits.{short_number};
 ghost use Rattle.grid_canon.specs.Order.{compare};
 ghost use Rattle.grid_canon.specs.Cornered.{cornered, IsFirstLeast, IsCornered, AreLowColumns};
@@ -10,8 +12,8 @@ ghost use Rattle.grid_canon.specs.CanonicalForm.{IsLeastKey};
 
 use crate::canonical_form::LeastKey;
 use crate::digits::{
-    GUARD, MAX_SHORT_SIZE, SHORT_BITS, cut, digits_behind, first_digit, lifted, low_digits,
-    lowered, lowered_each, number_of, with_digit,
+    GUARD, MAX_SHORT_SIZE, SHORT_BITS, cut, digits_behind, exchanged, first_digit, lifted,
+    low_digits, lowered, lowered_each, number_of, swapped, with_digit,
 };
 use crate::key::Packed;
 use crate::spread::short_words;
@@ -71,6 +73,51 @@ impl ShortGrid {
             size: size + 1,
             crosses: with_digit(crosses, row, u32::from(widening.crosses), size),
             rings: with_digit(rings, row, u32::from(widening.rings), size),
+        }
+    }
+
+    /// The translate after both shifts, as `translate` makes it of a grid. Takes no memory.
+    pub fn translated(&self, columns: u8, rows: u8) -> ShortGrid
+        requires columns { columns < size self.now }
+        requires rows { rows < size self.now }
+        ensures { result ≡ translate self.now columns rows }
+    {
+        let size = self.size;
+        let place = u32::from(columns);
+        let by = u64::from(rows);
+        ShortGrid {
+            size,
+            crosses: lowered(cut(self.crosses, place, size), by, size),
+            rings: lowered(cut(self.rings, place, size), by, size),
+        }
+    }
+
+    /// The grid with a column and the next one in each other's place, whether or not it is a move. Takes no memory.
+    pub fn with_columns_exchanged(&self, column: u8) -> ShortGrid
+        requires { column + 1 < size self.now }
+        ensures { result ≡ columns_exchanged column self.now }
+    {
+        let size = self.size;
+        let place = u32::from(column);
+        ShortGrid {
+            size,
+            crosses: swapped(self.crosses, place, size),
+            rings: swapped(self.rings, place, size),
+        }
+    }
+
+    /// The grid with a row and the next one in each other's place, whether or not it is a move. Takes no memory.
+    pub fn with_rows_exchanged(&self, row: u8) -> ShortGrid
+        requires short { size self.now < MAX_SHORT_SIZE }
+        requires row { row + 1 < size self.now }
+        ensures { result ≡ rows_exchanged row self.now }
+    {
+        let size = self.size;
+        let first = u64::from(row);
+        ShortGrid {
+            size,
+            crosses: exchanged(self.crosses, first, size),
+            rings: exchanged(self.rings, first, size),
         }
     }
 

@@ -4,7 +4,7 @@ ghost use Rattle.grid_canon.specs.declared.key.TheConstants.{WORDS};
 
 use crate::{
     LeastForm, LeastKey, Packed, ShortGrid, WORD_COLUMNS, WORDS, canonical, canonical_key,
-    compare_keys, pack, tidy, translate, unpack,
+    compare_keys, grid_of, pack, tidy, translate, unpack,
 };
 use grid_core::{Corner, Grid, Kind, MAX_SIZE};
 use grid_moves::{Move, Widening, apply_all, widening_of};
@@ -190,6 +190,44 @@ fn a_wider_short_grid_has_the_key_of_its_rows(rt: HostRuntime) -> Result<(), Fai
     assert_eq!(rt; widening, expected);
     let wider = ShortGrid::of(&unknot).widened(widening);
     assert_eq!(rt; wider.canonical_key(), canonical_key(&grid));
+    Ok(())
+}
+
+/// The key of a grid names it.
+fn is_named(grid: &Grid) -> bool {
+    let _size = grid.size();
+    grid_of(pack(grid)).same_as(grid)
+}
+
+#[test]
+fn a_short_grid_is_moved_as_its_rows(rt: HostRuntime) -> Result<(), Fail> {
+    let Ok(trefoil) = Grid::new(&[4, 3, 2, 1, 0], &[2, 1, 0, 4, 3]) else {
+        return Err(Fail::from("no grid"));
+    };
+    // The rows of its Xs and of its Os after a shift of one column and two rows, with columns 1 and 2 in each other's place, and with rows 2 and 3.
+    let Ok(shifted) = Grid::new(&[1, 0, 4, 3, 2], &[4, 3, 2, 1, 0]) else {
+        return Err(Fail::from("no translate"));
+    };
+    let Ok(by_columns) = Grid::new(&[4, 2, 3, 1, 0], &[2, 0, 1, 4, 3]) else {
+        return Err(Fail::from("no grid of exchanged columns"));
+    };
+    let Ok(by_rows) = Grid::new(&[4, 2, 3, 1, 0], &[3, 1, 0, 4, 2]) else {
+        return Err(Fail::from("no grid of exchanged rows"));
+    };
+    let short = ShortGrid::of(&trefoil);
+    assert_eq!(rt;
+        short.translated(1, 2).canonical_key(),
+        canonical_key(&shifted)
+    );
+    assert_eq!(rt;
+        short.with_columns_exchanged(1).canonical_key(),
+        canonical_key(&by_columns)
+    );
+    assert_eq!(rt;
+        short.with_rows_exchanged(2).canonical_key(),
+        canonical_key(&by_rows)
+    );
+    assert!(rt; is_named(&trefoil));
     Ok(())
 }
 

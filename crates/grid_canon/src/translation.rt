@@ -8,6 +8,7 @@ ghost use Rattle.grid_canon.specs.Translation.{translated_rows, translate};
 
 use arrayvec::ArrayVec;
 use grid_core::{Grid, Kind, Rows};
+use grid_moves::number_after_shift;
 
 /// The grid after the shift of columns by `columns` and the shift of rows by `rows`, each from 0 to n - 1, where 0 means none.
 /// Takes no memory.
@@ -47,7 +48,7 @@ fn push_lowered(list: &mut Rows, rows: &[u8], by: u8, size: u8)
     ensures { list.new.items ≡ list.old.items ++ map (shifted size by) rows.now }
 {
     for row in rows {
-        list.push(lowered(*row, by, size));
+        list.push(number_after_shift(*row, by, size));
     }
 }
 
@@ -76,24 +77,11 @@ fn lower_all(rows: &mut [u8], by: u8, size: u8)
     ensures { rows.new ≡ map (shifted size by) rows.old }
 {
     for place in 0..rows.len() {
-        rows[place] = lowered(rows[place], by, size);
+        rows[place] = number_after_shift(rows[place], by, size);
     }
 }
 
-/// The new number of a row, of as many as the size, when the lowest `by` go to the top.
-pub(crate) fn lowered(row: u8, by: u8, size: u8) -> u8
-    requires by { by < size }
-    requires inside { row < size }
-    ensures { result ≡ shifted size by row }
-{
-    if row < by {
-        row + (size - by)
-    } else {
-        row - by
-    }
-}
-
-/// `lowered` for wide numbers, in a form of which the compiler makes short code with no branch: below 0 a number goes round to the
+/// `number_after_shift` of grid_moves for wide numbers, in a form of which the compiler makes short code with no branch: below 0 a number goes round to the
 /// greatest ones, so of the difference and the difference one size higher the right one is the less.
 pub(crate) fn lowered_wide(row: u64, by: u64, size: u64) -> u64
     requires size { size ≤ MAX_SIZE }

@@ -6,8 +6,8 @@ use Rattle.grid_moves.specs.Shift.{shifted}
 use Rattle.grid_moves.proofs.InPlace.{still_there}
 use Rattle.grid_canon.proofs.translation.lower_all.Goals as goal
 
-pub lowered-requires-clause-inside : goal.lowered-requires-clause-inside
-lowered-requires-clause-inside c =
+pub number_after_shift-requires-clause-inside : goal.number_after_shift-requires-clause-inside
+number_after_shift-requires-clause-inside c =
     subst (λ (z : ℕ). z < c.args.size)
     (sym (still_there (shifted c.args.size c.args.by) c.args.rows.now c.loop-place.rows c.loop-place.place (omega arith) c.loop-place.invariant))
     (c.requires.inside c.loop-place.place 0 (omega arith))
@@ -18,6 +18,6 @@ loop-place-preserved c =
     let ys = c.loop-place.rows in
     let i = c.loop-place.place in
     let x = slice_index ys i in
-    ap (set ys i) c.lowered.ensures
+    ap (set ys i) c.number_after_shift.ensures
     ∙ map_over_more (shifted c.args.size c.args.by) xs ys i x (omega arith) c.loop-place.invariant
     (get_or_default ys i 0 x (omega (arith, c.loop-place.auto.rows)))
