@@ -7,6 +7,7 @@ pub mod FewRows
 pub mod Circle
 pub mod Rounds
 pub mod TranslatedMoves
+pub mod Traded
 pub mod TranslatedBlocks
 pub mod MovesOnTranslates
 pub mod Members

@@ -1,9 +1,8 @@
 -- A list of offers in the making; only private clauses and proofs cite this file.
-use Rattle.std.specs.Prelude.{◌≡◌, ◌<◌, ◌+◌, ◌==◌, ◌++◌, ◌∷◌, [], ℕ, List, Option, IfSome, if◌then◌else◌, nat_lt}
+use Rattle.std.specs.Prelude.{◌≡◌, ◌<◌, ◌≤◌, ◌+◌, ◌==◌, ◌++◌, ◌∷◌, [], ℕ, List, Option, IfSome, if◌then◌else◌, nat_lt}
 use Rattle.grid_core.specs.declared.mark.Kind.TheVariants.{Cross, Ring}
 use Rattle.grid_core.specs.Diagram.{Diagram, size, row_of}
 use Rattle.grid_canon.specs.declared.digits.TheConstants.{MAX_SHORT_SIZE}
-use Rattle.grid_canon.specs.Translation.{translate}
 use Rattle.next_moves.specs.declared.links.Offer.{Offer}
 use Rattle.next_moves.specs.Tries.{Try}
 use Rattle.next_moves.specs.Offers.{AreOffersOf}
@@ -23,12 +22,9 @@ pub record Tried : Type 0 where
   pub diagram : Diagram
   pub cap : ℕ
 
--- what the tries on d share: its translates by 1, and d again as a short grid that has room for one more column, where there is one
-pub record IsPrepared (d by_column by_row by_both : Diagram) (again : Option Diagram) : Type 0 where
-  pub column : by_column ≡ translate d 1 0
-  pub row : by_row ≡ translate d 0 1
-  pub both : by_both ≡ translate d 1 1
-  pub short : IfSome again (λ s. (s ≡ d) × (size d < MAX_SHORT_SIZE))
+-- what the tries on d within the cap share: d again as a short grid that has room for one more column, where there is one
+pub record IsPrepared (d : Diagram) (cap : ℕ) (again : Option Diagram) : Type 0 where
+  pub short : IfSome again (λ s. (s ≡ d) × (size d < MAX_SHORT_SIZE) × (size d ≤ cap))
 
 -- the next number, round the circle of n
 abbrev pub next : ℕ → ℕ → ℕ

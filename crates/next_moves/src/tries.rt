@@ -4,9 +4,11 @@ ghost use Rattle.std.specs.List.{range_with_len, flat_map};
 ghost use Rattle.grid_core.specs.Corners.{corners};
 ghost use Rattle.grid_core.specs.Diagram.{IsGrid, size};
 ghost use Rattle.grid_core.specs.Parts.{column_lows, column_highs, row_lows, row_highs};
+ghost use Rattle.grid_moves.specs.Step.{Step};
+ghost use Rattle.grid_moves.specs.Exchanged.{columns_exchanged, rows_exchanged};
 ghost use Rattle.grid_canon.specs.Translation.{translate};
 ghost use Rattle.next_moves.specs.declared.offers.TheConstants.{MAX_OFFERS};
-ghost use Rattle.next_moves.specs.Tries.{column_exchange, row_exchange, column_trades, row_trades, destabilisation, destabilisations, stabilisations, stabilisation};
+ghost use Rattle.next_moves.specs.Tries.{column_exchange, column_slide, row_exchange, row_slide, column_trades, row_trades, destabilisation, destabilisations, stabilisations, stabilisation};
 ghost use Rattle.next_moves.specs.Offers.{is_legal};
 ghost use Rattle.lane_spans.specs.Columns.{has_bit, trades};
 ghost use Rattle.next_moves.specs.Extends.{Extends, row_of_both, if_below};
@@ -21,15 +23,12 @@ use grid_moves::{Move, apply_in_place, widening_of};
 use lane_spans::has_bit;
 use std::marker::Model;
 
-/// A grid that is tried within a cap, with all that the tries share: its translates by 1, and its short grid where one more column is
-/// within the cap and a short grid has room for it. Contracts see the grid and the cap.
+/// A grid that is tried within a cap, and once more as a short grid where it is within the cap and a short grid has room for one more
+/// column. Contracts see the grid and the cap.
 #[derive(Drop)]
 pub(crate) struct Tries<'a> {
     grid: &'a Grid,
     cap: u8,
-    by_column: Grid,
-    by_row: Grid,
-    by_both: Grid,
     short: Option<ShortGrid>,
 }
 
@@ -40,7 +39,7 @@ impl<'a> Model for Tries<'a> {
 
     ghost view = { λ t. record { diagram = t.grid.now; cap = t.cap } };
 
-    ghost invariant = { λ t. IsPrepared t.grid.now t.by_column t.by_row t.by_both t.short };
+    ghost invariant = { λ t. IsPrepared t.grid.now t.cap t.short };
 }
 
 impl<'a> Tries<'a> {
@@ -48,13 +47,9 @@ impl<'a> Tries<'a> {
     pub(crate) fn on(grid: &'a Grid, cap: u8) -> Tries<'a>
         ensures { result ≡ record { diagram = grid.now; cap = cap } }
     {
-        let _size = grid.size();
         Tries {
             grid,
             cap,
-            by_column: translate(grid, 1, 0),
-            by_row: translate(grid, 0, 1),
-            by_both: translate(grid, 1, 1),
             short: short_of(grid, cap),
         }
     }
@@ -76,7 +71,7 @@ impl<'a> Tries<'a> {
 
     /// The short grid, where there is one.
     fn short(&self) -> &Option<ShortGrid>
-        ensures { IfSome result.now (λ s. (s ≡ self.now.diagram) × (size self.now.diagram < MAX_SHORT_SIZE)) }
+        ensures { IfSome result.now (λ s. (s ≡ self.now.diagram) × (size self.now.diagram < MAX_SHORT_SIZE) × (size self.now.diagram ≤ self.now.cap)) }
     {
         &self.short
     }
@@ -89,22 +84,16 @@ impl<'a> Tries<'a> {
     }
 
     /// The translate by these shifts, each of which is none or by 1.
-    fn translated(&self, before: (u8, u8)) -> &Grid
+    fn translated(&self, before: (u8, u8)) -> Grid
         requires columns { before.0 ≤ 1 }
         requires rows { before.1 ≤ 1 }
-        ensures { result.now ≡ translate self.now.diagram before.0 before.1 }
+        ensures { result ≡ translate self.now.diagram before.0 before.1 }
     {
         let _size = self.grid.size();
-        if before.0 == 0 {
-            if before.1 == 0 {
-                self.grid
-            } else {
-                &self.by_row
-            }
-        } else if before.1 == 0 {
-            &self.by_column
+        if before.0 == 0 && before.1 == 0 {
+            self.grid.copy()
         } else {
-            &self.by_both
+            translate(self.grid, before.0, before.1)
         }
     }
 
@@ -117,7 +106,7 @@ impl<'a> Tries<'a> {
         ensures fits { length list.new.items ≤ length list.old.items + 1 }
     {
         let _size = self.size();
-        let mut moved = self.translated(before).copy();
+        let mut moved = self.translated(before);
         match apply_in_place(&mut moved, step) {
             Ok(()) => {
                 if moved.size() <= self.cap() {
@@ -126,6 +115,20 @@ impl<'a> Tries<'a> {
             }
             Err(_) => {}
         }
+    }
+
+    /// Appends the offer of one move on a translate, by the short grid to which it leads.
+    fn push_moved(&self, list: &mut OfferList, moved: &ShortGrid, before: (u8, u8), step: Move)
+        requires columns { before.0 ≤ 1 }
+        requires rows { before.1 ≤ 1 }
+        requires step { Step (translate self.now.diagram before.0 before.1) step moved.now }
+        requires cap { size moved.now ≤ self.now.cap }
+        requires room { length list.old.items < MAX_OFFERS }
+        ensures offered { Extends self.now.diagram self.now.cap (record { before = before; step = step } ∷ []) list.old.items list.new.items }
+        ensures fits { length list.new.items ≤ length list.old.items + 1 }
+    {
+        let _size = self.size();
+        list.push(offer_of(moved.canonical_key(), before, step));
     }
 
     /// Appends the exchanges and slides of neighbouring columns.
@@ -170,19 +173,42 @@ impl<'a> Tries<'a> {
         ensures fits { length list.new.items ≤ length list.old.items + 1 }
     {
         let by = shift_before(c, self.size());
-        self.try_move(list, (by, 0), Move::ExchangeColumns(c - by));
+        let place = c - by;
+        self.push_columns_exchanged(list, by, place, Move::ExchangeColumns(place));
     }
 
-    /// Appends the slide of a column and the next one, whose exchange is not legal.
+    /// Appends the slide of a column and the next one, which is legal.
     fn slide_columns(&self, list: &mut OfferList, c: u8)
         requires column { c < size self.now.diagram }
         requires no_exchange { is_legal self.now.diagram (column_exchange (size self.now.diagram) c) ≡ false }
+        requires legal { is_legal self.now.diagram (column_slide (size self.now.diagram) c) ≡ true }
         requires room { length list.old.items < MAX_OFFERS }
         ensures offered { Extends self.now.diagram self.now.cap (column_trades (size self.now.diagram) c) list.old.items list.new.items }
         ensures fits { length list.new.items ≤ length list.old.items + 1 }
     {
         let by = shift_before(c, self.size());
-        self.try_move(list, (by, 0), Move::SlideColumns(c - by));
+        let place = c - by;
+        self.push_columns_exchanged(list, by, place, Move::SlideColumns(place));
+    }
+
+    /// Appends the offer of a legal move by which two columns that stand side by side, after a shift by none or by 1, trade places: made on the
+    /// short grid, where there is one.
+    fn push_columns_exchanged(&self, list: &mut OfferList, by: u8, place: u8, step: Move)
+        requires by { by ≤ 1 }
+        requires place { place + 1 < size self.now.diagram }
+        requires step { Step (translate self.now.diagram by 0) step (columns_exchanged place (translate self.now.diagram by 0)) }
+        requires room { length list.old.items < MAX_OFFERS }
+        ensures offered { Extends self.now.diagram self.now.cap (record { before = (by, 0); step = step } ∷ []) list.old.items list.new.items }
+        ensures fits { length list.new.items ≤ length list.old.items + 1 }
+    {
+        let _size = self.size();
+        match self.short() {
+            Some(short) => {
+                let moved = short.translated(by, 0).with_columns_exchanged(place);
+                self.push_moved(list, &moved, (by, 0), step);
+            }
+            None => self.try_move(list, (by, 0), step),
+        }
     }
 
     /// Appends the exchanges and slides of neighbouring rows.
@@ -227,19 +253,42 @@ impl<'a> Tries<'a> {
         ensures fits { length list.new.items ≤ length list.old.items + 1 }
     {
         let by = shift_before(r, self.size());
-        self.try_move(list, (0, by), Move::ExchangeRows(r - by));
+        let place = r - by;
+        self.push_rows_exchanged(list, by, place, Move::ExchangeRows(place));
     }
 
-    /// Appends the slide of a row and the next one, whose exchange is not legal.
+    /// Appends the slide of a row and the next one, which is legal.
     fn slide_rows(&self, list: &mut OfferList, r: u8)
         requires row { r < size self.now.diagram }
         requires no_exchange { is_legal self.now.diagram (row_exchange (size self.now.diagram) r) ≡ false }
+        requires legal { is_legal self.now.diagram (row_slide (size self.now.diagram) r) ≡ true }
         requires room { length list.old.items < MAX_OFFERS }
         ensures offered { Extends self.now.diagram self.now.cap (row_trades (size self.now.diagram) r) list.old.items list.new.items }
         ensures fits { length list.new.items ≤ length list.old.items + 1 }
     {
         let by = shift_before(r, self.size());
-        self.try_move(list, (0, by), Move::SlideRows(r - by));
+        let place = r - by;
+        self.push_rows_exchanged(list, by, place, Move::SlideRows(place));
+    }
+
+    /// Appends the offer of a legal move by which two rows that stand side by side, after a shift by none or by 1, trade places: made on the
+    /// short grid, where there is one.
+    fn push_rows_exchanged(&self, list: &mut OfferList, by: u8, place: u8, step: Move)
+        requires by { by ≤ 1 }
+        requires place { place + 1 < size self.now.diagram }
+        requires step { Step (translate self.now.diagram 0 by) step (rows_exchanged place (translate self.now.diagram 0 by)) }
+        requires room { length list.old.items < MAX_OFFERS }
+        ensures offered { Extends self.now.diagram self.now.cap (record { before = (0, by); step = step } ∷ []) list.old.items list.new.items }
+        ensures fits { length list.new.items ≤ length list.old.items + 1 }
+    {
+        let _size = self.size();
+        match self.short() {
+            Some(short) => {
+                let moved = short.translated(0, by).with_rows_exchanged(place);
+                self.push_moved(list, &moved, (0, by), step);
+            }
+            None => self.try_move(list, (0, by), step),
+        }
     }
 
     /// Appends the destabilisations, by column and then by row.
@@ -361,8 +410,7 @@ impl<'a> Tries<'a> {
     {
         let _size = self.size();
         let widening = widening_of(self.grid(), at.column, at.kind, at.corner);
-        let found = short.widened(widening).canonical_key();
-        list.push(offer_of(found, (0, 0), at.step()));
+        self.push_moved(list, &short.widened(widening), (0, 0), at.step());
     }
 }
 
@@ -420,12 +468,12 @@ impl Stabilisation {
     }
 }
 
-/// The grid as a short one, where one more column is within the cap and a short one has room for it.
+/// The grid as a short one, where it is within the cap and a short one has room for one more column.
 fn short_of(grid: &Grid, cap: u8) -> Option<ShortGrid>
-    ensures { IfSome result (λ s. (s ≡ grid.now) × (size grid.now < MAX_SHORT_SIZE)) }
+    ensures { IfSome result (λ s. (s ≡ grid.now) × (size grid.now < MAX_SHORT_SIZE) × (size grid.now ≤ cap)) }
 {
     let size = grid.size();
-    if size < cap && (size as usize) < MAX_SHORT_SIZE {
+    if size <= cap && (size as usize) < MAX_SHORT_SIZE {
         Some(ShortGrid::of(grid))
     } else {
         None

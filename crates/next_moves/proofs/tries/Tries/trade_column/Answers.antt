@@ -28,6 +28,14 @@ slide_columns-requires-clause-no_exchange c =
     sym (column_trades_by_lanes c.args.self.now.diagram c.args.c c.size-size.ensures.grid c.requires.column)
     ∙ sym c.requires.exchanges ∙ sym c.has_bit.ensures ∙ c.if-has_bit.false
 
+pub slide_columns-requires-clause-legal : goal.slide_columns-requires-clause-legal
+slide_columns-requires-clause-legal c =
+    let d = c.args.self.now.diagram in
+    column_slides d c.args.c c.size-size.ensures.grid c.requires.column
+    ∙ sym (columns_touch d c.args.c c.size-size.result c.args.spans.now.lows.items c.args.spans.now.highs.items c.size-size.ensures.size c.requires.lows
+    c.requires.highs c.requires.column)
+    ∙ sym c.touch_once.ensures ∙ c.if-touch_once.true
+
 pub returns-else-touch_once-clause-offered : goal.returns-else-touch_once-clause-offered
 returns-else-touch_once-clause-offered c =
     let d = c.args.self.now.diagram in

@@ -28,6 +28,14 @@ slide_rows-requires-clause-no_exchange c =
     sym (row_trades_by_lanes c.args.self.now.diagram c.args.r c.size-size.ensures.grid c.requires.row)
     ∙ sym c.requires.exchanges ∙ sym c.has_bit.ensures ∙ c.if-has_bit.false
 
+pub slide_rows-requires-clause-legal : goal.slide_rows-requires-clause-legal
+slide_rows-requires-clause-legal c =
+    let d = c.args.self.now.diagram in
+    row_slides d c.args.r c.size-size.ensures.grid c.requires.row
+    ∙ sym (rows_touch d c.args.r c.size-size.result c.args.spans.now.lows.items c.args.spans.now.highs.items c.size-size.ensures.size c.requires.lows
+    c.requires.highs c.requires.row)
+    ∙ sym c.touch_once.ensures ∙ c.if-touch_once.true
+
 pub returns-else-touch_once-clause-offered : goal.returns-else-touch_once-clause-offered
 returns-else-touch_once-clause-offered c =
     let d = c.args.self.now.diagram in

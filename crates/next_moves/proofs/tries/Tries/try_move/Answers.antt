@@ -7,8 +7,8 @@ use Rattle.next_moves.proofs.tries.Tries.try_move.Goals as goal
 
 pub returns-in-Err-clause-offered : goal.returns-in-Err-clause-offered
 returns-in-Err-clause-offered c =
-    extends_illegal c.args.self.now.diagram c.copy-moved.result c.args.self.now.cap _ c.in-Err.field-0 c.args.list.now.items
-    c.args.list.now.items (c.copy-moved.ensures ∙ c.translated.ensures) c.in-Err.ensures.fault refl
+    extends_illegal c.args.self.now.diagram c.translated-moved.result c.args.self.now.cap _ c.in-Err.field-0 c.args.list.now.items
+    c.args.list.now.items c.translated-moved.ensures c.in-Err.ensures.fault refl
 
 pub returns-then-size-cap-clause-offered : goal.returns-then-size-cap-clause-offered
 returns-then-size-cap-clause-offered c =
@@ -18,14 +18,14 @@ returns-then-size-cap-clause-offered c =
     let made = c.offer_of.ensures in
     let key = found.key ∙ sym (ap (λ (o : Offer). o.key) made) in
     let within = c.size-size.ensures.grid.least in
-    extends_legal d c.copy-moved.result c.apply_in_place.new.grid c.args.self.now.cap (record { before = c.args.before; step = c.args.step })
+    extends_legal d c.translated-moved.result c.apply_in_place.new.grid c.args.self.now.cap (record { before = c.args.before; step = c.args.step })
     c.offer_of.result form c.args.list.now.items c.push.new.self.items (omega (arith, c.requires.columns, within))
-    (omega (arith, c.requires.rows, within)) (c.copy-moved.ensures ∙ c.translated.ensures) c.in-Ok.ensures.moved
+    (omega (arith, c.requires.rows, within)) c.translated-moved.ensures c.in-Ok.ensures.moved
     (omega (arith, c.size.ensures.size, c.if-size-cap.true, c.cap.ensures)) found.least key (ap (λ (o : Offer). try_of o) made)
     (ap (λ (o : Offer). o.link.after) made) c.push.ensures.items
 
 pub returns-else-size-cap-clause-offered : goal.returns-else-size-cap-clause-offered
 returns-else-size-cap-clause-offered c =
-    extends_large c.args.self.now.diagram c.copy-moved.result c.apply_in_place.new.grid c.args.self.now.cap _ c.args.list.now.items
-    c.args.list.now.items (omega (arith, c.requires.columns, c.size-size.ensures.grid.least)) (c.copy-moved.ensures ∙ c.translated.ensures) c.in-Ok.ensures.moved
+    extends_large c.args.self.now.diagram c.translated-moved.result c.apply_in_place.new.grid c.args.self.now.cap _ c.args.list.now.items
+    c.args.list.now.items (omega (arith, c.requires.columns, c.size-size.ensures.grid.least)) c.translated-moved.ensures c.in-Ok.ensures.moved
     (omega (arith, c.size.ensures.size, c.if-size-cap.false, c.cap.ensures)) refl
