@@ -9,12 +9,12 @@ use Rattle.std.proofs.Math.Seq.{take-append_seam}
 use Rattle.grid_core.specs.Diagram.{Diagram, IsGrid, size}
 use Rattle.grid_canon.specs.declared.key.Packed.{Packed}
 use Rattle.grid_canon.specs.CanonicalForm.{IsCanonicalForm}
-use Rattle.grid_canon.specs.Key.{key_of}
+use Rattle.grid_canon.specs.Key.{key_of, IsKeyOf}
 use Rattle.next_moves.specs.declared.links.Offer.{Offer}
 use Rattle.next_moves.specs.Tries.{is_exchange}
 use Rattle.next_moves.specs.Offers.{IsOfferList, exchanges_among}
 use Rattle.mono_simplify.specs.ExchangeClass.{IsIrreducible}
-use Rattle.mono_simplify.specs.Listing.{has_key, with_keys, IsKeyOf, IsExchangeList, Grows, IsListed, IsListing, NoTranslateDestabilises, HasAtMost, HasMoreAndNoneSmaller}
+use Rattle.mono_simplify.specs.Listing.{has_key, with_keys, IsExchangeList, Grows, IsListed, IsListing, NoTranslateDestabilises, HasAtMost, HasMoreAndNoneSmaller}
 use Rattle.mono_simplify.specs.Ways.{IsExplored}
 use Rattle.mono_simplify.proofs.Keys.{begun, more_new}
 use Rattle.mono_simplify.proofs.Listed.{IsMember, listed_members}

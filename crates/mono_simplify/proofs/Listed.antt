@@ -14,7 +14,7 @@ use Rattle.grid_canon.specs.declared.key.Packed.{Packed}
 use Rattle.grid_canon.specs.Shifts.{column_shift, row_shift, shift_moves}
 use Rattle.grid_canon.specs.Translation.{translates}
 use Rattle.grid_canon.specs.CanonicalForm.{IsCanonicalForm, IsCanonical}
-use Rattle.grid_canon.specs.Key.{key_of}
+use Rattle.grid_canon.specs.Key.{key_of, IsKeyOf}
 use Rattle.grid_canon.proofs.Keys.{key_once}
 use Rattle.grid_canon.proofs.Joined.{shifts_joined}
 use Rattle.grid_canon.proofs.LeastTranslates.{shifts_of}
@@ -25,7 +25,7 @@ use Rattle.next_moves.specs.Offers.{Leads}
 use Rattle.next_moves.specs.Links.{link_moves}
 use Rattle.next_moves.proofs.Linked.{link_joined}
 use Rattle.mono_simplify.specs.ExchangeClass.{is_shift_or_exchange, JoinedByExchanges}
-use Rattle.mono_simplify.specs.Listing.{IsExchangeList, IsKeyOf, Grows, IsListed}
+use Rattle.mono_simplify.specs.Listing.{IsExchangeList, Grows, IsListed}
 use Rattle.mono_simplify.proofs.Moved.{exchange_led}
 use Rattle.mono_simplify.proofs.Keys.{grown}
 

@@ -11,7 +11,7 @@ use Rattle.grid_moves.proofs.OneResult.{step_exists, step_legal}
 use Rattle.grid_canon.specs.declared.key.Packed.{Packed}
 use Rattle.grid_canon.specs.Translation.{translate, translates}
 use Rattle.grid_canon.specs.CanonicalForm.{IsCanonicalForm}
-use Rattle.grid_canon.specs.Key.{key_of}
+use Rattle.grid_canon.specs.Key.{key_of, IsKeyOf}
 use Rattle.grid_canon.proofs.Keys.{key_once}
 use Rattle.grid_canon.proofs.LeastTranslates.{shifts_of, translates_contains, map_contains}
 use Rattle.grid_canon.proofs.CanonicalForms.{translated_grid, translated_size, canonical_of_translate, canonical_exists, canonical_grid}
@@ -29,7 +29,7 @@ use Rattle.next_moves.proofs.Complete.{neighbour_offered, led_by, ranged}
 use Rattle.next_moves.proofs.Exchanges.{exchanges_of_tries}
 use Rattle.mono_simplify.specs.ExchangeClass.{is_shift_or_exchange, MayDestabilise}
 use Rattle.mono_simplify.specs.Simplified.{is_destabilisation}
-use Rattle.mono_simplify.specs.Listing.{IsExchangeList, IsKeyOf, NoTranslateDestabilises}
+use Rattle.mono_simplify.specs.Listing.{IsExchangeList, NoTranslateDestabilises}
 
 -- a move that neither shifts nor changes the size
 abbrev pub IsExchange : Move → Type 0

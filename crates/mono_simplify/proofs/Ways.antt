@@ -14,7 +14,7 @@ use Rattle.grid_canon.specs.declared.key.Packed.{Packed}
 use Rattle.grid_canon.specs.declared.canonical_form.LeastForm.{LeastForm}
 use Rattle.grid_canon.specs.Shifts.{shift_moves}
 use Rattle.grid_canon.specs.CanonicalForm.{IsCanonicalForm, IsLeastForm}
-use Rattle.grid_canon.specs.Key.{key_of}
+use Rattle.grid_canon.specs.Key.{key_of, IsKeyOf}
 use Rattle.grid_canon.proofs.Keys.{key_once}
 use Rattle.grid_canon.proofs.Joined.{shifts_joined_within}
 use Rattle.grid_canon.proofs.CanonicalForms.{canonical_once, canonical_grid}
@@ -26,7 +26,7 @@ use Rattle.next_moves.proofs.Members.{contains_filter}
 use Rattle.next_moves.specs.Links.{link_moves}
 use Rattle.next_moves.proofs.Linked.{link_joined_within}
 use Rattle.mono_simplify.specs.declared.class.Origin.{Origin}
-use Rattle.mono_simplify.specs.Listing.{IsKeyOf, IsExchangeList, has_key, with_keys}
+use Rattle.mono_simplify.specs.Listing.{IsExchangeList, has_key, with_keys}
 use Rattle.mono_simplify.proofs.Keys.{more_new}
 use Rattle.mono_simplify.specs.Ways.{Member, keys_in, IsLinked, AreWays, IsOffered, Extends}
 use Rattle.mono_simplify.proofs.Moved.{exchange_led}

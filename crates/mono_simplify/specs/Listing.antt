@@ -2,11 +2,11 @@
 -- member in turn put the keys that are not in it yet.
 use Rattle.std.specs.Prelude.{◌≡◌, ◌<◌, ◌≤◌, ◌++◌, ℕ, zero, suc, Bool, List, [], ◌∷◌, length, fold, take, slice_get, Some, if◌then◌else◌}
 use Rattle.std.specs.List.{All, Contains, list_any}
-use Rattle.grid_core.specs.Diagram.{Diagram, IsGrid, size}
+use Rattle.grid_core.specs.Diagram.{Diagram, size}
 use Rattle.grid_canon.specs.declared.key.Packed.{Packed}
 use Rattle.grid_canon.specs.Translation.{translates}
 use Rattle.grid_canon.specs.CanonicalForm.{IsCanonicalForm}
-use Rattle.grid_canon.specs.Key.{key_of, same_key}
+use Rattle.grid_canon.specs.Key.{key_of, same_key, IsKeyOf}
 use Rattle.next_moves.specs.declared.links.Offer.{Offer}
 use Rattle.next_moves.specs.Tries.{exchanges}
 use Rattle.next_moves.specs.Offers.{AreOffersOf}
@@ -26,11 +26,6 @@ with_key keys key = if has_key keys key then keys else keys ++ key ∷ []
 -- the list with the keys of these offers, likewise, one after another
 abbrev pub with_keys : List Packed → List Offer → List Packed
 with_keys keys offers = fold (λ (known : List Packed) (offer : Offer). with_key known offer.key) keys offers
-
--- the key is that of the grid f
-pub record IsKeyOf (name : Packed) (f : Diagram) : Type 0 where
-  pub grid : IsGrid f
-  pub key : key_of f ≡ name
 
 -- the exchanges of the member at this place put their keys to the end
 pub record Grows (before : List Packed) (place : ℕ) (after : List Packed) : Type 0 where

@@ -4,7 +4,7 @@ use Rattle.std.specs.List.{All, Contains, list_any}
 use Rattle.grid_core.specs.Diagram.{Diagram, size}
 use Rattle.grid_canon.specs.declared.key.Packed.{Packed}
 use Rattle.grid_canon.specs.CanonicalForm.{IsCanonicalForm}
-use Rattle.grid_canon.specs.Key.{key_of}
+use Rattle.grid_canon.specs.Key.{key_of, IsKeyOf}
 use Rattle.next_moves.specs.declared.links.Offer.{Offer}
 use Rattle.next_moves.specs.Offers.{Leads}
 use Rattle.mono_simplify.specs.declared.class.Origin.{Origin}
@@ -13,7 +13,7 @@ use Rattle.mono_simplify.specs.declared.explore.Explored.TheVariants.{Smaller, W
 use Rattle.grid_moves.specs.Joining.{JoinsWithin}
 use Rattle.mono_simplify.specs.ExchangeClass.{is_shift_or_exchange, IsIrreducible}
 use Rattle.mono_simplify.specs.Simplified.{is_destabilisation, AreMonotonic}
-use Rattle.mono_simplify.specs.Listing.{IsKeyOf, IsListed, NoTranslateDestabilises, HasAtMost, HasMoreAndNoneSmaller}
+use Rattle.mono_simplify.specs.Listing.{IsListed, NoTranslateDestabilises, HasAtMost, HasMoreAndNoneSmaller}
 
 abbrev pub Member : Type 0
 Member = Packed × Origin

@@ -4,8 +4,8 @@ ghost use Rattle.std.specs.List.{Contains};
 ghost use Rattle.grid_core.specs.Diagram.{Diagram, size};
 ghost use Rattle.grid_moves.specs.Joining.{JoinsWithin};
 ghost use Rattle.grid_canon.specs.declared.key.Packed.{Packed};
+ghost use Rattle.grid_canon.specs.Key.{IsKeyOf};
 ghost use Rattle.next_moves.specs.Offers.{Leads};
-ghost use Rattle.mono_simplify.specs.Listing.{IsKeyOf};
 ghost use Rattle.mono_simplify.specs.Simplified.{is_monotonic, AreMonotonic};
 ghost use Rattle.mono_simplify.specs.Ways.{keys_in, AreWays};
 

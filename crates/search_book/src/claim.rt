@@ -7,7 +7,7 @@ ghost use Rattle.search_book.specs.Sound.{Names};
 
 use crate::answer::Ticket;
 use crate::entry::Entry;
-use grid_canon::{LeastForm, unpack};
+use grid_canon::{LeastForm, grid_of};
 
 /// The ticket of an entry, whose key names a diagram.
 pub fn ticket(entries: &[Entry], id: u32) -> Ticket
@@ -18,15 +18,12 @@ pub fn ticket(entries: &[Entry], id: u32) -> Ticket
     ensures columns { result.form.columns ≡ 0 }
     ensures rows { result.form.rows ≡ 0 }
 {
-    match unpack(entries[id as usize].key) {
-        Some(grid) => Ticket {
-            id,
-            form: LeastForm {
-                grid,
-                columns: 0,
-                rows: 0,
-            },
+    Ticket {
+        id,
+        form: LeastForm {
+            grid: grid_of(entries[id as usize].key),
+            columns: 0,
+            rows: 0,
         },
-        None => unreachable!(),
     }
 }
