@@ -6,6 +6,7 @@ pub mod Slide
 pub mod Different
 pub mod Stabilisation
 pub mod Widening
+pub mod Narrowing
 pub mod Destabilisation
 pub mod BlockMarks
 pub mod DoubleRows

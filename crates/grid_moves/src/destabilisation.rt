@@ -1,5 +1,5 @@
 //! Destabilisation: the row of a block that holds two marks is taken out, and with it a column for each kind.
-ghost use Rattle.std.specs.Prelude.{◌≡◌, ◌<◌, ◌≤◌, ◌+◌, ◌++◌, OnOk, OnErr, map, length};
+ghost use Rattle.std.specs.Prelude.{◌≡◌, ◌<◌, ◌≤◌, ◌+◌, ◌++◌, IfOk, OnOk, OnErr, map, length};
 ghost use Rattle.std.specs.List.{remove};
 ghost use Rattle.std.specs.Result.{result_err};
 ghost use Rattle.grid_core.specs.declared.grid.TheConstants.{MAX_SIZE};
@@ -7,6 +7,7 @@ ghost use Rattle.grid_core.specs.Diagram.{size, rows_of};
 ghost use Rattle.grid_core.specs.Places.{lowered};
 ghost use Rattle.grid_moves.specs.Destabilisation.{marks_in_block};
 ghost use Rattle.grid_moves.specs.BlockMarks.{is_block_row, block_kind, corner_is_right, corner_on, block_corner};
+ghost use Rattle.grid_moves.specs.Narrowing.{narrowed};
 ghost use Rattle.grid_moves.specs.DoubleRows.{double_row, column_in_double_row};
 ghost use Rattle.grid_moves.specs.Step.{Step};
 ghost use Rattle.grid_moves.specs.MoveFault.{first_fault};
@@ -21,6 +22,32 @@ pub(crate) fn destabilise(grid: &mut Grid, column: u8, row: u8) -> Result<(), Mo
     ensures moved { OnOk result (Step grid.old (Move.Destabilise column row) grid.new) }
     ensures kept { OnErr result (grid.new ≡ grid.old) }
 {
+    let narrowing = narrowing_of(grid, column, row)?;
+    let crosses = narrowed(grid, Kind::Cross, narrowing.crosses, narrowing.row);
+    let rings = narrowed(grid, Kind::Ring, narrowing.rings, narrowing.row);
+    grid.set_rows(crosses, rings);
+    Ok(())
+}
+
+/// What a destabilisation takes out of a grid of size n: one row, and of the marks of each kind the column whose mark stands in that row.
+#[derive(Clone, Copy, Debug, PartialEq, Eq)]
+pub struct Narrowing {
+    /// The row, from 0 to n - 1.
+    pub row: u8,
+    /// The column of its X, from 0 to n - 1.
+    pub crosses: u8,
+    /// The column of its O, from 0 to n - 1.
+    pub rings: u8,
+}
+
+/// What the destabilisation at a column and a row takes out of a grid, or the fault for which `apply` refuses it.
+pub fn narrowing_of(grid: &Grid, column: u8, row: u8) -> Result<Narrowing, MoveFault>
+    ensures fault { result_err result ≡ first_fault grid.now (Move.Destabilise column row) }
+    ensures step { IfOk result (λ n. Step grid.now (Move.Destabilise column row) (narrowed n grid.now)) }
+    ensures row { IfOk result (λ n. n.row < size grid.now) }
+    ensures crosses { IfOk result (λ n. n.crosses < size grid.now) }
+    ensures rings { IfOk result (λ n. n.rings < size grid.now) }
+{
     let last = grid.size() - 1;
     if column >= last || row >= last {
         return Err(MoveFault::Range);
@@ -29,13 +56,11 @@ pub(crate) fn destabilise(grid: &mut Grid, column: u8, row: u8) -> Result<(), Mo
     if marks != 3 {
         return Err(MoveFault::Block { marks });
     }
-    let doubled = double_row(grid, column);
-    let cross = column_in_double_row(grid, column, Kind::Cross);
-    let ring = column_in_double_row(grid, column, Kind::Ring);
-    let crosses = narrowed(grid, Kind::Cross, cross, doubled);
-    let rings = narrowed(grid, Kind::Ring, ring, doubled);
-    grid.set_rows(crosses, rings);
-    Ok(())
+    Ok(Narrowing {
+        row: double_row(grid, column),
+        crosses: column_in_double_row(grid, column, Kind::Cross),
+        rings: column_in_double_row(grid, column, Kind::Ring),
+    })
 }
 
 /// How many of the four marks of two neighbouring columns lie in two neighbouring rows.
@@ -63,7 +88,8 @@ fn is_block_row(mark: u8, row: u8) -> bool
 /// Of a block at a column, the row with two marks.
 fn double_row(grid: &Grid, column: u8) -> u8
     requires { column + 1 < size grid.now }
-    ensures { result ≡ double_row grid.now column }
+    ensures row { result ≡ double_row grid.now column }
+    ensures inside { result < size grid.now }
 {
     let _size = grid.size();
     let cross = grid.row_of(Kind::Cross, column);

@@ -16,6 +16,7 @@ mod tidy;
 mod undoing;
 
 pub use applying::{apply, apply_all, apply_in_place, inverse};
+pub use destabilisation::{Narrowing, narrowing_of};
 pub use shift::number_after_shift;
 pub use stabilisation::{Widening, widening_of};
 pub use step::{Move, MoveFault};
