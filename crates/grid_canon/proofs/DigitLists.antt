@@ -1,6 +1,6 @@
 -- Numbers of 64 bits as lists of digits: with one digit more, cut at a place, and with one digit put in.
-use Rattle.std.proofs.Common.{◌≡◌, ◌<◌, ◌≤◌, ◌+◌, ◌-◌, ◌*◌, ◌/◌, ◌%◌, ◌^◌, ◌++◌, ◌∷◌, ◌∙◌, ℕ, List, length, get_or, take, drop, arith, sym, ap, ap₂, subst}
-use Rattle.std.specs.List.{insert}
+use Rattle.std.proofs.Common.{◌≡◌, ◌<◌, ◌≤◌, ◌+◌, ◌-◌, ◌*◌, ◌/◌, ◌%◌, ◌^◌, ◌++◌, ◌∷◌, ◌∙◌, ℕ, suc, List, length, get_or, take, drop, add-one, arith, sym, ap, ap₂, subst}
+use Rattle.std.specs.List.{insert, remove}
 use Rattle.std.proofs.Math.Nat.{pow-succ', pow-le-pow_right}
 use Rattle.std.proofs.lemmas.Nat.{pow-add, mul-add-lt, shl_whole, shr_high}
 use Rattle.std.proofs.lemmas.List.{take-append-drop, length-take-le, length-drop, take_more, length-take}
@@ -153,6 +153,43 @@ inserted_word value digit place n le lt low inside =
         word-below (p + SHORT_BITS) q (head * SHORT_BASE + digit) tail
             (one_more-below p head digit both.front_below inside) both.back_below (omega (arith, fits)),
       ),
+    )
+
+-- without the digit of a place
+pub removed_word : (value place n : ℕ) → place < n → n ≤ MAX_SHORT_SIZE → value < SHORT_BASE ^ n
+    → (value / 2 ^ (SHORT_BITS * (n - place - 1)) / 2 ^ SHORT_BITS * 2 ^ (SHORT_BITS * (n - place - 1)) % 2 ^ 64 + rest value (SHORT_BITS * (n - place - 1))
+    ≡ short_number (remove (digits n value) place))
+    × (short_number (remove (digits n value) place) < 2 ^ 64)
+removed_word value place n lt le low =
+    let p = SHORT_BITS * place in
+    let q = SHORT_BITS * (n - place - 1) in
+    let ds : List ℕ = digits n value in
+    let both = pieces n (place + 1) value (omega (arith, lt)) low in
+    let before = pieces n place value (omega (arith, lt)) low in
+    let head = short_number (front n place value) in
+    let digit = get_or ds place 0 in
+    let tail = short_number (back n (place + 1) value) in
+    let within : place < length ds = omega (arith, lt, length-digits n value) in
+    let bits : SHORT_BITS * (n - (place + 1)) ≡ q = omega arith in
+    let inside : digit < SHORT_BASE = digits-below n value low place 0 within in
+    let front_is : short_number (front n (place + 1) value) ≡ head * SHORT_BASE + digit =
+    ap short_number (take_more ds place 0 within) ∙ short_number-push (take place ds) digit in
+    let below : tail < 2 ^ q = subst (λ (z : ℕ). tail < 2 ^ z) bits both.back_below in
+    let whole : value ≡ (head * SHORT_BASE + digit) * 2 ^ q + tail =
+    both.whole ∙ ap₂ (λ (z w : ℕ). z * 2 ^ w + tail) front_is bits in
+    let fits : p + SHORT_BITS + q ≤ FULL_BITS = omega (arith, lt, le) in
+    let above : head * SHORT_BASE + digit < 2 ^ (p + SHORT_BITS) = one_more-below p head digit before.front_below inside in
+    let cut : value / 2 ^ q / 2 ^ SHORT_BITS ≡ head =
+    ap (λ (z : ℕ). z / 2 ^ SHORT_BITS) (high_of value q (head * SHORT_BASE + digit) tail below whole) ∙ shr_high head SHORT_BITS digit inside in
+    let list : short_number (remove ds place) ≡ head * 2 ^ q + tail =
+    short_number-append (take place ds) (drop (suc place) ds)
+    ∙ ap₂ (λ (z w : ℕ). head * z + w) (ap (λ (k : ℕ). SHORT_BASE ^ length (drop k ds)) (sym (add-one place)) ∙ both.back_power ∙ ap (λ (z : ℕ). 2 ^ z) bits)
+    (ap (λ (k : ℕ). short_number (drop k ds)) (sym (add-one place))) in (
+      ap₂ (λ (z w : ℕ). z * 2 ^ q % 2 ^ 64 + w) cut
+          (low_of value (p + SHORT_BITS) q (head * SHORT_BASE + digit) tail above below (omega (arith, fits)) whole)
+          ∙ ap (λ (z : ℕ). z + tail) (shl_whole head p q 64 before.front_below (omega (arith, fits)))
+          ∙ sym list,
+      omega (arith, list, word-below p q head tail before.front_below below (omega (arith, fits))),
     )
 
 -- the digit at a place

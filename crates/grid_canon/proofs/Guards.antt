@@ -10,7 +10,7 @@ use Rattle.std.proofs.lemmas.Bool.Decides.{nat_tests}
 use Rattle.std.proofs.lemmas.List.{ext_get_or, length-map, length-replicate, map-id}
 use Rattle.std.proofs.lemmas.List.FromFn.{get_or-range_with_len, length-range_with_len, get_or-map-range_with_len, length-map-range_with_len}
 use Rattle.std.proofs.lemmas.List.Elements.{All-tail, All-map}
-use Rattle.grid_core.specs.Places.{lifted}
+use Rattle.grid_core.specs.Places.{lifted, lowered}
 use Rattle.grid_moves.specs.Shift.{shifted}
 use Rattle.grid_moves.specs.Exchange.{exchanged}
 use Rattle.grid_moves.proofs.Shifted.{shifted_low, shifted_high, shifted_below}
@@ -168,6 +168,14 @@ lifted_sum row xs =
     digit : (r : ℕ) → r + 1 * over row r ≡ lifted row r + 0 * 1
     digit r = grind (arith, nat_tests)
 
+dropped_sum : (row : ℕ) (xs : List ℕ) → number_by (lowered row) xs + number_by (over (row + 1)) xs ≡ short_number xs
+dropped_sum row xs =
+    let sums = number_by-sums 1 0 (lowered row) (over (row + 1)) same one xs (λ k d inside. digit (get_or xs k d)) in
+    omega (arith, sums, number_by-same xs)
+  where
+    digit : (r : ℕ) → lowered row r + 1 * over (row + 1) r ≡ r + 0 * 1
+    digit r = grind (arith, nat_tests)
+
 -- the digits with their guards, lowered, and the guards that are left, as the code computes them
 abbrev pub guarded : ℕ → ℕ → ℕ → ℕ
 guarded value by units = value + GUARD * units - by * units
@@ -261,12 +269,87 @@ lifted_digits size value row units most lt small inside count =
       left = omega (arith, left, sides_sum row xs, ones);
     }
 
+-- the rows above a row, one lower
+pub record Drops (size value row units : ℕ) : Type 0 where
+  pub room : Room value (row + 1) units
+  pub whole : value - kept value (row + 1) units / GUARD ≡ short_number (map (lowered row) (digits size value))
+  pub left : kept value (row + 1) units / GUARD ≤ value
+
+pub dropped_digits : (size value row units : ℕ) → size ≤ MAX_SHORT_SIZE → value < SHORT_BASE ^ size → row < GUARD → All (λ r. r < GUARD) (digits size value)
+    → units ≡ ones_of size → Drops size value row units
+dropped_digits size value row units most lt small low count =
+    let xs : List ℕ = digits size value in
+    let long : length xs ≡ size = length-digits size value in
+    let is : value ≡ short_number xs = sym (short_number-digits size value lt) in
+    let ones : units ≡ ones_of (length xs) = count ∙ ap ones_of (sym long) in
+    let le : row + 1 ≤ GUARD = omega (arith, small) in
+    let left : kept value (row + 1) units / GUARD ≡ number_by (over (row + 1)) xs = omega (arith, kept_is value (row + 1) units xs le low is ones) in
+    record {
+      room = room value (row + 1) units xs (omega arith) le low is ones;
+      whole = omega (arith, left, dropped_sum row xs, is);
+      left = omega (arith, left, dropped_sum row xs, is);
+    }
+
 -- the rows of n columns as a list
 listed : (rows : List ℕ) (n : ℕ) → length rows ≡ n → map (λ c. get_or rows c 0) (range_with_len 0 n) ≡ rows
 listed rows n long =
     let count = length-map-range_with_len (λ c. get_or rows c 0) 0 n in
     ext_get_or 0 (map (λ c. get_or rows c 0) (range_with_len 0 n)) rows (count ∙ sym long)
     (λ i lt. get_or-map-range_with_len (λ c. get_or rows c 0) 0 n i i 0 (omega (arith, lt, count)) (zero-add i))
+
+-- the digit of a column
+abbrev pub digit_of : ℕ → ℕ → ℕ → ℕ
+digit_of n value c = get_or (digits n value) c 0
+
+number_of_digits : (n value : ℕ) → value < SHORT_BASE ^ n → number_by (digit_of n value) (range_with_len 0 n) ≡ value
+number_of_digits n value lt = ap short_number (listed (digits n value) n (length-digits n value)) ∙ short_number-digits n value lt
+
+-- the digits of two numbers column by column, one lowered by the other with its guards
+abbrev raises : ℕ → ℕ → ℕ → ℕ → ℕ
+raises n value by c = raised (digit_of n by c) (digit_of n value c)
+
+abbrev unders : ℕ → ℕ → ℕ → ℕ → ℕ
+unders n value by c = under (digit_of n by c) (digit_of n value c)
+
+abbrev overs : ℕ → ℕ → ℕ → ℕ → ℕ
+overs n value by c = over (digit_of n by c) (digit_of n value c)
+
+record Compared (n value by units : ℕ) : Type 0 where
+  whole : value + GUARD * units ≡ number_by (raises n value by) (range_with_len 0 n) + by
+  kept : bit_and (value + GUARD * units - by) (GUARD * units) ≡ GUARD * number_by (overs n value by) (range_with_len 0 n)
+  sides : number_by (unders n value by) (range_with_len 0 n) + number_by (overs n value by) (range_with_len 0 n) ≡ units
+
+compared : (n value by units : ℕ) → value < SHORT_BASE ^ n → by < SHORT_BASE ^ n → ((c : ℕ) → c < n → digit_of n value c < GUARD)
+    → ((c : ℕ) → c < n → digit_of n by c < GUARD) → units ≡ ones_of n → Compared n value by units
+compared n value by units lt by_lt small by_small count =
+    let xs : List ℕ = range_with_len 0 n in
+    let v : ℕ → ℕ = digit_of n value in
+    let b : ℕ → ℕ = digit_of n by in
+    let long : length xs ≡ n = length-range_with_len 0 n in
+    let column : (k d : ℕ) → k < length xs → get_or xs k d < n =
+    λ k d within. omega (arith, within, long, get_or-range_with_len 0 n k d (omega (arith, within, long))) in
+    let ones : ones_of (length xs) ≡ units = ap ones_of long ∙ sym count in
+    let raise_sum =
+    number_by-sums 1 GUARD (raises n value by) b v one xs
+    (λ k d within. raised_digit (b (get_or xs k d)) (v (get_or xs k d)) (omega (arith, by_small (get_or xs k d) (column k d within)))) in
+    let side_sum = number_by-sums 1 0 (unders n value by) (overs n value by) one one xs (λ k d within. sides (b (get_or xs k d)) (v (get_or xs k d))) in
+    let one_sum = number_by-one xs in
+    let guarded_sum : value + GUARD * units - by ≡ number_by (raises n value by) xs =
+    omega (arith, raise_sum, number_of_digits n value lt, number_of_digits n by by_lt, one_sum, ones) in
+    record {
+      whole = omega (arith, raise_sum, number_of_digits n value lt, number_of_digits n by by_lt, one_sum, ones);
+      kept = ap₂ (λ (z w : ℕ). bit_and z (GUARD * w)) guarded_sum (sym ones)
+          ∙ guards_by (raises n value by) (overs n value by) xs
+          (λ k d within. (
+            omega (arith, small (get_or xs k d) (column k d within)),
+            guard_of (b (get_or xs k d)) (v (get_or xs k d)) (omega (arith, by_small (get_or xs k d) (column k d within)))
+                (small (get_or xs k d) (column k d within)),
+          ));
+      sides = omega (arith, side_sum, one_sum, ones);
+    }
+  where
+    raised_digit : (by r : ℕ) → by ≤ GUARD → raised by r + 1 * by ≡ r + GUARD * 1
+    raised_digit by r le = omega arith
 
 -- each row lowered by that of another number in its column
 pub record LowersEach (size value by units times : ℕ) : Type 0 where
@@ -283,41 +366,24 @@ pub lowered_each_digits : (size value by units times : ℕ) → size ≤ MAX_SHO
     → LowersEach size value by units times
 lowered_each_digits size value by units times most lt by_lt inside by_inside count turns =
     let xs : List ℕ = range_with_len 0 size in
-    let v : ℕ → ℕ = λ c. get_or (digits size value) c 0 in
-    let b : ℕ → ℕ = λ c. get_or (digits size by) c 0 in
+    let v : ℕ → ℕ = digit_of size value in
+    let b : ℕ → ℕ = digit_of size by in
     let long : length xs ≡ size = length-range_with_len 0 size in
     let small : (c : ℕ) → c < size → v c < size = λ c within. inside c 0 (omega (arith, within, length-digits size value)) in
     let by_small : (c : ℕ) → c < size → b c < size = λ c within. by_inside c 0 (omega (arith, within, length-digits size by)) in
     let column : (k d : ℕ) → k < length xs → get_or xs k d < size =
     λ k d within. omega (arith, within, long, get_or-range_with_len 0 size k d (omega (arith, within, long))) in
-    let value_is : number_by v xs ≡ value =
-    ap short_number (listed (digits size value) size (length-digits size value)) ∙ short_number-digits size value lt in
-    let by_is : number_by b xs ≡ by = ap short_number (listed (digits size by) size (length-digits size by)) ∙ short_number-digits size by by_lt in
     let ones : ones_of (length xs) ≡ units = ap ones_of long ∙ sym count in
-    let raises : ℕ → ℕ = λ c. raised (b c) (v c) in
-    let overs : ℕ → ℕ = λ c. over (b c) (v c) in
-    let unders : ℕ → ℕ = λ c. under (b c) (v c) in
+    let known =
+    compared size value by units lt by_lt (λ c within. omega (arith, small c within, most)) (λ c within. omega (arith, by_small c within, most)) count in
     let lowers : ℕ → ℕ = λ c. shifted size (b c) (v c) in
-    let raise_sum =
-    number_by-sums 1 GUARD raises b v one xs
-    (λ k d within. raised_digit (b (get_or xs k d)) (v (get_or xs k d)) (omega (arith, by_small (get_or xs k d) (column k d within), most))) in
     let lower_sum =
-    number_by-sums size GUARD raises unders lowers one xs
+    number_by-sums size GUARD (raises size value by) (unders size value by) lowers one xs
     (λ k d within. lowered_digit size (b (get_or xs k d)) (v (get_or xs k d)) (omega (arith, most)) (by_small (get_or xs k d) (column k d within))
     (small (get_or xs k d) (column k d within))) in
-    let side_sum = number_by-sums 1 0 unders overs one one xs (λ k d within. sides (b (get_or xs k d)) (v (get_or xs k d))) in
     let one_sum = number_by-one xs in
-    let guarded_sum : value + GUARD * units - by ≡ number_by raises xs = omega (arith, raise_sum, value_is, by_is, one_sum, ones) in
-    let kept_sum : bit_and (value + GUARD * units - by) (GUARD * units) ≡ GUARD * number_by overs xs =
-    ap₂ (λ (z w : ℕ). bit_and z (GUARD * w)) guarded_sum (sym ones)
-    ∙ guards_by raises overs xs
-    (λ k d within. (
-      omega (arith, small (get_or xs k d) (column k d within), most),
-      guard_of (b (get_or xs k d)) (v (get_or xs k d)) (omega (arith, by_small (get_or xs k d) (column k d within), most))
-          (omega (arith, small (get_or xs k d) (column k d within), most)),
-    )) in
-    let under_sum : (GUARD * units - bit_and (value + GUARD * units - by) (GUARD * units)) / GUARD ≡ number_by unders xs =
-    omega (arith, kept_sum, side_sum, one_sum, ones) in
+    let under_sum : (GUARD * units - bit_and (value + GUARD * units - by) (GUARD * units)) / GUARD ≡ number_by (unders size value by) xs =
+    omega (arith, known.kept, known.sides) in
     let power : SHORT_BASE ^ size ≤ 2 ^ FULL_BITS = pow-le-pow_right {n = SHORT_BASE} (omega arith) {i = size} {j = MAX_SHORT_SIZE} most in
     let lowers_below : number_by lowers xs < SHORT_BASE ^ length xs =
     number_by-below lowers xs
@@ -330,16 +396,53 @@ lowered_each_digits size value by units times most lt by_lt inside by_inside cou
     record {
       digits_room = omega (arith, lt, power);
       guards = omega (arith, ones_exact size, count, power);
-      taken = omega (arith, raise_sum, value_is, by_is, one_sum, ones);
-      left = omega (arith, kept_sum, side_sum, one_sum, ones);
+      taken = omega (arith, known.whole);
+      left = omega (arith, known.kept, known.sides);
       whole =
           ap₂ (λ (z w : ℕ). value + z * w) turns under_sum
-          ∙ omega (arith, lower_sum, raise_sum, value_is, by_is, one_sum, ones);
+          ∙ omega (arith, lower_sum, known.whole, one_sum, ones);
       below = omega (arith, lowers_below, ap (λ (z : ℕ). SHORT_BASE ^ z) long, power, by_lt);
     }
+
+-- each digit marked that is below that of another number
+pub record MarksBelow (n value by units : ℕ) : Type 0 where
+  pub digits_room : value < 2 ^ FULL_BITS
+  pub guards : GUARD * units < 2 ^ FULL_BITS
+  pub taken : by ≤ value + GUARD * units
+  pub left : bit_and (value + GUARD * units - by) (GUARD * units) ≤ GUARD * units
+  pub marked : GUARD * units - bit_and (value + GUARD * units - by) (GUARD * units) ≡ short_number
+      (map (λ c. mark (digit_of n by c) (digit_of n value c)) (range_with_len 0 n))
+
+pub marks_below_of : (n value by units : ℕ) → n ≤ MAX_SHORT_SIZE → value < SHORT_BASE ^ n → by < SHORT_BASE ^ n
+    → All (λ r. r < GUARD) (digits n value) → All (λ r. r < GUARD) (digits n by) → units ≡ ones_of n → MarksBelow n value by units
+marks_below_of n value by units most lt by_lt inside by_inside count =
+    let xs : List ℕ = range_with_len 0 n in
+    let known =
+    compared n value by units lt by_lt (λ c within. inside c 0 (omega (arith, within, length-digits n value)))
+    (λ c within. by_inside c 0 (omega (arith, within, length-digits n by))) count in
+    let mark_sum =
+    number_by-sums 1 GUARD (λ c. mark (digit_of n by c) (digit_of n value c)) one one (unders n value by) xs
+    (λ k d within. marked_digit (digit_of n by (get_or xs k d)) (digit_of n value (get_or xs k d))) in
+    let power : SHORT_BASE ^ n ≤ 2 ^ FULL_BITS = pow-le-pow_right {n = SHORT_BASE} (omega arith) {i = n} {j = MAX_SHORT_SIZE} most in
+    record {
+      digits_room = omega (arith, lt, power);
+      guards = omega (arith, ones_exact n, count, power);
+      taken = omega (arith, known.whole);
+      left = omega (arith, known.kept, known.sides);
+      marked = omega (arith, known.kept, known.sides, mark_sum);
+    }
   where
-    raised_digit : (by r : ℕ) → by ≤ GUARD → raised by r + 1 * by ≡ r + GUARD * 1
-    raised_digit by r le = omega arith
+    marked_digit : (bound r : ℕ) → mark bound r + 1 * 1 ≡ 1 + GUARD * under bound r
+    marked_digit bound r = grind (arith, nat_tests)
+
+-- all digits one
+pub repeated_sum : (n units digit : ℕ) → units ≡ ones_of n → digit * units ≡ short_number (map (λ c. digit) (range_with_len 0 n))
+repeated_sum n units digit count =
+    let xs : List ℕ = range_with_len 0 n in
+    let sum = number_by-sums 1 digit (λ c. digit) one one one xs (λ k d within. omega arith) in
+    let units_are : units ≡ number_by one xs = omega (arith, number_by-one xs, ap ones_of (length-range_with_len 0 n), count) in
+    let product : digit * units ≡ digit * number_by one xs = ap (λ (z : ℕ). digit * z) units_are in
+    omega (arith, sum, product)
 
 -- the digits below a bound, marked
 marks_sum : (bound : ℕ) (xs : List ℕ) → number_by (mark bound) xs ≡ GUARD * number_by (under bound) xs

@@ -9,12 +9,18 @@ mod DigitLists
 mod Guards
 pub mod CutNumbers
 pub mod Words
+mod DigitsOnTop
 pub mod Keys
+pub mod Briefs
 mod ShortGrids
 mod LowColumns
 pub mod ShortKeys
 mod SpreadHalves
 mod SwappedDigits
+mod Placed
+mod CountedEnds
+mod MarkedTrades
+mod ShortPairs
 pub mod Joined
 pub mod CanonicalForms
 pub mod Tidied

@@ -1,18 +1,20 @@
 -- Short grids from their numbers, wider ones, and their keys.
-use Rattle.std.proofs.Common.{◌≡◌, ◌<◌, ◌≤◌, ◌+◌, ◌*◌, ◌^◌, ◌∙◌, ℕ, List, length, map, get_or, arith, sym, ap, ap₂, subst}
-use Rattle.std.specs.List.{All, insert}
+use Rattle.std.proofs.Common.{◌≡◌, ◌<◌, ◌≤◌, ◌+◌, ◌-◌, ◌*◌, ◌^◌, ◌∙◌, ℕ, suc, List, drop, length, map, get_or, take, arith, sym, ap, ap₂, subst}
+use Rattle.std.specs.List.{All, insert, remove}
 use Rattle.std.proofs.Math.Nat.{pow-le-pow_right}
 use Rattle.std.proofs.lemmas.List.{length-map}
-use Rattle.std.proofs.lemmas.List.Elements.{All-map}
-use Rattle.std.proofs.lemmas.List.Edits.{length-insert}
+use Rattle.std.proofs.lemmas.List.Elements.{All-append, All-drop, All-map, All-take}
+use Rattle.std.proofs.lemmas.List.Edits.{length-insert, length-remove}
 use Rattle.grid_core.specs.Diagram.{Diagram, IsGrid, size}
-use Rattle.grid_core.specs.Places.{lifted}
+use Rattle.grid_core.specs.Places.{lifted, lowered}
 use Rattle.grid_core.proofs.Gaps.{lifted-below}
 use Rattle.grid_core.proofs.OneEach.{each_below}
 use Rattle.grid_moves.specs.declared.stabilisation.Widening.{Widening}
 use Rattle.grid_moves.specs.Widening.{widened}
+use Rattle.grid_moves.specs.declared.destabilisation.Narrowing.{Narrowing}
+use Rattle.grid_moves.specs.Narrowing.{narrowed}
 use Rattle.grid_moves.specs.Exchange.{exchanged}
-use Rattle.grid_canon.specs.declared.digits.TheConstants.{SHORT_BASE, MAX_SHORT_SIZE}
+use Rattle.grid_canon.specs.declared.digits.TheConstants.{GUARD, SHORT_BASE, MAX_SHORT_SIZE}
 use Rattle.grid_canon.specs.Digits.{short_number, digits}
 use Rattle.grid_canon.specs.ShortGrid.{of_digits, IsShort}
 use Rattle.grid_canon.proofs.ShortNumbers.{AreShortDigits, short_number-below}
@@ -97,3 +99,28 @@ exchanged_word n row value first second third most low lt inside e1 e2 e3 =
       sum = omega (arith, exchanged_sum row rows, short_number-digits n value low, e1, e2, e3);
       twice = omega (arith, s.fits, word);
     }
+
+-- the rows of a list without one of its places
+pub record IsRemoved (n place value : ℕ) (rows : List ℕ) : Type 0 where
+  pub fits : value < SHORT_BASE ^ (n - 1)
+  pub list : digits (n - 1) value ≡ remove rows place
+  pub inside : All (λ r. r < GUARD) (digits (n - 1) value)
+
+pub removed_known : (n place value : ℕ) (rows : List ℕ) → length rows ≡ n → n ≤ MAX_SHORT_SIZE → place < n → All (λ r. r < n) rows
+    → value ≡ short_number (remove rows place) → IsRemoved n place value rows
+removed_known n place value rows long most lt inside is =
+    let count : length (remove rows place) ≡ n - 1 = omega (arith, length-remove rows place (omega (arith, lt, long)), long) in
+    let within : All (λ r. r < n) (remove rows place) =
+    All-append (λ r. r < n) (take place rows) (drop (suc place) rows) (All-take (λ r. r < n) place rows inside) (All-drop (λ r. r < n) (suc place) rows inside) in
+    let all : AreShortDigits (remove rows place) = λ k d lt. omega (arith, within k d lt, most) in
+    let list : digits (n - 1) value ≡ remove rows place = read_digits (n - 1) value (remove rows place) count all is in
+    record {
+      fits = digits_fit (n - 1) value (remove rows place) count all is;
+      list = list;
+      inside = subst (λ zs. All (λ r. r < GUARD) zs) (sym list) (λ k d lt. omega (arith, within k d lt, most));
+    }
+
+pub size-narrowed : (w : Narrowing) (d : Diagram) → w.crosses < size d → size (narrowed w d) ≡ size d - 1
+size-narrowed w d lt =
+    length-map (remove d.x w.crosses) (lowered w.row)
+    ∙ (let count : length (remove d.x w.crosses) ≡ size d - 1 = omega (arith, length-remove d.x w.crosses lt) in count)

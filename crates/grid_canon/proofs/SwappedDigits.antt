@@ -11,7 +11,7 @@ use Rattle.grid_canon.proofs.ShortNumbers.{short_bits}
 use Rattle.grid_canon.proofs.NumbersOfDigits.{base_pos, length-digits, digits-below, short_number-digits}
 
 -- one digit changed
-number_set : (xs : List ℕ) (i y : ℕ) → i < length xs
+pub number_set : (xs : List ℕ) (i y : ℕ) → i < length xs
     → short_number (set xs i y) + get_or xs i 0 * SHORT_BASE ^ (length xs - (i + 1)) ≡ short_number xs + y * SHORT_BASE ^ (length xs - (i + 1))
 number_set [] i y lt = absurd (omega (arith, lt))
 number_set (x ∷ xs) zero y lt =

@@ -144,9 +144,12 @@ none_behind (suc n) from rows past fits =
     (ap (λ zs. words n zs) (drop-drop WORD_COLUMNS from (filled rows))
     ∙ none_behind n (from + WORD_COLUMNS) rows (omega (arith, past)) (omega (arith, fits)))
 
+pub short_words_of : (rows : List ℕ) → length rows ≤ WORD_COLUMNS → number (take WORD_COLUMNS (filled rows)) ∷ replicate (WORDS - 1) 0 ≡ words_of rows
+short_words_of rows le = ap (λ zs. number (take WORD_COLUMNS (filled rows)) ∷ zs) (sym (none_behind (WORDS - 1) WORD_COLUMNS rows le (omega arith)))
+
 pub first_word : (rows : List ℕ) (word : ℕ) → length rows ≤ WORD_COLUMNS → word ≡ number (take WORD_COLUMNS (filled rows))
     → slice_set (replicate WORDS 0) 0 word ≡ words_of rows
-first_word rows word le is = ap₂ (λ (z : ℕ) zs. z ∷ zs) is (sym (none_behind (WORDS - 1) WORD_COLUMNS rows le (omega arith)))
+first_word rows word le is = ap (λ (z : ℕ). z ∷ replicate (WORDS - 1) 0) is ∙ short_words_of rows le
 
 -- the digits of the words are the rows
 pub digit_of_row : (rows : List ℕ) (c : ℕ) → length rows ≤ MAX_SIZE → AreDigits rows → c < length rows → digit_at (words_of rows) c ≡ get_or rows c 0

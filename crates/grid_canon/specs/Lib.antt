@@ -6,7 +6,9 @@ pub mod CanonicalForm
 pub mod Cornered
 pub mod Digits
 pub mod ShortGrid
+pub mod ShortTrades
 pub mod Key
+pub mod Brief
 pub use Rattle.grid_core.specs.Diagram
 pub use Rattle.grid_moves.specs.Shift
 pub use Rattle.grid_moves.specs.Joining

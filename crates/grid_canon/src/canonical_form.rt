@@ -5,15 +5,16 @@ ghost use Rattle.std.specs.Ordering.{nat_cmp};
 ghost use Rattle.std.specs.Cmp.Lexicographic.{slice_cmp};
 ghost use Rattle.grid_core.specs.declared.mark.Kind.TheVariants.{Cross};
 ghost use Rattle.grid_core.specs.declared.grid.TheConstants.{MAX_SIZE};
-ghost use Rattle.grid_core.specs.Diagram.{IsGrid, row_of};
+ghost use Rattle.grid_core.specs.Diagram.{Diagram, IsGrid, row_of};
 ghost use Rattle.grid_moves.specs.Shift.{shifted};
 ghost use Rattle.grid_canon.specs.Translation.{translated_rows};
 ghost use Rattle.grid_canon.specs.Order.{compare};
 ghost use Rattle.grid_canon.specs.CanonicalForm.{IsCanonical, IsLeastForm, IsLeastKey};
+ghost use Rattle.grid_canon.specs.Key.{IsKeyOf};
 ghost use Rattle.grid_canon.specs.Cornered.{cornered, IsFirstLeast};
 
 use crate::digits::MAX_SHORT_SIZE;
-use crate::key::{Packed, translated_key};
+use crate::key::{Packed, grid_of, translated_key};
 use crate::short_grid::ShortGrid;
 use crate::translation::{lowered_wide, pushed_rows};
 use grid_core::{Grid, Kind};
@@ -39,6 +40,20 @@ impl LeastForm {
             grid: self.grid.copy(),
             columns: self.columns,
             rows: self.rows,
+        }
+    }
+
+    /// The grid that a key names, by no shifts: the form of a canonical grid, found by its key. Some grid must have the key. Takes no memory.
+    pub fn named_by(key: Packed) -> LeastForm
+        requires { (d : Diagram) × IsKeyOf key d }
+        ensures grid { (d : Diagram) → IsKeyOf key d → result.grid ≡ d }
+        ensures columns { result.columns ≡ 0 }
+        ensures rows { result.rows ≡ 0 }
+    {
+        LeastForm {
+            grid: grid_of(key),
+            columns: 0,
+            rows: 0,
         }
     }
 }

@@ -1,10 +1,11 @@
 //! Numbers of 64 bits as lists of at most `MAX_SHORT_SIZE` digits to the base `SHORT_BASE`, the highest first: each digit is the row of a column.
-ghost use Rattle.std.specs.Prelude.{◌≡◌, ◌<◌, ◌≤◌, ◌+◌, ◌-◌, ◌*◌, ◌/◌, ◌^◌, ◌++◌, ◌∷◌, length, map, take, drop, replicate, slice_index};
-ghost use Rattle.std.specs.List.{All, insert, swap};
-ghost use Rattle.grid_core.specs.Places.{lifted};
+ghost use Rattle.std.specs.Prelude.{◌≡◌, ◌<◌, ◌≤◌, ◌+◌, ◌-◌, ◌*◌, ◌/◌, ◌^◌, ◌++◌, ◌∷◌, ℕ, length, map, take, drop, replicate, slice_index, slice_set};
+ghost use Rattle.std.specs.List.{All, insert, remove, swap};
+ghost use Rattle.grid_core.specs.Places.{lifted, lowered};
+ghost use Rattle.grid_core.specs.Diagram.{IsOneEach};
 ghost use Rattle.grid_moves.specs.Shift.{shifted};
 ghost use Rattle.grid_moves.specs.Exchange.{exchanged};
-ghost use Rattle.grid_canon.specs.Digits.{short_number, digits, lowered_each, AreLowDigits};
+ghost use Rattle.grid_canon.specs.Digits.{short_number, digits, lowered_each, mark, AreLowDigits};
 
 /// The greatest size of a short grid: its rows of a kind fit into 64 bits.
 pub const MAX_SHORT_SIZE: usize = 12;
@@ -41,6 +42,25 @@ fn ones(count: u32) -> u64
     ensures { result ≡ short_number (replicate count 1) }
 {
     ONES >> (SHORT_BITS * (MAX_SHORT_SIZE as u32 - count))
+}
+
+/// The number all of whose digits are this one.
+pub(crate) fn repeated(digit: u64, count: u32) -> u64
+    requires digit { digit < SHORT_BASE }
+    requires most { count ≤ MAX_SHORT_SIZE }
+    ensures fits { result < SHORT_BASE ^ count }
+    ensures each { (c : ℕ) → c < count → slice_index (digits count result) c ≡ digit }
+{
+    digit * ones(count)
+}
+
+/// The guards of as many digits.
+pub(crate) fn guards(count: u32) -> u64
+    requires { count ≤ MAX_SHORT_SIZE }
+    ensures fits { result < SHORT_BASE ^ count }
+    ensures each { (c : ℕ) → c < count → slice_index (digits count result) c ≡ GUARD }
+{
+    repeated(GUARD, count)
 }
 
 /// The first digit.
@@ -91,6 +111,20 @@ pub(crate) fn lowered_each(value: u64, by: u64, size: u32) -> u64
     let guards = GUARD * ones(size);
     let below = (guards - ((value + guards - by) & guards)) / GUARD;
     value + u64::from(size) * below - by
+}
+
+/// The guards of the digits that are below those of another number in their places: lowered by these with their guards, they lack them.
+pub(crate) fn below(value: u64, other: u64, size: u32) -> u64
+    requires most { size ≤ MAX_SHORT_SIZE }
+    requires value { value < SHORT_BASE ^ size }
+    requires other { other < SHORT_BASE ^ size }
+    requires inside { All (λ r. r < GUARD) (digits size value) }
+    requires other_inside { All (λ r. r < GUARD) (digits size other) }
+    ensures fits { result < SHORT_BASE ^ size }
+    ensures marked { (c : ℕ) → c < size → slice_index (digits size result) c ≡ mark (slice_index (digits size other) c) (slice_index (digits size value) c) }
+{
+    let guards = GUARD * ones(size);
+    guards - ((value + guards - other) & guards)
 }
 
 /// The guards of the digits that are below some bound, the least one from 2 on for which there are any: lowered by it with their guards,
@@ -148,8 +182,33 @@ pub(crate) fn with_digit(value: u64, digit: u64, place: u32, size: u32) -> u64
     (((front << SHORT_BITS) + digit) << behind) + (value - (front << behind))
 }
 
+/// The digits without that of a place.
+pub(crate) fn without_digit(value: u64, place: u32, size: u32) -> u64
+    requires place { place < size }
+    requires most { size ≤ MAX_SHORT_SIZE }
+    requires value { value < SHORT_BASE ^ size }
+    ensures { result ≡ short_number (remove (digits size value) place) }
+{
+    let behind = SHORT_BITS * (size - place - 1);
+    let front = value >> behind;
+    ((front >> SHORT_BITS) << behind) + (value - (front << behind))
+}
+
+/// Each digit one lower that is above a row: lowered by the row behind it with its guard, it has it still.
+pub(crate) fn dropped(value: u64, row: u64, size: u32) -> u64
+    requires most { size ≤ MAX_SHORT_SIZE }
+    requires value { value < SHORT_BASE ^ size }
+    requires row { row < GUARD }
+    requires inside { All (λ r. r < GUARD) (digits size value) }
+    ensures { result ≡ short_number (map (lowered row) (digits size value)) }
+{
+    let ones = ones(size);
+    let guards = GUARD * ones;
+    value - ((value + guards - (row + 1) * ones) & guards) / GUARD
+}
+
 /// The digit at a place.
-fn nth_digit(value: u64, place: u32, size: u32) -> u64
+pub(crate) fn nth_digit(value: u64, place: u32, size: u32) -> u64
     requires place { place < size }
     requires most { size ≤ MAX_SHORT_SIZE }
     requires value { value < SHORT_BASE ^ size }
@@ -182,4 +241,33 @@ pub(crate) fn exchanged(value: u64, row: u64, size: u32) -> u64
 {
     let both = lifted(value, row, size) + lifted(value, row + 2, size);
     value + both - 2 * lifted(value, row + 1, size)
+}
+
+/// The digits with one more in a place where 0 stands.
+fn filled(value: u64, digit: u64, place: u32, size: u32) -> u64
+    requires place { place < size }
+    requires most { size ≤ MAX_SHORT_SIZE }
+    requires value { value < SHORT_BASE ^ size }
+    requires digit { digit < SHORT_BASE }
+    requires free { slice_index (digits size value) place ≡ 0 }
+    ensures fits { result < SHORT_BASE ^ size }
+    ensures filled { digits size result ≡ slice_set (digits size value) place digit }
+{
+    value + (digit << (SHORT_BITS * (size - place - 1)))
+}
+
+/// By number the place where it stands among the digits, each number below the size being one of them.
+pub(crate) fn places(value: u64, size: u32) -> u64
+    requires most { size ≤ MAX_SHORT_SIZE }
+    requires value { value < SHORT_BASE ^ size }
+    requires each { IsOneEach size (digits size value) }
+    ensures fits { result < SHORT_BASE ^ size }
+    ensures places { (c : ℕ) → c < size → slice_index (digits size result) (slice_index (digits size value) c) ≡ c }
+{
+    let mut places = 0;
+    for place in 0..size {
+        let number = nth_digit(value, place, size);
+        places = filled(places, u64::from(place), number as u32, size);
+    }
+    places
 }

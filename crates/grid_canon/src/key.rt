@@ -27,6 +27,12 @@ pub const WORD_COLUMNS: usize = 16;
 /// The words of a key for the rows of a kind: as many as have a column for each of the greatest size.
 pub const WORDS: usize = (MAX_SIZE + WORD_COLUMNS - 1) / WORD_COLUMNS;
 
+/// The bits of a word above its digits.
+const SPARE_BITS: u32 = u128::BITS - DIGIT_BITS * WORD_COLUMNS as u32;
+
+/// The bits of a word behind a digit that stands on top.
+const BITS_BEHIND_TOP: u32 = u128::BITS - DIGIT_BITS;
+
 /// The key of a grid. Keys are equal exactly for equal grids; they are ordered by size, then as the Xs, then as the Os:
 /// so the fields stand in this order.
 #[derive(Clone, Copy, Debug, Default, PartialEq, Eq, PartialOrd, Ord)]
@@ -212,24 +218,20 @@ pub(crate) fn translated_key(x: &[u8], o: &[u8], columns: usize, by: u8) -> Pack
     }
 }
 
-/// The rows of the first columns in the words of a key.
+/// The rows of the first columns in the words of a key. Each word is moved up, until its digits come out on top.
 fn rows_of_key(words: &[u128; WORDS], count: u8) -> Rows
     requires { count ≤ MAX_SIZE }
     ensures { result.items ≡ map (digit_at words.now) (range_with_len 0 count) }
 {
     let mut rows = ArrayVec::new();
+    let mut rest = 0;
     for c in 0..count {
-        rows.push(digit_at(words, c));
+        let place = c as usize;
+        if place % WORD_COLUMNS == 0 {
+            rest = words[place / WORD_COLUMNS] << SPARE_BITS;
+        }
+        rows.push((rest >> BITS_BEHIND_TOP) as u8);
+        rest <<= DIGIT_BITS;
     }
     rows
-}
-
-/// The digit of a column.
-fn digit_at(words: &[u128; WORDS], c: u8) -> u8
-    requires { c < MAX_SIZE }
-    ensures { result ≡ digit_at words.now c }
-{
-    let place = c as usize;
-    let after = (WORD_COLUMNS - 1 - place % WORD_COLUMNS) as u32;
-    ((words[place / WORD_COLUMNS] >> (DIGIT_BITS * after)) % BASE) as u8
 }

@@ -1,5 +1,5 @@
 //! Laws of translates, canonical forms and keys, over the definitions alone.
-ghost use Rattle.std.specs.Prelude.{◌≡◌, ◌<◌, ◌↔◌, ◌%◌, ◌++◌, ◌∷◌, ℕ, true, false, not, List};
+ghost use Rattle.std.specs.Prelude.{◌≡◌, ◌<◌, ◌≤◌, ◌↔◌, ◌%◌, ◌++◌, ◌∷◌, ℕ, true, false, not, List};
 ghost use Rattle.std.specs.List.{Contains, filter, list_all};
 ghost use Rattle.std.specs.Ordering.{nat_cmp, ordering_then};
 ghost use Rattle.grid_core.specs.Diagram.{Diagram, IsGrid, size};
@@ -14,7 +14,10 @@ ghost use Rattle.grid_canon.specs.Tidied.{tidied, column_sum, row_sum};
 ghost use Rattle.grid_canon.specs.Order.{compare};
 ghost use Rattle.grid_canon.specs.CanonicalForm.{IsCanonicalForm, IsCanonical, IsLeastForm};
 ghost use Rattle.grid_canon.specs.Key.{key_of, size_of, compare_keys};
+ghost use Rattle.grid_canon.specs.declared.key.TheConstants.{WORD_COLUMNS};
+ghost use Rattle.grid_canon.specs.Brief.{whole_key};
 
+use crate::brief::BriefKey;
 use crate::canonical_form::LeastForm;
 use grid_moves::Move;
 
@@ -89,6 +92,12 @@ pub fn the_least_shifts_are_determined()
 /// Two grids have one key exactly where they are equal.
 pub fn a_key_names_one_grid()
     ensures { (d e : Diagram) → IsGrid d → IsGrid e → (key_of d ≡ key_of e) ↔ (d ≡ e) }
+{}
+
+/// Each brief key stands for one key, and each grid of at most `WORD_COLUMNS` columns has one.
+pub fn a_brief_key_stands_for_one_key()
+    ensures one { (a b : BriefKey) → whole_key a ≡ whole_key b → a ≡ b }
+    ensures few { (d : Diagram) → IsGrid d → size d ≤ WORD_COLUMNS → (brief : BriefKey) × (whole_key brief ≡ key_of d) }
 {}
 
 /// The size that is read from the key of a grid is the grid's size.

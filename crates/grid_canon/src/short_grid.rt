@@ -2,23 +2,27 @@
 ghost use Rattle.std.specs.Prelude.{◌≡◌, ◌<◌, ◌≤◌, ◌+◌, ◌↔◌, slice_index, nat_lt, IsTrue};
 ghost use Rattle.std.specs.declared.cmp.Ordering.TheVariants.{Less};
 ghost use Rattle.grid_core.specs.Diagram.{IsGrid, size};
+ghost use Rattle.grid_core.specs.Parts.{column_span, ends};
 ghost use Rattle.grid_moves.specs.Widening.{widened};
+ghost use Rattle.grid_moves.specs.Narrowing.{narrowed};
 ghost use Rattle.grid_moves.specs.Exchanged.{columns_exchanged, rows_exchanged};
 ghost use Rattle.grid_canon.specs.Translation.{translate};
 ghost use Rattle.grid_canon.specs.Digits.{short_number};
 ghost use Rattle.grid_canon.specs.Order.{compare};
 ghost use Rattle.grid_canon.specs.Cornered.{cornered, IsFirstLeast, IsCornered, AreLowColumns};
 ghost use Rattle.grid_canon.specs.CanonicalForm.{IsLeastKey};
+ghost use Rattle.grid_canon.specs.ShortTrades.{trades_of};
 
 use crate::canonical_form::LeastKey;
 use crate::digits::{
-    GUARD, MAX_SHORT_SIZE, SHORT_BITS, cut, digits_behind, exchanged, first_digit, lifted,
-    low_digits, lowered, lowered_each, number_of, swapped, with_digit,
+    GUARD, MAX_SHORT_SIZE, SHORT_BITS, cut, digits_behind, dropped, exchanged, first_digit, lifted,
+    low_digits, lowered, lowered_each, number_of, places, swapped, with_digit, without_digit,
 };
 use crate::key::Packed;
+use crate::short_trades::{ShortTrades, trades_of};
 use crate::spread::short_words;
 use grid_core::{Grid, Kind};
-use grid_moves::Widening;
+use grid_moves::{Narrowing, Widening};
 use std::marker::Model;
 
 /// A grid of at most `MAX_SHORT_SIZE` columns, as two numbers whose digits are its rows: one step of arithmetic moves the marks of all columns.
@@ -76,8 +80,52 @@ impl ShortGrid {
         }
     }
 
-    /// The translate after both shifts, as `translate` makes it of a grid. Takes no memory.
+    /// The grid without one row and, for the marks of each kind, without one column, which is known to be a grid. Takes no memory.
+    pub fn narrowed(&self, narrowing: Narrowing) -> ShortGrid
+        requires grid { IsGrid (narrowed narrowing self.now) }
+        requires row { narrowing.row < size self.now }
+        requires crosses { narrowing.crosses < size self.now }
+        requires rings { narrowing.rings < size self.now }
+        ensures { result ≡ narrowed narrowing self.now }
+    {
+        let left = self.size - 1;
+        let row = u64::from(narrowing.row);
+        let crosses = without_digit(self.crosses, u32::from(narrowing.crosses), self.size);
+        let rings = without_digit(self.rings, u32::from(narrowing.rings), self.size);
+        ShortGrid {
+            size: left,
+            crosses: dropped(crosses, row, left),
+            rings: dropped(rings, row, left),
+        }
+    }
+
+    /// The same grid again.
+    fn copy(&self) -> ShortGrid
+        ensures same { result ≡ self.now }
+        ensures grid { IsGrid self.now }
+    {
+        ShortGrid {
+            size: self.size,
+            crosses: self.crosses,
+            rings: self.rings,
+        }
+    }
+
+    /// The translate after both shifts, as `translate` makes it of a grid. Takes no memory, and for no shifts nearly no time.
     pub fn translated(&self, columns: u8, rows: u8) -> ShortGrid
+        requires columns { columns < size self.now }
+        requires rows { rows < size self.now }
+        ensures { result ≡ translate self.now columns rows }
+    {
+        if columns == 0 && rows == 0 {
+            self.copy()
+        } else {
+            self.shifted(columns, rows)
+        }
+    }
+
+    /// The translate after both shifts: each number is cut at a column, and its digits are lowered.
+    fn shifted(&self, columns: u8, rows: u8) -> ShortGrid
         requires columns { columns < size self.now }
         requires rows { rows < size self.now }
         ensures { result ≡ translate self.now columns rows }
@@ -119,6 +167,21 @@ impl ShortGrid {
             crosses: exchanged(self.crosses, first, size),
             rings: exchanged(self.rings, first, size),
         }
+    }
+
+    /// Which columns may trade places with the next one, round the circle. Takes no memory.
+    pub fn column_trades(&self) -> ShortTrades
+        ensures { result ≡ trades_of (size self.now) (column_span self.now) }
+    {
+        trades_of(self.crosses, self.rings, self.size)
+    }
+
+    /// Which rows may trade places with the next one, round the circle. Takes no memory.
+    pub fn row_trades(&self) -> ShortTrades
+        ensures { result ≡ trades_of (size self.now) (ends self.now) }
+    {
+        let size = self.size;
+        trades_of(places(self.crosses, size), places(self.rings, size), size)
     }
 
     /// The key of the canonical form with its least shifts, as `canonical_key` answers it for a grid. Takes no memory. It is put into its

@@ -1,0 +1,8 @@
+use Rattle.grid_canon.proofs.Briefs.{brief_once, few_columns}
+use Rattle.grid_canon.proofs.laws.a_brief_key_stands_for_one_key.Goals as goal
+
+pub returns-clause-one : goal.returns-clause-one
+returns-clause-one c = λ a b same. brief_once a b same
+
+pub returns-clause-few : goal.returns-clause-few
+returns-clause-few c = λ d grid few. few_columns d grid few
