@@ -43,7 +43,7 @@ three_of false b false d e = absurd (by b d e)
     by false false e = omega (arith, e)
 
 -- a mark of a translate in the block's rows stood in one of two neighbouring rows
-from_block : (n r z s : ℕ) → 2 ≤ n → r < n → z < n → s ≡ shifted n (shift_before n r) z
+pub from_block : (n r z s : ℕ) → 2 ≤ n → r < n → z < n → s ≡ shifted n (shift_before n r) z
     → ((s == place_after_shift n r) || (s == place_after_shift n r + 1)) ≡ true → (z ≡ r) ⊎ (z ≡ next n r)
 from_block n r z s least lt lz is test = elim (or_cases (s == place_after_shift n r) (s == place_after_shift n r + 1) test) [
   | inl e ↦ inl (from_first n r z least lt lz (sym is ∙ eqb-true s (place_after_shift n r) e))
@@ -80,7 +80,7 @@ block_has_both d c r e grid hc hr step =
           (no_cell_twice d grid (next n c) far)))
     ]
 
-not_none : (fault : Option MoveFault) (b : Bool) → (fault ≡ None → ⊥) → (is_none fault && b) ≡ false
+pub not_none : (fault : Option MoveFault) (b : Bool) → (fault ≡ None → ⊥) → (is_none fault && b) ≡ false
 not_none None b other = absurd (other refl)
 not_none (Some f) b other = refl
 

@@ -9,7 +9,7 @@ use Rattle.next_moves.specs.declared.links.Offer.{Offer}
 use Rattle.next_moves.specs.Tries.{Try, destabilisation, destabilisations}
 use Rattle.next_moves.specs.Offers.{is_offered}
 use Rattle.next_moves.specs.Extends.{Extends, next, row_of_both, if_below}
-use Rattle.next_moves.proofs.Extended.{map_range_more}
+use Rattle.next_moves.proofs.Extended.{map_range_more, extends_none}
 use Rattle.next_moves.proofs.BlockRows.{no_other_block}
 
 pub below_is : (n r : ℕ) → r < n → if_below n r ≡ r ∷ []
@@ -129,3 +129,11 @@ module _ (d : Diagram) (cap c : ℕ) (grid : IsGrid d) (lt : c < size d) where
       (λ r hr not_a not_b.
       let neither = others r not_a not_b in
       no_other_block d cap c r grid lt hr neither.0 neither.1)) both
+
+  pub no_rows : (old : List Offer) → ((r : ℕ) → r < size d → is_offered d cap (destabilisation (size d) c r) ≡ false)
+      → Extends d cap (destabilisations (size d) c) old old
+  no_rows old none =
+      extends_same d cap [] (destabilisations (size d) c) old old
+      (one_kept (is_offered d cap) (destabilisation (size d) c) (size d) (size d) (λ r hr other. none r hr)
+      ∙ ap (λ rs. filter (is_offered d cap) (map (destabilisation (size d) c) rs)) (below_none (size d) (size d) (omega arith)))
+      (extends_none d cap old old refl)

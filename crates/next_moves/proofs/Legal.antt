@@ -1,5 +1,5 @@
 -- The exchanges and slides of neighbours round the circle, legal or not by the spans of the diagram as it is.
-use Rattle.std.proofs.Common.{◌≡◌, ◌<◌, ◌≤◌, ◌+◌, ◌%◌, ◌∙◌, ◌&&◌, ◌||◌, ℕ, List, Bool, true, false, cond, not, nat_lt, Option, Some, None, map, set, length, arith, zero-add, sym, refl, ap, ap₂, ◌≢◌, inl, inr}
+use Rattle.std.proofs.Common.{◌≡◌, ◌<◌, ◌≤◌, ◌+◌, ◌%◌, ◌∙◌, ◌&&◌, ◌||◌, ℕ, List, Bool, true, false, cond, not, nat_lt, Option, Some, None, map, set, length, get_or, subst, arith, zero-add, sym, refl, ap, ap₂, ◌≢◌, inl, inr}
 use Rattle.std.specs.Prelude.{slice_index}
 use Rattle.std.specs.List.{range_with_len}
 use Rattle.std.specs.Option.{is_none}
@@ -20,6 +20,7 @@ use Rattle.grid_moves.specs.declared.step.MoveFault.TheVariants.{Range, Touching
 use Rattle.grid_moves.specs.MoveFault.{exchange_fault, slide_fault}
 use Rattle.grid_moves.specs.Shift.{shifted}
 use Rattle.grid_canon.specs.Translation.{translate}
+use Rattle.grid_canon.specs.ShortTrades.{Trades, trades_of}
 use Rattle.grid_canon.proofs.Translated.{origin, shifted-origin, size-translate, row_of-translate}
 use Rattle.grid_canon.proofs.Joined.{unshifted}
 use Rattle.lane_spans.specs.Span.{Span as Lane, may_trade_places}
@@ -211,6 +212,51 @@ row_slides d r grid lt =
     let s : Span = ends d r in
     let t : Span = ends d (next (size d) r) in
     rows_asked d r grid lt slide_fault ∙ slide_test (share_both_ends s t) (share_an_end s t)
+
+-- what the trades of a short grid tell of one neighbour
+pub record AreTold (trades : Trades) (c : ℕ) (may_exchange may_slide : Bool) : Type 0 where
+  pub exchange_inside : c < length trades.exchange
+  pub exchange : get_or trades.exchange c false ≡ may_exchange
+  pub slide_inside : c < length trades.slide
+  pub slide : get_or trades.slide c false ≡ may_slide
+
+told_of : (spans : ℕ → Span) (n c : ℕ) → c < n
+    → AreTold (trades_of n spans) c (is_none (exchange_fault (spans c) (spans (next n c)))) (share_one_end (spans c) (spans (next n c)))
+told_of spans n c lt =
+    let exchange : ℕ → Bool = λ k. is_none (exchange_fault (spans k) (spans (next n k))) in
+    let slide : ℕ → Bool = λ k. share_one_end (spans k) (spans (next n k)) in
+    record {
+      exchange_inside = omega (arith, lt, length-map-range_with_len exchange 0 n);
+      exchange = get_or-map-range_with_len exchange 0 n c c false lt (zero-add c);
+      slide_inside = omega (arith, lt, length-map-range_with_len slide 0 n);
+      slide = get_or-map-range_with_len slide 0 n c c false lt (zero-add c);
+    }
+
+pub columns_told : (d : Diagram) (c : ℕ) (trades : Trades) → trades ≡ trades_of (size d) (column_span d) → IsGrid d → c < size d
+    → AreTold trades c (is_legal d (column_exchange (size d) c)) (is_legal d (column_slide (size d) c))
+columns_told d c trades is grid lt =
+    let told =
+    subst (λ (t : Trades). AreTold t c (is_none (exchange_fault (column_span d c) (column_span d (next (size d) c))))
+    (share_one_end (column_span d c) (column_span d (next (size d) c)))) (sym is) (told_of (column_span d) (size d) c lt) in
+    record {
+      exchange_inside = told.exchange_inside;
+      exchange = told.exchange ∙ sym (columns_asked d c grid lt exchange_fault);
+      slide_inside = told.slide_inside;
+      slide = told.slide ∙ sym (column_slides d c grid lt);
+    }
+
+pub rows_told : (d : Diagram) (r : ℕ) (trades : Trades) → trades ≡ trades_of (size d) (ends d) → IsGrid d → r < size d
+    → AreTold trades r (is_legal d (row_exchange (size d) r)) (is_legal d (row_slide (size d) r))
+rows_told d r trades is grid lt =
+    let told =
+    subst (λ (t : Trades). AreTold t r (is_none (exchange_fault (ends d r) (ends d (next (size d) r))))
+    (share_one_end (ends d r) (ends d (next (size d) r)))) (sym is) (told_of (ends d) (size d) r lt) in
+    record {
+      exchange_inside = told.exchange_inside;
+      exchange = told.exchange ∙ sym (rows_asked d r grid lt exchange_fault);
+      slide_inside = told.slide_inside;
+      slide = told.slide ∙ sym (row_slides d r grid lt);
+    }
 
 -- two neighbours touch once by the lists where their spans do
 listed_touch : (f : ℕ → Span) (n c : ℕ) (lows highs : List ℕ) → lows ≡ map (λ k. (f k).low) (range_with_len 0 n)

@@ -4,6 +4,7 @@ pub mod Legal
 pub mod Sides
 pub mod BlockRows
 pub mod FewRows
+pub mod SharedBlocks
 pub mod Circle
 pub mod Rounds
 pub mod TranslatedMoves

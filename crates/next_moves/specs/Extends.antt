@@ -1,8 +1,9 @@
 -- A list of offers in the making; only private clauses and proofs cite this file.
-use Rattle.std.specs.Prelude.{◌≡◌, ◌<◌, ◌≤◌, ◌+◌, ◌==◌, ◌++◌, ◌∷◌, [], ℕ, List, Option, IfSome, if◌then◌else◌, nat_lt}
+use Rattle.std.specs.Prelude.{◌≡◌, ◌<◌, ◌≤◌, ◌==◌, ◌++◌, ◌∷◌, [], ℕ, List, Option, IfSome, if◌then◌else◌, nat_lt}
 use Rattle.grid_core.specs.declared.mark.Kind.TheVariants.{Cross, Ring}
 use Rattle.grid_core.specs.Diagram.{Diagram, size, row_of}
 use Rattle.grid_canon.specs.declared.digits.TheConstants.{MAX_SHORT_SIZE}
+pub use Rattle.grid_canon.specs.ShortTrades.{next}
 use Rattle.next_moves.specs.declared.links.Offer.{Offer}
 use Rattle.next_moves.specs.Tries.{Try}
 use Rattle.next_moves.specs.Offers.{AreOffersOf}
@@ -22,13 +23,14 @@ pub record Tried : Type 0 where
   pub diagram : Diagram
   pub cap : ℕ
 
--- what the tries on d within the cap share: d again as a short grid that has room for one more column, where there is one
-pub record IsPrepared (d : Diagram) (cap : ℕ) (again : Option Diagram) : Type 0 where
-  pub short : IfSome again (λ s. (s ≡ d) × (size d < MAX_SHORT_SIZE) × (size d ≤ cap))
+-- d again as a short grid that has room for one more column, where there is one
+abbrev pub IsShortOf : Diagram → Option Diagram → Type 0
+IsShortOf d again = IfSome again (λ s. (s ≡ d) × (size d < MAX_SHORT_SIZE))
 
--- the next number, round the circle of n
-abbrev pub next : ℕ → ℕ → ℕ
-next n c = if c + 1 == n then 0 else c + 1
+-- what the tries on d within the cap share
+pub record IsPrepared (d : Diagram) (cap : ℕ) (again : Option Diagram) : Type 0 where
+  pub within : size d ≤ cap
+  pub short : IsShortOf d again
 
 -- the first of the two rows where they are neighbours on the circle, else n
 abbrev pub first_of_pair : ℕ → ℕ → ℕ → ℕ

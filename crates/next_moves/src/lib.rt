@@ -10,6 +10,7 @@ mod side_by_side;
 mod spans;
 #[cfg(test)]
 mod tests;
+mod trading;
 mod tries;
 
 pub use links::{Link, Offer, push_link, push_link_back};

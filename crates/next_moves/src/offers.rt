@@ -100,6 +100,7 @@ impl Offers {
 /// Appends all offers of a grid to an empty list.
 fn fill(list: &mut OfferList, grid: &Grid, cap: u8)
     requires empty { list.old.items ≡ [] }
+    requires least { size grid.now ≤ cap }
     requires most { cap ≤ MAX_SIZE }
     ensures grid { IsGrid grid.now }
     ensures offers { IsOfferList grid.now cap list.new.items }

@@ -1,30 +1,28 @@
-//! The tries one by one, in their order.
-ghost use Rattle.std.specs.Prelude.{◌≡◌, ◌<◌, ◌≤◌, ◌+◌, ◌*◌, ◌∷◌, ◌++◌, [], IfSome, length, map, true, false};
+//! The tries one by one, in their order; those of exchanges and slides stand in `trading`.
+ghost use Rattle.std.specs.Prelude.{◌≡◌, ◌<◌, ◌≤◌, ◌+◌, ◌*◌, ◌∷◌, ◌++◌, [], length, map};
 ghost use Rattle.std.specs.List.{range_with_len, flat_map};
 ghost use Rattle.grid_core.specs.Corners.{corners};
 ghost use Rattle.grid_core.specs.Diagram.{IsGrid, size};
-ghost use Rattle.grid_core.specs.Parts.{column_lows, column_highs, row_lows, row_highs};
+ghost use Rattle.grid_core.specs.Parts.{column_span, column_lows, column_highs};
 ghost use Rattle.grid_moves.specs.Step.{Step};
-ghost use Rattle.grid_moves.specs.Exchanged.{columns_exchanged, rows_exchanged};
 ghost use Rattle.grid_canon.specs.Translation.{translate};
+ghost use Rattle.grid_canon.specs.ShortTrades.{trades_of};
 ghost use Rattle.next_moves.specs.declared.offers.TheConstants.{MAX_OFFERS};
-ghost use Rattle.next_moves.specs.Tries.{column_exchange, column_slide, row_exchange, row_slide, column_trades, row_trades, destabilisation, destabilisations, stabilisations, stabilisation};
-ghost use Rattle.next_moves.specs.Offers.{is_legal};
-ghost use Rattle.lane_spans.specs.Columns.{has_bit, trades};
-ghost use Rattle.next_moves.specs.Extends.{Extends, row_of_both, if_below};
+ghost use Rattle.next_moves.specs.Tries.{destabilisation, destabilisations, all_destabilisations, stabilisations, stabilisation};
+ghost use Rattle.grid_moves.specs.declared.step.Move.TheVariants.{Destabilise};
+ghost use Rattle.next_moves.specs.Extends.{Extends, IsShortOf, row_of_both, if_below};
 
 use crate::links::{Link, Offer};
 use crate::offer_list::OfferList;
 use crate::side_by_side::{next, shift_before};
 use crate::spans::Spans;
-use grid_canon::{LeastKey, MAX_SHORT_SIZE, ShortGrid, canonical_key, translate};
+use grid_canon::{LeastKey, MAX_SHORT_SIZE, ShortGrid, ShortTrades, canonical_key, translate};
 use grid_core::{Corner, Grid, Kind};
-use grid_moves::{Move, apply_in_place, widening_of};
-use lane_spans::has_bit;
+use grid_moves::{Move, apply_in_place, narrowing_of, widening_of};
 use std::marker::Model;
 
-/// A grid that is tried within a cap, and once more as a short grid where it is within the cap and a short grid has room for one more
-/// column. Contracts see the grid and the cap.
+/// A grid whose moves are tried, and the cap within which. Beside it stands the same grid as a short one, where a short one has room for one
+/// more column. Contracts see the grid and the cap.
 #[derive(Drop)]
 pub(crate) struct Tries<'a> {
     grid: &'a Grid,
@@ -43,21 +41,23 @@ impl<'a> Model for Tries<'a> {
 }
 
 impl<'a> Tries<'a> {
-    /// The tries on a grid within a cap.
+    /// The tries on a grid within a cap, which is at least its size.
     pub(crate) fn on(grid: &'a Grid, cap: u8) -> Tries<'a>
+        requires { size grid.now ≤ cap }
         ensures { result ≡ record { diagram = grid.now; cap = cap } }
     {
         Tries {
             grid,
             cap,
-            short: short_of(grid, cap),
+            short: short_of(grid),
         }
     }
 
     /// The size of the grid.
-    fn size(&self) -> u8
+    pub(crate) fn size(&self) -> u8
         ensures size { result ≡ size self.now.diagram }
         ensures grid { IsGrid self.now.diagram }
+        ensures within { size self.now.diagram ≤ self.now.cap }
     {
         self.grid.size()
     }
@@ -70,14 +70,14 @@ impl<'a> Tries<'a> {
     }
 
     /// The short grid, where there is one.
-    fn short(&self) -> &Option<ShortGrid>
-        ensures { IfSome result.now (λ s. (s ≡ self.now.diagram) × (size self.now.diagram < MAX_SHORT_SIZE) × (size self.now.diagram ≤ self.now.cap)) }
+    pub(crate) fn short(&self) -> &Option<ShortGrid>
+        ensures { IsShortOf self.now.diagram result.now }
     {
         &self.short
     }
 
     /// The grid.
-    fn grid(&self) -> &Grid
+    pub(crate) fn grid(&self) -> &Grid
         ensures { result.now ≡ self.now.diagram }
     {
         self.grid
@@ -98,7 +98,7 @@ impl<'a> Tries<'a> {
     }
 
     /// Appends the offer of one move on a translate, where it is legal within the cap.
-    fn try_move(&self, list: &mut OfferList, before: (u8, u8), step: Move)
+    pub(crate) fn try_move(&self, list: &mut OfferList, before: (u8, u8), step: Move)
         requires columns { before.0 ≤ 1 }
         requires rows { before.1 ≤ 1 }
         requires room { length list.old.items < MAX_OFFERS }
@@ -118,7 +118,13 @@ impl<'a> Tries<'a> {
     }
 
     /// Appends the offer of one move on a translate, by the short grid to which it leads.
-    fn push_moved(&self, list: &mut OfferList, moved: &ShortGrid, before: (u8, u8), step: Move)
+    pub(crate) fn push_moved(
+        &self,
+        list: &mut OfferList,
+        moved: &ShortGrid,
+        before: (u8, u8),
+        step: Move,
+    )
         requires columns { before.0 ≤ 1 }
         requires rows { before.1 ≤ 1 }
         requires step { Step (translate self.now.diagram before.0 before.1) step moved.now }
@@ -131,173 +137,67 @@ impl<'a> Tries<'a> {
         list.push(offer_of(moved.canonical_key(), before, step));
     }
 
-    /// Appends the exchanges and slides of neighbouring columns.
-    pub(crate) fn trade_columns(&self, list: &mut OfferList)
-        requires room { length list.old.items + size self.now.diagram ≤ MAX_OFFERS }
-        ensures offered { Extends self.now.diagram self.now.cap (flat_map (column_trades (size self.now.diagram)) (range_with_len 0 (size self.now.diagram))) list.old.items list.new.items }
-        ensures fits { length list.new.items ≤ length list.old.items + size self.now.diagram }
-    {
-        let size = self.size();
-        let spans = Spans::of_columns(self.grid());
-        let exchanges = spans.exchanges();
-        for c in 0..size {
-            self.trade_column(list, &spans, exchanges, c);
-        }
-    }
-
-    /// Appends the offer of the move by which a column and the next one trade places, where there is one: by the spans of the columns, and the
-    /// mask of their exchanges.
-    fn trade_column(&self, list: &mut OfferList, spans: &Spans, exchanges: u64, c: u8)
-        requires column { c < size self.now.diagram }
-        requires lows { spans.now.lows.items ≡ column_lows self.now.diagram }
-        requires highs { spans.now.highs.items ≡ column_highs self.now.diagram }
-        requires exchanges { has_bit exchanges c ≡ trades (column_lows self.now.diagram) (column_highs self.now.diagram) c }
-        requires room { length list.old.items < MAX_OFFERS }
-        ensures offered { Extends self.now.diagram self.now.cap (column_trades (size self.now.diagram) c) list.old.items list.new.items }
-        ensures fits { length list.new.items ≤ length list.old.items + 1 }
-    {
-        let size = self.size();
-        if has_bit(exchanges, c) {
-            self.exchange_columns(list, c);
-        } else if spans.touch_once(c, size) {
-            self.slide_columns(list, c);
-        }
-    }
-
-    /// Appends the exchange of a column and the next one, which is legal.
-    fn exchange_columns(&self, list: &mut OfferList, c: u8)
-        requires column { c < size self.now.diagram }
-        requires legal { is_legal self.now.diagram (column_exchange (size self.now.diagram) c) ≡ true }
-        requires room { length list.old.items < MAX_OFFERS }
-        ensures offered { Extends self.now.diagram self.now.cap (column_trades (size self.now.diagram) c) list.old.items list.new.items }
-        ensures fits { length list.new.items ≤ length list.old.items + 1 }
-    {
-        let by = shift_before(c, self.size());
-        let place = c - by;
-        self.push_columns_exchanged(list, by, place, Move::ExchangeColumns(place));
-    }
-
-    /// Appends the slide of a column and the next one, which is legal.
-    fn slide_columns(&self, list: &mut OfferList, c: u8)
-        requires column { c < size self.now.diagram }
-        requires no_exchange { is_legal self.now.diagram (column_exchange (size self.now.diagram) c) ≡ false }
-        requires legal { is_legal self.now.diagram (column_slide (size self.now.diagram) c) ≡ true }
-        requires room { length list.old.items < MAX_OFFERS }
-        ensures offered { Extends self.now.diagram self.now.cap (column_trades (size self.now.diagram) c) list.old.items list.new.items }
-        ensures fits { length list.new.items ≤ length list.old.items + 1 }
-    {
-        let by = shift_before(c, self.size());
-        let place = c - by;
-        self.push_columns_exchanged(list, by, place, Move::SlideColumns(place));
-    }
-
-    /// Appends the offer of a legal move by which two columns that stand side by side, after a shift by none or by 1, trade places: made on the
-    /// short grid, where there is one.
-    fn push_columns_exchanged(&self, list: &mut OfferList, by: u8, place: u8, step: Move)
-        requires by { by ≤ 1 }
-        requires place { place + 1 < size self.now.diagram }
-        requires step { Step (translate self.now.diagram by 0) step (columns_exchanged place (translate self.now.diagram by 0)) }
-        requires room { length list.old.items < MAX_OFFERS }
-        ensures offered { Extends self.now.diagram self.now.cap (record { before = (by, 0); step = step } ∷ []) list.old.items list.new.items }
-        ensures fits { length list.new.items ≤ length list.old.items + 1 }
-    {
-        let _size = self.size();
-        match self.short() {
-            Some(short) => {
-                let moved = short.translated(by, 0).with_columns_exchanged(place);
-                self.push_moved(list, &moved, (by, 0), step);
-            }
-            None => self.try_move(list, (by, 0), step),
-        }
-    }
-
-    /// Appends the exchanges and slides of neighbouring rows.
-    pub(crate) fn trade_rows(&self, list: &mut OfferList)
-        requires room { length list.old.items + size self.now.diagram ≤ MAX_OFFERS }
-        ensures offered { Extends self.now.diagram self.now.cap (flat_map (row_trades (size self.now.diagram)) (range_with_len 0 (size self.now.diagram))) list.old.items list.new.items }
-        ensures fits { length list.new.items ≤ length list.old.items + size self.now.diagram }
-    {
-        let size = self.size();
-        let spans = Spans::of_rows(self.grid());
-        let exchanges = spans.exchanges();
-        for r in 0..size {
-            self.trade_row(list, &spans, exchanges, r);
-        }
-    }
-
-    /// Appends the offer of the move by which a row and the next one trade places, where there is one: by the spans of the rows, and the
-    /// mask of their exchanges.
-    fn trade_row(&self, list: &mut OfferList, spans: &Spans, exchanges: u64, r: u8)
-        requires row { r < size self.now.diagram }
-        requires lows { spans.now.lows.items ≡ row_lows self.now.diagram }
-        requires highs { spans.now.highs.items ≡ row_highs self.now.diagram }
-        requires exchanges { has_bit exchanges r ≡ trades (row_lows self.now.diagram) (row_highs self.now.diagram) r }
-        requires room { length list.old.items < MAX_OFFERS }
-        ensures offered { Extends self.now.diagram self.now.cap (row_trades (size self.now.diagram) r) list.old.items list.new.items }
-        ensures fits { length list.new.items ≤ length list.old.items + 1 }
-    {
-        let size = self.size();
-        if has_bit(exchanges, r) {
-            self.exchange_rows(list, r);
-        } else if spans.touch_once(r, size) {
-            self.slide_rows(list, r);
-        }
-    }
-
-    /// Appends the exchange of a row and the next one, which is legal.
-    fn exchange_rows(&self, list: &mut OfferList, r: u8)
-        requires row { r < size self.now.diagram }
-        requires legal { is_legal self.now.diagram (row_exchange (size self.now.diagram) r) ≡ true }
-        requires room { length list.old.items < MAX_OFFERS }
-        ensures offered { Extends self.now.diagram self.now.cap (row_trades (size self.now.diagram) r) list.old.items list.new.items }
-        ensures fits { length list.new.items ≤ length list.old.items + 1 }
-    {
-        let by = shift_before(r, self.size());
-        let place = r - by;
-        self.push_rows_exchanged(list, by, place, Move::ExchangeRows(place));
-    }
-
-    /// Appends the slide of a row and the next one, which is legal.
-    fn slide_rows(&self, list: &mut OfferList, r: u8)
-        requires row { r < size self.now.diagram }
-        requires no_exchange { is_legal self.now.diagram (row_exchange (size self.now.diagram) r) ≡ false }
-        requires legal { is_legal self.now.diagram (row_slide (size self.now.diagram) r) ≡ true }
-        requires room { length list.old.items < MAX_OFFERS }
-        ensures offered { Extends self.now.diagram self.now.cap (row_trades (size self.now.diagram) r) list.old.items list.new.items }
-        ensures fits { length list.new.items ≤ length list.old.items + 1 }
-    {
-        let by = shift_before(r, self.size());
-        let place = r - by;
-        self.push_rows_exchanged(list, by, place, Move::SlideRows(place));
-    }
-
-    /// Appends the offer of a legal move by which two rows that stand side by side, after a shift by none or by 1, trade places: made on the
-    /// short grid, where there is one.
-    fn push_rows_exchanged(&self, list: &mut OfferList, by: u8, place: u8, step: Move)
-        requires by { by ≤ 1 }
-        requires place { place + 1 < size self.now.diagram }
-        requires step { Step (translate self.now.diagram 0 by) step (rows_exchanged place (translate self.now.diagram 0 by)) }
-        requires room { length list.old.items < MAX_OFFERS }
-        ensures offered { Extends self.now.diagram self.now.cap (record { before = (0, by); step = step } ∷ []) list.old.items list.new.items }
-        ensures fits { length list.new.items ≤ length list.old.items + 1 }
-    {
-        let _size = self.size();
-        match self.short() {
-            Some(short) => {
-                let moved = short.translated(0, by).with_rows_exchanged(place);
-                self.push_moved(list, &moved, (0, by), step);
-            }
-            None => self.try_move(list, (0, by), step),
-        }
-    }
-
     /// Appends the destabilisations, by column and then by row.
     pub(crate) fn destabilise(&self, list: &mut OfferList)
         requires room { length list.old.items + 2 * size self.now.diagram ≤ MAX_OFFERS }
-        ensures offered { Extends self.now.diagram self.now.cap (flat_map (destabilisations (size self.now.diagram)) (range_with_len 0 (size self.now.diagram))) list.old.items list.new.items }
+        ensures offered { Extends self.now.diagram self.now.cap (all_destabilisations (size self.now.diagram)) list.old.items list.new.items }
         ensures fits { length list.new.items ≤ length list.old.items + 2 * size self.now.diagram }
     {
+        let _size = self.size();
+        match self.short() {
+            Some(short) => self.destabilise_short(list, &short.column_trades()),
+            None => self.destabilise_long(list),
+        }
+    }
+
+    /// Appends them by the trades of the short grid.
+    fn destabilise_short(&self, list: &mut OfferList, trades: &ShortTrades)
+        requires trades { trades.now ≡ trades_of (size self.now.diagram) (column_span self.now.diagram) }
+        requires room { length list.old.items + 2 * size self.now.diagram ≤ MAX_OFFERS }
+        ensures offered { Extends self.now.diagram self.now.cap (all_destabilisations (size self.now.diagram)) list.old.items list.new.items }
+        ensures fits { length list.new.items ≤ length list.old.items + 2 * size self.now.diagram }
+    {
+        for column in 0..self.size() {
+            self.destabilise_short_column(list, trades, column);
+        }
+    }
+
+    /// Appends those at a column and the next one, by the trades of the short grid: where a block of them has three marks, the two slide.
+    fn destabilise_short_column(&self, list: &mut OfferList, trades: &ShortTrades, c: u8)
+        requires column { c < size self.now.diagram }
+        requires trades { trades.now ≡ trades_of (size self.now.diagram) (column_span self.now.diagram) }
+        requires room { length list.old.items + 2 ≤ MAX_OFFERS }
+        ensures offered { Extends self.now.diagram self.now.cap (destabilisations (size self.now.diagram) c) list.old.items list.new.items }
+        ensures fits { length list.new.items ≤ length list.old.items + 2 }
+    {
+        let _size = self.size();
+        if trades.may_slide(c) {
+            self.destabilise_column(list, c);
+        }
+    }
+
+    /// Appends them where there is no short grid, by the spans of all columns.
+    fn destabilise_long(&self, list: &mut OfferList)
+        requires room { length list.old.items + 2 * size self.now.diagram ≤ MAX_OFFERS }
+        ensures offered { Extends self.now.diagram self.now.cap (all_destabilisations (size self.now.diagram)) list.old.items list.new.items }
+        ensures fits { length list.new.items ≤ length list.old.items + 2 * size self.now.diagram }
+    {
+        let spans = Spans::of_columns(self.grid());
         for c in 0..self.size() {
+            self.destabilise_long_column(list, &spans, c);
+        }
+    }
+
+    /// Appends those at a column and the next one, by the spans of the columns, likewise.
+    fn destabilise_long_column(&self, list: &mut OfferList, spans: &Spans, c: u8)
+        requires column { c < size self.now.diagram }
+        requires lows { spans.now.lows.items ≡ column_lows self.now.diagram }
+        requires highs { spans.now.highs.items ≡ column_highs self.now.diagram }
+        requires room { length list.old.items + 2 ≤ MAX_OFFERS }
+        ensures offered { Extends self.now.diagram self.now.cap (destabilisations (size self.now.diagram) c) list.old.items list.new.items }
+        ensures fits { length list.new.items ≤ length list.old.items + 2 }
+    {
+        if spans.touch_once(c, self.size()) {
             self.destabilise_column(list, c);
         }
     }
@@ -342,11 +242,47 @@ impl<'a> Tries<'a> {
         let size = self.size();
         if r < size {
             let before = (shift_before(c, size), shift_before(r, size));
-            let step = Move::Destabilise {
-                column: c - before.0,
-                row: r - before.1,
-            };
-            self.try_move(list, before, step);
+            self.destabilise_at(list, before, c - before.0, r - before.1);
+        }
+    }
+
+    /// Appends the destabilisation at a column and a row of a translate, where it is legal.
+    fn destabilise_at(&self, list: &mut OfferList, before: (u8, u8), column: u8, row: u8)
+        requires columns { before.0 ≤ 1 }
+        requires rows { before.1 ≤ 1 }
+        requires room { length list.old.items < MAX_OFFERS }
+        ensures offered { Extends self.now.diagram self.now.cap (record { before = before; step = Destabilise column row } ∷ []) list.old.items list.new.items }
+        ensures fits { length list.new.items ≤ length list.old.items + 1 }
+    {
+        match self.short() {
+            Some(short) => self.push_narrowed(list, short, before, column, row),
+            None => self.try_move(list, before, Move::Destabilise { column, row }),
+        }
+    }
+
+    /// Appends the offer of one destabilisation, where it is legal, which is made on the short grid.
+    fn push_narrowed(
+        &self,
+        list: &mut OfferList,
+        short: &ShortGrid,
+        before: (u8, u8),
+        column: u8,
+        row: u8,
+    )
+        requires short { short.now ≡ self.now.diagram }
+        requires columns { before.0 ≤ 1 }
+        requires rows { before.1 ≤ 1 }
+        requires room { length list.old.items < MAX_OFFERS }
+        ensures offered { Extends self.now.diagram self.now.cap (record { before = before; step = Destabilise column row } ∷ []) list.old.items list.new.items }
+        ensures fits { length list.new.items ≤ length list.old.items + 1 }
+    {
+        let _size = self.size();
+        match narrowing_of(&self.translated(before), column, row) {
+            Ok(narrowing) => {
+                let moved = short.translated(before.0, before.1).narrowed(narrowing);
+                self.push_moved(list, &moved, before, Move::Destabilise { column, row });
+            }
+            Err(_) => {}
         }
     }
 
@@ -468,12 +404,11 @@ impl Stabilisation {
     }
 }
 
-/// The grid as a short one, where it is within the cap and a short one has room for one more column.
-fn short_of(grid: &Grid, cap: u8) -> Option<ShortGrid>
-    ensures { IfSome result (λ s. (s ≡ grid.now) × (size grid.now < MAX_SHORT_SIZE) × (size grid.now ≤ cap)) }
+/// The grid as a short one, where a short one has room for one more column.
+fn short_of(grid: &Grid) -> Option<ShortGrid>
+    ensures { IsShortOf grid.now result }
 {
-    let size = grid.size();
-    if size <= cap && (size as usize) < MAX_SHORT_SIZE {
+    if (grid.size() as usize) < MAX_SHORT_SIZE {
         Some(ShortGrid::of(grid))
     } else {
         None

@@ -3,7 +3,7 @@ use Rattle.std.specs.List.{range_with_len, flat_map}
 use Rattle.grid_core.specs.Diagram.{size}
 use Rattle.next_moves.specs.Tries.{destabilisations}
 use Rattle.next_moves.specs.Extends.{Extends}
-use Rattle.next_moves.proofs.tries.Tries.destabilise.Given as goal
+use Rattle.next_moves.proofs.tries.Tries.destabilise_long.Given as goal
 
 abbrev pub invariant-loop-c : goal.invariant-loop-c
 invariant-loop-c l = record {

@@ -3,7 +3,7 @@ use Rattle.std.specs.List.{range_with_len, flat_map}
 use Rattle.grid_core.specs.Diagram.{size}
 use Rattle.next_moves.specs.Tries.{row_trades}
 use Rattle.next_moves.specs.Extends.{Extends}
-use Rattle.next_moves.proofs.tries.Tries.trade_rows.Given as goal
+use Rattle.next_moves.proofs.tries.Tries.trade_long_rows.Given as goal
 
 abbrev pub invariant-loop-r : goal.invariant-loop-r
 invariant-loop-r l = record {

@@ -2,7 +2,7 @@ use Rattle.std.proofs.Common.{arith}
 use Rattle.grid_core.specs.Diagram.{size}
 use Rattle.next_moves.specs.Tries.{destabilisations}
 use Rattle.next_moves.proofs.Extended.{extends_flat_more}
-use Rattle.next_moves.proofs.tries.Tries.destabilise.Goals as goal
+use Rattle.next_moves.proofs.tries.Tries.destabilise_long.Goals as goal
 
 pub loop-c-preserved : goal.loop-c-preserved
 loop-c-preserved c =
@@ -10,6 +10,6 @@ loop-c-preserved c =
     record {
       offered =
           extends_flat_more d c.args.self.now.cap (destabilisations (size d)) c.loop-c.c c.args.list.now.items c.loop-c.list.items
-          c.destabilise_column.new.list.items c.loop-c.invariant.offered c.destabilise_column.ensures.offered;
-      fits = omega (arith, c.loop-c.invariant.fits, c.destabilise_column.ensures.fits);
+          c.destabilise_long_column.new.list.items c.loop-c.invariant.offered c.destabilise_long_column.ensures.offered;
+      fits = omega (arith, c.loop-c.invariant.fits, c.destabilise_long_column.ensures.fits);
     }

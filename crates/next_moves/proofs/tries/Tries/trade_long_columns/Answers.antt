@@ -5,7 +5,7 @@ use Rattle.grid_core.specs.Parts.{column_lows, column_highs}
 use Rattle.next_moves.specs.Tries.{column_trades}
 use Rattle.next_moves.proofs.Extended.{extends_flat_more}
 use Rattle.next_moves.proofs.Legal.{columns_are_spans}
-use Rattle.next_moves.proofs.tries.Tries.trade_columns.Goals as goal
+use Rattle.next_moves.proofs.tries.Tries.trade_long_columns.Goals as goal
 
 pub exchanges-exchanges-requires-clause-spans : goal.exchanges-exchanges-requires-clause-spans
 exchanges-exchanges-requires-clause-spans c =

@@ -5,7 +5,7 @@ use Rattle.grid_core.specs.Parts.{row_lows, row_highs}
 use Rattle.next_moves.specs.Tries.{row_trades}
 use Rattle.next_moves.proofs.Extended.{extends_flat_more}
 use Rattle.next_moves.proofs.Legal.{rows_are_spans}
-use Rattle.next_moves.proofs.tries.Tries.trade_rows.Goals as goal
+use Rattle.next_moves.proofs.tries.Tries.trade_long_rows.Goals as goal
 
 pub exchanges-exchanges-requires-clause-spans : goal.exchanges-exchanges-requires-clause-spans
 exchanges-exchanges-requires-clause-spans c =
