@@ -7,7 +7,7 @@ use Rattle.std.proofs.lemmas.Bool.{cases_lt}
 use Rattle.std.proofs.lemmas.List.{append_assoc, length-append, length-map, length_push, map_push}
 use Rattle.std.proofs.lemmas.List.Elements.{All-contains, All-push, All-weaker, Contains-append_cases, Contains-append_right, Contains-get_or}
 use Rattle.std.proofs.lemmas.List.Quantifiers.{all_pairs_push}
-use Rattle.std.proofs.lemmas.List.Sorted.{Contains-permutation, IsPermutation-append_comm, IsPermutation-append_left, IsPermutation-append_right, IsPermutation-trans}
+use Rattle.std.proofs.lemmas.List.Sorted.{Contains-permutation, IsPermutation-append_left, IsPermutation-map, IsPermutation-trans, All-permutation}
 use Rattle.std.proofs.lemmas.Map.Entries.{place_from_lookup}
 use Rattle.std.proofs.lemmas.Option.{get_or_from_slice_get, slice_get-get_or, slice_get-map, slice_get_within}
 use Rattle.grid_core.specs.Diagram.{IsOneEach}
@@ -17,13 +17,14 @@ use Rattle.grid_canon.specs.Key.{same_key}
 use Rattle.grid_canon.proofs.Keys.{same_key_true, same_key_false}
 use Rattle.search_book.specs.declared.problem.Side.{Side}
 use Rattle.search_book.specs.declared.entry.Entry.{Entry}
-use Rattle.search_book.specs.declared.index.Known.{Known}
+use Rattle.search_book.specs.declared.key_map.Known.{Known}
 use Rattle.search_book.specs.Entries.{id_of}
 use Rattle.search_book.specs.Entries.{keys, sides}
 use Rattle.search_book.specs.Index.{Indexed, IsIndexOf, IsKnown, paired_ids}
 use Rattle.search_book.proofs.Appended.{stands_before, stands_last}
 use Rattle.search_book.proofs.Restaged.{SameButStages, same_keys, kept_sides}
 use Rattle.search_book.proofs.Lookups.{HasKeyAt, id_of_some, id_of_none}
+use Rattle.search_book.proofs.TwoMaps.{moved_in}
 use Rattle.grid_canon.proofs.LeastTranslates.{range_contains}
 
 -- where a look-up finds nothing no key passes the test
@@ -155,7 +156,7 @@ module _ (ks : List Packed) (ss : List Side) (index : Indexed) (is : IsIndexOf k
       differ = differ_more;
       once =
           subst (λ (ids : List ℕ). IsOneEach (length (ks ++ key ∷ [])) (ids ++ index.spilled)) (sym (map_push (λ (p : Packed × Known). p.1.id) index.paired (key, known)))
-          (IsPermutation-trans (range_with_len 0 (length (ks ++ key ∷ []))) ((paired_ids index ++ index.spilled) ++ known.id ∷ []) ((paired_ids index ++ known.id ∷ []) ++ index.spilled) once_more moved);
+          (IsPermutation-trans (range_with_len 0 (length (ks ++ key ∷ []))) ((paired_ids index ++ index.spilled) ++ known.id ∷ []) ((paired_ids index ++ known.id ∷ []) ++ index.spilled) once_more (moved_in (paired_ids index) index.spilled known.id));
       own_keys =
           All-push (λ (p : Packed × Known). slice_get (ks ++ key ∷ []) p.1.id ≡ Some p.0) index.paired (key, known) keys_more
           (subst (λ (i : ℕ). slice_get (ks ++ key ∷ []) i ≡ Some key) (sym place) (stands_last ks key));
@@ -163,13 +164,6 @@ module _ (ks : List Packed) (ss : List Side) (index : Indexed) (is : IsIndexOf k
           All-push (λ (p : Packed × Known). slice_get (ss ++ known.side ∷ []) p.1.id ≡ Some p.1.side) index.paired (key, known) sides_more
           (subst (λ (i : ℕ). slice_get (ss ++ known.side ∷ []) i ≡ Some known.side) (sym beside) (stands_last ss known.side));
     }
-      where
-        moved : IsPermutation ((paired_ids index ++ index.spilled) ++ known.id ∷ []) ((paired_ids index ++ known.id ∷ []) ++ index.spilled)
-        moved =
-            subst (λ (ys : List ℕ). IsPermutation ((paired_ids index ++ index.spilled) ++ known.id ∷ []) ys)
-            (sym (append_assoc (paired_ids index) (known.id ∷ []) index.spilled))
-            (subst (λ (ys : List ℕ). IsPermutation ys (paired_ids index ++ (known.id ∷ [] ++ index.spilled))) (sym (append_assoc (paired_ids index) index.spilled (known.id ∷ [])))
-            (IsPermutation-append_right (paired_ids index) (index.spilled ++ known.id ∷ []) (known.id ∷ [] ++ index.spilled) (IsPermutation-append_comm index.spilled (known.id ∷ []))))
 
     -- alone
     pub spilled_more : IsIndexOf (ks ++ key ∷ []) (ss ++ known.side ∷ []) (record { room = index.room; paired = index.paired; spilled = index.spilled ++ known.id ∷ [] })
@@ -179,6 +173,18 @@ module _ (ks : List Packed) (ss : List Side) (index : Indexed) (is : IsIndexOf k
       own_keys = keys_more;
       own_sides = sides_more;
     }
+
+-- the order of the pairs doesn't matter
+pub rearranged : (ks : List Packed) (ss : List Side) (room : ℕ) (ps qs : List (Packed × Known)) (spilled : List ℕ) → IsPermutation ps qs
+    → IsIndexOf ks ss (record { room = room; paired = ps; spilled = spilled }) → IsIndexOf ks ss (record { room = room; paired = qs; spilled = spilled })
+rearranged ks ss room ps qs spilled moved is = record {
+  differ = is.differ;
+  once =
+      IsPermutation-trans (range_with_len 0 (length ks)) (map (λ (p : Packed × Known). p.1.id) ps ++ spilled) (map (λ (p : Packed × Known). p.1.id) qs ++ spilled) is.once
+      (IsPermutation-append_left spilled (map (λ (p : Packed × Known). p.1.id) ps) (map (λ (p : Packed × Known). p.1.id) qs) (IsPermutation-map (λ (p : Packed × Known). p.1.id) ps qs moved));
+  own_keys = All-permutation (λ (p : Packed × Known). slice_get ks p.1.id ≡ Some p.0) ps qs moved is.own_keys;
+  own_sides = All-permutation (λ (p : Packed × Known). slice_get ss p.1.id ≡ Some p.1.side) ps qs moved is.own_sides;
+}
 
 -- the place of a key among those of the entries is the id of its entry
 pub found_id : (es : List Entry) (key : Packed) (id : ℕ)

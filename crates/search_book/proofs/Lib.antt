@@ -12,6 +12,7 @@ pub mod RootEntries
 pub mod EndedBooks
 mod WorkedRows
 pub mod Lookups
+mod TwoMaps
 mod Indexes
 mod Offering
 mod Appended

@@ -5,7 +5,7 @@ use Rattle.grid_core.specs.Diagram.{IsOneEach}
 use Rattle.grid_canon.specs.declared.key.Packed.{Packed}
 use Rattle.search_book.specs.declared.problem.Side.{Side}
 use Rattle.search_book.specs.declared.entry.Entry.{Entry}
-use Rattle.search_book.specs.declared.index.Known.{Known}
+use Rattle.search_book.specs.declared.key_map.Known.{Known}
 use Rattle.search_book.specs.Entries.{StandsAt, id_of}
 
 -- what is known of a key: the id of the entry that has it, and its side

@@ -7,7 +7,7 @@ ghost use Rattle.search_book.specs.Sound.{Names};
 
 use crate::answer::Ticket;
 use crate::entry::Entry;
-use grid_canon::{LeastForm, grid_of};
+use grid_canon::LeastForm;
 
 /// The ticket of an entry, whose key names a diagram.
 pub fn ticket(entries: &[Entry], id: u32) -> Ticket
@@ -20,10 +20,6 @@ pub fn ticket(entries: &[Entry], id: u32) -> Ticket
 {
     Ticket {
         id,
-        form: LeastForm {
-            grid: grid_of(entries[id as usize].key),
-            columns: 0,
-            rows: 0,
-        },
+        form: LeastForm::named_by(entries[id as usize].key),
     }
 }

@@ -1,32 +1,26 @@
 //! The ids and sides of the entries by their keys.
 ghost use Rattle.std.specs.Prelude.{◌≡◌, ◌≢◌, ◌<◌, ◌≤◌, ◌++◌, ◌∷◌, [], List, length, slice_get, IfOk, IfSome, IfNone, Some, None};
 ghost use Rattle.std.specs.List.{All};
+ghost use Rattle.std.specs.Map.{lookup};
+ghost use Rattle.grid_canon.specs.Key.{same_key};
 ghost use Rattle.grid_canon.specs.declared.key.Packed.{Packed};
 ghost use Rattle.search_book.specs.declared.problem.Side.{Side};
 ghost use Rattle.search_book.specs.Entries.{id_of, keys, sides};
 ghost use Rattle.search_book.specs.Index.{IsIndexOf, IsKnown};
 
 use crate::entry::Entry;
-use crate::problem::Side;
+use crate::key_map::{KeyMap, Known};
 use grid_canon::Packed;
-use indexmap::IndexMap;
 use memory_core::OutOfMemory;
 use std::alloc::Global;
 use std::marker::Model;
-
-/// What is known of a key: the id of the entry that has it, and the entry's side.
-#[derive(Clone, Copy, Debug, PartialEq, Eq)]
-pub struct Known {
-    pub id: u32,
-    pub side: Side,
-}
 
 /// The ids of keys. An id stands beside its key in a map, with the side of its entry, so that a look-up need not read the entry;
 /// or, where the map had no memory for the pair, alone in a list, whose memory was taken before: so each id finds a place, and no
 /// call but the first one can want memory.
 #[derive(Drop)]
 pub struct Index {
-    by_key: IndexMap<Packed, Known>,
+    by_key: KeyMap,
     spilled: Vec<u32>,
 }
 
@@ -36,16 +30,16 @@ impl Model for Index {
 
     ghost Value = { Indexed };
 
-    ghost view = { λ index. record { room = vec_capacity index.spilled; paired = index.by_key.entries; spilled = index.spilled.items } };
+    ghost view = { λ index. record { room = vec_capacity index.spilled; paired = index.by_key; spilled = index.spilled.items } };
 }
 
 impl Index {
-    /// No id, with room for so many.
-    pub fn reserve(alloc: Global, room: u32) -> Result<Index, OutOfMemory>
+    /// No id, with room for so many, of diagrams of at most so many columns.
+    pub fn reserve(alloc: Global, room: u32, columns: u8) -> Result<Index, OutOfMemory>
         ensures room { IfOk result (λ index. room ≤ index.room) }
         ensures index { IfOk result (λ index. IsIndexOf [] [] index) }
     {
-        let by_key = IndexMap::with_capacity(alloc, room as usize)?;
+        let by_key = KeyMap::reserve(alloc, room, columns)?;
         let spilled = Vec::with_capacity(alloc, room as usize)?;
         Ok(Index { by_key, spilled })
     }
@@ -56,7 +50,7 @@ impl Index {
         ensures room { IfOk result (λ index. room ≤ index.room) }
         ensures index { IfOk result (λ index. IsIndexOf [] [] index) }
     {
-        let by_key = IndexMap::new(alloc);
+        let by_key = KeyMap::without_room(alloc);
         let spilled = Vec::with_capacity(alloc, room as usize)?;
         Ok(Index { by_key, spilled })
     }
@@ -64,7 +58,8 @@ impl Index {
     /// Adds what is known of a key behind all others. While the map has room to spare it asks for no memory; no clause says so, and
     /// where the map is refused memory the id spills.
     pub fn add(&mut self, key: Packed, known: Known)
-        requires { length self.old.spilled < self.old.room }
+        requires room { length self.old.spilled < self.old.room }
+        requires new { lookup (same_key key) self.old.paired ≡ None }
         ensures room { self.new.room ≡ self.old.room }
         ensures index { (old_keys : List Packed) (old_sides : List Side)
             → IsIndexOf old_keys old_sides self.old
@@ -73,34 +68,33 @@ impl Index {
             → known.id ≡ length old_sides
             → IsIndexOf (old_keys ++ key ∷ []) (old_sides ++ known.side ∷ []) self.new }
     {
-        match self.by_key.insert(key, known) {
-            Ok(_) => {}
-            Err(_) => self.spilled.push_reserved(known.id),
+        if !self.by_key.insert(key, known) {
+            self.spilled.push_reserved(known.id);
         }
     }
 
     /// What is known of a key, by the entries whose index this is.
-    pub fn find(&self, entries: &[Entry], key: Packed) -> Option<Known>
+    pub fn find(&self, entries: &[Entry], key: &Packed) -> Option<Known>
         requires { IsIndexOf (keys entries.now) (sides entries.now) self.now }
-        ensures some { IfSome result (λ known. IsKnown entries.now key known) }
-        ensures none { IfNone result (id_of entries.now key ≡ None) }
+        ensures some { IfSome result (λ known. IsKnown entries.now key.now known) }
+        ensures none { IfNone result (id_of entries.now key.now ≡ None) }
     {
-        match self.by_key.get(&key) {
-            Some(known) => Some(*known),
+        match self.by_key.get(key) {
+            Some(known) => Some(known),
             None => spilled_entry(entries, self.spilled.as_slice(), key),
         }
     }
 }
 
 /// The first of the ids whose entry has this key, and the side of that entry.
-fn spilled_entry(entries: &[Entry], ids: &[u32], key: Packed) -> Option<Known>
+fn spilled_entry(entries: &[Entry], ids: &[u32], key: &Packed) -> Option<Known>
     requires { All (λ id. id < length entries.now) ids.now }
-    ensures key { IfSome result (λ known. slice_get (keys entries.now) known.id ≡ Some key) }
+    ensures key { IfSome result (λ known. slice_get (keys entries.now) known.id ≡ Some key.now) }
     ensures side { IfSome result (λ known. slice_get (sides entries.now) known.id ≡ Some known.side) }
-    ensures none { IfNone result (All (λ id. slice_get (keys entries.now) id ≢ Some key) ids.now) }
+    ensures none { IfNone result (All (λ id. slice_get (keys entries.now) id ≢ Some key.now) ids.now) }
 {
     for id in ids {
-        if entries[*id as usize].key == key {
+        if entries[*id as usize].key == *key {
             let side = entries[*id as usize].side;
             return Some(Known { id: *id, side });
         }

@@ -1,5 +1,5 @@
 //! The offers of an entry are taken, and the entry is settled.
-ghost use Rattle.std.specs.Prelude.{◌≡◌, ◌≤◌, ◌<◌, length, Some, IsTrue, true, ◌↔◌};
+ghost use Rattle.std.specs.Prelude.{◌≡◌, ◌≤◌, ◌<◌, ℕ, length, Some, IsTrue, true, ◌↔◌};
 ghost use Rattle.std.specs.List.{All};
 ghost use Rattle.frontier_core.specs.declared.sizes.TheConstants.{SIZES};
 ghost use Rattle.grid_canon.specs.Key.{size_of};
@@ -8,11 +8,12 @@ ghost use Rattle.search_book.specs.Entries.{StandsAt};
 ghost use Rattle.search_book.specs.declared.entry.Entry.{Entry};
 ghost use Rattle.search_book.specs.Settle.{met_or_passed_over, weighed, taken_all, finished, settled_entries};
 ghost use Rattle.search_book.specs.Roll.{is_in_flight};
+ghost use Rattle.search_book.specs.Weighed.{end_of};
 
 use crate::answer::Held;
 use crate::entry::{Entry, Origin, Stage};
 use crate::event::{End, Meeting};
-use crate::index::Known;
+use crate::key_map::Known;
 use crate::problem::Side;
 use crate::roll::Roll;
 use next_moves::Offer;
@@ -44,6 +45,17 @@ pub fn settle_entry(roll: &mut Roll, budget: u32, id: u32, offers: &[Offer]) -> 
     finish(roll, id)
 }
 
+/// What one offer of an entry comes to.
+#[derive(Clone, Copy)]
+enum Weighed {
+    /// It was passed over or admitted, and the next one follows.
+    GoesOn,
+    /// An entry of the other side has its key: the one with this id.
+    Met { other: u32 },
+    /// No entry has its key, and there are as many as the budget.
+    Refused,
+}
+
 /// Takes the offers of an entry in order, and answers why the book is over where one of them ends it.
 fn take_all(roll: &mut Roll, budget: u32, id: u32, side: Side, offers: &[Offer]) -> Option<End>
     requires room { budget ≤ roll.old.room }
@@ -53,23 +65,28 @@ fn take_all(roll: &mut Roll, budget: u32, id: u32, side: Side, offers: &[Offer])
         ≡ record { entries = roll.new.entries; end = result } }
 {
     for offer in offers {
-        let end = take(roll, budget, id, side, *offer);
-        if end.is_some() {
-            return end;
+        match take(roll, budget, id, side, offer) {
+            Weighed::GoesOn => {}
+            Weighed::Met { other } => return Some(End::Met(Meeting::Offered {
+                id,
+                other,
+                link: offer.link,
+            })),
+            Weighed::Refused => return Some(End::Spent { refused: offer.key }),
         }
     }
     None
 }
 
 /// Takes one offer of an entry: it is passed over, admitted, or ends the book.
-fn take(roll: &mut Roll, budget: u32, id: u32, side: Side, offer: Offer) -> Option<End>
+fn take(roll: &mut Roll, budget: u32, id: u32, side: Side, offer: &Offer) -> Weighed
     requires room { budget ≤ roll.old.room }
-    requires size { size_of offer.key < SIZES }
+    requires size { size_of offer.now.key < SIZES }
     ensures room { roll.new.room ≡ roll.old.room }
-    ensures taken { weighed budget id side roll.old.entries offer ≡ record { entries = roll.new.entries; end = result } }
+    ensures taken { weighed budget id side roll.old.entries offer.now ≡ record { entries = roll.new.entries; end = end_of id offer.now result } }
 {
-    match roll.find(offer.key) {
-        Some(known) => met_or_passed_over(id, side, offer, known),
+    match roll.find(&offer.key) {
+        Some(known) => met_or_passed_over(side, known),
         None => {
             if roll.len() < budget {
                 roll.admit(Entry {
@@ -81,26 +98,22 @@ fn take(roll: &mut Roll, budget: u32, id: u32, side: Side, offer: Offer) -> Opti
                     },
                     stage: Stage::Unclaimed,
                 });
-                None
+                Weighed::GoesOn
             } else {
-                Some(End::Spent { refused: offer.key })
+                Weighed::Refused
             }
         }
     }
 }
 
 /// An offered entry of the other side ends the book, and one of this side is passed over.
-fn met_or_passed_over(id: u32, side: Side, offer: Offer, known: Known) -> Option<End>
-    ensures { (e : Entry) → e.side ≡ known.side → result ≡ met_or_passed_over id side offer known.id (Some e) }
+fn met_or_passed_over(side: Side, known: Known) -> Weighed
+    ensures { (id : ℕ) (offer : Offer) (e : Entry) → e.side ≡ known.side → end_of id offer result ≡ met_or_passed_over id side offer known.id (Some e) }
 {
     if known.side == side {
-        None
+        Weighed::GoesOn
     } else {
-        Some(End::Met(Meeting::Offered {
-            id,
-            other: known.id,
-            link: offer.link,
-        }))
+        Weighed::Met { other: known.id }
     }
 }
 

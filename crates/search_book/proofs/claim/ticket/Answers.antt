@@ -10,14 +10,14 @@ use Rattle.search_book.proofs.claim.ticket.Goals as goal
 abbrev blank : Entry
 blank = record { key = record { size = 0; x = []; o = [] }; side = First; origin = Root 0 0; stage = Unclaimed }
 
-pub grid_of-requires : goal.grid_of-requires
-grid_of-requires c =
+pub named_by-requires : goal.named_by-requires
+named_by-requires c =
     let named = c.requires.named (get_or c.args.entries.now c.args.id blank) (slice_get-get_or c.args.entries.now c.args.id blank c.requires.inside) in
     (named.0, record { grid = named.1.grid; key = named.1.named })
 
 pub returns-clause-form : goal.returns-clause-form
 returns-clause-form c = λ e d stands named.
-    c.grid_of.ensures d
+    c.named_by.ensures.grid d
     (record {
       grid = named.grid;
       key = named.named ∙ sym (ap (λ (f : Entry). f.key) (get_or_from_slice_get c.args.entries.now c.args.id e blank stands));

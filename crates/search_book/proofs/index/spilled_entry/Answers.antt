@@ -9,18 +9,18 @@ pub loop-id-preserved : goal.loop-id-preserved
 loop-id-preserved c =
     let id : ℕ = get_or c.args.ids.now c.loop-id.id-index 0 in
     All-more
-    (λ (i : ℕ). slice_get (keys c.args.entries.now) i ≢ Some c.args.key) c.args.ids.now c.loop-id.id-index 0 c.loop-id-test.true c.loop-id.invariant
-    (other_key c.args.entries.now id _ c.args.key (sym c.eq.ensures ∙ c.if-eq.false))
+    (λ (i : ℕ). slice_get (keys c.args.entries.now) i ≢ Some c.args.key.now) c.args.ids.now c.loop-id.id-index 0 c.loop-id-test.true c.loop-id.invariant
+    (other_key c.args.entries.now id _ c.args.key.now (sym c.eq.ensures ∙ c.if-eq.false))
 
 pub returns-clause-none : goal.returns-clause-none
 returns-clause-none c =
-    subst (λ (ids : List ℕ). All (λ (i : ℕ). slice_get (keys c.args.entries.now) i ≢ Some c.args.key) ids)
+    subst (λ (ids : List ℕ). All (λ (i : ℕ). slice_get (keys c.args.entries.now) i ≢ Some c.args.key.now) ids)
     (take_all c.loop-id.id-index c.args.ids.now c.loop-id-test.false) c.loop-id.invariant
 
 pub returns-then-eq-clause-key : goal.returns-then-eq-clause-key
 returns-then-eq-clause-key c =
     let within = c.requires c.loop-id.id-index 0 c.loop-id-test.true in
-    own_key c.args.entries.now (get_or c.args.ids.now c.loop-id.id-index 0) _ c.args.key within (sym c.eq.ensures ∙ c.if-eq.true)
+    own_key c.args.entries.now (get_or c.args.ids.now c.loop-id.id-index 0) _ c.args.key.now within (sym c.eq.ensures ∙ c.if-eq.true)
 
 pub returns-then-eq-clause-side : goal.returns-then-eq-clause-side
 returns-then-eq-clause-side c =

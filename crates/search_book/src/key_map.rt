@@ -1,0 +1,94 @@
+//! What is known of keys, by key.
+ghost use Rattle.std.specs.Prelude.{◌≡◌, ◌++◌, ◌∷◌, [], IfOk, true, false, None, IsPermutation};
+ghost use Rattle.std.specs.Map.{lookup};
+ghost use Rattle.grid_canon.specs.Key.{same_key};
+
+use crate::problem::Side;
+use grid_canon::{BriefKey, Packed, WORD_COLUMNS};
+use indexmap::IndexMap;
+use memory_core::OutOfMemory;
+use std::alloc::Global;
+use std::marker::Model;
+
+/// What is known of a key: the id of the entry that has it, and the entry's side.
+#[derive(Clone, Copy, Debug, PartialEq, Eq)]
+pub struct Known {
+    pub id: u32,
+    pub side: Side,
+}
+
+/// Keys with what is known of them, in two maps: a key that has a brief form stands by that form, which a look-up reads from one line of
+/// memory; any other key stands itself. Contracts see the pairs by whole keys.
+#[derive(Drop)]
+pub struct KeyMap {
+    brief: IndexMap<BriefKey, Known>,
+    whole: IndexMap<Packed, Known>,
+}
+
+impl Model for KeyMap {
+    ghost use Rattle.std.specs.Prelude.{List};
+    ghost use Rattle.grid_canon.specs.declared.key.Packed.{Packed};
+    ghost use Rattle.search_book.specs.declared.key_map.Known.{Known};
+    ghost use Rattle.search_book.specs.KeyMap.{pairs, AreWide};
+
+    ghost Value = { List (Packed × Known) };
+
+    ghost view = { λ m. pairs m.brief.entries m.whole.entries };
+
+    ghost invariant = { λ m. AreWide m.whole.entries };
+}
+
+impl KeyMap {
+    /// No key, with room for so many keys of diagrams of at most so many columns.
+    pub fn reserve(alloc: Global, room: u32, columns: u8) -> Result<KeyMap, OutOfMemory>
+        ensures { IfOk result (λ map. map ≡ []) }
+    {
+        let wide = if columns as usize > WORD_COLUMNS {
+            room
+        } else {
+            0
+        };
+        let brief = IndexMap::with_capacity(alloc, room as usize)?;
+        let whole = IndexMap::with_capacity(alloc, wide as usize)?;
+        Ok(KeyMap { brief, whole })
+    }
+
+    /// No key, and no room: memory is asked for at each of the first keys, and may be refused.
+    #[cfg(test)]
+    pub fn without_room(alloc: Global) -> KeyMap
+        ensures { result ≡ [] }
+    {
+        KeyMap {
+            brief: IndexMap::new(alloc),
+            whole: IndexMap::new(alloc),
+        }
+    }
+
+    /// What is known of a key.
+    pub fn get(&self, key: &Packed) -> Option<Known>
+        ensures { result ≡ lookup (same_key key.now) self.now }
+    {
+        match BriefKey::of(key) {
+            Some(brief) => self.brief.get(&brief).copied(),
+            None => self.whole.get(key).copied(),
+        }
+    }
+
+    /// Adds a key that isn't there, and answers true; false where memory was refused.
+    pub fn insert(&mut self, key: Packed, known: Known) -> bool
+        requires { lookup (same_key key) self.old ≡ None }
+        ensures added { result ≡ true → IsPermutation (self.old ++ (key, known) ∷ []) self.new }
+        ensures refused { result ≡ false → self.new ≡ self.old }
+    {
+        match BriefKey::of(&key) {
+            Some(brief) => match self.brief.insert(brief, known) {
+                Ok(_) => true,
+                Err(_) => false,
+            },
+            None => match self.whole.insert(key, known) {
+                Ok(_) => true,
+                Err(_) => false,
+            },
+        }
+    }
+}
