@@ -46,7 +46,7 @@ pub fn explore(
     let mut over = false;
     let mut place = 0;
     while place < class.len() {
-        let form = form_of(class.key_at(place));
+        let form = LeastForm::named_by(class.key_at(place));
         offers.renew(&form, size);
         if let Some(offer) = first_destabilisation(offers.offers()) {
             let moves = way_to(alloc, grid, &class, place, offer.link)?;
@@ -62,18 +62,6 @@ pub fn explore(
         Ok(Explored::More)
     } else {
         Ok(Explored::Whole)
-    }
-}
-
-/// The canonical grid that a key names, as its own form.
-fn form_of(key: Packed) -> LeastForm
-    requires { (d : Diagram) × IsKeyOf key d }
-    ensures { (d : Diagram) → IsKeyOf key d → result.grid ≡ d }
-{
-    LeastForm {
-        grid: grid_of(key),
-        columns: 0,
-        rows: 0,
     }
 }
 

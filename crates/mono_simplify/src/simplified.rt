@@ -41,10 +41,24 @@ pub fn simplify(alloc: Global, grid: &Grid, budget: u32) -> Result<Simplified, O
 {
     let first = canonical(grid);
     let mut offers = Offers::of(&first, first.grid.size());
+    simplify_by(alloc, grid, budget, &mut offers)
+}
+
+/// Simplifies a diagram as `simplify` does, with a list of offers of the caller's, which is renewed for each diagram on the way: what was in it
+/// before doesn't matter. A caller that simplifies more than one diagram so makes one list.
+pub fn simplify_by(
+    alloc: Global,
+    grid: &Grid,
+    budget: u32,
+    offers: &mut Offers,
+) -> Result<Simplified, OutOfMemory>
+    requires { 1 ≤ budget }
+    ensures { IfOk result (λ s. Simplifies grid.now budget s.grid s.moves s.end) }
+{
     let mut here = grid.copy();
     let mut moves = Vec::new(alloc);
     loop {
-        match explore(alloc, &here, budget, &mut offers)? {
+        match explore(alloc, &here, budget, offers)? {
             Explored::Smaller {
                 grid: smaller,
                 moves: way,

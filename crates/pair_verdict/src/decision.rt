@@ -4,16 +4,21 @@ ghost use Rattle.grid_core.specs.declared.grid.TheConstants.{MAX_SIZE};
 ghost use Rattle.grid_core.specs.Diagram.{size};
 ghost use Rattle.verdict_core.specs.Evidence.{Claims, Holds, HasEvidence, IsTidyVerdict};
 ghost use Rattle.search_book.specs.declared.problem.TheConstants.{MAX_BUDGET};
+ghost use Rattle.search_book.specs.Ended.{Shows};
 ghost use Rattle.search_pool.specs.declared.many.TheConstants.{MAX_WORKERS};
+ghost use Rattle.search_pool.specs.Finding.{IsFinding};
+ghost use Rattle.search_pool.specs.InTurn.{AreInTurn};
 ghost use Rattle.pair_verdict.specs.Searched.{AreSimplified, searched};
 ghost use Rattle.pair_verdict.specs.Decided.{Decides, IsVerdictAt, JoinsWhereEqual};
 
 use crate::searched::SimplifiedPair;
 use crate::separating::told_apart;
+use grid_canon::canonical;
 use grid_core::Items;
 use memory_core::OutOfMemory;
+use next_moves::Offers;
 use search_book::{Book, End, Problem};
-use search_pool::{Finding, Gate, alone, pool};
+use search_pool::{Finding, Gate, alone_by, pool};
 use std::alloc::Global;
 use std::sync::Wait;
 use std::thread::Threads;
@@ -89,7 +94,9 @@ pub fn decide<R: Threads + Wait + Sync, G: Gate + Sync>(
             kept: None,
         });
     }
-    let pair = SimplifiedPair::of(alloc, &problem)?;
+    let first = canonical(&problem.first);
+    let mut offers = Offers::of(&first, first.grid.size());
+    let pair = SimplifiedPair::of(alloc, &problem, &mut offers)?;
     let finding = pool(rt, alloc, pair.problem(&problem), workers, gate)?;
     Decision::searched(alloc, &problem, pair, finding)
 }
@@ -116,9 +123,30 @@ pub fn decide_alone(
             kept: None,
         });
     }
-    let pair = SimplifiedPair::of(alloc, &problem)?;
-    let finding = alone(alloc, pair.problem(&problem))?;
+    let (pair, finding) = search_alone(alloc, &problem)?;
     Decision::searched(alloc, &problem, pair, finding)
+}
+
+/// The diagrams of a problem, simplified, and what a search of these by one worker leaves; all by one list of offers, which lies in this
+/// call's own frame: in that of a caller that may return before, the frame of a list would be cleared first.
+#[inline(never)]
+fn search_alone(alloc: Global, problem: &Problem) -> Result<(SimplifiedPair, Finding), OutOfMemory>
+    requires first_fits { size problem.now.first ≤ problem.now.cap }
+    requires second_fits { size problem.now.second ≤ problem.now.cap }
+    requires cap { problem.now.cap ≤ MAX_SIZE }
+    requires two { 2 ≤ problem.now.budget }
+    requires most { problem.now.budget ≤ MAX_BUDGET }
+    ensures simplified { IfOk result (λ r. AreSimplified problem.now r.0.first r.0.second) }
+    ensures finding { IfOk result (λ r. IsFinding (searched problem.now r.0.first r.0.second) r.1) }
+    ensures no_stray { IfOk result (λ r. r.1.stray ≡ None) }
+    ensures in_turn { IfOk result (λ r. AreInTurn 0 r.1.book.history) }
+    ensures shows { IfOk result (λ r. (end : End) → r.1.book.end ≡ Some end → Shows r.1.book end) }
+{
+    let first = canonical(&problem.first);
+    let mut offers = Offers::of(&first, first.grid.size());
+    let pair = SimplifiedPair::of(alloc, problem, &mut offers)?;
+    let finding = alone_by(alloc, pair.problem(problem), &mut offers)?;
+    Ok((pair, finding))
 }
 
 /// What the end of a book of the simplified diagrams comes to.

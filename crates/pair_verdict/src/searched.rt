@@ -9,7 +9,8 @@ ghost use Rattle.pair_verdict.specs.Searched.{AreSimplified, searched, IsWholeLi
 use grid_canon::tidy;
 use grid_moves::{Move, push_undone};
 use memory_core::OutOfMemory;
-use mono_simplify::{Simplified, simplify};
+use mono_simplify::{Simplified, simplify_by};
+use next_moves::Offers;
 use search_book::Problem;
 use std::alloc::Global;
 
@@ -21,14 +22,18 @@ pub(crate) struct SimplifiedPair {
 }
 
 impl SimplifiedPair {
-    /// The diagrams of a problem, the first simplified with its budget and then the second likewise.
-    pub(crate) fn of(alloc: Global, given: &Problem) -> Result<SimplifiedPair, OutOfMemory>
+    /// The diagrams of a problem, the first simplified with its budget and then the second likewise, by one list of offers.
+    pub(crate) fn of(
+        alloc: Global,
+        given: &Problem,
+        offers: &mut Offers,
+    ) -> Result<SimplifiedPair, OutOfMemory>
         requires { 1 ≤ given.now.budget }
         ensures { IfOk result (λ pair. AreSimplified given.now pair.first pair.second) }
     {
         Ok(SimplifiedPair {
-            first: simplify(alloc, &given.first, given.budget)?,
-            second: simplify(alloc, &given.second, given.budget)?,
+            first: simplify_by(alloc, &given.first, given.budget, offers)?,
+            second: simplify_by(alloc, &given.second, given.budget, offers)?,
         })
     }
 

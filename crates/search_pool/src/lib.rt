@@ -16,6 +16,6 @@ mod tests;
 pub use finding::Finding;
 pub use gate::{Gate, OpenGate};
 pub use many::{MAX_WORKERS, pool};
-pub use searcher::alone;
+pub use searcher::{alone, alone_by};
 pub use seat::Seat;
 pub use shared::SharedBook;

@@ -28,8 +28,8 @@ loop-place-init c =
       ways_start c.args.grid.now root.form c.in_ok-class.ensures.0 c.in_ok-class.class root.least.canonical named,
     )
 
-pub form_of-form-requires : goal.form_of-form-requires
-form_of-form-requires c =
+pub named_by-form-requires : goal.named_by-form-requires
+named_by-form-requires c =
     let m = member_at c.args.grid.now c.args.budget c.loop-place.place c.loop-place.place
     (keys_in c.loop-place.class) c.key_at.result c.loop-place.over c.size-size.ensures.grid c.loop-place.invariant.2 c.key_at.ensures in
     (m.form, m.names)
@@ -38,21 +38,21 @@ pub renew-requires-clause-canonical : goal.renew-requires-clause-canonical
 renew-requires-clause-canonical c =
     let m = member_at c.args.grid.now c.args.budget c.loop-place.place c.loop-place.place
     (keys_in c.loop-place.class) c.key_at.result c.loop-place.over c.size-size.ensures.grid c.loop-place.invariant.2 c.key_at.ensures in
-    subst (λ (e : Diagram). IsCanonical e) (sym (c.form_of-form.ensures m.form m.names)) m.own
+    subst (λ (e : Diagram). IsCanonical e) (sym (c.named_by-form.ensures.grid m.form m.names)) m.own
 
 pub renew-requires-clause-least : goal.renew-requires-clause-least
 renew-requires-clause-least c =
     let m = member_at c.args.grid.now c.args.budget c.loop-place.place c.loop-place.place
     (keys_in c.loop-place.class) c.key_at.result c.loop-place.over c.size-size.ensures.grid c.loop-place.invariant.2 c.key_at.ensures in
-    omega (arith, ap size (c.form_of-form.ensures m.form m.names), m.long, c.size-size.ensures.size)
+    omega (arith, ap size (c.named_by-form.ensures.grid m.form m.names), m.long, c.size-size.ensures.size)
 
 pub grid_of-requires : goal.grid_of-requires
 grid_of-requires c =
     let d : Diagram = c.args.grid.now in
     let m = member_at d c.args.budget c.loop-place.place c.loop-place.place
     (keys_in c.loop-place.class) c.key_at.result c.loop-place.over c.size-size.ensures.grid c.loop-place.invariant.2 c.key_at.ensures in
-    let list = asked d m.form c.form_of-form.result.grid c.size-size.result c.renew.new.self.offers c.offers.result.now c.renew.ensures.offers
-    (c.form_of-form.ensures m.form m.names) c.size-size.ensures.size m.long c.offers.ensures.offers in
+    let list = asked d m.form c.named_by-form.result.grid c.size-size.result c.renew.new.self.offers c.offers.result.now c.renew.ensures.offers
+    (c.named_by-form.ensures.grid m.form m.names) c.size-size.ensures.size m.long c.offers.ensures.offers in
     let led = smaller_by_one m.form c.offers.result.now c.in-Some.offer m.names.grid list c.in-Some.ensures.some.0 c.in-Some.ensures.some.1 in
     (led.0, led.1.0)
 
@@ -61,8 +61,8 @@ returns-in-Some c =
     let d : Diagram = c.args.grid.now in
     let m = member_at d c.args.budget c.loop-place.place c.loop-place.place
     (keys_in c.loop-place.class) c.key_at.result c.loop-place.over c.size-size.ensures.grid c.loop-place.invariant.2 c.key_at.ensures in
-    let list = asked d m.form c.form_of-form.result.grid c.size-size.result c.renew.new.self.offers c.offers.result.now c.renew.ensures.offers
-    (c.form_of-form.ensures m.form m.names) c.size-size.ensures.size m.long c.offers.ensures.offers in
+    let list = asked d m.form c.named_by-form.result.grid c.size-size.result c.renew.new.self.offers c.offers.result.now c.renew.ensures.offers
+    (c.named_by-form.ensures.grid m.form m.names) c.size-size.ensures.size m.long c.offers.ensures.offers in
     let led = smaller_by_one m.form c.offers.result.now c.in-Some.offer m.names.grid list c.in-Some.ensures.some.0 c.in-Some.ensures.some.1 in
     let is : c.grid_of.result ≡ led.0 = c.grid_of.ensures led.0 led.1.0 in
     let smaller : size led.0 + 1 ≡ size m.form = led.1.2 in (
@@ -82,8 +82,8 @@ loop-place-preserved c =
     let m = member_at d c.args.budget c.loop-place.place c.loop-place.place
     (keys_in old) key c.loop-place.over c.size-size.ensures.grid c.loop-place.invariant.2 c.key_at.ensures in
     let seen : List Offer = c.offers-in-loop-place.result.now in
-    let list = asked d m.form c.form_of-form.result.grid c.size-size.result c.renew.new.self.offers seen c.renew.ensures.offers
-    (c.form_of-form.ensures m.form m.names) c.size-size.ensures.size m.long c.offers-in-loop-place.ensures.offers in
+    let list = asked d m.form c.named_by-form.result.grid c.size-size.result c.renew.new.self.offers seen c.renew.ensures.offers
+    (c.named_by-form.ensures.grid m.form m.names) c.size-size.ensures.size m.long c.offers-in-loop-place.ensures.offers in
     let one : c.offers.result.now ≡ seen = c.offers.ensures.offers ∙ sym c.offers-in-loop-place.ensures.offers in
     let none : All Keeps seen = subst (λ (os : List Offer). All Keeps os) one c.in_default.ensures.none in
     let exchanges = exchanges_offered m.form (size m.form) (size m.form) seen list in

@@ -1,8 +1,6 @@
 use Rattle.std.proofs.Common.{subst, inr, Option, IfOk}
 use Rattle.std.proofs.lemmas.Result.{IfOk-weaker}
 use Rattle.verdict_core.specs.declared.verdict.Verdict.{Verdict}
-use Rattle.search_book.specs.declared.problem.Problem.{Problem}
-use Rattle.search_pool.specs.Finding.{IsFinding}
 use Rattle.pair_verdict.specs.Separates.{first_separating, IsSeparation}
 use Rattle.pair_verdict.specs.Decided.{IsSearched}
 use Rattle.pair_verdict.proofs.FirstFound.{told_holds, told_tidy}
@@ -19,12 +17,12 @@ returns-in-Some-clause-holds c =
     (subst (λ (o : Option Verdict). IsSeparation p.first p.second (first_separating p.first p.second qs) o) c.in-Some.is c.in_ok-verdict.ensures.verdict)
 
 by_search : (c : After-searched) → IfOk c.searched.result (λ d. IsSearched c.args.problem c.args.quandles.now 1 d.verdict d.kept)
-by_search c = made c.args.problem c.args.quandles.now 1 _ c.in_ok-pair.pair.first c.in_ok-pair.pair.second c.in_ok-finding.finding c.searched.result
-    c.in_ok-verdict.ensures.verdict c.in_default.is c.in_ok-pair.ensures c.requires.first_fits c.requires.second_fits
-    (subst (λ (p : Problem). IsFinding p c.in_ok-finding.finding) c.problem.ensures.problem c.in_ok-finding.ensures.finding)
-    (λ one. c.in_ok-finding.ensures.no_stray)
-    (λ either. c.in_ok-finding.ensures.in_turn)
-    c.in_ok-finding.ensures.shows c.searched.ensures.kept c.searched.ensures.verdict c.searched.ensures.joins
+by_search c = made c.args.problem c.args.quandles.now 1 _ c.in_ok-pair.pair.first c.in_ok-pair.pair.second c.in_ok-pair.finding c.searched.result
+    c.in_ok-verdict.ensures.verdict c.in_default.is c.in_ok-pair.ensures.simplified c.requires.first_fits c.requires.second_fits
+    c.in_ok-pair.ensures.finding
+    (λ one. c.in_ok-pair.ensures.no_stray)
+    (λ either. c.in_ok-pair.ensures.in_turn)
+    c.in_ok-pair.ensures.shows c.searched.ensures.kept c.searched.ensures.verdict c.searched.ensures.joins
 
 pub returns-clause-decides : goal.returns-clause-decides
 returns-clause-decides c = IfOk-weaker c.searched.result _ _ (λ d is. inr is) (by_search c)

@@ -7,7 +7,7 @@ use Rattle.mono_simplify.specs.declared.simplified.SimpleEnd.TheVariants.{Irredu
 use Rattle.mono_simplify.specs.Simplified.{Simplifies}
 use Rattle.mono_simplify.specs.Ways.{IsExploredTo}
 use Rattle.mono_simplify.proofs.Simpler.{not_simpler, simpler_more}
-use Rattle.mono_simplify.proofs.simplified.simplify.Goals as goal
+use Rattle.mono_simplify.proofs.simplified.simplify_by.Goals as goal
 
 pub loop-moves-init : goal.loop-moves-init
 loop-moves-init c = not_simpler c.args.grid.now c.copy-here.result c.new-moves.result.items c.copy-here.ensures c.new-moves.ensures.items
