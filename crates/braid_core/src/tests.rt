@@ -114,7 +114,7 @@ fn fixed_points_are_as_many_as_colourings(rt: HostRuntime) -> Result<(), Fail> {
     compare_count(&rt, alloc, 2, &[1, 1], &triangle, 3)?;
     compare_count(&rt, alloc, 4, &[1, -2, 3], &heptagon, 7)?;
     compare_count(&rt, alloc, 1, &[], &heptagon, 7)?;
-    compare_count(&rt, alloc, 8, &[7; 7], &Quandle::dihedral(4), 16384)?;
+    compare_count(&rt, alloc, 8, &[7; 3], &Quandle::dihedral(4), 16384)?;
     compare_count(&rt, alloc, 8, &[], &Quandle::trivial(4), 65536)
 }
 

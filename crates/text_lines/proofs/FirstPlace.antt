@@ -1,13 +1,9 @@
 -- The first place that a search for a byte answers is the position of std.
 use Rattle.std.proofs.Common.{◌≡◌, ◌<◌, ◌∙◌, ℕ, Bool, true, false, not, nat_lt, List, length, get_or, Option, Some, None, arith, refl, sym, ap, inl, inr}
 use Rattle.std.specs.List.{position, position_or_len}
-use Rattle.std.proofs.lemmas.Bool.{cases_Bool, cases_order, cond-true, cond-false, false≢true, ltb-true, lt-ltb}
+use Rattle.std.proofs.lemmas.Bool.{cases_Bool, cases_order, cond-true, cond-false, false≢true, ltb-true, lt-ltb, not-false}
 use Rattle.std.proofs.lemmas.List.Sums.{prefix_len_passes, prefix_len_stops}
 use Rattle.memchr.specs.Find.{IsFirstByte}
-
-not_false : (b : Bool) → not b ≡ false → b ≡ true
-not_false true e = refl
-not_false false e = absurd (false≢true (sym e))
 
 not_true : (b : Bool) → not b ≡ true → b ≡ true → ⊥
 not_true true e t = false≢true e
@@ -16,7 +12,7 @@ not_true false e t = false≢true t
 module _ (p : ℕ → Bool) (bytes : List ℕ) where
   -- what passes at the position, and nothing before it
   at_position : position_or_len p bytes < length bytes → p (get_or bytes (position_or_len p bytes) 0) ≡ true
-  at_position lt = not_false (p (get_or bytes (position_or_len p bytes) 0)) (prefix_len_stops (λ b. not (p b)) bytes 0 lt)
+  at_position lt = not-false (p (get_or bytes (position_or_len p bytes) 0)) (prefix_len_stops (λ b. not (p b)) bytes 0 lt)
 
   before_position : (k : ℕ) → k < position_or_len p bytes → p (get_or bytes k 0) ≡ true → ⊥
   before_position k lt = not_true (p (get_or bytes k 0)) (prefix_len_passes (λ b. not (p b)) bytes k 0 lt)
