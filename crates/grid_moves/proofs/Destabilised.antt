@@ -40,7 +40,7 @@ module _ (c r : ℕ) (kind : Kind) (corner : Corner) (d : Diagram) (grid : IsGri
         })
   ]
 
-  double_row_mark : (k : Kind) → HasMark d k (column_in_double_row d c k) (double_row d c)
+  pub double_row_mark : (k : Kind) → HasMark d k (column_in_double_row d c k) (double_row d c)
   double_row_mark k =
       let m = mark_of k in
       let q = double_row_is c r kind corner d block in
@@ -125,3 +125,10 @@ destabilised-step c r d grid inside low three =
         undone = destabilised_undone c r shape.0 shape.1.0 d grid inside shape.1.1 low;
       };
     }
+
+-- the row with two marks has the two in the columns taken out
+pub destabilised-marks : (c r : ℕ) (d : Diagram) → IsGrid d → c + 1 < size d → marks_in_block d c r ≡ 3
+    → (k : Kind) → HasMark d k (column_in_double_row d c k) (double_row d c)
+destabilised-marks c r d grid inside three =
+    let shape = block_shape c r d grid inside three in
+    double_row_mark c r shape.0 shape.1.0 d grid inside shape.1.1

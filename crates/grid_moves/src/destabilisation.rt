@@ -3,7 +3,8 @@ ghost use Rattle.std.specs.Prelude.{◌≡◌, ◌<◌, ◌≤◌, ◌+◌, ◌+
 ghost use Rattle.std.specs.List.{remove};
 ghost use Rattle.std.specs.Result.{result_err};
 ghost use Rattle.grid_core.specs.declared.grid.TheConstants.{MAX_SIZE};
-ghost use Rattle.grid_core.specs.Diagram.{size, rows_of};
+ghost use Rattle.grid_core.specs.declared.mark.Kind.TheVariants.{Cross, Ring};
+ghost use Rattle.grid_core.specs.Diagram.{HasMark, size, rows_of};
 ghost use Rattle.grid_core.specs.Places.{lowered};
 ghost use Rattle.grid_moves.specs.Destabilisation.{marks_in_block};
 ghost use Rattle.grid_moves.specs.BlockMarks.{is_block_row, block_kind, corner_is_right, corner_on, block_corner};
@@ -40,13 +41,14 @@ pub struct Narrowing {
     pub rings: u8,
 }
 
-/// What the destabilisation at a column and a row takes out of a grid, or the fault for which `apply` refuses it.
+/// What the destabilisation at a column and a row takes out of a grid, or the fault for which `apply` refuses it: `Range` where the column
+/// or the row is the last one or beyond, else `Block` with the number of marks in the block, where that isn't three.
 pub fn narrowing_of(grid: &Grid, column: u8, row: u8) -> Result<Narrowing, MoveFault>
     ensures fault { result_err result ≡ first_fault grid.now (Move.Destabilise column row) }
     ensures step { IfOk result (λ n. Step grid.now (Move.Destabilise column row) (narrowed n grid.now)) }
     ensures row { IfOk result (λ n. n.row < size grid.now) }
-    ensures crosses { IfOk result (λ n. n.crosses < size grid.now) }
-    ensures rings { IfOk result (λ n. n.rings < size grid.now) }
+    ensures crosses { IfOk result (λ n. HasMark grid.now Cross n.crosses n.row) }
+    ensures rings { IfOk result (λ n. HasMark grid.now Ring n.rings n.row) }
 {
     let last = grid.size() - 1;
     if column >= last || row >= last {

@@ -1,7 +1,9 @@
 //! Moves on worked examples, and every move on every grid of two to four columns.
 ghost use Rattle.std.specs.Prelude.{◌<◌, ◌≤◌};
 
-use crate::{Move, MoveFault, apply, apply_all, inverse, is_tidy, push_undone};
+use crate::{
+    Move, MoveFault, Narrowing, apply, apply_all, inverse, is_tidy, narrowing_of, push_undone,
+};
 use grid_core::{Corner, Grid, Kind, MAX_SIZE};
 use std::alloc::Global;
 use std::test::Fail;
@@ -103,6 +105,25 @@ fn moves_lead_where_they_were_worked_out_to_lead(rt: HostRuntime) -> Result<(), 
     for (x, o, moves, to_x, to_o) in cases {
         assert!(rt; leads(x, o, moves, to_x, to_o), "{x:?} {o:?} {moves:?}");
     }
+    Ok(())
+}
+
+#[test]
+fn a_destabilisation_takes_out_the_row_of_two_marks(rt: HostRuntime) -> Result<(), Fail> {
+    let Ok(grid) = Grid::new(&[0, 1, 2, 3, 4], &[2, 4, 3, 1, 0]) else {
+        return Err(Fail::from("no grid"));
+    };
+    let taken_out = Narrowing {
+        row: 3,
+        crosses: 3,
+        rings: 2,
+    };
+    assert_eq!(rt; narrowing_of(&grid, 2, 2), Ok(taken_out));
+    assert_eq!(rt;
+        narrowing_of(&grid, 0, 0),
+        Err(MoveFault::Block { marks: 2 })
+    );
+    assert_eq!(rt; narrowing_of(&grid, 4, 0), Err(MoveFault::Range));
     Ok(())
 }
 
