@@ -1,4 +1,4 @@
--- Brief keys: each stands for one key, and grids of few columns have one.
+-- Brief keys: no two stand for one key, and grids of few columns have one.
 use Rattle.std.proofs.Common.{◌≡◌, ◌<◌, ◌≤◌, ◌-◌, ◌+◌, ◌*◌, ◌/◌, ◌%◌, ◌^◌, ◌==◌, ◌∷◌, ◌∙◌, ℕ, Bool, true, false, List, arith, refl, ap, ap₂, get_or, replicate, take, length}
 use Rattle.std.proofs.Math.Nat.{pow-le-pow_right}
 use Rattle.std.proofs.lemmas.Bool.{and_from, and_parts, eqb-true, eq-eqb}

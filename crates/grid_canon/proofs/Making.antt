@@ -1,10 +1,10 @@
 -- A list in the making: what is written, the shifts that are not, and the moves that are left.
-use Rattle.std.proofs.Common.{◌≡◌, ◌<◌, ◌≤◌, ◌+◌, ◌%◌, ◌++◌, ◌∷◌, [], ◌∙◌, ℕ, Bool, true, false, List, length, drop, get_or, arith, sym, refl, ap, subst, append_assoc}
+use Rattle.std.proofs.Common.{◌≡◌, ◌<◌, ◌≤◌, ◌+◌, ◌%◌, ◌++◌, ◌∷◌, [], ◌∙◌, ℕ, false, List, length, drop, get_or, arith, sym, ap, subst, append_assoc}
 use Rattle.std.proofs.lemmas.List.{drop_more, drop_all}
 use Rattle.grid_core.specs.declared.grid.TheConstants.{MAX_SIZE}
 use Rattle.grid_core.specs.Diagram.{Diagram, IsGrid, size}
 use Rattle.grid_moves.specs.declared.step.Move.{Move}
-use Rattle.grid_moves.specs.declared.step.Move.TheVariants.{ShiftColumns, ShiftRows, ExchangeColumns, ExchangeRows, SlideColumns, SlideRows, Stabilise, Destabilise}
+use Rattle.grid_moves.specs.declared.step.Move.TheVariants.{ShiftColumns, ShiftRows}
 use Rattle.grid_moves.specs.Joining.{Joins}
 use Rattle.grid_moves.specs.SizeAfter.{size_after}
 use Rattle.grid_moves.specs.Step.{Step}
@@ -13,6 +13,7 @@ use Rattle.grid_moves.proofs.Sizes.{step_size}
 use Rattle.grid_canon.specs.declared.tidying.Run.{Run}
 use Rattle.grid_canon.specs.Shifts.{shift_moves}
 use Rattle.grid_canon.specs.Tidied.{tidied}
+use Rattle.grid_canon.proofs.TidiedRuns.{run_ended}
 
 -- the shifts that are not written yet are round the circle of so many columns
 pub record IsRun (run : Run) : Type 0 where
@@ -113,21 +114,10 @@ regrouped list shifts new move behind is =
     ∙ append_assoc (list ++ shifts) (move ∷ []) behind
     ∙ append_assoc list shifts (move ∷ behind)
 
-tidied_other : (n a b : ℕ) (move : Move) (rest : List Move) → is_shift move ≡ false
-    → tidied n a b (move ∷ rest) ≡ shift_moves a b ++ move ∷ tidied (size_after move n) 0 0 rest
-tidied_other n a b (ShiftColumns k) rest none = absurd (let no : ◌≡◌ {A = Bool} true false = none in cc)
-tidied_other n a b (ShiftRows k) rest none = absurd (let no : ◌≡◌ {A = Bool} true false = none in cc)
-tidied_other n a b (ExchangeColumns c) rest none = refl
-tidied_other n a b (ExchangeRows r) rest none = refl
-tidied_other n a b (SlideColumns c) rest none = refl
-tidied_other n a b (SlideRows r) rest none = refl
-tidied_other n a b (Stabilise c kind corner) rest none = refl
-tidied_other n a b (Destabilise c r) rest none = refl
-
 pub other_written : (list middle new : List Move) (n a b after : ℕ) (move : Move) (rest : List Move) → is_shift move ≡ false
     → middle ≡ list ++ shift_moves a b → new ≡ middle ++ move ∷ [] → after ≡ size_after move n
     → new ++ tidied after 0 0 rest ≡ list ++ tidied n a b (move ∷ rest)
 other_written list middle new n a b after move rest none first second long =
     ap (λ (z : ℕ). new ++ tidied z 0 0 rest) long
     ∙ regrouped list (shift_moves a b) new move (tidied (size_after move n) 0 0 rest) (second ∙ ap (λ (ms : List Move). ms ++ move ∷ []) first)
-    ∙ ap (λ (ms : List Move). list ++ ms) (sym (tidied_other n a b move rest none))
+    ∙ ap (λ (ms : List Move). list ++ ms) (sym (run_ended n a b move rest none))

@@ -1,8 +1,9 @@
 -- The number with two neighbouring digits in each other's place.
-use Rattle.std.proofs.Common.{◌≡◌, ◌<◌, ◌≤◌, ◌+◌, ◌-◌, ◌*◌, ◌%◌, ◌^◌, ◌∷◌, ◌∙◌, [], ℕ, zero, suc, List, length, get_or, set, arith, refl, sym, ap, ap₂}
+use Rattle.std.proofs.Common.{◌≡◌, ◌<◌, ◌≤◌, ◌+◌, ◌-◌, ◌*◌, ◌%◌, ◌^◌, ◌∷◌, ◌∙◌, [], ℕ, zero, suc, List, length, get_or, set, arith, sym, ap, ap₂}
 use Rattle.std.specs.List.{swap}
 use Rattle.std.proofs.Math.Nat.{pow-le-pow_right}
 use Rattle.std.proofs.lemmas.Nat.{pow-add, mul-add-lt, shl_whole}
+use Rattle.std.proofs.lemmas.Grind.{get_or_default_zero}
 use Rattle.std.proofs.lemmas.List.{get_or-set_other, length-set}
 use Rattle.grid_canon.specs.declared.digits.TheConstants.{SHORT_BASE, SHORT_BITS, MAX_SHORT_SIZE}
 use Rattle.grid_canon.specs.Digits.{short_number, digits}
@@ -34,16 +35,10 @@ number_set (x ∷ xs) (suc i) y lt =
     added : (a b c d e : ℕ) → b + c ≡ d + e → a + b + c ≡ a + d + e
     added a b c d e is = omega (arith, is)
 
--- what is read of a list inside it depends on no default
-read_inside : (xs : List ℕ) (i d : ℕ) → i < length xs → get_or xs i d ≡ get_or xs i 0
-read_inside [] i d lt = absurd (omega (arith, lt))
-read_inside (x ∷ xs) zero d lt = refl
-read_inside (x ∷ xs) (suc i) d lt = read_inside xs i d (omega (arith, lt))
-
 swap_sets : (xs : List ℕ) (i j : ℕ) → i < length xs → j < length xs → swap xs i j ≡ set (set xs i (get_or xs j 0)) j (get_or xs i 0)
 swap_sets [] i j hi hj = absurd (omega (arith, hi))
 swap_sets (x ∷ xs) i j hi hj =
-    ap₂ (λ (z w : ℕ). set (set (x ∷ xs) i z) j w) (read_inside (x ∷ xs) j x hj) (read_inside (x ∷ xs) i x hi)
+    ap₂ (λ (z w : ℕ). set (set (x ∷ xs) i z) j w) (get_or_default_zero (x ∷ xs) j x hj) (get_or_default_zero (x ∷ xs) i x hi)
 
 -- two neighbours in each other's place
 number_swap : (xs : List ℕ) (i : ℕ) → i + 1 < length xs

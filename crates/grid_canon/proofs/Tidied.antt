@@ -1,7 +1,8 @@
 -- Lists of moves, tidied: they are tidy, and lead where the given ones lead, within the same cap.
 use Rattle.std.proofs.Common.{◌≡◌, ◌<◌, ◌≤◌, ◌+◌, ◌-◌, ◌%◌, ◌++◌, ◌∷◌, [], ◌∙◌, ◌&&◌, ◌||◌, not, ℕ, zero, suc, Bool, true, false, List, Option, Some, None, arith, sym, refl, ap, ap₂, subst, append-nil}
 use Rattle.std.specs.List.{filter}
-use Rattle.std.proofs.lemmas.Bool.{not-true}
+use Rattle.std.proofs.Math.Bool.{and-false}
+use Rattle.std.proofs.lemmas.Bool.{and_from, not-true}
 use Rattle.std.proofs.lemmas.List.Elements.{filter-append}
 use Rattle.grid_core.specs.declared.grid.TheConstants.{MAX_SIZE}
 use Rattle.grid_core.specs.Diagram.{Diagram, IsGrid, size}
@@ -37,19 +38,13 @@ no_row_shift (SlideRows r) none = refl
 no_row_shift (Stabilise c kind corner) none = refl
 no_row_shift (Destabilise c r) none = refl
 
-neither : (p q : Bool) → not ((p && false) || (q && false)) ≡ true
-neither true true = refl
-neither true false = refl
-neither false true = refl
-neither false false = refl
-
 -- behind what is no shift any move may follow
 may_begin : (before : Option Move) (move : Move) → free before ≡ true → may_follow before move ≡ true
 may_begin None move is = refl
 may_begin (Some last) move is =
     let none : is_shift last ≡ false = not-true (is_shift last) is in
     ap₂ (λ (p q : Bool). not ((is_column_shift move && p) || (is_row_shift move && q))) none (no_row_shift last none)
-    ∙ neither (is_column_shift move) (is_row_shift move)
+    ∙ ap₂ (λ (p q : Bool). not (p || q)) (and-false (is_column_shift move)) (and-false (is_row_shift move))
 
 -- what is no shift may follow on any move
 may_end : (before : Option Move) (move : Move) → is_shift move ≡ false → may_follow before move ≡ true
@@ -71,25 +66,22 @@ may_end (Some last) move none =
 abbrev IsTidyBehindAny : List Move → Type 0
 IsTidyBehindAny moves = (before : Option Move) → are_tidy_behind before moves ≡ true
 
-both : (p q : Bool) → p ≡ true → q ≡ true → (p && q) ≡ true
-both p q one two = ap₂ (λ (p q : Bool). p && q) one two
-
 -- the shifts of a translate before such a tail
 shifts_tidy : (a b : ℕ) (before : Option Move) (moves : List Move) → free before ≡ true → IsTidyBehindAny moves
     → are_tidy_behind before (shift_moves a b ++ moves) ≡ true
 shifts_tidy zero zero before moves is rest = rest before
 shifts_tidy zero (suc b) before moves is rest =
-    both (may_follow before (ShiftRows (suc b))) (are_tidy_behind (Some (ShiftRows (suc b))) moves) (may_begin before (ShiftRows (suc b)) is)
+    and_from (may_follow before (ShiftRows (suc b))) (are_tidy_behind (Some (ShiftRows (suc b))) moves) (may_begin before (ShiftRows (suc b)) is)
     (rest (Some (ShiftRows (suc b))))
 shifts_tidy (suc a) zero before moves is rest =
-    both (may_follow before (ShiftColumns (suc a))) (are_tidy_behind (Some (ShiftColumns (suc a))) moves) (may_begin before (ShiftColumns (suc a)) is)
+    and_from (may_follow before (ShiftColumns (suc a))) (are_tidy_behind (Some (ShiftColumns (suc a))) moves) (may_begin before (ShiftColumns (suc a)) is)
     (rest (Some (ShiftColumns (suc a))))
 shifts_tidy (suc a) (suc b) before moves is rest =
-    both (may_follow before (ShiftColumns (suc a))) (are_tidy_behind (Some (ShiftColumns (suc a))) (ShiftRows (suc b) ∷ moves))
+    and_from (may_follow before (ShiftColumns (suc a))) (are_tidy_behind (Some (ShiftColumns (suc a))) (ShiftRows (suc b) ∷ moves))
     (may_begin before (ShiftColumns (suc a)) is) (rest (Some (ShiftRows (suc b))))
 
 move_tidy : (move : Move) (moves : List Move) → is_shift move ≡ false → are_tidy_behind (Some move) moves ≡ true → IsTidyBehindAny (move ∷ moves)
-move_tidy move moves none rest = λ before. both (may_follow before move) (are_tidy_behind (Some move) moves) (may_end before move none) rest
+move_tidy move moves none rest = λ before. and_from (may_follow before move) (are_tidy_behind (Some move) moves) (may_end before move none) rest
 
 pub tidied_tidy : (moves : List Move) (n a b : ℕ) (before : Option Move) → free before ≡ true → are_tidy_behind before (tidied n a b moves) ≡ true
 tidied_tidy [] n a b before is =

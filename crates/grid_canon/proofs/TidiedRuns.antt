@@ -37,7 +37,7 @@ run_written n a b (Stabilise c kind corner ∷ run) shifts = no shifts
 run_written n a b (Destabilise c r ∷ run) shifts = no shifts
 
 -- a move that is no shift ends a run
-run_ended : (n a b : ℕ) (move : Move) (moves : List Move) → is_shift move ≡ false
+pub run_ended : (n a b : ℕ) (move : Move) (moves : List Move) → is_shift move ≡ false
     → tidied n a b (move ∷ moves) ≡ shift_moves a b ++ move ∷ tidied (size_after move n) 0 0 moves
 run_ended n a b (ShiftColumns k) moves other = no (sym other)
 run_ended n a b (ShiftRows k) moves other = no (sym other)

@@ -26,7 +26,7 @@ abbrev pub trades_of : ℕ → (ℕ → Span) → Trades
 trades_of n spans =
     trades_where n (λ c. is_none (exchange_fault (spans c) (spans (next n c)))) (λ c. share_one_end (spans c) (spans (next n c)))
 
--- the digits of a number, as marks; only private clauses and proofs cite what follows
+-- the digits of a number, as marks; only the model of `ShortTrades`, private clauses and proofs cite what follows
 abbrev pub is_marked : ℕ → ℕ → ℕ → Bool
 is_marked n marks c = not (slice_index (digits n marks) c == 0)
 

@@ -1,15 +1,16 @@
 //! Brief keys: the keys of grids of at most `WORD_COLUMNS` columns in two numbers.
-ghost use Rattle.std.specs.Prelude.{◌≡◌, ◌≢◌, ◌==◌, IfSome, IfNone};
+ghost use Rattle.std.specs.Prelude.{◌≡◌, ◌≢◌, ◌==◌, ◌<◌, ◌^◌, IfSome, IfNone};
 ghost use Rattle.std.specs.List.{list_all};
 ghost use Rattle.grid_canon.specs.Brief.{whole_key};
+ghost use Rattle.grid_canon.specs.Key.{size_of};
 
-use crate::key::{DIGIT_BITS, Packed, WORD_COLUMNS};
+use crate::key::{DIGIT_BITS, Packed, WORD_COLUMNS, WORDS};
 
 /// What one is worth above the digits of a word.
 const SIZE_PLACE: u128 = 1 << (DIGIT_BITS * WORD_COLUMNS as u32);
 
-/// The key of a grid of at most `WORD_COLUMNS` columns in two numbers, which a map of many keys keeps and compares in a third of the memory.
-/// Brief keys are equal exactly for equal keys.
+/// The key of a grid of at most `WORD_COLUMNS` columns in two numbers, which a map of many keys keeps and compares in less than a third
+/// of the memory. Brief keys are equal exactly for equal keys.
 #[derive(Clone, Copy, Debug, PartialEq, Eq, Hash)]
 pub struct BriefKey {
     /// The word of the Xs, and above its digits the size.
@@ -32,6 +33,22 @@ impl BriefKey {
             })
         } else {
             None
+        }
+    }
+
+    /// The key whose brief form this is. The size that it says must be below 256, as that of the brief form of any key is.
+    pub fn whole(self) -> Packed
+        requires { size_of (whole_key self) < 2 ^ 8 }
+        ensures { result ≡ whole_key self }
+    {
+        let mut x = [0; WORDS];
+        x[0] = self.x % SIZE_PLACE;
+        let mut o = [0; WORDS];
+        o[0] = self.o;
+        Packed {
+            size: (self.x / SIZE_PLACE) as u8,
+            x,
+            o,
         }
     }
 }

@@ -29,7 +29,8 @@ impl Model for ShortTrades {
 }
 
 impl ShortTrades {
-    /// Whether the exchange of this one and the next is legal.
+    /// Whether number c, below the number of columns or rows, may be exchanged with the next one; of the last and the first, whether they may
+    /// after a shift by 1.
     pub fn may_exchange(&self, c: u8) -> bool
         requires { c < length self.now.exchange }
         ensures { result ≡ slice_index_or self.now.exchange c false }
@@ -37,7 +38,7 @@ impl ShortTrades {
         nth_digit(self.exchanges, u32::from(c), self.size) != 0
     }
 
-    /// Whether the slide of this one and the next is legal.
+    /// Whether number c slides with the next one, likewise.
     pub fn may_slide(&self, c: u8) -> bool
         requires { c < length self.now.slide }
         ensures { result ≡ slice_index_or self.now.slide c false }

@@ -5,11 +5,11 @@ ghost use Rattle.std.specs.Prelude.{◌<◌, ◌≤◌};
 ghost use Rattle.grid_canon.specs.declared.key.TheConstants.{WORDS};
 
 use crate::{
-    LeastForm, LeastKey, Packed, ShortGrid, WORD_COLUMNS, WORDS, canonical, canonical_key,
-    compare_keys, grid_of, pack, tidy, translate, unpack,
+    BriefKey, LeastForm, LeastKey, Packed, ShortGrid, WORD_COLUMNS, WORDS, canonical,
+    canonical_key, compare_keys, grid_of, pack, tidy, translate, unpack,
 };
 use grid_core::{Corner, Grid, Kind, MAX_SIZE};
-use grid_moves::{Move, Widening, apply_all, widening_of};
+use grid_moves::{Move, Widening, apply_all, narrowing_of, widening_of};
 use std::alloc::Global;
 use std::cmp::Ordering;
 use std::test::Fail;
@@ -230,7 +230,50 @@ fn a_short_grid_is_moved_as_its_rows(rt: HostRuntime) -> Result<(), Fail> {
         short.with_rows_exchanged(2).canonical_key(),
         canonical_key(&by_rows)
     );
+    // The grid without row 1 and without the columns of the marks in it; the block of its second and third columns and rows has three marks.
+    let Ok(narrowing) = narrowing_of(&grid, 1, 1) else {
+        return Err(Fail::from("no block of three marks"));
+    };
+    let Ok(smaller) = Grid::new(&[0, 1, 2], &[1, 2, 0]) else {
+        return Err(Fail::from("no smaller grid"));
+    };
+    assert_eq!(rt;
+        short.narrowed(narrowing).canonical_key(),
+        canonical_key(&smaller)
+    );
     assert!(rt; is_named(&grid));
+    Ok(())
+}
+
+/// Whether the key of a grid has a brief form, from which it is read back.
+fn is_brief(grid: &Grid) -> bool {
+    let key = pack(grid);
+    match BriefKey::of(&key) {
+        Some(brief) => brief.whole() == key,
+        None => false,
+    }
+}
+
+#[test]
+fn keys_of_up_to_sixteen_columns_have_brief_forms(rt: HostRuntime) -> Result<(), Fail> {
+    let Ok(two) = Grid::new(&[0, 1], &[1, 0]) else {
+        return Err(Fail::from("no grid of two columns"));
+    };
+    let Ok(sixteen) = Grid::new(
+        &[0, 1, 2, 3, 4, 5, 6, 7, 8, 9, 10, 11, 12, 13, 14, 15],
+        &[1, 2, 3, 4, 5, 6, 7, 8, 9, 10, 11, 12, 13, 14, 15, 0],
+    ) else {
+        return Err(Fail::from("no grid of sixteen columns"));
+    };
+    let Ok(seventeen) = Grid::new(
+        &[0, 1, 2, 3, 4, 5, 6, 7, 8, 9, 10, 11, 12, 13, 14, 15, 16],
+        &[1, 2, 3, 4, 5, 6, 7, 8, 9, 10, 11, 12, 13, 14, 15, 16, 0],
+    ) else {
+        return Err(Fail::from("no grid of seventeen columns"));
+    };
+    assert!(rt; is_brief(&two));
+    assert!(rt; is_brief(&sixteen));
+    assert!(rt; BriefKey::of(&pack(&seventeen)).is_none());
     Ok(())
 }
 

@@ -1,5 +1,5 @@
 use Rattle.grid_canon.proofs.Briefs.{brief_once, few_columns}
-use Rattle.grid_canon.proofs.laws.a_brief_key_stands_for_one_key.Goals as goal
+use Rattle.grid_canon.proofs.laws.a_key_has_at_most_one_brief_key.Goals as goal
 
 pub returns-clause-one : goal.returns-clause-one
 returns-clause-one c = λ a b same. brief_once a b same
