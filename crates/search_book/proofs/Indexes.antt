@@ -4,12 +4,12 @@ use Rattle.std.specs.List.{AllPairs, range_with_len}
 use Rattle.std.specs.Map.{lookup}
 use Rattle.std.specs.Option.{option_map}
 use Rattle.std.proofs.lemmas.Bool.{cases_lt}
-use Rattle.std.proofs.lemmas.List.{append_assoc, length-append, length-map, length_push, map_push}
+use Rattle.std.proofs.lemmas.List.{append_assoc, length-append, length_push, map_push}
 use Rattle.std.proofs.lemmas.List.Elements.{All-contains, All-push, All-weaker, Contains-append_cases, Contains-append_right, Contains-get_or}
 use Rattle.std.proofs.lemmas.List.Quantifiers.{all_pairs_push}
 use Rattle.std.proofs.lemmas.List.Sorted.{Contains-permutation, IsPermutation-append_left, IsPermutation-map, IsPermutation-trans, All-permutation}
 use Rattle.std.proofs.lemmas.Map.Entries.{place_from_lookup}
-use Rattle.std.proofs.lemmas.Option.{get_or_from_slice_get, slice_get-get_or, slice_get-map, slice_get_within}
+use Rattle.std.proofs.lemmas.Option.{get_or_from_slice_get, slice_get-map, slice_get_within}
 use Rattle.grid_core.specs.Diagram.{IsOneEach}
 use Rattle.grid_core.proofs.OneEach.{each_below, each_length, range_more}
 use Rattle.grid_canon.specs.declared.key.Packed.{Packed}
@@ -18,8 +18,7 @@ use Rattle.grid_canon.proofs.Keys.{same_key_true, same_key_false}
 use Rattle.search_book.specs.declared.problem.Side.{Side}
 use Rattle.search_book.specs.declared.entry.Entry.{Entry}
 use Rattle.search_book.specs.declared.key_map.Known.{Known}
-use Rattle.search_book.specs.Entries.{id_of}
-use Rattle.search_book.specs.Entries.{keys, sides}
+use Rattle.search_book.specs.Entries.{StandsAt, id_of, keys, sides}
 use Rattle.search_book.specs.Index.{Indexed, IsIndexOf, IsKnown, paired_ids}
 use Rattle.search_book.proofs.Appended.{stands_before, stands_last}
 use Rattle.search_book.proofs.Restaged.{SameButStages, same_keys, kept_sides}
@@ -209,25 +208,19 @@ absent_id es key absent = by (id_of es key) refl
         let at : HasKeyAt es key other = id_of_some es key other is in
         absurd (absent other (slice_get-map (λ (e : Entry). e.key) es other ∙ ap (option_map (λ (e : Entry). e.key)) at.stands ∙ ap Some at.has_key))
 
+-- the key and the side of an entry
+pub own_key : (es : List Entry) (id : ℕ) (e : Entry) → StandsAt es id e → slice_get (keys es) id ≡ Some e.key
+own_key es id e stands = slice_get-map (λ (f : Entry). f.key) es id ∙ ap (option_map (λ (f : Entry). f.key)) stands
+
+pub own_side : (es : List Entry) (id : ℕ) (e : Entry) → StandsAt es id e → slice_get (sides es) id ≡ Some e.side
+own_side es id e stands = slice_get-map (λ (f : Entry). f.side) es id ∙ ap (option_map (λ (f : Entry). f.side)) stands
+
 -- an entry with another key
-pub other_key : (es : List Entry) (id : ℕ) (z : Entry) (key : Packed) → same_key (get_or es id z).key key ≡ false → slice_get (keys es) id ≢ Some key
-other_key es id z key other stands =
-    let within : id < length es = omega (arith, slice_get_within (keys es) id key stands, length-map es (λ (e : Entry). e.key)) in
-    let there : slice_get (keys es) id ≡ Some (get_or es id z).key =
-    slice_get-map (λ (e : Entry). e.key) es id ∙ ap (option_map (λ (e : Entry). e.key)) (slice_get-get_or es id z within) in
-    let same : Some (get_or es id z).key ≡ Some key = sym there ∙ stands in
-    let key_is : (get_or es id z).key ≡ key = cc in
-    same_key_false (get_or es id z).key key other key_is
-
--- an entry with this key, and the side of an entry
-pub own_key : (es : List Entry) (id : ℕ) (z : Entry) (key : Packed) → id < length es → same_key (get_or es id z).key key ≡ true
-    → slice_get (keys es) id ≡ Some key
-own_key es id z key within same =
-    slice_get-map (λ (e : Entry). e.key) es id ∙ ap (option_map (λ (e : Entry). e.key)) (slice_get-get_or es id z within)
-    ∙ ap Some (same_key_true (get_or es id z).key key same)
-
-pub own_side : (es : List Entry) (id : ℕ) (z : Entry) → id < length es → slice_get (sides es) id ≡ Some (get_or es id z).side
-own_side es id z within = slice_get-map (λ (e : Entry). e.side) es id ∙ ap (option_map (λ (e : Entry). e.side)) (slice_get-get_or es id z within)
+pub other_key : (es : List Entry) (id : ℕ) (e : Entry) (key : Packed) → StandsAt es id e → same_key e.key key ≡ false → slice_get (keys es) id ≢ Some key
+other_key es id e key stands other there =
+    let same : Some e.key ≡ Some key = sym (own_key es id e stands) ∙ there in
+    let key_is : e.key ≡ key = cc in
+    same_key_false e.key key other key_is
 
 -- what is known of a key by its place and the side there
 pub known_by_place : (es : List Entry) (key : Packed) (known : Known)
@@ -268,15 +261,8 @@ index_restaged old new index same is =
     (subst (λ (ss : List Side). IsIndexOf (keys old) ss index) (sym (kept_sides old new same)) is)
 
 -- the index of one entry more
-pub index_more : (es : List Entry) (e : Entry) (id : ℕ) (old new : Indexed) (fs : List Entry)
-    → IsIndexOf (keys es) (sides es) old → id_of es e.key ≡ None → id ≡ 0 + length es → fs ≡ es ++ e ∷ []
-    → ((ks : List Packed) (ss : List Side)
-    → IsIndexOf ks ss old → All (λ (k : Packed). k ≢ e.key) ks → id ≡ length ks → id ≡ length ss
-    → IsIndexOf (ks ++ e.key ∷ []) (ss ++ e.side ∷ []) new)
-    → IsIndexOf (keys fs) (sides fs) new
-index_more es e id old new fs is none place pushed adds =
-    let behind : id ≡ length (keys es) = omega (arith, place, length-map es (λ (f : Entry). f.key)) in
-    let beside : id ≡ length (sides es) = omega (arith, place, length-map es (λ (f : Entry). f.side)) in
-    subst (λ (ks : List Packed). IsIndexOf ks (sides fs) new) (sym (map_push (λ (f : Entry). f.key) es e) ∙ ap keys (sym pushed))
-    (subst (λ (ss : List Side). IsIndexOf (keys es ++ e.key ∷ []) ss new) (sym (map_push (λ (f : Entry). f.side) es e) ∙ ap sides (sym pushed))
-    (adds (keys es) (sides es) is (id_of_none es e.key none) behind beside))
+pub index_more : (es : List Entry) (e : Entry) (index : Indexed) → IsIndexOf (keys es ++ e.key ∷ []) (sides es ++ e.side ∷ []) index
+    → IsIndexOf (keys (es ++ e ∷ [])) (sides (es ++ e ∷ [])) index
+index_more es e index is =
+    subst (λ (ks : List Packed). IsIndexOf ks (sides (es ++ e ∷ [])) index) (sym (map_push (λ (f : Entry). f.key) es e))
+    (subst (λ (ss : List Side). IsIndexOf (keys es ++ e.key ∷ []) ss index) (sym (map_push (λ (f : Entry). f.side) es e)) is)

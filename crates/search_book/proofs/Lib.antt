@@ -17,6 +17,7 @@ mod Indexes
 mod Offering
 mod Appended
 mod SoundEntries
+mod EntryLists
 mod Growing
 mod SettleCounts
 mod SettleSound

@@ -8,14 +8,14 @@ use Rattle.search_book.specs.declared.problem.Side.{Side}
 use Rattle.search_book.specs.declared.problem.Side.TheVariants.{First, Second}
 use Rattle.search_book.specs.declared.entry.Entry.{Entry}
 use Rattle.search_book.specs.declared.entry.Origin.TheVariants.{Root}
-use Rattle.search_book.specs.declared.entry.Stage.TheVariants.{Unclaimed}
 use Rattle.search_book.specs.declared.event.End.TheVariants.{Met}
 use Rattle.search_book.specs.declared.event.Meeting.TheVariants.{Roots}
+use Rattle.search_book.specs.Entries.{new_entry}
 use Rattle.search_book.specs.State.{State}
 
 -- the entry of a root: its key, and the least shifts that reach it
 abbrev pub root : Side → LeastForm → Entry
-root side form = record { key = key_of form.grid; side = side; origin = Root form.columns form.rows; stage = Unclaimed }
+root side form = new_entry (key_of form.grid) side (Root form.columns form.rows)
 
 -- both roots, unclaimed; where the forms are equal one root, and the sides have met
 abbrev pub opened : Problem → LeastForm → LeastForm → State

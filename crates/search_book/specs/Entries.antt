@@ -6,6 +6,7 @@ use Rattle.grid_canon.specs.Key.{same_key}
 use Rattle.search_book.specs.declared.problem.Side.{Side}
 use Rattle.search_book.specs.declared.problem.Side.TheVariants.{First, Second}
 use Rattle.search_book.specs.declared.entry.Entry.{Entry}
+use Rattle.search_book.specs.declared.entry.Origin.{Origin}
 use Rattle.search_book.specs.declared.entry.Stage.{Stage}
 use Rattle.search_book.specs.declared.entry.Stage.TheVariants.{Unclaimed, InFlight, Settled}
 
@@ -48,6 +49,10 @@ is_settled e = is_settled_stage e.stage
 
 abbrev pub HasUnsettled : List Entry → Type 0
 HasUnsettled entries = (id : ℕ) × ((e : Entry) × (StandsAt entries id e × (e.stage ≢ Settled)))
+
+-- the entry with this key, side and origin, which no worker has claimed
+abbrev pub new_entry : Packed → Side → Origin → Entry
+new_entry key side origin = record { key = key; side = side; origin = origin; stage = Unclaimed }
 
 -- the entries, of which the one with this id, e, is now at another stage
 abbrev pub at_stage : List Entry → ℕ → Entry → Stage → List Entry

@@ -6,12 +6,12 @@ use Rattle.next_moves.specs.Offers.{IsWhole}
 use Rattle.search_book.specs.declared.problem.Side.{Side}
 use Rattle.search_book.specs.declared.entry.Entry.{Entry}
 use Rattle.search_book.specs.declared.entry.Origin.TheVariants.{Child}
-use Rattle.search_book.specs.declared.entry.Stage.TheVariants.{Unclaimed, InFlight, Settled}
+use Rattle.search_book.specs.declared.entry.Stage.TheVariants.{InFlight, Settled}
 use Rattle.search_book.specs.declared.event.End.{End}
 use Rattle.search_book.specs.declared.event.End.TheVariants.{Met, Spent, Exhausted}
 use Rattle.search_book.specs.declared.event.Meeting.TheVariants.{Offered}
 use Rattle.search_book.specs.declared.event.Event.TheVariants.{Settle}
-use Rattle.search_book.specs.Entries.{StandsAt, same_side, is_settled, at_stage, id_of}
+use Rattle.search_book.specs.Entries.{StandsAt, same_side, is_settled, at_stage, id_of, new_entry}
 use Rattle.search_book.specs.State.{State}
 
 -- the entries once offers of one of them were taken, and the end where the book is over
@@ -21,7 +21,7 @@ pub record Taken : Type 0 where
 
 -- a neighbour of an entry, by a link
 abbrev pub child : ℕ → Side → Offer → Entry
-child id side offer = record { key = offer.key; side = side; origin = Child id offer.link; stage = Unclaimed }
+child id side offer = new_entry offer.key side (Child id offer.link)
 
 -- an offer of entry `id` with the key of entry `other`: where that one is of the other side the sides have met, and else the offer is passed over
 abbrev pub met_or_passed_over : ℕ → Side → Offer → ℕ → Option Entry → Option End

@@ -1,10 +1,13 @@
 //! The roots of a book, with which it begins.
-ghost use Rattle.std.specs.Prelude.{◌≡◌, ◌≤◌, []};
-ghost use Rattle.grid_core.specs.Diagram.{IsGrid};
+ghost use Rattle.std.specs.Prelude.{◌≡◌, ◌<◌, ◌≤◌, ◌++◌, ◌∷◌, [], length, IsTrue, None};
+ghost use Rattle.grid_core.specs.Diagram.{IsGrid, size};
+ghost use Rattle.grid_canon.specs.declared.key.TheConstants.{WORD_COLUMNS};
+ghost use Rattle.grid_canon.specs.Key.{key_of};
 ghost use Rattle.search_book.specs.declared.problem.Problem.{Problem};
 ghost use Rattle.search_book.specs.Begin.{opened, root};
+ghost use Rattle.search_book.specs.Entries.{id_of};
 
-use crate::entry::{Entry, Origin, Stage};
+use crate::entry::Origin;
 use crate::event::{End, Meeting};
 use crate::problem::Side;
 use crate::roll::Roll;
@@ -16,30 +19,33 @@ pub fn admit_roots(roll: &mut Roll, first: &LeastForm, second: &LeastForm) -> Op
     requires none { roll.old.entries ≡ [] }
     requires first { IsGrid first.now.grid }
     requires second { IsGrid second.now.grid }
+    requires first_narrow { IsTrue roll.old.narrow → size first.now.grid ≤ WORD_COLUMNS }
+    requires second_narrow { IsTrue roll.old.narrow → size second.now.grid ≤ WORD_COLUMNS }
     ensures room { roll.new.room ≡ roll.old.room }
+    ensures narrow { roll.new.narrow ≡ roll.old.narrow }
     ensures opened { (p : Problem)
         → opened p first.now second.now ≡ record { problem = p; entries = roll.new.entries; history = []; end = result } }
 {
-    roll.admit(root(Side::First, first));
+    admit_root(roll, Side::First, first);
     if first.grid.same_as(&second.grid) {
         Some(End::Met(Meeting::Roots))
     } else {
-        roll.admit(root(Side::Second, second));
+        admit_root(roll, Side::Second, second);
         None
     }
 }
 
-/// The entry of a root.
-fn root(side: Side, form: &LeastForm) -> Entry
-    ensures { result ≡ root side form.now }
+/// Admits the root of a side, whose key is new.
+fn admit_root(roll: &mut Roll, side: Side, form: &LeastForm)
+    requires room { length roll.old.entries < roll.old.room }
+    requires grid { IsGrid form.now.grid }
+    requires narrow { IsTrue roll.old.narrow → size form.now.grid ≤ WORD_COLUMNS }
+    requires new { id_of roll.old.entries (key_of form.now.grid) ≡ None }
+    ensures { roll.new ≡ record roll.old { entries = roll.old.entries ++ root side form.now ∷ [] } }
 {
-    Entry {
-        key: pack(&form.grid),
-        side,
-        origin: Origin::Root {
-            columns: form.columns,
-            rows: form.rows,
-        },
-        stage: Stage::Unclaimed,
-    }
+    let origin = Origin::Root {
+        columns: form.columns,
+        rows: form.rows,
+    };
+    roll.admit(&pack(&form.grid), side, origin);
 }

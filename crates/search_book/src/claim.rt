@@ -1,25 +1,25 @@
 //! The ticket of a claim.
-ghost use Rattle.std.specs.Prelude.{◌≡◌, ◌<◌, length, Some};
+ghost use Rattle.std.specs.Prelude.{◌≡◌, ◌<◌, length};
 ghost use Rattle.grid_core.specs.Diagram.{Diagram};
 ghost use Rattle.search_book.specs.Entries.{StandsAt};
 ghost use Rattle.search_book.specs.declared.entry.Entry.{Entry};
 ghost use Rattle.search_book.specs.Sound.{Names};
 
 use crate::answer::Ticket;
-use crate::entry::Entry;
+use crate::entry_list::EntryList;
 use grid_canon::LeastForm;
 
 /// The ticket of an entry, whose key names a diagram.
-pub fn ticket(entries: &[Entry], id: u32) -> Ticket
-    requires inside { id < length entries.now }
-    requires named { (e : Entry) → StandsAt entries.now id e → (d : Diagram) × Names e.key d }
+pub fn ticket(entries: &EntryList, id: u32) -> Ticket
+    requires inside { id < length entries.now.entries }
+    requires named { (e : Entry) → StandsAt entries.now.entries id e → (d : Diagram) × Names e.key d }
     ensures id { result.id ≡ id }
-    ensures form { (e : Entry) (d : Diagram) → StandsAt entries.now id e → Names e.key d → result.form.grid ≡ d }
+    ensures form { (e : Entry) (d : Diagram) → StandsAt entries.now.entries id e → Names e.key d → result.form.grid ≡ d }
     ensures columns { result.form.columns ≡ 0 }
     ensures rows { result.form.rows ≡ 0 }
 {
     Ticket {
         id,
-        form: LeastForm::named_by(entries[id as usize].key),
+        form: LeastForm::named_by(entries.at(id).key),
     }
 }

@@ -8,7 +8,7 @@ ghost use Rattle.search_book.specs.declared.problem.Side.{Side};
 ghost use Rattle.search_book.specs.Entries.{id_of, keys, sides};
 ghost use Rattle.search_book.specs.Index.{IsIndexOf, IsKnown};
 
-use crate::entry::Entry;
+use crate::entry_list::EntryList;
 use crate::key_map::{KeyMap, Known};
 use grid_canon::Packed;
 use memory_core::OutOfMemory;
@@ -74,10 +74,10 @@ impl Index {
     }
 
     /// What is known of a key, by the entries whose index this is.
-    pub fn find(&self, entries: &[Entry], key: &Packed) -> Option<Known>
-        requires { IsIndexOf (keys entries.now) (sides entries.now) self.now }
-        ensures some { IfSome result (λ known. IsKnown entries.now key.now known) }
-        ensures none { IfNone result (id_of entries.now key.now ≡ None) }
+    pub fn find(&self, entries: &EntryList, key: &Packed) -> Option<Known>
+        requires { IsIndexOf (keys entries.now.entries) (sides entries.now.entries) self.now }
+        ensures some { IfSome result (λ known. IsKnown entries.now.entries key.now known) }
+        ensures none { IfNone result (id_of entries.now.entries key.now ≡ None) }
     {
         match self.by_key.get(key) {
             Some(known) => Some(known),
@@ -87,16 +87,19 @@ impl Index {
 }
 
 /// The first of the ids whose entry has this key, and the side of that entry.
-fn spilled_entry(entries: &[Entry], ids: &[u32], key: &Packed) -> Option<Known>
-    requires { All (λ id. id < length entries.now) ids.now }
-    ensures key { IfSome result (λ known. slice_get (keys entries.now) known.id ≡ Some key.now) }
-    ensures side { IfSome result (λ known. slice_get (sides entries.now) known.id ≡ Some known.side) }
-    ensures none { IfNone result (All (λ id. slice_get (keys entries.now) id ≢ Some key.now) ids.now) }
+fn spilled_entry(entries: &EntryList, ids: &[u32], key: &Packed) -> Option<Known>
+    requires { All (λ id. id < length entries.now.entries) ids.now }
+    ensures key { IfSome result (λ known. slice_get (keys entries.now.entries) known.id ≡ Some key.now) }
+    ensures side { IfSome result (λ known. slice_get (sides entries.now.entries) known.id ≡ Some known.side) }
+    ensures none { IfNone result (All (λ id. slice_get (keys entries.now.entries) id ≢ Some key.now) ids.now) }
 {
     for id in ids {
-        if entries[*id as usize].key == *key {
-            let side = entries[*id as usize].side;
-            return Some(Known { id: *id, side });
+        let entry = entries.at(*id);
+        if entry.key == *key {
+            return Some(Known {
+                id: *id,
+                side: entry.side,
+            });
         }
     }
     None

@@ -18,7 +18,7 @@ pub struct Known {
 }
 
 /// Keys with what is known of them, in two maps: a key that has a brief form stands by that form, which a look-up reads from one line of
-/// memory; any other key stands itself. Contracts see the pairs by whole keys.
+/// memory or two; any other key stands itself. Contracts see the pairs by whole keys.
 #[derive(Drop)]
 pub struct KeyMap {
     brief: IndexMap<BriefKey, Known>,

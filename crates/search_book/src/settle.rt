@@ -1,17 +1,16 @@
 //! The offers of an entry are taken, and the entry is settled.
 ghost use Rattle.std.specs.Prelude.{◌≡◌, ◌≤◌, ◌<◌, ℕ, length, Some, IsTrue, true, ◌↔◌};
 ghost use Rattle.std.specs.List.{All};
-ghost use Rattle.frontier_core.specs.declared.sizes.TheConstants.{SIZES};
-ghost use Rattle.grid_canon.specs.Key.{size_of};
 ghost use Rattle.next_moves.specs.declared.links.Offer.{Offer};
 ghost use Rattle.search_book.specs.Entries.{StandsAt};
 ghost use Rattle.search_book.specs.declared.entry.Entry.{Entry};
+ghost use Rattle.search_book.specs.EntryList.{Fits};
 ghost use Rattle.search_book.specs.Settle.{met_or_passed_over, weighed, taken_all, finished, settled_entries};
 ghost use Rattle.search_book.specs.Roll.{is_in_flight};
 ghost use Rattle.search_book.specs.Weighed.{end_of};
 
 use crate::answer::Held;
-use crate::entry::{Entry, Origin, Stage};
+use crate::entry::Origin;
 use crate::event::{End, Meeting};
 use crate::key_map::Known;
 use crate::problem::Side;
@@ -29,15 +28,16 @@ pub fn is_held(held: Option<Held>, asked: Held) -> bool
 /// where it now is.
 pub fn settle_entry(roll: &mut Roll, budget: u32, id: u32, offers: &[Offer]) -> Option<End>
     requires room { budget ≤ roll.old.room }
-    requires sizes { All (λ (o : Offer). size_of o.key < SIZES) offers.now }
+    requires fit { All (λ (o : Offer). Fits roll.old.narrow o.key) offers.now }
     requires inside { id < length roll.old.entries }
     requires in_flight { (e : Entry) → StandsAt roll.old.entries id e → is_in_flight e ≡ true }
     ensures room { roll.new.room ≡ roll.old.room }
+    ensures narrow { roll.new.narrow ≡ roll.old.narrow }
     ensures settled { (e : Entry)
         → StandsAt roll.old.entries id e
         → settled_entries budget id e roll.old.entries offers.now ≡ record { entries = roll.new.entries; end = result } }
 {
-    let side = roll.entries()[id as usize].side;
+    let side = roll.entries().at(id).side;
     let end = take_all(roll, budget, id, side, offers);
     if end.is_some() {
         return end;
@@ -59,8 +59,9 @@ enum Weighed {
 /// Takes the offers of an entry in order, and answers why the book is over where one of them ends it.
 fn take_all(roll: &mut Roll, budget: u32, id: u32, side: Side, offers: &[Offer]) -> Option<End>
     requires room { budget ≤ roll.old.room }
-    requires sizes { All (λ (o : Offer). size_of o.key < SIZES) offers.now }
+    requires fit { All (λ (o : Offer). Fits roll.old.narrow o.key) offers.now }
     ensures room { roll.new.room ≡ roll.old.room }
+    ensures narrow { roll.new.narrow ≡ roll.old.narrow }
     ensures taken { taken_all budget id side roll.old.entries offers.now
         ≡ record { entries = roll.new.entries; end = result } }
 {
@@ -81,23 +82,20 @@ fn take_all(roll: &mut Roll, budget: u32, id: u32, side: Side, offers: &[Offer])
 /// Takes one offer of an entry: it is passed over, admitted, or ends the book.
 fn take(roll: &mut Roll, budget: u32, id: u32, side: Side, offer: &Offer) -> Weighed
     requires room { budget ≤ roll.old.room }
-    requires size { size_of offer.now.key < SIZES }
+    requires fits { Fits roll.old.narrow offer.now.key }
     ensures room { roll.new.room ≡ roll.old.room }
+    ensures narrow { roll.new.narrow ≡ roll.old.narrow }
     ensures taken { weighed budget id side roll.old.entries offer.now ≡ record { entries = roll.new.entries; end = end_of id offer.now result } }
 {
     match roll.find(&offer.key) {
         Some(known) => met_or_passed_over(side, known),
         None => {
             if roll.len() < budget {
-                roll.admit(Entry {
-                    key: offer.key,
-                    side,
-                    origin: Origin::Child {
-                        parent: id,
-                        link: offer.link,
-                    },
-                    stage: Stage::Unclaimed,
-                });
+                let origin = Origin::Child {
+                    parent: id,
+                    link: offer.link,
+                };
+                roll.admit(&offer.key, side, origin);
                 Weighed::GoesOn
             } else {
                 Weighed::Refused
@@ -122,6 +120,7 @@ fn finish(roll: &mut Roll, id: u32) -> Option<End>
     requires inside { id < length roll.old.entries }
     requires in_flight { (e : Entry) → StandsAt roll.old.entries id e → is_in_flight e ≡ true }
     ensures room { roll.new.room ≡ roll.old.room }
+    ensures narrow { roll.new.narrow ≡ roll.old.narrow }
     ensures finished { (e : Entry)
         → StandsAt roll.old.entries id e
         → finished id e roll.old.entries ≡ record { entries = roll.new.entries; end = result } }

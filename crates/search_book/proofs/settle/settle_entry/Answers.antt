@@ -1,16 +1,8 @@
-use Rattle.std.proofs.Common.{◌≡◌, ◌∙◌, ap, sym, List, get_or}
-use Rattle.std.proofs.lemmas.Option.{get_or_from_slice_get}
-use Rattle.grid_canon.proofs.Keys.{no_key}
-use Rattle.search_book.specs.declared.problem.Side.TheVariants.{First}
+use Rattle.std.proofs.Common.{◌≡◌, ◌∙◌, ap, sym, List, Some, slice_get}
 use Rattle.search_book.specs.declared.entry.Entry.{Entry}
-use Rattle.search_book.specs.declared.entry.Origin.TheVariants.{Root}
-use Rattle.search_book.specs.declared.entry.Stage.TheVariants.{Unclaimed}
 use Rattle.search_book.proofs.Standing.{inside_after, flies_after, settled_after}
 use Rattle.search_book.proofs.Taking.{none_of}
 use Rattle.search_book.proofs.settle.settle_entry.Goals as goal
-
-abbrev blank : Entry
-blank = record { key = no_key; side = First; origin = Root 0 0; stage = Unclaimed }
 
 pub finish-requires-clause-inside : goal.finish-requires-clause-inside
 finish-requires-clause-inside c =
@@ -22,8 +14,9 @@ finish-requires-clause-in_flight c =
 
 pub returns-clause-settled : goal.returns-clause-settled
 returns-clause-settled c = λ e stands.
-    let of_side : (get_or c.entries.result.now c.args.id blank).side ≡ e.side =
-    ap (λ (es : List Entry). (get_or es c.args.id blank).side) c.entries.ensures
-    ∙ ap (λ (f : Entry). f.side) (get_or_from_slice_get c.args.roll.now.entries c.args.id e blank stands) in
+    let there : slice_get c.entries.result.now.entries c.args.id ≡ Some e = ap (λ (es : List Entry). slice_get es c.args.id) c.entries.ensures ∙ stands in
+    let both : Some c.at-side.result ≡ Some e = sym c.at-side.ensures ∙ there in
+    let same : c.at-side.result ≡ e = cc in
+    let of_side : c.at-side.result.side ≡ e.side = ap (λ (f : Entry). f.side) same in
     settled_after c.args.budget c.args.id _ c.args.offers.now c.args.roll.now.entries c.take_all-end.new.roll.entries c.take_all-end.result c.take_all-end.ensures.taken e c.finish.new.roll.entries c.finish.result of_side
     (none_of c.take_all-end.result (sym c.is_some.ensures ∙ c.if-is_some.false)) stands c.finish.ensures.finished

@@ -1,0 +1,163 @@
+//! The entries in the order of their ids, in little memory.
+ghost use Rattle.std.specs.Prelude.{◌≡◌, ◌<◌, ◌≤◌, ◌↔◌, ◌++◌, ◌∷◌, [], length, IfOk, IfSome, IfNone, IsTrue};
+ghost use Rattle.grid_canon.specs.declared.key.TheConstants.{WORD_COLUMNS};
+ghost use Rattle.grid_canon.specs.Brief.{whole_key};
+ghost use Rattle.search_book.specs.declared.entry.Entry.{Entry};
+ghost use Rattle.search_book.specs.Entries.{StandsAt, at_stage};
+ghost use Rattle.search_book.specs.EntryList.{whole_entry, IsSmall, HasBrief};
+
+use crate::entry::{Entry, Origin, Stage};
+use crate::problem::Side;
+use grid_canon::{BriefKey, WORD_COLUMNS};
+use memory_core::OutOfMemory;
+use std::alloc::Global;
+use std::marker::Model;
+
+/// An entry with its key in brief: it has less than half of the bytes of a whole one.
+#[derive(Clone, Copy, Drop)]
+struct BriefEntry {
+    key: BriefKey,
+    side: Side,
+    origin: Origin,
+    stage: Stage,
+}
+
+impl BriefEntry {
+    /// The entry with its key in brief.
+    #[inline(always)]
+    fn of(key: BriefKey, entry: &Entry) -> BriefEntry
+        requires { whole_key key ≡ entry.now.key }
+        ensures { whole_entry result ≡ entry.now }
+    {
+        BriefEntry {
+            key,
+            side: entry.side,
+            origin: entry.origin,
+            stage: entry.stage,
+        }
+    }
+
+    /// The entry with its whole key.
+    #[inline(always)]
+    fn whole(self) -> Entry
+        requires { IsSmall self }
+        ensures { result ≡ whole_entry self }
+    {
+        Entry {
+            key: self.key.whole(),
+            side: self.side,
+            origin: self.origin,
+            stage: self.stage,
+        }
+    }
+}
+
+/// Entries by their ids, with room for as many as were reserved. Where no diagram has more than `WORD_COLUMNS` columns their keys stand in
+/// brief. Contracts see whole entries.
+#[derive(Drop)]
+pub struct EntryList {
+    /// Whether the keys stand in brief; then the list of whole entries is empty, and else the other one.
+    narrow: bool,
+    brief: Vec<BriefEntry>,
+    whole: Vec<Entry>,
+}
+
+impl Model for EntryList {
+    ghost use Rattle.std.specs.Prelude.{if◌then◌else◌, map, vec_capacity};
+    ghost use Rattle.std.specs.List.{All};
+    ghost use Rattle.search_book.specs.EntryList.{Kept, whole_entry, IsSmall};
+
+    ghost Value = { Kept };
+
+    ghost view = { λ l. record {
+      narrow = l.narrow;
+      room = if l.narrow then vec_capacity l.brief else vec_capacity l.whole;
+      entries = if l.narrow then map whole_entry l.brief.items else l.whole.items;
+    } };
+
+    ghost invariant = { λ l. All IsSmall l.brief.items };
+}
+
+impl EntryList {
+    /// No entry, with room for so many, of diagrams of at most so many columns.
+    pub fn reserve(alloc: Global, room: u32, columns: u8) -> Result<EntryList, OutOfMemory>
+        ensures narrow { IfOk result (λ list. IsTrue list.narrow ↔ (columns ≤ WORD_COLUMNS)) }
+        ensures room { IfOk result (λ list. room ≤ list.room) }
+        ensures none { IfOk result (λ list. list.entries ≡ []) }
+    {
+        let narrow = columns as usize <= WORD_COLUMNS;
+        let (brief_room, whole_room) = if narrow { (room, 0) } else { (0, room) };
+        let brief = Vec::with_capacity(alloc, brief_room as usize)?;
+        let whole = Vec::with_capacity(alloc, whole_room as usize)?;
+        Ok(EntryList {
+            narrow,
+            brief,
+            whole,
+        })
+    }
+
+    /// The number of entries.
+    pub fn len(&self) -> usize
+        ensures { result ≡ length self.now.entries }
+    {
+        if self.narrow {
+            self.brief.len()
+        } else {
+            self.whole.len()
+        }
+    }
+
+    /// The entry with this id, or None where there is none.
+    pub fn get(&self, id: u32) -> Option<Entry>
+        ensures some { IfSome result (λ e. StandsAt self.now.entries id e) }
+        ensures none { IfNone result (length self.now.entries ≤ id) }
+    {
+        if (id as usize) < self.len() {
+            Some(self.at(id))
+        } else {
+            None
+        }
+    }
+
+    /// The entry with this id. It is put into its callers, so that what they don't read of it need not be made.
+    #[inline(always)]
+    pub fn at(&self, id: u32) -> Entry
+        requires { id < length self.now.entries }
+        ensures { StandsAt self.now.entries id result }
+    {
+        if self.narrow {
+            self.brief[id as usize].whole()
+        } else {
+            self.whole[id as usize]
+        }
+    }
+
+    /// Puts an entry behind the others.
+    pub fn push(&mut self, entry: Entry)
+        requires room { length self.old.entries < self.old.room }
+        requires key { IsTrue self.old.narrow → HasBrief entry.key }
+        ensures { self.new ≡ record self.old { entries = self.old.entries ++ entry ∷ [] } }
+    {
+        if self.narrow {
+            match BriefKey::of(&entry.key) {
+                Some(key) => self.brief.push_reserved(BriefEntry::of(key, &entry)),
+                // Never: each key here has a brief form.
+                None => {}
+            }
+        } else {
+            self.whole.push_reserved(entry);
+        }
+    }
+
+    /// Puts an entry at another stage.
+    pub fn set_stage(&mut self, id: u32, stage: Stage)
+        requires { id < length self.old.entries }
+        ensures { (e : Entry) → StandsAt self.old.entries id e → self.new ≡ record self.old { entries = at_stage self.old.entries id e stage } }
+    {
+        if self.narrow {
+            self.brief[id as usize].stage = stage;
+        } else {
+            self.whole[id as usize].stage = stage;
+        }
+    }
+}
