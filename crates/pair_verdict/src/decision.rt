@@ -63,7 +63,7 @@ impl Decision {
 /// `UnknownBudget` only where moves within the cap reach more diagrams than the budget; `UnknownExhausted` only where they do not join the two, with the
 /// number that they reach, which is at most the budget. The search is handed out with the verdict.
 ///
-/// One worker searches by `alone` and passes no gate, 2 to `MAX_WORKERS` by `pool`, and all this holds however they
+/// One worker searches as `alone` does and passes no gate, 2 to `MAX_WORKERS` by `pool`, and all this holds however they
 /// interleave, where the call returns. Both sizes are at most the cap, the cap is at most `MAX_SIZE`, and the budget is from 2 to `MAX_BUDGET`.
 pub fn decide<R: Threads + Wait + Sync, G: Gate + Sync>(
     rt: &R,
@@ -94,9 +94,7 @@ pub fn decide<R: Threads + Wait + Sync, G: Gate + Sync>(
             kept: None,
         });
     }
-    let first = canonical(&problem.first);
-    let mut offers = Offers::of(&first, first.grid.size());
-    let pair = SimplifiedPair::of(alloc, &problem, &mut offers)?;
+    let pair = simplified(alloc, &problem)?;
     let finding = pool(rt, alloc, pair.problem(&problem), workers, gate)?;
     Decision::searched(alloc, &problem, pair, finding)
 }
@@ -147,6 +145,18 @@ fn search_alone(alloc: Global, problem: &Problem) -> Result<(SimplifiedPair, Fin
     let pair = SimplifiedPair::of(alloc, problem, &mut offers)?;
     let finding = alone_by(alloc, pair.problem(problem), &mut offers)?;
     Ok((pair, finding))
+}
+
+/// The diagrams of a problem, simplified, by a list of offers that lies in this call's own frame, likewise: so none is kept while the workers
+/// search.
+#[inline(never)]
+fn simplified(alloc: Global, problem: &Problem) -> Result<SimplifiedPair, OutOfMemory>
+    requires { 1 ≤ problem.now.budget }
+    ensures { IfOk result (λ pair. AreSimplified problem.now pair.first pair.second) }
+{
+    let first = canonical(&problem.first);
+    let mut offers = Offers::of(&first, first.grid.size());
+    SimplifiedPair::of(alloc, problem, &mut offers)
 }
 
 /// What the end of a book of the simplified diagrams comes to.
