@@ -1,6 +1,7 @@
 -- Lines of one kind are refused in turn, and so are the lines of a table.
 use Rattle.std.proofs.Common.{◌≡◌, ◌∙◌, ◌-◌, ℕ, zero, suc, ◌&&◌, ◌||◌, not, codes, Bool, true, false, cond, List, [], ◌∷◌, ◌++◌, map, Option, Some, None}
-use Rattle.std.proofs.Common.{Result, Ok, Err, is_none, refl, ap, sym, append_assoc}
+use Rattle.std.proofs.Common.{Result, Ok, Err, is_none, refl, ap, ap₂, sym, append_assoc}
+use Rattle.std.proofs.Math.Bool.{and-false}
 use Rattle.quandle_core.specs.Fault.{first_fault}
 use Rattle.quandle_core.specs.Quandle.{Table}
 use Rattle.grid_moves.specs.declared.step.Move.{Move}
@@ -115,17 +116,11 @@ rows_said (SlideRows r) = refl
 rows_said (Stabilise c kind corner) = refl
 rows_said (Destabilise c r) = refl
 
-no_shift_before : (columns rows : Bool) → not ((columns && false) || (rows && false)) ≡ true
-no_shift_before true true = refl
-no_shift_before true false = refl
-no_shift_before false true = refl
-no_shift_before false false = refl
-
 -- what a line says decides whether its move may follow
 follows : (before : Option Move) (tokens : List (List ℕ)) (move : Move) → AreTokensOf before tokens
     → (tidy_kind tokens).content (move_tokens move) ≡ may_follow before move
 follows None tokens move are =
-    rw are (no_shift_before (says_shift_of (codes "columns") (move_tokens move)) (says_shift_of (codes "rows") (move_tokens move)))
+    rw are (ap₂ (λ (p q : Bool). not (p || q)) (and-false (says_shift_of (codes "columns") (move_tokens move))) (and-false (says_shift_of (codes "rows") (move_tokens move))))
 follows (Some last) tokens move are = rw (are, columns_said move, rows_said move, rows_said last, shift_said last) refl
 
 tidy_err : (form over content : Bool) (n : ℕ) (e : TextFault) → Some e ≡ fault_by form over true n → Some e ≡ fault_by form over content n

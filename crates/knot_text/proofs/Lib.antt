@@ -53,7 +53,7 @@ pub mod Readings
 mod WorkedRows
 mod WorkedSteps
 mod WrittenRows
-mod SpelledNumbers
+pub mod SpelledNumbers
 mod Worths
 mod LineFaults
 mod StepFaults

@@ -18,7 +18,7 @@ abbrev is_spelled : (ℕ → List ℕ) → ℕ → Bool
 is_spelled digits n = pointwise nat_eq (decimal n) (digits n)
 
 -- a test of the numbers from a on, at one of them
-at_one : (p : ℕ → Bool) (a n k : ℕ) → list_all p (range_with_len a n) ≡ true → a ≤ k → k < a + n → p k ≡ true
+pub at_one : (p : ℕ → Bool) (a n k : ℕ) → list_all p (range_with_len a n) ≡ true → a ≤ k → k < a + n → p k ≡ true
 at_one p a n k all from to =
     let i : k - a < n = omega arith in
     sym (ap p (get_or-range_with_len a n (k - a) 0 i ∙ omega arith))

@@ -10,6 +10,7 @@ use Rattle.quandle_core.specs.declared.quandle.TheConstants.{MAX_ORDER}
 use Rattle.quandle_core.specs.Quandle.{Table}
 use Rattle.quandle_core.specs.Tables.{trivial, dihedral, alexander, tetrahedral, is_unit}
 use Rattle.verdict_core.specs.Names.{NamedQuandle}
+use Rattle.knot_text.proofs.SpelledNumbers.{at_one}
 use Rattle.seek_core.specs.Formulas.{formula_quandles, HaveTable, IsFactor, IsAlexander, IsByFormula}
 use Rattle.seek_core.proofs.OwnTables.{same_table}
 
@@ -55,15 +56,6 @@ has qs t is =
     let some = Any-from_list_any (λ (q : NamedQuandle). same_table q.table t) qs is in
     (some.0, some.1, some.2, some.3, is_same some.1.table t some.4)
 
-of_range : (p : ℕ → Bool) (a n k : ℕ) → list_all p (range_with_len a n) ≡ true → a ≤ k → k < a + n → p k ≡ true
-of_range p a zero k is least most = absurd (omega (arith, least, most))
-of_range p a (suc n) k is least most =
-    let both = and_parts (p a) (list_all p (range_with_len (a + 1) n)) is in
-    elim (cases_eq a k) [
-      | inl same ↦ subst (λ j. p j ≡ true) same both.0
-      | inr other ↦ of_range p (a + 1) n k both.1 (omega (arith, least, other)) (omega (arith, most))
-    ]
-
 -- a number of the range that passes
 abbrev InRange : (ℕ → Bool) → ℕ → ℕ → Type 0
 InRange p a n = (k : ℕ) × (a ≤ k) × (k < a + n) × (p k ≡ true)
@@ -81,7 +73,7 @@ in_range p a (suc n) is = elim (or_cases (p a) (list_any p (range_with_len (a + 
 
 dihedral_of : (qs : List NamedQuandle) → have_dihedral qs ≡ true → (n : ℕ) → 3 ≤ n → n ≤ MAX_ORDER → HaveTable qs (dihedral n)
 dihedral_of qs is n least most =
-    has qs (dihedral n) (of_range (λ k. have_table qs (dihedral k)) 3 (MAX_ORDER - 2) n is least (omega (arith, most)))
+    has qs (dihedral n) (at_one (λ k. have_table qs (dihedral k)) 3 (MAX_ORDER - 2) n is least (omega (arith, most)))
 
 factor_of : (qs : List NamedQuandle) (n a : ℕ) (unit : is_unit n a ≡ true) → have_factor qs n a ≡ true → HaveTable qs (alexander n a)
 factor_of qs n a unit is = elim (or_cases (not (is_unit n a)) (have_table qs (alexander n a)) is) [
@@ -93,8 +85,8 @@ alexander_of : (qs : List NamedQuandle) → have_alexander qs ≡ true → (n a 
 alexander_of qs is n a most factor =
     let least = factor.0 in
     let below = factor.1 in
-    let order = of_range (have_factors qs) 3 (MAX_ORDER - 2) n is (omega (arith, least, below)) (omega (arith, most)) in
-    factor_of qs n a factor.2 (of_range (have_factor qs n) 2 (n - 2) a order least (omega (arith, least, below)))
+    let order = at_one (have_factors qs) 3 (MAX_ORDER - 2) n is (omega (arith, least, below)) (omega (arith, most)) in
+    factor_of qs n a factor.2 (at_one (have_factor qs n) 2 (n - 2) a order least (omega (arith, least, below)))
 
 is_alexander_of : (t : Table) → is_alexander t ≡ true → IsAlexander t
 is_alexander_of t is =
