@@ -1,0 +1,252 @@
+"""Tests of tests/edits.py, with a stand-in for rt."""
+import os
+import shutil
+import signal
+import stat
+import subprocess
+import sys
+import tempfile
+import time
+import unittest
+
+TREE = os.path.dirname(os.path.dirname(os.path.dirname(os.path.abspath(__file__))))
+SCRIPT = os.path.join(TREE, "tests", "edits.py")
+
+# An edit's line 'says: W' has the stand-in say what rt says of such an edit; the words are rt's own.
+STAND_IN = """#!{python}
+import os, sys, time
+FOR = {{
+    "refused": "refused, as it must be: src/lib.rt:3:1: error: `f.ensures`: not proved",
+    "by a limit": "refused, as it must be (only by a limit of the prover, which gave no verdict): src/lib.rt:3:1: error",
+    "missed": "NOT REFUSED: the crate is still proved with this edit",
+    "bad": "BAD EDIT: an 'old:' text is in src/lib.rt 0 times, and not once",
+    "unsure": "NOT TRIED: its check ended with status 4, so nothing is known of it: run this again",
+}}
+words, here = sys.argv[1:], os.getcwd()
+with open({calls!r}, "a") as calls:
+    calls.write(" ".join(words) + " in " + os.path.basename(here) + "\\n")
+if words == ["check"]:
+    if os.path.exists("src/unproved"):
+        print("./src/lib.rt:1:1: error: `f.ensures`: not proved")
+        sys.exit(1)
+    os.makedirs("out", exist_ok=True)
+    open("out/proved", "a").close()
+    sys.exit(0)
+(name,) = words[1:]
+status = 0
+for edit in sorted(os.listdir(f"crates/{{name}}/must-fail")):
+    with open(f"crates/{{name}}/must-fail/{{edit}}") as file:
+        says = file.read().split("says: ")[1].strip()
+    if says == "sleep":
+        time.sleep(60)
+    if says == "elsewhere":
+        print(f"rt: {{here}}/crates/{{name}}/must-fail/{{edit}}: BAD EDIT: an edit stands right in must-fail/")
+    elif says != "nothing":
+        print(f"rt: must-fail {{name}}/{{edit}}: {{FOR[says]}}")
+    status = status or says not in ("refused", "by a limit")
+sys.exit(status)
+"""
+
+
+class EditsTest(unittest.TestCase):
+    def setUp(self):
+        kept = tempfile.TemporaryDirectory()
+        self.addCleanup(kept.cleanup)
+        self.folder = os.path.realpath(kept.name)
+        self.top = os.path.join(self.folder, "repository")
+        self.commands = os.path.join(self.folder, "commands")
+        self.calls = os.path.join(self.folder, "calls")
+        self.copy = os.path.join(self.folder, "copy")
+        os.mkdir(self.commands)
+        os.symlink(shutil.which("git"), os.path.join(self.commands, "git"))
+        self.rt = os.path.join(self.commands, "rt")
+        with open(self.rt, "w", encoding="utf-8") as file:
+            file.write(STAND_IN.format(python=sys.executable, calls=self.calls))
+        os.chmod(self.rt, stat.S_IRWXU)
+        self.put("HANDLES", "Handles allowed: none.\n")
+        self.put("crates.txt", "# lowest first\nlow:\nmiddle: low\nhigh: middle low\n")
+        for name in ("low", "middle", "high"):
+            self.put(f"crates/{name}/src/lib.rt", "fn f() {}\n")
+            self.edit(name, "gates_own", "bad", "must-fail")
+        self.put("tests/edits.py", self.text(SCRIPT))
+        self.git("init", "--quiet")
+
+    def put(self, path, text):
+        path = os.path.join(self.top, path)
+        os.makedirs(os.path.dirname(path), exist_ok=True)
+        with open(path, "w", encoding="utf-8") as file:
+            file.write(text)
+
+    def text(self, *parts):
+        with open(os.path.join(*parts), encoding="utf-8") as file:
+            return file.read()
+
+    def edit(self, crate, name, says, folder="edits"):
+        self.put(f"crates/{crate}/{folder}/{name}.edit", f"file: src/lib.rt\nold: f\nnew: g\nsays: {says}\n")
+
+    def git(self, *words):
+        subprocess.run(["git", *words], cwd=self.top, check=True, capture_output=True)
+
+    def words(self, *words):
+        return [sys.executable, "-B", os.path.join(self.top, "tests", "edits.py"), *words]
+
+    def run_it(self, *words):
+        """Its status, its lines on standard output, and standard error."""
+        self.git("add", "--all")
+        done = subprocess.run(self.words(*words), env={"PATH": self.commands}, capture_output=True, text=True, check=False)
+        return done.returncode, done.stdout.splitlines(), done.stderr
+
+    def calls_made(self):
+        return self.text(self.calls).splitlines() if os.path.exists(self.calls) else []
+
+    def kept_files(self):
+        return sorted(os.path.relpath(os.path.join(folder, name), self.copy) for folder, _, names in os.walk(self.copy) for name in names)
+
+
+class Verdicts(EditsTest):
+    def test_all_refused_is_status_0(self):
+        self.edit("low", "one", "refused")
+        self.edit("low", "two", "by a limit")
+        status, lines, errors = self.run_it()
+        self.assertEqual((status, errors), (0, ""))
+        self.assertEqual(lines[-1], "in all: 2 refused, 0 NOT REFUSED, 0 BAD EDIT, 0 NOT TRIED")
+
+    def test_each_verdict_is_counted(self):
+        for number, says in enumerate(("refused", "refused", "refused", "missed", "missed", "bad", "elsewhere", "unsure", "nothing")):
+            self.edit("middle", f"edit_{number}", says)
+        status, lines, _ = self.run_it("middle")
+        self.assertEqual(status, 1)
+        self.assertEqual(lines[-1], "in all: 3 refused, 2 NOT REFUSED, 2 BAD EDIT, 2 NOT TRIED")
+        self.assertIn("rt: must-fail middle/edit_3.edit: NOT REFUSED: the crate is still proved with this edit", lines)
+
+    def test_any_verdict_but_refused_is_status_1(self):
+        for says in ("missed", "bad", "elsewhere", "unsure", "nothing"):
+            self.edit("low", "one", says)
+            self.assertEqual(self.run_it()[0], 1, says)
+
+    def test_a_crate_that_is_not_proved_has_no_edit_refused(self):
+        self.edit("low", "one", "refused")
+        self.edit("high", "two", "refused")
+        self.put("crates/low/src/unproved", "")
+        status, lines, _ = self.run_it()
+        self.assertEqual(status, 1)
+        self.assertEqual(lines[-1], "in all: 1 refused, 0 NOT REFUSED, 0 BAD EDIT, 1 NOT TRIED")
+        self.assertIn("./src/lib.rt:1:1: error: `f.ensures`: not proved", lines)
+        self.assertNotIn("must-fail low in copy", self.calls_made())
+
+
+class Crates(EditsTest):
+    def test_all_that_have_edits_are_tried_lowest_first(self):
+        self.edit("high", "one", "refused")
+        self.edit("low", "two", "refused")
+        self.assertEqual(self.run_it("--keep", self.copy)[0], 0)
+        self.assertEqual(self.calls_made(), ["check in low", "must-fail low in copy", "check in high", "must-fail high in copy"])
+
+    def test_those_that_are_named_are_tried_alone(self):
+        self.edit("high", "one", "missed")
+        self.edit("low", "two", "refused")
+        self.assertEqual(self.run_it("--keep", self.copy, "low")[0], 0)
+        self.assertEqual(self.calls_made(), ["check in low", "must-fail low in copy"])
+
+    def test_an_unknown_crate_ends_it(self):
+        self.edit("low", "one", "refused")
+        self.assertEqual(self.run_it("low", "lower"), (2, [], "edits.py: there is no crate lower in crates.txt\n"))
+        self.assertEqual(self.calls_made(), [])
+
+    def test_a_crate_without_edits_ends_it(self):
+        self.edit("low", "one", "refused")
+        self.assertEqual(self.run_it("middle"), (2, [], "edits.py: middle has no edits: git tracks none in crates/middle/edits/\n"))
+        self.assertEqual(self.calls_made(), [])
+
+
+class Wanting(EditsTest):
+    def test_want_of_rt_ends_it(self):
+        self.edit("low", "one", "refused")
+        os.unlink(self.rt)
+        self.assertEqual(self.run_it(), (2, [], "edits.py: rt, the command of the Rattle kit, is not on PATH\n"))
+
+    def test_want_of_git_ends_it(self):
+        os.unlink(os.path.join(self.commands, "git"))
+        self.assertEqual(self.run_it(), (2, [], "edits.py: git is not on PATH\n"))
+
+    def test_a_folder_that_git_does_not_know_ends_it(self):
+        shutil.rmtree(os.path.join(self.top, ".git"))
+        done = subprocess.run(self.words(), env={"PATH": self.commands}, capture_output=True, text=True, check=False)
+        self.assertEqual((done.returncode, done.stdout), (2, ""))
+        self.assertIn(f"edits.py: git tells no files of {self.top}: ", done.stderr)
+
+
+class Copies(EditsTest):
+    FILES = [".copy-for-edits", "HANDLES", "crates.txt", "crates/high/src/lib.rt", "crates/low/must-fail/one.edit", "crates/low/out/proved",
+             "crates/low/src/lib.rt", "crates/middle/src/lib.rt"]
+
+    def test_it_has_the_tracked_files_with_edits_in_the_place_of_must_fail(self):
+        self.edit("low", "one", "refused")
+        self.put(".gitignore", "passed-over\n")
+        self.put("crates/low/src/passed-over", "")
+        self.assertEqual(self.run_it("--keep", self.copy)[0], 0)
+        self.assertEqual(self.kept_files(), self.FILES)
+        self.assertEqual(os.listdir(os.path.join(self.top, "crates", "low", "edits")), ["one.edit"])
+
+    def test_files_are_those_of_the_work_tree(self):
+        self.edit("low", "one", "refused")
+        self.edit("low", "two", "missed")
+        self.git("add", "--all")
+        self.put("crates/low/src/lib.rt", "fn changed() {}\n")
+        os.unlink(os.path.join(self.top, "crates", "low", "edits", "two.edit"))
+        done = subprocess.run(self.words("--keep", self.copy), env={"PATH": self.commands}, capture_output=True, text=True, check=False)
+        self.assertEqual(done.returncode, 0, done.stdout)
+        self.assertEqual(self.kept_files(), self.FILES)
+        self.assertEqual(self.text(self.copy, "crates/low/src/lib.rt"), "fn changed() {}\n")
+
+    def test_a_kept_copy_is_used_again(self):
+        self.edit("low", "one", "refused")
+        self.edit("low", "two", "refused")
+        self.run_it("--keep", self.copy)
+        untouched = os.path.join(self.copy, "crates", "low", "src", "lib.rt")
+        was = os.stat(untouched)
+        self.edit("low", "one", "missed")
+        os.unlink(os.path.join(self.top, "crates", "low", "edits", "two.edit"))
+        status, lines, _ = self.run_it("--keep", self.copy)
+        self.assertEqual(status, 1)
+        self.assertEqual(lines[-1], "in all: 0 refused, 1 NOT REFUSED, 0 BAD EDIT, 0 NOT TRIED")
+        self.assertEqual(self.kept_files(), self.FILES)
+        self.assertEqual(os.stat(untouched).st_mtime_ns, was.st_mtime_ns)
+
+    def test_no_other_folder_is_taken_for_a_copy(self):
+        self.edit("low", "one", "refused")
+        near = "is in this repository, or around it"
+        for folder, why in ((self.commands, "has other files in it"), (self.top, near), (self.folder, near), (os.path.join(self.top, "inside"), near),
+                            (self.rt, "is no folder")):
+            status, lines, errors = self.run_it("--keep", folder)
+            self.assertEqual((status, lines), (2, []))
+            self.assertTrue(errors.startswith(f"edits.py: {folder} {why}"), errors)
+        self.assertEqual(sorted(os.listdir(self.commands)), ["git", "rt"])
+
+    def test_a_copy_that_is_not_kept_is_removed(self):
+        self.edit("low", "one", "refused")
+        room = os.path.join(self.folder, "room")
+        os.mkdir(room)
+        self.git("add", "--all")
+        done = subprocess.run(self.words(), env={"PATH": self.commands, "TMPDIR": room}, capture_output=True, text=True, check=False)
+        self.assertEqual(done.returncode, 0, done.stderr)
+        self.assertEqual(os.listdir(room), [])
+
+    def test_a_signal_ends_it_and_its_rt(self):
+        self.edit("low", "one", "sleep")
+        room = os.path.join(self.folder, "room")
+        os.mkdir(room)
+        self.git("add", "--all")
+        run = subprocess.Popen(self.words(), env={"PATH": self.commands, "TMPDIR": room}, stdout=subprocess.DEVNULL, stderr=subprocess.PIPE)
+        for _ in range(200):
+            if any(call.startswith("must-fail") for call in self.calls_made()):
+                break
+            time.sleep(0.05)
+        run.send_signal(signal.SIGTERM)
+        self.assertEqual(run.communicate(timeout=20)[1], b"")
+        self.assertEqual(run.returncode, 128 + signal.SIGTERM)
+        self.assertEqual(os.listdir(room), [])
+
+
+if __name__ == "__main__":
+    unittest.main()
