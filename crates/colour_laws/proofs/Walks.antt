@@ -23,7 +23,7 @@ pub covers_same : (x o r : ℕ) → ((nat_lt x r && nat_lt r o) || (nat_lt o r &
 covers_same x o r = grind (arith, nat_tests)
 
 -- what a column does to the walk of a row, in both words
-under_same : (t : Table) (d : Diagram) (f : List ℕ) (r i a : ℕ) → slice_index f i < t.order → a < t.order
+pub under_same : (t : Table) (d : Diagram) (f : List ℕ) (r i a : ℕ) → slice_index f i < t.order → a < t.order
     → lists.under (act t) r (coloured_at i d.x d.o f) a ≡ cond (covers d i r) (under t d f a i) a
 under_same t d f r i a ly la =
     ap₂ (λ b c. cond b c a) (covers_same (slice_index d.x i) (slice_index d.o i) r) (act_inside t (is_up d i) (slice_index f i) a ly la)

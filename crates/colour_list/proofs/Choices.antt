@@ -128,7 +128,7 @@ swept_length t d q grid (suc r) le =
 listed : (t : Table) (d : Diagram) (f : List ℕ) → 0 < times f (colourings t d) → IsColouring t d f
 listed t d f some = coloured t d f (came (λ h. is_colouring t d h ≡ true) f (colourings t d) (listed_only t d) some)
 
-listed_most : (t : Table) (d : Diagram) (f : List ℕ) → times f (colourings t d) ≤ 1
+pub listed_most : (t : Table) (d : Diagram) (f : List ℕ) → times f (colourings t d) ≤ 1
 listed_most t d f = elim (cases_lt 0 (times f (colourings t d))) [
   | inl some ↦ let once = listed_once t d f (listed t d f some) in omega arith
   | inr none ↦ omega arith

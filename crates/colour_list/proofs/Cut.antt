@@ -65,18 +65,18 @@ take_padded : (n m : ℕ) (f : List ℕ) → length f ≡ m → take m (padded n
 take_padded n m f long = take-append-le m f (replicate (n - length f) 0) (omega arith) ∙ take_all m f (omega arith)
 
 -- the lists of the level behind the highest row
-abbrev Ends : Table → Diagram → List ℕ → Type 0
+abbrev pub Ends : Table → Diagram → List ℕ → Type 0
 Ends t d g = Meets MAX_SIZE t.order (IsUnbegun d (size d)) (RowsClose t d (size d)) g
 
 -- no column of the diagram is blank at the end
-begun : (d : Diagram) → IsGrid d → (c : ℕ) → c < size d → low d c < size d
+pub begun : (d : Diagram) → IsGrid d → (c : ℕ) → c < size d → low d c < size d
 begun d grid c lt = let e = span_low (row_of Cross d c) (row_of Ring d c) in let below = row_below d grid Cross c lt in omega arith
 
 zeros : (t : Table) (d : Diagram) (g : List ℕ) → Ends t d g → (c : ℕ) → c < MAX_SIZE → size d ≤ c → get_or g c 0 ≡ 0
 zeros t d g m c lt le = m.blank c lt (λ inside. absurd (omega arith))
 
 -- cut, such a list is a colouring
-cut_colouring : (t : Table) (d : Diagram) → IsGrid d → (g : List ℕ) → Ends t d g → IsColouring t d (take (size d) g)
+pub cut_colouring : (t : Table) (d : Diagram) → IsGrid d → (g : List ℕ) → Ends t d g → IsColouring t d (take (size d) g)
 cut_colouring t d grid g m = record {
   colours_are = (length_cut MAX_SIZE (size d) g grid.most m.long, All-take (λ y. y < t.order) (size d) g m.below);
   rows = λ r lt. eqb-true (walk t d (take (size d) g) r) (get_or (take (size d) g) (right d r) 0)
@@ -127,7 +127,7 @@ listed_only t d = filter_passes (is_colouring t d) (all_lists t.order (size d))
 none : (n : ℕ) → (0 < n → ⊥) → n ≡ 0
 none n no_more = omega (arith, no_more)
 
-as_often : (t : Table) (d : Diagram) (xs : List (List ℕ)) → ((f : List ℕ) → IsColouring t d f → times f xs ≡ 1) → All (IsColouring t d) xs → (f : List ℕ)
+pub as_often : (t : Table) (d : Diagram) (xs : List (List ℕ)) → ((f : List ℕ) → IsColouring t d f → times f xs ≡ 1) → All (IsColouring t d) xs → (f : List ℕ)
     → (b : Bool) → is_colouring t d f ≡ b → times f xs ≡ times f (colourings t d)
 as_often t d xs once only f true e = let c = coloured t d f e in once f c ∙ sym (listed_once t d f c)
 as_often t d xs once only f false e =

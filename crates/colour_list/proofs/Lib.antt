@@ -1,14 +1,14 @@
-mod Counts
+pub mod Counts
 pub mod Times
-mod Order
+pub mod Order
 mod AllLists
-mod Columns
-mod Solved
-mod Sweep
-mod Cut
+pub mod Columns
+pub mod Solved
+pub mod Sweep
+pub mod Cut
 mod RowSteps
-mod Fewer
-mod Choices
+pub mod Fewer
+pub mod Choices
 mod Lists
 mod Edits
 mod Buckets

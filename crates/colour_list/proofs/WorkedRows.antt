@@ -2,7 +2,8 @@
 use Rattle.std.proofs.Common.{◌≡◌, refl, [], ◌∷◌, length, true, false}
 use Rattle.grid_core.specs.Diagram.{Diagram}
 use Rattle.grid_core.specs.Parts.{bottoms}
-use Rattle.grid_core.proofs.WorkedRows.{unknot, right_trefoil, left_trefoil}
+use Rattle.grid_core.specs.Trefoils.{right_trefoil, left_trefoil}
+use Rattle.grid_core.proofs.WorkedRows.{unknot}
 use Rattle.quandle_core.specs.Tables.{trivial, dihedral, tetrahedral}
 use Rattle.colour_list.specs.Listing.{colourings}
 use Rattle.colour_list.specs.Fits.{fits}

@@ -1,6 +1,6 @@
 -- Worked examples, by computing: the two trefoils.
 use Rattle.std.proofs.Common.{◌≡◌, ◌∷◌, [], refl, true, false}
-use Rattle.grid_core.proofs.WorkedRows.{right_trefoil, left_trefoil}
+use Rattle.grid_core.specs.Trefoils.{right_trefoil, left_trefoil}
 use Rattle.quandle_core.specs.Tables.{dihedral, tetrahedral}
 use Rattle.colour_rows.specs.Walk.{passed, walk}
 use Rattle.colour_rows.specs.Colouring.{is_colouring}

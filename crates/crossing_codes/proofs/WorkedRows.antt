@@ -3,7 +3,8 @@ use Rattle.std.proofs.Common.{◌≡◌, ◌∷◌, [], refl, true, false, map}
 use Rattle.std.specs.Prelude.{codes}
 use Rattle.std.specs.Fmt.{digits}
 use Rattle.grid_core.specs.Diagram.{Diagram}
-use Rattle.grid_core.proofs.WorkedRows.{right_trefoil, left_trefoil, unknot}
+use Rattle.grid_core.specs.Trefoils.{right_trefoil, left_trefoil}
+use Rattle.grid_core.proofs.WorkedRows.{unknot}
 use Rattle.quandle_core.specs.Tables.{dihedral, tetrahedral}
 use Rattle.crossing_codes.specs.Components.{component, starts}
 use Rattle.crossing_codes.specs.StrandPlaces.{on_column, on_row, place_after, met_after, at_cross}

@@ -40,7 +40,7 @@ fn all_below(colours: &[u8], order: u8) -> bool
 }
 
 /// Whether a crossing names edges from 1 to their number alone.
-fn names_edges(edges: u32, crossing: &Crossing) -> bool
+pub fn names_edges(edges: u32, crossing: &Crossing) -> bool
     ensures { result ≡ names_edges edges crossing.now }
 {
     is_edge(edges, crossing.first)
@@ -50,7 +50,7 @@ fn names_edges(edges: u32, crossing: &Crossing) -> bool
 }
 
 /// Whether an edge's number lies from 1 to the number of edges.
-fn is_edge(edges: u32, edge: u32) -> bool
+pub fn is_edge(edges: u32, edge: u32) -> bool
     ensures { result ≡ is_edge edges edge }
 {
     1 <= edge && edge <= edges

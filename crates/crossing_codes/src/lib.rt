@@ -16,7 +16,7 @@ mod printed;
 mod tests;
 
 pub use code::code_of;
-pub use code_colouring::is_code_colouring;
+pub use code_colouring::{is_code_colouring, is_edge, names_edges};
 pub use crossing::{Code, Crossing};
 pub use edge_colouring::edge_colours;
 pub use printed::{gauss_text, pd_text};

@@ -5,18 +5,13 @@ use Rattle.std.specs.List.{range_with_len}
 use Rattle.grid_core.specs.declared.grid.TheConstants.{MAX_SIZE}
 use Rattle.grid_core.specs.declared.fault.GridFault.TheVariants.{Size, Length, Range, Repeat, Same}
 use Rattle.grid_core.specs.Diagram.{Diagram, size}
+use Rattle.grid_core.specs.Trefoils.{right_trefoil, left_trefoil}
 use Rattle.grid_core.specs.Parts.{bottoms, covers, is_up, is_rightward, ends, column_span}
 use Rattle.grid_core.specs.Crossing.{crosses, sign, is_positive}
 use Rattle.grid_core.specs.Fault.{first_fault}
 
 abbrev pub unknot : Diagram
 unknot = record { x = 0 ∷ 1 ∷ []; o = 1 ∷ 0 ∷ [] }
-
-abbrev pub right_trefoil : Diagram
-right_trefoil = record { x = 4 ∷ 3 ∷ 2 ∷ 1 ∷ 0 ∷ []; o = 2 ∷ 1 ∷ 0 ∷ 4 ∷ 3 ∷ [] }
-
-abbrev pub left_trefoil : Diagram
-left_trefoil = record { x = 0 ∷ 1 ∷ 2 ∷ 3 ∷ 4 ∷ []; o = 2 ∷ 3 ∷ 4 ∷ 0 ∷ 1 ∷ [] }
 
 -- the closure of three positive letters on two strands
 abbrev pub closure : Diagram

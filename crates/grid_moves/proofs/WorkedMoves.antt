@@ -4,7 +4,8 @@ use Rattle.grid_core.specs.declared.mark.Kind.TheVariants.{Cross, Ring}
 use Rattle.grid_core.specs.declared.mark.Corner.TheVariants.{LowLeft}
 use Rattle.grid_core.specs.Diagram.{Diagram, IsGrid}
 use Rattle.grid_core.proofs.Accepted.{accepted}
-use Rattle.grid_core.proofs.WorkedRows.{unknot, right_trefoil}
+use Rattle.grid_core.specs.Trefoils.{right_trefoil}
+use Rattle.grid_core.proofs.WorkedRows.{unknot}
 use Rattle.grid_moves.specs.declared.step.Move.{Move}
 use Rattle.grid_moves.specs.declared.step.Move.TheVariants.{ShiftRows, ExchangeColumns, ExchangeRows, SlideColumns, SlideRows, Stabilise, Destabilise}
 use Rattle.grid_moves.specs.MoveFault.{first_fault}

@@ -3,7 +3,7 @@ use Rattle.std.proofs.Common.{◌≡◌, ◌∷◌, [], refl, pos, negsuc}
 use Rattle.grid_core.specs.Diagram.{Diagram}
 use Rattle.linking_core.specs.Component.{components, numbers_below}
 use Rattle.grid_core.specs.Crossing.{sign}
-use Rattle.grid_core.proofs.WorkedRows.{right_trefoil, left_trefoil}
+use Rattle.grid_core.specs.Trefoils.{right_trefoil, left_trefoil}
 use Rattle.linking_core.specs.Linking.{signs, linking}
 
 -- the closure of the braid 2 -1 -1

@@ -3,7 +3,8 @@ use Rattle.std.proofs.Common.{◌≡◌, ◌∷◌, [], true, false, refl, lengt
 use Rattle.grid_core.specs.Diagram.{Diagram}
 use Rattle.grid_core.specs.declared.mark.Kind.TheVariants.{Cross}
 use Rattle.grid_core.specs.declared.mark.Corner.TheVariants.{LowLeft}
-use Rattle.grid_core.proofs.WorkedRows.{unknot, left_trefoil}
+use Rattle.grid_core.specs.Trefoils.{left_trefoil}
+use Rattle.grid_core.proofs.WorkedRows.{unknot}
 use Rattle.grid_moves.specs.declared.step.Move.TheVariants.{ShiftColumns, ShiftRows, ExchangeColumns, ExchangeRows, SlideColumns, SlideRows, Stabilise, Destabilise}
 use Rattle.grid_canon.specs.Key.{key_of}
 use Rattle.next_moves.specs.Tries.{exchanges, all_destabilisations}

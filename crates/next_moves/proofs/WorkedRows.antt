@@ -1,7 +1,8 @@
 -- Worked examples: what is tried, and what of it is legal.
 use Rattle.std.proofs.Common.{◌≡◌, ◌∷◌, [], ℕ, refl, length, filter, take, drop}
 use Rattle.grid_core.specs.Diagram.{Diagram}
-use Rattle.grid_core.proofs.WorkedRows.{unknot, left_trefoil}
+use Rattle.grid_core.specs.Trefoils.{left_trefoil}
+use Rattle.grid_core.proofs.WorkedRows.{unknot}
 use Rattle.grid_moves.specs.declared.step.Move.{Move}
 use Rattle.grid_moves.specs.declared.step.Move.TheVariants.{ExchangeColumns, ExchangeRows, SlideColumns, SlideRows, Destabilise}
 use Rattle.next_moves.specs.Tries.{Try, tries, column_exchange, column_slide, row_exchange, destabilisation}
