@@ -1,33 +1,27 @@
 -- The sum over crossings is the sum over rows.
-use Rattle.std.proofs.Common.{◌≡◌, ◌∙◌, ◌<◌, ◌+◌, ◌-◌, ◌%◌, ℕ, zero, suc, List, [], ◌∷◌, fold, ap, ap₂, sym, refl, subst, arith, inl, inr, cond}
-use Rattle.std.specs.Prelude.{Bool, true, false, slice_index, filter, pos, int_lt}
+use Rattle.std.proofs.Common.{◌≡◌, ◌∙◌, ◌<◌, ◌+◌, ◌-◌, ◌%◌, ℕ, zero, suc, List, ◌∷◌, fold, ap, ap₂, sym, refl, subst, arith, inl, inr, cond}
+use Rattle.std.specs.Prelude.{Bool, true, false, slice_index, filter}
 use Rattle.std.specs.List.{range_with_len, sum_by}
 use Rattle.std.proofs.Math.Bool.{not}
 use Rattle.std.proofs.lemmas.List.Sums.{sum_by-cons}
 use Rattle.std.proofs.lemmas.Bool.{cases_Bool, cond-true, cond-false}
 use Rattle.grid_core.specs.Diagram.{Diagram, IsGrid, size}
 use Rattle.grid_core.specs.Parts.{ends, covers, is_up, is_rightward}
-use Rattle.grid_core.specs.Crossing.{unit, cross_product, is_positive}
-use Rattle.quandle_core.specs.Quandle.{Table, IsQuandle, back}
+use Rattle.grid_core.specs.Crossing.{is_positive}
+use Rattle.quandle_core.specs.Quandle.{back}
 use Rattle.colour_rows.specs.Walk.{under, passed, passed_rightward, walk_to}
 use Rattle.colour_laws.proofs.RowEnds.{AreEnds, are_ends}
 use Rattle.colour_laws.proofs.Walks.{HasColours, colour_below}
 use Rattle.colour_laws.proofs.RowShifts.{not_not}
 use Rattle.colour_weights.specs.declared.walker.Walker.{Walker}
-use Rattle.colour_weights.specs.Cocycle.{Cochain, IsCocycle, value}
-use Rattle.colour_weights.specs.Weight.{crossing_value, positive_sum, negative_sum, difference, weight}
+use Rattle.cocycle_core.specs.Cocycle.{Cochain, IsCocycle, value}
+use Rattle.colour_weights.specs.Weight.{crossing_value, positive_sum, negative_sum, weight}
 use Rattle.colour_weights.specs.WalkSum.{gain, walked, row_weight, weight_by_rows}
-use Rattle.colour_weights.proofs.Mod.{Same, same_of, same_turned, same_by, same_by_two, same_by_three}
-use Rattle.colour_weights.proofs.RowSums.{total}
-use Rattle.colour_weights.proofs.Totals.{total_same, total_plus}
-use Rattle.colour_weights.proofs.Earned.{same_mod, same_minus}
-use Rattle.colour_weights.proofs.Longer.{fold_longer}
-use Rattle.colour_weights.proofs.ByColumns.{step_at}
-use Rattle.colour_weights.proofs.RowTotals.{walked_below, sum_total, equal_below, mod_below}
-
--- one item more in a filtered list
-filter_front : (p : ℕ → Bool) (x : ℕ) (xs : List ℕ) (b : Bool) → p x ≡ b → filter p (x ∷ xs) ≡ cond b (x ∷ filter p xs) (filter p xs)
-filter_front p x xs b e = ap (λ t. cond t (x ∷ filter p xs) (filter p xs)) e
+use Rattle.shadow_weights.proofs.Mod.{Same, same_of, same_turned, same_by, same_by_two, same_by_three}
+use Rattle.shadow_weights.proofs.RowCounts.{total, total_same, total_plus, same_mod, same_minus, sum_total, equal_below, mod_below}
+use Rattle.shadow_weights.proofs.Longer.{fold_longer}
+use Rattle.shadow_weights.proofs.CrossingSums.{filter_front, rightward_below, positive_by_directions, same_filter, same_difference}
+use Rattle.colour_weights.proofs.Walks.{step_at, walked_below}
 
 -- of n columns from one on, those that cover row r
 abbrev covering : Diagram → ℕ → ℕ → ℕ → List ℕ
@@ -74,10 +68,6 @@ one_crossing w cocycle true a y la ly =
     same_minus w.modulus (value w (back w.quandle a y) y) (omega (arith, cocycle.least)) (let most =
     cocycle.within (back w.quandle a y) y (cocycle.quandle.back_within a y la ly) ly in omega (arith, most))
 one_crossing w cocycle false a y la ly = same_of w.modulus (value w a y + 0) (value w a y) (omega arith)
-
-rightward_below : (t : Table) → IsQuandle t → (up : Bool) (a y : ℕ) → a < t.order → y < t.order → passed_rightward t up a y < t.order
-rightward_below t q true a y la ly = q.back_within a y la ly
-rightward_below t q false a y la ly = q.within a y la ly
 
 -- from column i on, n columns before the right end
 rest_of_row : (w : Cochain) → IsCocycle w → (d : Diagram) (f : List ℕ) → HasColours w.quandle d f → (r : ℕ) → AreEnds d r → (n i : ℕ) (at : Walker)
@@ -145,21 +135,6 @@ whole_row w cocycle d f has r known =
     same_by w.modulus ((walked w d f r).sum + ups w d f r (passed d r)) (0 + downs w d f r (passed d r)) ((walked w d f r).sum + ups w d f r (passed d r))
     (downs w d f r (passed d r)) rest (omega arith)
 
--- a crossing is positive where a down column meets a row to the right, or an up column one to the left
-positive_by_directions : (d : Diagram) (c r : ℕ) → is_positive d c r ≡ cond (is_rightward d r) (not (is_up d c)) (is_up d c)
-positive_by_directions d c r = by_way (is_up d c) (is_rightward d r)
-  where
-    by_way : (up right : Bool)
-        → int_lt (pos 0) (cross_product (record { x = pos 0; y = unit up }) (record { x = unit right; y = pos 0 })) ≡ cond right (not up) up
-    by_way true true = refl
-    by_way true false = refl
-    by_way false true = refl
-    by_way false false = refl
-
-same_filter : (p q : ℕ → Bool) → ((c : ℕ) → p c ≡ q c) → (cs : List ℕ) → filter p cs ≡ filter q cs
-same_filter p q same [] = refl
-same_filter p q same (c ∷ cs) = ap₂ (λ t l. cond t (c ∷ l) l) (same c) (same_filter p q same cs)
-
 -- the positive and the negative crossings of a row
 row_signs : (w : Cochain) → IsCocycle w → (d : Diagram) (f : List ℕ) → HasColours w.quandle d f → (r : ℕ) → AreEnds d r
     → Same w.modulus (row_weight w d f r + negatives w d f r) (positives w d f r)
@@ -190,12 +165,6 @@ row_signs w cocycle d f has r known =
         (same_minus w.modulus (walked w d f r).sum some (let below = walked_below w some d f r in omega (arith, below)))
         (same_turned w.modulus ((walked w d f r).sum + ups w d f r (passed d r)) (downs w d f r (passed d r)) (whole_row w cocycle d f has r known))
         (omega arith)
-
-same_difference : (k a b : ℕ) → 0 < k → Same k (difference k a b + b) a
-same_difference k a b some =
-    same_by_three k ((a + (k - b % k)) % k) (a + (k - b % k)) b (b % k) k 0 (difference k a b + b) a
-    (same_mod k (a + (k - b % k)) some) (same_turned k (b % k) b (same_mod k b some)) (record { left = 0; right = 1; equal = omega arith })
-    (omega (arith, some))
 
 -- the two weights
 pub crossings_are_rows : (w : Cochain) → IsCocycle w → (d : Diagram) → IsGrid d → (f : List ℕ) → HasColours w.quandle d f → weight w d f ≡ weight_by_rows w d f

@@ -1,31 +1,6 @@
-pub mod Mod
-pub mod RowSums
-pub mod Gains
-pub mod RowSteps
-pub mod WeightedLevel
-pub mod Totals
-pub mod TurnedColumns
-pub mod EndTerms
-pub mod FallenRows
-pub mod LoweredRows
-pub mod Earned
-pub mod ByColumns
-pub mod RowTotals
-pub mod ShiftWeights
-pub mod TradedRows
-pub mod TradedColumns
-pub mod ExchangeWeights
-pub mod SlidColumns
-pub mod SlidRows
-pub mod SlideWeights
-pub mod Blocks
-pub mod BlockWeights
-pub mod StepWeights
-pub mod Longer
-pub mod Tallies
+pub mod Walks
 pub mod CrossingSums
+pub mod Lifted
 pub mod Carried
 pub mod Counted
-pub mod Accepted
-mod FirstFaults
 mod WorkedRows

@@ -4,60 +4,21 @@ use Rattle.std.specs.Prelude.{◌==◌}
 use Rattle.std.specs.List.{list_all, flat_map, range_with_len}
 use Rattle.grid_core.specs.Diagram.{Diagram, size}
 use Rattle.grid_core.specs.Crossing.{is_positive}
-use Rattle.grid_core.proofs.WorkedRows.{right_trefoil, left_trefoil}
+use Rattle.grid_core.specs.Trefoils.{right_trefoil, left_trefoil}
 use Rattle.grid_moves.specs.declared.step.Move.TheVariants.{ShiftRows, SlideColumns, SlideRows}
 use Rattle.quandle_core.specs.Tables.{dihedral, tetrahedral, trivial}
 use Rattle.colour_rows.specs.Walk.{passed}
 use Rattle.colour_list.specs.Listing.{colourings}
 use Rattle.colour_laws.specs.Carried.{carried, after_row_shift}
-use Rattle.colour_weights.specs.declared.fault.CocycleFault.TheVariants.{Modulus, Length, Range, Diagonal, Law}
-use Rattle.colour_weights.specs.Cocycle.{Cochain}
-use Rattle.colour_weights.specs.Fault.{first_fault, obeys}
-use Rattle.colour_weights.specs.Weight.{colour_beside, crossing_value, weight}
+use Rattle.cocycle_core.proofs.WorkedRows.{tetrahedral_cocycle, of_trivial, of_dihedral}
+use Rattle.colour_weights.specs.Weight.{crossing_value, weight}
+use Rattle.shadow_weights.specs.Weight.{colour_beside}
 use Rattle.colour_weights.specs.WalkSum.{weight_by_rows}
 use Rattle.colour_weights.specs.Weights.{weights}
 
 -- the closure of the braid of two strands without letters
 abbrev two_loops : Diagram
 two_loops = record { x = 0 ∷ 1 ∷ 2 ∷ 3 ∷ []; o = 3 ∷ 2 ∷ 1 ∷ 0 ∷ [] }
-
--- the cocycle of the tetrahedral quandle mod 2 (Carter and others 2003)
-abbrev tetrahedral_cocycle : Cochain
-tetrahedral_cocycle = record {
-  quandle = tetrahedral;
-  modulus = 2;
-  entries = 0 ∷ 1 ∷ 1 ∷ 0 ∷ 1 ∷ 0 ∷ 1 ∷ 0 ∷ 1 ∷ 1 ∷ 0 ∷ 0 ∷ 0 ∷ 0 ∷ 0 ∷ 0 ∷ [];
-}
-
-no_fault : first_fault tetrahedral_cocycle ≡ None
-no_fault = refl
-
-law_broken : first_fault (record { quandle = tetrahedral; modulus = 2; entries = 0 ∷ 1 ∷ 0 ∷ 0 ∷ 0 ∷ 0 ∷ 0 ∷ 0 ∷ 0 ∷ 0 ∷ 0 ∷ 0 ∷ 0 ∷ 0 ∷ 0 ∷ 0 ∷ [] })
-    ≡ Some (Law 0 1 0)
-law_broken = refl
-
-too_low : first_fault (record { quandle = trivial 2; modulus = 1; entries = [] }) ≡ Some Modulus
-too_low = refl
-
-too_short : first_fault (record { quandle = trivial 2; modulus = 3; entries = 0 ∷ 5 ∷ 1 ∷ [] }) ≡ Some Length
-too_short = refl
-
-out_of_range : first_fault (record { quandle = trivial 2; modulus = 3; entries = 0 ∷ 3 ∷ 1 ∷ 1 ∷ [] }) ≡ Some (Range 0 1)
-out_of_range = refl
-
--- the first of two in the lexicographic order, not in that of the columns
-in_two_cells : first_fault (record { quandle = trivial 2; modulus = 3; entries = 0 ∷ 3 ∷ 3 ∷ 0 ∷ [] }) ≡ Some (Range 0 1)
-in_two_cells = refl
-
--- the law fails at 0, 2, 0 too, which has the lesser third colour
-lesser_second_colour : first_fault (record { quandle = dihedral 3; modulus = 2; entries = 0 ∷ 0 ∷ 0 ∷ 1 ∷ 0 ∷ 0 ∷ 0 ∷ 1 ∷ 0 ∷ [] }) ≡ Some (Law 0 1 2)
-lesser_second_colour = refl
-
-fails_too : obeys (record { quandle = dihedral 3; modulus = 2; entries = 0 ∷ 0 ∷ 0 ∷ 1 ∷ 0 ∷ 0 ∷ 0 ∷ 1 ∷ 0 ∷ [] }) 0 2 0 ≡ false
-fails_too = refl
-
-not_diagonal : first_fault (record { quandle = trivial 2; modulus = 3; entries = 0 ∷ 2 ∷ 1 ∷ 1 ∷ [] }) ≡ Some (Diagonal 1)
-not_diagonal = refl
 
 -- the three crossings of the right trefoil are positive, those of the left one negative
 abbrev signs : Diagram → List Bool
@@ -77,13 +38,6 @@ left_weights = refl
 
 loop_weights : weights tetrahedral_cocycle two_loops ≡ 16 ∷ 0 ∷ []
 loop_weights = refl
-
--- any numbers off the diagonal are a cocycle of a trivial quandle
-abbrev of_trivial : Cochain
-of_trivial = record { quandle = trivial 2; modulus = 7; entries = 0 ∷ 2 ∷ 1 ∷ 0 ∷ [] }
-
-no_fault_of_trivial : first_fault of_trivial ≡ None
-no_fault_of_trivial = refl
 
 -- the sum over crossings is the sum over rows
 by_rows : list_all (λ c. weight tetrahedral_cocycle right_trefoil c == weight_by_rows tetrahedral_cocycle right_trefoil c)
@@ -112,13 +66,6 @@ left_by_rows = refl
 kept_by_rows : list_all (λ c. weight tetrahedral_cocycle (after_row_shift 1 right_trefoil) (carried tetrahedral right_trefoil (ShiftRows 1) c)
     == weight tetrahedral_cocycle right_trefoil c) (colourings tetrahedral right_trefoil) ≡ true
 kept_by_rows = refl
-
--- φ(x, y) = g(x) - g(x ▷ y) mod 7, with 0, 1, 3 for g: each pair of different colours has its own number
-abbrev of_dihedral : Cochain
-of_dihedral = record { quandle = dihedral 3; modulus = 7; entries = 0 ∷ 4 ∷ 6 ∷ 5 ∷ 0 ∷ 1 ∷ 2 ∷ 3 ∷ 0 ∷ [] }
-
-no_fault_of_dihedral : first_fault of_dihedral ≡ None
-no_fault_of_dihedral = refl
 
 -- row 1 comes in colour 1 to column 2, which is down and has colour 2, and goes on in colour 0. The column's right-hand side is the row's left: φ(1, 2)
 under_down : crossing_value of_dihedral right_trefoil (0 ∷ 1 ∷ 2 ∷ 0 ∷ 2 ∷ []) 2 1 ≡ 1

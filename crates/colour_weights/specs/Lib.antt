@@ -1,15 +1,14 @@
-pub mod Cocycle
-pub mod Fault
-pub mod Cases
 pub mod Weight
 pub mod WalkSum
 pub mod Weights
+pub mod Lifted
 pub use Rattle.grid_core.specs.Diagram
 pub use Rattle.grid_core.specs.Parts
 pub use Rattle.grid_core.specs.Crossing
 pub use Rattle.grid_moves.specs.Step
 pub use Rattle.grid_moves.specs.Joining
 pub use Rattle.quandle_core.specs.Quandle
+pub use Rattle.cocycle_core.specs.Cocycle
 pub use Rattle.colour_rows.specs.Walk
 pub use Rattle.colour_rows.specs.Equation
 pub use Rattle.colour_rows.specs.Colouring

@@ -1,17 +1,11 @@
 -- The weight of a colouring by a 2-cocycle: the sum, over all crossings, of the sign times φ(x, y) (Carter and others 2003).
-use Rattle.std.specs.Prelude.{ℕ, ◌+◌, ◌-◌, ◌%◌, not, List, filter, slice_index, if◌then◌else◌}
+use Rattle.std.specs.Prelude.{ℕ, not, List, filter, slice_index}
 use Rattle.std.specs.List.{range_with_len, sum_by}
 use Rattle.grid_core.specs.Diagram.{Diagram, size}
-use Rattle.grid_core.specs.Parts.{is_up}
 use Rattle.grid_core.specs.Crossing.{is_positive}
-use Rattle.quandle_core.specs.Quandle.{Table}
-use Rattle.colour_rows.specs.Walk.{under, passed, walk_to}
-use Rattle.colour_weights.specs.Cocycle.{Cochain, value}
-
--- the colour of row r's strand on the right-hand side of column c, which passes over it: behind an up column, before a down one
-abbrev pub colour_beside : Table → Diagram → List ℕ → ℕ → ℕ → ℕ
-colour_beside t d colours c r =
-    if is_up d c then under t d colours (walk_to t d colours r c) c else walk_to t d colours r c
+use Rattle.colour_rows.specs.Walk.{passed}
+use Rattle.shadow_weights.specs.Weight.{colour_beside, difference}
+use Rattle.cocycle_core.specs.Cocycle.{Cochain, value}
 
 -- φ(x, y) of the crossing of column c over row r: y is the colour of the column, x that of the strand under it on the column's right-hand side
 abbrev pub crossing_value : Cochain → Diagram → List ℕ → ℕ → ℕ → ℕ
@@ -23,10 +17,6 @@ positive_sum w d colours = sum_by (λ r. sum_by (λ c. crossing_value w d colour
 
 abbrev pub negative_sum : Cochain → Diagram → List ℕ → ℕ
 negative_sum w d colours = sum_by (λ r. sum_by (λ c. crossing_value w d colours c r) (filter (λ c. not (is_positive d c r)) (passed d r))) (range_with_len 0 (size d))
-
--- a - b mod k
-abbrev pub difference : ℕ → ℕ → ℕ → ℕ
-difference k a b = (a + (k - b % k)) % k
 
 abbrev pub weight : Cochain → Diagram → List ℕ → ℕ
 weight w d colours = difference w.modulus (positive_sum w d colours) (negative_sum w d colours)

@@ -1,31 +1,20 @@
 //! Laws of weights, over the definitions alone.
-ghost use Rattle.std.specs.Prelude.{◌≡◌, ◌≢◌, ◌↔◌, ℕ, List, Some, None};
+ghost use Rattle.std.specs.Prelude.{◌≡◌, ◌≢◌, ◌<◌, ℕ, List};
 ghost use Rattle.grid_core.specs.Diagram.{Diagram, IsGrid};
 ghost use Rattle.grid_moves.specs.Step.{Step};
 ghost use Rattle.grid_moves.specs.Joining.{Equivalent};
-ghost use Rattle.quandle_core.specs.Quandle.{IsQuandle};
 ghost use Rattle.colour_rows.specs.Colouring.{IsColouring};
 ghost use Rattle.colour_laws.specs.Carried.{carried};
-ghost use Rattle.colour_weights.specs.Cocycle.{Cochain, IsCocycle};
-ghost use Rattle.colour_weights.specs.Fault.{first_fault};
-ghost use Rattle.colour_weights.specs.Cases.{IsFirstFault};
-ghost use Rattle.colour_weights.specs.declared.fault.CocycleFault.{CocycleFault};
+ghost use Rattle.shadow_weights.specs.Cocycle.{IsShadowCocycle};
+ghost use Rattle.shadow_weights.specs.Weight.{shadow_weight};
+ghost use Rattle.colour_weights.specs.Lifted.{lifted};
+ghost use Rattle.cocycle_core.specs.Cocycle.{Cochain, IsCocycle};
 ghost use Rattle.colour_weights.specs.Weight.{weight};
 ghost use Rattle.colour_weights.specs.WalkSum.{weight_by_rows};
 ghost use Rattle.colour_weights.specs.Weights.{weights};
 
 use grid_core::{Corner, Kind};
 use grid_moves::Move;
-
-/// A table of numbers over a quandle has no fault exactly where it is a cocycle.
-pub fn no_fault_is_a_cocycle()
-    ensures { (w : Cochain) → IsQuandle w.quandle → (first_fault w ≡ None) ↔ IsCocycle w }
-{}
-
-/// The first fault is exactly the one whose case fails, where no earlier law fails and no lexicographically smaller case of its own law.
-pub fn the_first_fault_comes_first()
-    ensures { (w : Cochain) (fault : CocycleFault) → (first_fault w ≡ Some fault) ↔ IsFirstFault w fault }
-{}
 
 /// The sum over the crossings is the sum over the rows.
 pub fn the_weight_is_that_of_the_rows()
@@ -91,4 +80,11 @@ pub fn every_move_keeps_the_weight()
 pub fn equivalent_diagrams_have_equal_weights()
     ensures equal { (w : Cochain) (d e : Diagram) → IsCocycle w → Equivalent d e → weights w d ≡ weights w e }
     ensures different { (w : Cochain) (d e : Diagram) → IsCocycle w → weights w d ≢ weights w e → Equivalent d e → ⊥ }
+{}
+
+/// A 2-cocycle is a shadow cocycle that doesn't look at the region, and its shadow weights are its weights, whatever the colour of the outer region.
+pub fn a_2_cocycle_is_a_shadow_cocycle()
+    ensures cocycle { (w : Cochain) → IsCocycle w → IsShadowCocycle (lifted w) }
+    ensures weight { (w : Cochain) (d : Diagram) (colours : List ℕ) (outer : ℕ) → IsCocycle w → IsGrid d → IsColouring w.quandle d colours
+        → outer < w.quandle.order → shadow_weight (lifted w) d colours outer ≡ weight w d colours }
 {}

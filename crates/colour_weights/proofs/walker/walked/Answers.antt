@@ -4,9 +4,9 @@ use Rattle.std.specs.List.{range_with_len}
 use Rattle.grid_core.specs.Diagram.{Diagram}
 use Rattle.grid_core.specs.Parts.{covers}
 use Rattle.colour_weights.specs.declared.walker.Walker.{Walker}
-use Rattle.colour_weights.specs.Cocycle.{Cochain}
-use Rattle.colour_weights.proofs.Longer.{fold_longer}
-use Rattle.colour_weights.proofs.ByColumns.{step_at}
+use Rattle.cocycle_core.specs.Cocycle.{Cochain}
+use Rattle.shadow_weights.proofs.Longer.{fold_longer}
+use Rattle.colour_weights.proofs.Walks.{step_at}
 use Rattle.colour_weights.proofs.walker.walked.Goals as goal
 
 pub loop-column-preserved : goal.loop-column-preserved

@@ -1,0 +1,3 @@
+pub mod Accepted
+mod FirstFaults
+pub mod WorkedRows

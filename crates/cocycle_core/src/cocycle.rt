@@ -1,0 +1,100 @@
+//! A cocycle of a quandle.
+ghost use Rattle.std.specs.Prelude.{◌≡◌, ◌<◌, ◌*◌, length, IfOk};
+ghost use Rattle.std.specs.Result.{result_err};
+ghost use Rattle.cocycle_core.specs.Cocycle.{IsCocycle, value};
+ghost use Rattle.cocycle_core.specs.Fault.{first_fault};
+
+use crate::fault::{CocycleFault, diagonal_fault, law_fault, range_fault, shape_fault};
+use arrayvec::ArrayVec;
+use quandle_core::{MAX_TABLE, Quandle};
+use std::marker::Model;
+
+/// A 2-cocycle of a quandle with values mod a number from 2 to 255 (Carter and others 2003), which contracts see as a `Cochain`.
+#[derive(Drop)]
+pub struct Cocycle {
+    quandle: Quandle,
+    modulus: u8,
+    table: ArrayVec<u8, MAX_TABLE>,
+}
+
+impl Model for Cocycle {
+    ghost use Rattle.cocycle_core.specs.Cocycle.{Cochain, IsCocycle};
+
+    ghost Value = { Cochain };
+
+    ghost view = { λ c. record { quandle = c.quandle; modulus = c.modulus; entries = c.table.items } };
+
+    ghost invariant = { λ c. IsCocycle (record { quandle = c.quandle; modulus = c.modulus; entries = c.table.items }) };
+}
+
+impl Cocycle {
+    /// The cocycle of a table in which `table[x * order + y]` is `φ(x, y)`.
+    ///
+    /// Else the first law that the table breaks, with its lexicographically first case.
+    pub fn new(quandle: &Quandle, modulus: u8, table: &[u8]) -> Result<Cocycle, CocycleFault>
+        ensures fault { result_err result ≡ first_fault (record { quandle = quandle.now; modulus = modulus; entries = table.now }) }
+        ensures cocycle { IfOk result (λ c. c ≡ record { quandle = quandle.now; modulus = modulus; entries = table.now }) }
+    {
+        let _order = quandle.order();
+        if let Some(fault) = shape_fault(quandle, modulus, table) {
+            return Err(fault);
+        }
+        if let Some(fault) = range_fault(quandle, modulus, table) {
+            return Err(fault);
+        }
+        if let Some(fault) = diagonal_fault(quandle, modulus, table) {
+            return Err(fault);
+        }
+        if let Some(fault) = law_fault(quandle, modulus, table) {
+            return Err(fault);
+        }
+        Ok(of_table(quandle, modulus, table))
+    }
+
+    /// The same cocycle again. Takes no memory.
+    pub fn copy(&self) -> Self
+        ensures { result ≡ self.now }
+    {
+        of_table(&self.quandle, self.modulus, self.table.as_slice())
+    }
+
+    /// The quandle of which it is a cocycle.
+    pub fn quandle(&self) -> &Quandle
+        ensures { result.now ≡ self.now.quandle }
+    {
+        &self.quandle
+    }
+
+    /// The modulus k, from 2 to 255. Weights are below it.
+    pub fn modulus(&self) -> u8
+        ensures modulus { result ≡ self.now.modulus }
+        ensures cocycle { IsCocycle self.now }
+    {
+        self.modulus
+    }
+
+    /// `φ(x, y)`, for colours x and y below the quandle's order.
+    pub fn value(&self, x: u8, y: u8) -> u8
+        requires { (x < self.now.quandle.order) × (y < self.now.quandle.order) }
+        ensures value { result ≡ value self.now x y }
+        ensures below { result < self.now.modulus }
+    {
+        let order = self.quandle.order();
+        self.table[x as usize * order as usize + y as usize]
+    }
+}
+
+/// The cocycle of a table that obeys the laws.
+fn of_table(quandle: &Quandle, modulus: u8, table: &[u8]) -> Cocycle
+    requires { IsCocycle (record { quandle = quandle.now; modulus = modulus; entries = table.now }) }
+    ensures { result ≡ record { quandle = quandle.now; modulus = modulus; entries = table.now } }
+{
+    let _order = quandle.order();
+    let mut copy = ArrayVec::new();
+    copy.try_extend_from_slice(table).unwrap();
+    Cocycle {
+        quandle: quandle.copy(),
+        modulus,
+        table: copy,
+    }
+}

@@ -1,0 +1,12 @@
+//! A 2-cocycle of a quandle, and the first law that a table of numbers breaks.
+//! A table that breaks none is a cocycle, and the other way round.
+#![tactic(auto)]
+
+mod cocycle;
+mod fault;
+pub mod laws;
+#[cfg(test)]
+mod tests;
+
+pub use cocycle::Cocycle;
+pub use fault::CocycleFault;

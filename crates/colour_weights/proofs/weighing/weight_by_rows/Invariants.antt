@@ -1,0 +1,7 @@
+use Rattle.std.proofs.Common.{◌≡◌, ◌<◌, ◌%◌}
+use Rattle.std.specs.List.{range_with_len, sum_by}
+use Rattle.colour_weights.specs.WalkSum.{row_weight}
+use Rattle.colour_weights.proofs.weighing.weight_by_rows.Given as goal
+
+abbrev pub invariant-loop-row : goal.invariant-loop-row
+invariant-loop-row l = (l.sum ≡ sum_by (row_weight l.cocycle l.grid l.colours) (range_with_len 0 l.row) % l.cocycle.modulus) × (l.sum < l.cocycle.modulus)
