@@ -1,0 +1,14 @@
+pub mod Settled
+pub mod Plan
+pub mod Seeded
+pub mod Leaves
+pub mod Fits
+pub mod Tallies
+pub mod Connected
+pub use Rattle.grid_core.specs.Diagram
+pub use Rattle.grid_core.specs.Parts
+pub use Rattle.grid_core.specs.Crossing
+pub use Rattle.quandle_core.specs.Quandle
+pub use Rattle.colour_rows.specs.Walk
+pub use Rattle.colour_rows.specs.Colouring
+pub use Rattle.colour_list.specs.Listing
