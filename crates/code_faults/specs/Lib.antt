@@ -1,0 +1,4 @@
+pub mod Joined
+pub mod Map
+pub mod Fault
+pub mod Chains

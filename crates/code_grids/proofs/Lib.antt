@@ -1,0 +1,7 @@
+pub mod Undone
+pub mod Renamed
+pub mod Naming
+pub mod Rearranged
+pub mod Recolouring
+pub mod Composed
+mod WorkedRows

@@ -1,0 +1,4 @@
+pub mod Renaming
+pub mod Correspond
+pub mod Recoloured
+pub mod Refused

@@ -1,0 +1,108 @@
+//! New names of edges, as the crossings ask for them.
+//!
+//! Names are exchanged in pairs, from each edge's own name on, so that they are one to one whatever is asked for.
+ghost use Rattle.std.specs.Prelude.{◌≡◌, ◌≢◌, ◌<◌, ℕ, true, List, length, slice_index, IfOk};
+ghost use Rattle.std.specs.List.{All, range_with_len};
+ghost use Rattle.crossing_codes.specs.CodeColouring.{is_edge, names_edges};
+ghost use Rattle.code_grids.specs.Renaming.{AreInverse, new_name, renamed, IsSame};
+ghost use Rattle.code_grids.specs.Correspond.{KeepsNames};
+
+use crossing_codes::Crossing;
+use std::alloc::{AllocError, Global};
+
+/// The places of the new names of the edges, and the edges of the places. They make of each crossing the one that the list names,
+/// where any names do.
+pub(crate) fn edge_names(
+    alloc: Global,
+    edges: u32,
+    ones: &[Crossing],
+    twos: &[Crossing],
+    crossings: &[u32],
+) -> Result<(Vec<u32>, Vec<u32>), AllocError>
+    requires named { All (λ x. names_edges edges x ≡ true) ones.now }
+    requires named_too { All (λ x. names_edges edges x ≡ true) twos.now }
+    requires long { length crossings.now ≡ length ones.now }
+    requires inside { (k : ℕ) → k < length crossings.now → slice_index crossings.now k < length twos.now }
+    ensures inverse { IfOk result (λ names. AreInverse edges names.0.items names.1.items) }
+    ensures wanted { IfOk result (λ names. (wanted back : List ℕ) → AreInverse edges wanted back
+        → IsSame wanted crossings.now ones.now twos.now → IsSame names.0.items crossings.now ones.now twos.now) }
+{
+    let mut there = own_places(alloc, edges)?;
+    let mut back = own_places(alloc, edges)?;
+    name_all(
+        there.as_mut_slice(),
+        back.as_mut_slice(),
+        ones,
+        twos,
+        crossings,
+    );
+    Ok((there, back))
+}
+
+/// The numbers below n.
+fn own_places(alloc: Global, n: u32) -> Result<Vec<u32>, AllocError>
+    ensures { IfOk result (λ v. v.items ≡ range_with_len 0 n) }
+{
+    let mut places = Vec::new(alloc);
+    for place in 0..n {
+        places.push(place)?;
+    }
+    Ok(places)
+}
+
+/// Gives the edges of each crossing the names that they have at the crossing which the list names.
+fn name_all(
+    there: &mut [u32],
+    back: &mut [u32],
+    ones: &[Crossing],
+    twos: &[Crossing],
+    crossings: &[u32],
+)
+    requires inverse { AreInverse (length there.old) there.old back.old }
+    requires named { All (λ x. names_edges (length there.old) x ≡ true) ones.now }
+    requires named_too { All (λ x. names_edges (length there.old) x ≡ true) twos.now }
+    requires long { length crossings.now ≡ length ones.now }
+    requires inside { (k : ℕ) → k < length crossings.now → slice_index crossings.now k < length twos.now }
+    ensures inverse { AreInverse (length there.old) there.new back.new }
+    ensures wanted { (wanted wanted_back : List ℕ) → AreInverse (length there.old) wanted wanted_back
+        → IsSame wanted crossings.now ones.now twos.now → IsSame there.new crossings.now ones.now twos.now }
+{
+    for k in 0..ones.len() {
+        name_edges(there, back, &ones[k], &twos[crossings[k] as usize]);
+    }
+}
+
+/// Gives the edges of a crossing the names that they have at another.
+fn name_edges(there: &mut [u32], back: &mut [u32], one: &Crossing, two: &Crossing)
+    requires inverse { AreInverse (length there.old) there.old back.old }
+    requires named { names_edges (length there.old) one.now ≡ true }
+    requires named_too { names_edges (length there.old) two.now ≡ true }
+    ensures inverse { AreInverse (length there.old) there.new back.new }
+    ensures given { (wanted wanted_back : List ℕ) → AreInverse (length there.old) wanted wanted_back
+        → renamed wanted one.now ≡ two.now → renamed there.new one.now ≡ two.now }
+    ensures kept { (wanted wanted_back : List ℕ) → AreInverse (length there.old) wanted wanted_back
+        → renamed wanted one.now ≡ two.now → KeepsNames (length there.old) there.old there.new wanted }
+{
+    name_edge(there, back, one.first, two.first);
+    name_edge(there, back, one.second, two.second);
+    name_edge(there, back, one.third, two.third);
+    name_edge(there, back, one.fourth, two.fourth);
+}
+
+/// Gives an edge a name, and the edge that had it the name that this one had.
+fn name_edge(there: &mut [u32], back: &mut [u32], old: u32, new: u32)
+    requires inverse { AreInverse (length there.old) there.old back.old }
+    requires old { is_edge (length there.old) old ≡ true }
+    requires new { is_edge (length there.old) new ≡ true }
+    ensures inverse { AreInverse (length there.old) there.new back.new }
+    ensures given { new_name there.new old ≡ new }
+    ensures kept { (wanted wanted_back : List ℕ) → AreInverse (length there.old) wanted wanted_back
+        → new_name wanted old ≡ new → KeepsNames (length there.old) there.old there.new wanted }
+{
+    let edge = old as usize - 1;
+    let place = new as usize - 1;
+    let other = back[place] as usize;
+    let before = there[edge] as usize;
+    there.swap(edge, other);
+    back.swap(before, place);
+}

@@ -1,0 +1,4 @@
+pub mod Pairs
+pub mod InRange
+pub mod Unsigned
+mod WorkedRows

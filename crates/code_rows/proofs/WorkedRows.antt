@@ -1,0 +1,39 @@
+-- Worked examples, by computing: rows of a trefoil and of a kink under other names, and rows with faults.
+use Rattle.std.proofs.Common.{◌≡◌, ◌∷◌, [], ℕ, List, Some, None, map, refl}
+use Rattle.code_rows.specs.declared.row.Row.{Row}
+use Rattle.code_rows.specs.declared.rows_fault.RowsFault.TheVariants.{Empty, Edge}
+use Rattle.code_rows.specs.Rows.{all_names, name_of, numbered}
+use Rattle.code_rows.specs.RowsFault.{unpaired}
+
+abbrev pub R : ℕ → ℕ → ℕ → ℕ → Row
+R i j k l = record { first = i; second = j; third = k; fourth = l }
+
+-- names from 0, as some programs print them
+abbrev pub from_zero : List Row
+from_zero = R 0 4 1 3 ∷ R 2 0 3 5 ∷ R 4 2 5 1 ∷ []
+
+numbered_from_one : map (numbered (all_names from_zero)) from_zero ≡ R 1 5 2 4 ∷ R 3 1 4 6 ∷ R 5 3 6 2 ∷ []
+numbered_from_one = refl
+
+abbrev pub kink : List Row
+kink = R 70 70 9 9 ∷ []
+
+in_order_of_names : map (numbered (all_names kink)) kink ≡ R 2 2 1 1 ∷ []
+in_order_of_names = refl
+
+names_again : name_of (all_names kink) 1 ∷ name_of (all_names kink) 2 ∷ [] ≡ 9 ∷ 70 ∷ []
+names_again = refl
+
+all_paired : unpaired from_zero 0 ∷ unpaired kink 3 ∷ unpaired [] 1 ∷ [] ≡ None ∷ None ∷ None ∷ []
+all_paired = refl
+
+nothing : unpaired [] 0 ≡ Some Empty
+nothing = refl
+
+-- of 7 at three ends and 8 at one, and of 4 at one end and 5 at three, the least name
+at_three_ends : unpaired (R 8 7 7 7 ∷ []) 0 ∷ unpaired (R 5 4 5 5 ∷ []) 1 ∷ [] ≡ Some (Edge 7) ∷ Some (Edge 4) ∷ []
+at_three_ends = refl
+
+-- the least, wherever it stands
+at_one_end : unpaired (R 3 9 3 8 ∷ R 9 2 8 1 ∷ []) 0 ≡ Some (Edge 1)
+at_one_end = refl

@@ -1,0 +1,90 @@
+//! Codes from rows.
+ghost use Rattle.std.specs.Prelude.{◌≡◌, ◌≤◌, ◌*◌, ℕ, map, length, Err, None, Some, false, IfOk};
+ghost use Rattle.code_faults.specs.declared.fault.TheConstants.{MAX_CROSSINGS};
+ghost use Rattle.code_faults.specs.Map.{is_plane};
+ghost use Rattle.code_faults.specs.Fault.{first_fault};
+ghost use Rattle.code_rows.specs.Rows.{all_names, name_of, row_of, IsCodeOf};
+ghost use Rattle.code_rows.specs.RowsFault.{unpaired, as_unpaired};
+
+use crate::numbers::{name_of, names_of, numbered_rows};
+use crate::row::Row;
+use crate::rows_fault::{RowsFault, unpaired};
+use crate::signs::signs_of;
+use code_faults::{CodeFault, first_fault};
+use crossing_codes::{Code, Crossing};
+use grid_core::Items;
+use memory_core::OutOfMemory;
+use std::alloc::{AllocError, Global};
+
+/// The signed code of these rows with so many loops and without a fault, or a fault: the first of the rows themselves, else one of the
+/// code that was tried. There may be at most `MAX_CROSSINGS` rows.
+pub fn code_of_rows(
+    alloc: Global,
+    rows: &[Row],
+    loops: u32,
+) -> Result<Result<Code, RowsFault>, OutOfMemory>
+    requires { length rows.now ≤ MAX_CROSSINGS }
+    ensures code { IfOk result (λ answer. IfOk answer (λ code. IsCodeOf rows.now loops code)) }
+    ensures faultless { IfOk result (λ answer. IfOk answer (λ code. first_fault code ≡ None)) }
+    ensures unpaired { IfOk result (λ answer. as_unpaired answer ≡ unpaired rows.now loops) }
+    ensures direction { IfOk result (λ answer. (name : ℕ) → answer ≡ Err (RowsFault.Direction name)
+        → (c : Code) × IsCodeOf rows.now loops c × (e : ℕ) × (first_fault c ≡ Some (CodeFault.Edge e)) × (name ≡ name_of (all_names rows.now) e)) }
+    ensures plane { IfOk result (λ answer. answer ≡ Err RowsFault.Plane
+        → (c : Code) → IsCodeOf rows.now loops c → is_plane c.crossings ≡ false) }
+{
+    let names = names_of(alloc, rows)?;
+    if let Some(fault) = unpaired(rows, names.as_slice(), loops) {
+        return Ok(Err(fault));
+    }
+    let code = directed(alloc, names.as_slice(), rows, loops)?;
+    match first_fault(alloc, &code)? {
+        None => Ok(Ok(code)),
+        Some(CodeFault::Edge { edge }) => Ok(Err(RowsFault::Direction {
+            edge: name_of(names.as_slice(), edge),
+        })),
+        Some(CodeFault::Plane) => Ok(Err(RowsFault::Plane)),
+        Some(CodeFault::Empty | CodeFault::Size | CodeFault::Count) => unreachable!(),
+        Some(CodeFault::Range { crossing: _ }) => unreachable!(),
+    }
+}
+
+/// A code of rows whose strands have been given directions, as far as that can be done.
+fn directed(alloc: Global, names: &[u32], rows: &[Row], loops: u32) -> Result<Code, OutOfMemory>
+    requires few { length rows.now ≤ MAX_CROSSINGS }
+    requires names { names.now ≡ all_names rows.now }
+    ensures { IfOk result (λ code. IsCodeOf rows.now loops code) }
+{
+    let numbered = numbered_rows(alloc, names, rows)?;
+    let signs = signs_of(alloc, numbered.as_slice())?;
+    let crossings = crossings_of(alloc, numbered.as_slice(), signs.as_slice())?;
+    Ok(Code {
+        edges: 2 * rows.len() as u32,
+        crossings: Items::from_vec(crossings),
+        loops,
+    })
+}
+
+/// The crossings of rows with these signs.
+fn crossings_of(alloc: Global, rows: &[Row], signs: &[bool]) -> Result<Vec<Crossing>, AllocError>
+    ensures { IfOk result (λ v. map row_of v.items ≡ rows.now) }
+{
+    let mut crossings = Vec::new(alloc);
+    for k in 0..rows.len() {
+        let positive = k < signs.len() && signs[k];
+        crossings.push(crossing_of(&rows[k], positive))?;
+    }
+    Ok(crossings)
+}
+
+/// The crossing of a row with a sign.
+fn crossing_of(row: &Row, positive: bool) -> Crossing
+    ensures { row_of result ≡ row.now }
+{
+    Crossing {
+        first: row.first,
+        second: row.second,
+        third: row.third,
+        fourth: row.fourth,
+        positive,
+    }
+}
