@@ -1,4 +1,5 @@
 pub mod FirstDifference
+pub mod ToldApart
 pub mod ListCauses
 pub mod Rulings
 mod WorkedRows

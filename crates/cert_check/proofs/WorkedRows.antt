@@ -1,7 +1,8 @@
 -- Worked examples, by computing: first differences, and the causes of lists.
 use Rattle.std.proofs.Common.{◌≡◌, refl, [], ◌∷◌, ℕ, List, Some, None}
 use Rattle.grid_core.specs.Diagram.{Diagram}
-use Rattle.grid_core.proofs.WorkedRows.{unknot, right_trefoil}
+use Rattle.grid_core.specs.Trefoils.{right_trefoil}
+use Rattle.grid_core.proofs.WorkedRows.{unknot}
 use Rattle.quandle_core.specs.Tables.{trivial, dihedral}
 use Rattle.cert_check.specs.declared.ruling.Why.TheVariants as why
 use Rattle.cert_check.specs.Cause.{first_difference, cause_of_lists}

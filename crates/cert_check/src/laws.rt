@@ -5,13 +5,23 @@ ghost use Rattle.grid_core.specs.Diagram.{Diagram, IsGrid};
 ghost use Rattle.grid_moves.specs.Joining.{Equivalent};
 ghost use Rattle.quandle_core.specs.Quandle.{Table, IsQuandle};
 ghost use Rattle.verdict_core.specs.Names.{NamedQuandle};
-ghost use Rattle.verdict_core.specs.Evidence.{Holds, TellsApart};
+ghost use Rattle.verdict_core.specs.Evidence.{Claims, Holds, TellsApart};
 ghost use Rattle.cert_check.specs.Cause.{first_difference, cause_of_lists};
 ghost use Rattle.cert_check.specs.Ruling.{RulesOn};
 
 use crate::ruling::Ruling;
 use grid_moves::Move;
 use verdict_core::Verdict;
+
+/// Evidence that holds proves what the verdict claims: moves that join the diagrams, that they are equivalent; lists by which
+/// a quandle tells them apart, that they are not.
+pub fn what_holds_is_true()
+    ensures equal { (d e : Diagram) (moves : List Move) → Holds d e (Verdict.Equal moves) → Claims d e (Verdict.Equal moves) }
+    ensures different { (d e : Diagram) (listed : NamedQuandle) (one two : List (ArrayVec ℕ))
+        → IsQuandle listed.table
+        → Holds d e (Verdict.Different listed one two)
+        → Claims d e (Verdict.Different listed one two) }
+{}
 
 /// On every verdict on two grids there is exactly one ruling.
 pub fn a_verdict_has_exactly_one_ruling()

@@ -1,65 +1,29 @@
--- What is decided is accepted behind its problem.
-use Rattle.std.proofs.Common.{rules, ◌≡◌, ◌≤◌, ◌++◌, ◌∷◌, [], sym, refl, subst, ℕ, List, Bool, true, false, Option, Result, Ok, codes, if◌then◌else◌, length, arith}
+-- What is decided has a text, and a decision is accepted behind its problem by the job `check`.
+use Rattle.std.proofs.Common.{◌≡◌, sym, refl, subst, ℕ, List, Option, Result, Ok}
 use Rattle.std.specs.List.{AllByRecursion}
-use Rattle.std.proofs.lemmas.List.{length-append, length-map}
-use Rattle.text_lines.specs.Lines.{text_of, are_whole_lines}
-use Rattle.text_lines.specs.Spelled.{line_bytes, line_text, lines_text}
-use Rattle.knot_text.specs.declared.fault.TextFault.{TextFault}
+use Rattle.grid_core.specs.Diagram.{IsGrid, size}
 use Rattle.verdict_core.specs.declared.problem.ProblemText.{ProblemText}
 use Rattle.verdict_core.specs.declared.verdict.Verdict.{Verdict}
-use Rattle.verdict_core.specs.declared.verdict.Verdict.TheVariants.{Equal, Different, UnknownBudget, UnknownExhausted}
-use Rattle.knot_text.specs.declared.reading.TheConstants.{MAX_NUMBER}
 use Rattle.verdict_core.specs.Names.{NamedQuandle}
-use Rattle.knot_text.specs.Quandles.{built_in, or_built_in}
-use Rattle.knot_text.specs.Printed.{move_tokens, version_lines, version_text, HasQuandleText, HasVersionText}
-use Rattle.knot_text.specs.declared.verdicts.Version.TheVariants.{Tidy}
 use Rattle.verdict_core.specs.Diagrams.{grid_of, columns}
+use Rattle.knot_text.specs.declared.fault.TextFault.{TextFault}
+use Rattle.knot_text.specs.declared.verdicts.Version.TheVariants.{Tidy}
+use Rattle.knot_text.specs.Printed.{HasQuandleText, HasVersionText}
 use Rattle.knot_text.specs.Shapes.{problem_of, check_of}
-use Rattle.knot_text.proofs.ShapesSay.{problem_in_says}
-use Rattle.knot_text.proofs.ReadBack.{verdict_behind}
-use Rattle.knot_text.proofs.FeedBetween.{verdict_behind_feed}
-use Rattle.verdict_core.specs.Evidence.{Holds}
 use Rattle.cert_check.specs.declared.ruling.Ruling.TheVariants.{Accepted}
-use Rattle.grid_core.specs.Diagram.{IsGrid, size}
+use Rattle.cert_check.specs.Ruling.{RulesOn}
 use Rattle.search_book.specs.declared.problem.Problem.{Problem}
 use Rattle.search_pool.specs.declared.finding.Finding.{Finding}
 use Rattle.pair_verdict.specs.Decided.{Decides}
+use Rattle.decision_core.specs.Decision.{put_behind, IsDecision, IsShort}
+use Rattle.decision_core.proofs.Grids.{grids_of_problem}
+use Rattle.decision_core.proofs.AcceptedBehind.{quandles_text}
 use Rattle.knot_jobs.specs.declared.words.Asked.{Asked}
-use Rattle.knot_jobs.specs.Jobs.Decide.{problem_for, IsShort}
-use Rattle.knot_jobs.specs.declared.words.Job.TheVariants.{Check}
+use Rattle.knot_jobs.specs.Jobs.Decide.{problem_for}
+use Rattle.knot_jobs.specs.Jobs.Check.{AnswersCheck}
 use Rattle.knot_jobs.specs.Lines.{ruling_line}
 use Rattle.knot_jobs.specs.Reply.{done, AnswersRead}
-use Rattle.knot_jobs.specs.Jobs.Check.{AnswersCheck}
-use Rattle.knot_jobs.specs.Answer.{limit_of, IsWithin}
-use Rattle.knot_jobs.specs.Truth.{put_behind, IsAcceptedBehind}
-use Rattle.knot_jobs.proofs.Grids.{grids_of_problem}
-
--- ---- the quandles of a problem have texts
-
-built_in_text : AllByRecursion HasQuandleText built_in
-built_in_text = (
-  record { names = ((omega arith, omega arith), refl); factor = search rules },
-  (
-    record { names = ((omega arith, omega arith), refl); factor = search rules },
-    (
-      record { names = refl; factor = search rules },
-      (
-        record { names = ((omega arith, omega arith), refl); factor = search rules },
-        (record { names = ((omega arith, omega arith), refl); factor = search rules }, search rules),
-      ),
-    ),
-  ),
-)
-
-listed_text : (listed : List NamedQuandle) → AllByRecursion HasQuandleText listed → AllByRecursion HasQuandleText (or_built_in listed)
-listed_text [] all = built_in_text
-listed_text (q ∷ qs) all = all
-
-pub quandles_text : (bytes : List ℕ) (p : ProblemText) → problem_of bytes ≡ Ok p → AllByRecursion HasQuandleText p.quandles
-quandles_text bytes p is =
-    let said = (problem_in_says (text_of bytes)).of p is in
-    let are = said.1.quandles in
-    subst (AllByRecursion HasQuandleText) (sym are.stand) (listed_text said.0 are.each)
+use Rattle.knot_jobs.specs.Truth.{IsAcceptedByCheck}
 
 -- ---- the verdict on a problem that was read has a text
 
@@ -76,57 +40,17 @@ has_text texts bytes asked input workers v kept read decides short =
     let grids = grids_of_problem bytes input read in
     texts p input.quandles workers v kept grids.0 grids.1 (quandles_text bytes input read) decides short
 
--- ---- a verdict has a line for each of its moves
-
-lines_length : (lines : List (List (List ℕ))) → length lines ≤ length (lines_text lines)
-lines_length [] = omega arith
-lines_length (line ∷ lines) =
-    let rest = lines_length lines in
-    let all = length-append (line_text line) (lines_text lines) in
-    let one = length-append (line_bytes line) (codes "\n") in
-    let feed : length (codes "\n") ≡ 1 = refl in
-    omega (arith, rest, all, one, feed)
-
--- a text that fits into an input has few moves
-pub short : (bytes : List ℕ) (v : Verdict) → IsWithin (limit_of Check) (put_behind bytes (version_text Tidy v)) → IsShort v
-short bytes (Equal moves) fits = by (are_whole_lines bytes) fits
-  where
-    by : (t : Bool) → IsWithin (limit_of Check) (if t then bytes ++ version_text Tidy (Equal moves) else bytes ++ (codes "\n" ++ version_text Tidy (Equal moves)))
-        → length moves ≤ MAX_NUMBER
-    by true fits =
-        let lines = lines_length (version_lines Tidy (Equal moves)) in
-        let each = length-map moves move_tokens in
-        let all = length-append bytes (version_text Tidy (Equal moves)) in
-        omega (arith, lines, each, all, fits)
-    by false fits =
-        let lines = lines_length (version_lines Tidy (Equal moves)) in
-        let each = length-map moves move_tokens in
-        let all = length-append bytes (codes "\n" ++ version_text Tidy (Equal moves)) in
-        let more = length-append (codes "\n") (version_text Tidy (Equal moves)) in
-        omega (arith, lines, each, all, more, fits)
-short bytes (Different listed one two) fits = search rules
-short bytes (UnknownBudget budget) fits = search rules
-short bytes (UnknownExhausted cap k) fits = search rules
-
 -- ---- the ruling
 
 -- what is read so is accepted
-abbrev IsAccepted : Result (ProblemText × Verdict) TextFault → Type 0
-IsAccepted read = AnswersRead AnswersCheck read (done (ruling_line Accepted))
+abbrev IsReplied : Result (ProblemText × Verdict) TextFault → Type 0
+IsReplied read = AnswersRead AnswersCheck read (done (ruling_line Accepted))
 
-accepted_read : (p : ProblemText) (v : Verdict) (read : Result (ProblemText × Verdict) TextFault) → read ≡ Ok (p, v)
-    → Holds (grid_of p.first) (grid_of p.second) v → IsAccepted read
-accepted_read p v read is holds = subst IsAccepted (sym is) (record { ruling = Accepted; rules = holds; is = refl })
+replied : (p : ProblemText) (v : Verdict) (read : Result (ProblemText × Verdict) TextFault) → read ≡ Ok (p, v)
+    → RulesOn (grid_of p.first) (grid_of p.second) v Accepted → IsReplied read
+replied p v read is ruled = subst IsReplied (sym is) (record { ruling = Accepted; rules = ruled; is = refl })
 
-by_lines : (bytes : List ℕ) (p : ProblemText) (v : Verdict) (t : Bool) → are_whole_lines bytes ≡ t → problem_of bytes ≡ Ok p
-    → HasVersionText Tidy (columns p.first) (columns p.second) v
-    → check_of (if t then bytes ++ version_text Tidy v else bytes ++ (codes "\n" ++ version_text Tidy v)) ≡ Ok (p, v)
-by_lines bytes p v true whole is text = verdict_behind Tidy bytes p v whole is text
-by_lines bytes p v false lacks is text = verdict_behind_feed Tidy bytes p v lacks is text
-
-pub accepted_behind : (bytes : List ℕ) (p : ProblemText) (v : Verdict) → problem_of bytes ≡ Ok p
-    → (IsShort v → HasVersionText Tidy (columns p.first) (columns p.second) v) → Holds (grid_of p.first) (grid_of p.second) v
-    → IsAcceptedBehind bytes (version_text Tidy v)
-accepted_behind bytes p v is text holds = λ fits.
-    let read = by_lines bytes p v (are_whole_lines bytes) refl is (text (short bytes v fits)) in
-    accepted_read p v (check_of (put_behind bytes (version_text Tidy v))) read holds
+pub accepted_by_check : (bytes text : List ℕ) → IsDecision bytes text → IsAcceptedByCheck bytes text
+accepted_by_check bytes text decision = λ fits.
+    let accepted = decision.accepted fits in
+    replied decision.problem decision.verdict (check_of (put_behind bytes text)) accepted.read accepted.rules

@@ -8,7 +8,7 @@ use Rattle.verdict_core.specs.Evidence.{Claims, Holds, HasEvidence}
 use Rattle.verdict_core.specs.Names.{NamedQuandle}
 use Rattle.pair_verdict.specs.declared.decision.Decision.{Decision}
 use Rattle.pair_verdict.specs.Decided.{Decides}
-use Rattle.knot_jobs.specs.declared.status.Status.TheVariants as status
+use Rattle.decision_core.specs.declared.status.Status.TheVariants as status
 use Rattle.knot_jobs.specs.Jobs.Decide.{verdict_status}
 
 -- they have evidence

@@ -9,10 +9,10 @@ use Rattle.knot_jobs.specs.declared.words.Job.{Job}
 use Rattle.knot_jobs.specs.declared.words.Asked.{Asked}
 use Rattle.knot_jobs.specs.declared.words.WordsFault.{WordsFault}
 use Rattle.knot_jobs.specs.declared.words.WordsFault.TheVariants as bad_words
-use Rattle.knot_jobs.specs.declared.status.Status.{Status}
-use Rattle.knot_jobs.specs.declared.status.Status.TheVariants as status
+use Rattle.decision_core.specs.declared.status.Status.{Status}
+use Rattle.decision_core.specs.declared.status.Status.TheVariants as status
 use Rattle.knot_jobs.specs.Words.{Asks, AsksNothing}
-use Rattle.knot_jobs.specs.Status.{IsOfAnswer}
+use Rattle.decision_core.specs.Status.{IsOfAnswer}
 use Rattle.knot_jobs.specs.Reply.{without_search, too_long}
 use Rattle.knot_jobs.specs.Jobs.Decide.{with_workers}
 use Rattle.knot_jobs.specs.Answer.{limit_of, part_for, leaves_no_choice, IsOver, IsWithin, AnswersText, Answers}

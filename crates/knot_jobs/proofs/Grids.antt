@@ -10,17 +10,9 @@ use Rattle.knot_text.specs.Moves.{moves_item}
 use Rattle.knot_text.specs.Verdicts.{verdict_item}
 use Rattle.knot_text.specs.Colours.{coloured}
 use Rattle.verdict_core.specs.Diagrams.{grid_of, columns}
-use Rattle.knot_text.specs.Shapes.{diagram_item, problem_item, problem_in, problem_of, check_in, check_of, replay_in, replay_of}
+use Rattle.knot_text.specs.Shapes.{diagram_item, problem_item, check_in, check_of, replay_in, replay_of}
 use Rattle.knot_text.proofs.Steady.{bind_ok, ok_is}
 use Rattle.knot_text.proofs.GridsRead.{diagram_is, problem_grids}
-
-pub grids_of_problem : (bytes : List ℕ) (p : ProblemText) → problem_of bytes ≡ Ok p → IsGrid (grid_of p.first) × IsGrid (grid_of p.second)
-unfolding problem_in
-grids_of_problem bytes p is =
-    let a = bind_ok (problem_item (text_of bytes)) (λ problem. text_end problem.1 >>= λ end. Ok problem.0) p is in
-    let b = bind_ok (text_end a.0.1) (λ end. Ok a.0.0) p a.2 in
-    let same = ok_is a.0.0 p b.2 in
-    subst (λ (y : ProblemText). IsGrid (grid_of y.first) × IsGrid (grid_of y.second)) same (problem_grids (text_of bytes) a.0.0 a.0.1 a.1)
 
 pub check_grids : (bytes : List ℕ) (p : ProblemText) (v : Verdict) → check_of bytes ≡ Ok (p, v) → IsGrid (grid_of p.first) × IsGrid (grid_of p.second)
 unfolding check_in

@@ -15,4 +15,3 @@ mod Endings
 mod Decisions
 pub mod PrintedVerdicts
 mod AcceptedBehind
-mod HeldVerdicts

@@ -30,12 +30,12 @@ use Rattle.cert_check.specs.declared.ruling.Ruling.{Ruling}
 use Rattle.cert_check.specs.declared.ruling.Ruling.TheVariants.{Accepted, Rejected}
 use Rattle.cert_check.proofs.Rulings.{ruled_once, some_ruling}
 use Rattle.knot_jobs.specs.declared.reply.Reply.{Reply}
-use Rattle.knot_jobs.specs.declared.status.Status.{Status}
-use Rattle.knot_jobs.specs.declared.status.Status.TheVariants as status
+use Rattle.decision_core.specs.declared.status.Status.{Status}
+use Rattle.decision_core.specs.declared.status.Status.TheVariants as status
 use Rattle.knot_jobs.specs.declared.words.Job.{Job}
 use Rattle.knot_jobs.specs.declared.words.Job.TheVariants.{Decide, Check, Replay, Colour, Close, Code, Braid, Linking, Braidcheck, Weights, Simplify, Sample}
 use Rattle.knot_jobs.specs.declared.words.Asked.{Asked}
-use Rattle.knot_jobs.specs.Status.{IsOfDefinedAnswer, IsOfAnswer}
+use Rattle.decision_core.specs.Status.{IsOfDefinedAnswer, IsOfAnswer}
 use Rattle.knot_jobs.specs.Lines.{ruling_line, step_tokens, malformed_line, limit_line}
 use Rattle.knot_jobs.specs.Reply.{without_search, done, rejected, too_long, AnswersRead}
 use Rattle.knot_jobs.specs.Jobs.Decide.{verdict_status, with_workers}

@@ -7,7 +7,7 @@ use Rattle.cert_check.specs.declared.ruling.Why.TheVariants as why
 use Rattle.braid_core.specs.Braid.{Word}
 use Rattle.braid_moves.specs.declared.step.BraidMove.TheVariants.{Far, Triple, Cancel, Insert, Turn, Shrink}
 use Rattle.braid_moves.specs.Ruling.{ruling}
-use Rattle.knot_jobs.specs.declared.status.Status.TheVariants as status
+use Rattle.decision_core.specs.declared.status.Status.TheVariants as status
 use Rattle.knot_jobs.specs.Lines.{ruling_line, limit_bytes}
 use Rattle.knot_jobs.specs.Reply.{without_search, done, rejected}
 use Rattle.braid_moves.specs.declared.step.BraidMoveFault.TheVariants as fault

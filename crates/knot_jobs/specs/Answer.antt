@@ -13,6 +13,7 @@ use Rattle.knot_text.specs.Shapes.{problem_of, check_of, replay_of, colour_of, c
 use Rattle.knot_text.specs.Pairs.{pair_of}
 use Rattle.knot_text.specs.BraidChecks.{braidcheck_of}
 use Rattle.knot_text.specs.Weights.{weight_of}
+use Rattle.decision_core.specs.declared.limits.TheConstants.{MAX_INPUT, MAX_CERTIFICATE}
 use Rattle.knot_jobs.specs.declared.reply.Reply.{Reply}
 use Rattle.knot_jobs.specs.declared.words.Job.{Job}
 use Rattle.knot_jobs.specs.declared.words.Job.TheVariants.{Decide, Check, Replay, Colour, Close, Code, Braid, Linking, Braidcheck, Weights, Simplify, Sample}
@@ -35,9 +36,9 @@ use Rattle.knot_jobs.specs.Jobs.Sample.{AnswersSample}
 
 -- the most bytes that an input may have; `sample` has no input
 abbrev pub limit_of : Job → Option ℕ
-limit_of Check = Some 33554432
+limit_of Check = Some MAX_CERTIFICATE
 limit_of Sample = None
-limit_of job = Some 1048576
+limit_of job = Some MAX_INPUT
 
 abbrev pub has_input : Job → Bool
 has_input job = is_some (limit_of job)

@@ -6,8 +6,8 @@ use Rattle.search_pool.specs.declared.finding.Finding.{Finding}
 use Rattle.knot_jobs.specs.declared.reply.Reply.{Reply}
 use Rattle.knot_jobs.specs.declared.words.WordsFault.{WordsFault}
 use Rattle.knot_jobs.specs.declared.words.WordsFault.TheVariants.{Usage, OutOfMemory}
-use Rattle.knot_jobs.specs.declared.status.Status.{Status}
-use Rattle.knot_jobs.specs.declared.status.Status.TheVariants as status
+use Rattle.decision_core.specs.declared.status.Status.{Status}
+use Rattle.decision_core.specs.declared.status.Status.TheVariants as status
 use Rattle.knot_jobs.specs.Call.{Change, IsUntouched, Failed, Loses}
 use Rattle.knot_jobs.specs.Ending.{usage_line}
 

@@ -5,8 +5,8 @@ use Rattle.knot_ports.specs.Sink.{AppendsFront}
 use Rattle.search_pool.specs.declared.finding.Finding.{Finding}
 use Rattle.knot_jobs.specs.declared.reply.Reply.{Reply}
 use Rattle.knot_jobs.specs.declared.words.Asked.{Asked}
-use Rattle.knot_jobs.specs.declared.status.Status.{Status}
-use Rattle.knot_jobs.specs.declared.status.Status.TheVariants as status
+use Rattle.decision_core.specs.declared.status.Status.{Status}
+use Rattle.decision_core.specs.declared.status.Status.TheVariants as status
 use Rattle.knot_jobs.specs.Words.{Asks, AsksNothing}
 use Rattle.knot_jobs.specs.Reply.{without_search}
 use Rattle.knot_jobs.specs.Jobs.Decide.{with_workers}

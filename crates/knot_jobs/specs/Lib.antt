@@ -1,6 +1,5 @@
 pub mod Words
 pub mod Matched
-pub mod Status
 pub mod Lines
 pub mod Comparison
 pub mod EquallyMany
@@ -11,3 +10,5 @@ pub mod Call
 pub mod Ending
 pub mod Truth
 pub mod Delivered
+pub use Rattle.decision_core.specs.Status
+pub use Rattle.decision_core.specs.Decision

@@ -1,28 +1,24 @@
 -- What a verdict is worth that `decide` writes or `check` accepts.
-use Rattle.std.specs.Prelude.{◌≡◌, if◌then◌else◌, ℕ, List, ◌++◌, Ok, codes}
+use Rattle.std.specs.Prelude.{◌≡◌, ℕ, List, Ok}
 use Rattle.std.specs.Io.KnownBytes.{Appends}
-use Rattle.text_lines.specs.Lines.{are_whole_lines}
 use Rattle.grid_moves.specs.Joining.{Equivalent}
 use Rattle.verdict_core.specs.declared.diagrams.Diagram.{Diagram}
 use Rattle.verdict_core.specs.declared.problem.ProblemText.{ProblemText}
 use Rattle.verdict_core.specs.declared.verdict.Verdict.{Verdict}
-use Rattle.verdict_core.specs.declared.verdict.Verdict.TheVariants.{Equal, Different, UnknownBudget, UnknownExhausted}
-use Rattle.knot_text.specs.Printed.{version_text, HasQuandleText}
-use Rattle.knot_text.specs.declared.verdicts.Version.TheVariants.{Tidy}
 use Rattle.verdict_core.specs.Diagrams.{grid_of}
-use Rattle.knot_text.specs.Shapes.{problem_of, check_of}
+use Rattle.knot_text.specs.Shapes.{check_of}
 use Rattle.knot_text.specs.Pairs.{pair_of}
 use Rattle.knot_text.specs.declared.braid_checks.BraidCheckText.{BraidCheckText}
 use Rattle.knot_text.specs.BraidChecks.{braidcheck_of}
 use Rattle.knot_text.specs.declared.weights.WeightText.{WeightText}
 use Rattle.knot_text.specs.Weights.{weight_of}
 use Rattle.cert_check.specs.declared.ruling.Ruling.TheVariants.{Accepted}
-use Rattle.verdict_core.specs.Evidence.{Claims, Holds, HasEvidence}
 use Rattle.knot_jobs.specs.declared.words.Asked.{Asked}
 use Rattle.knot_jobs.specs.declared.words.Job.{Job}
 use Rattle.knot_jobs.specs.declared.words.Job.TheVariants.{Decide, Check, Linking, Braidcheck, Weights}
-use Rattle.knot_jobs.specs.declared.status.Status.{Status}
-use Rattle.knot_jobs.specs.declared.status.Status.TheVariants as status
+use Rattle.decision_core.specs.declared.status.Status.{Status}
+use Rattle.decision_core.specs.declared.status.Status.TheVariants as status
+use Rattle.decision_core.specs.Decision.{IsTrueVerdict, put_behind, IsDecision}
 use Rattle.knot_jobs.specs.Words.{Asks}
 use Rattle.knot_jobs.specs.Lines.{ruling_line}
 use Rattle.knot_jobs.specs.Comparison.{EndsDifferent}
@@ -31,11 +27,6 @@ use Rattle.knot_jobs.specs.Reply.{done, AnswersRead}
 use Rattle.knot_jobs.specs.Jobs.Check.{AnswersCheck}
 use Rattle.knot_jobs.specs.Answer.{limit_of, IsWithin}
 use Rattle.knot_jobs.specs.Call.{Call, TakesAll}
-
--- what the verdict says of the diagrams is true: diagrams said to be equal are equivalent, and no list of moves joins diagrams
--- that are told apart
-abbrev pub IsTrueVerdict : ProblemText → Verdict → Type 0
-IsTrueVerdict problem verdict = Claims (grid_of problem.first) (grid_of problem.second) verdict
 
 -- ---- a verdict that was accepted
 
@@ -48,33 +39,15 @@ pub record IsCertificate (bytes : List ℕ) : Type 0 where
 
 -- ---- a verdict that was written
 
--- a text behind an input, with a line feed between where the last line of the input lacks one
-abbrev pub put_behind : List ℕ → List ℕ → List ℕ
-put_behind bytes text = if are_whole_lines bytes then bytes ++ text else bytes ++ (codes "\n" ++ text)
-
 -- the text behind the input is an input of `check`, which accepts it, if both together are not too long
-abbrev pub IsAcceptedBehind : List ℕ → List ℕ → Type 0
-IsAcceptedBehind bytes text = IsWithin (limit_of Check) (put_behind bytes text)
+abbrev pub IsAcceptedByCheck : List ℕ → List ℕ → Type 0
+IsAcceptedByCheck bytes text = IsWithin (limit_of Check) (put_behind bytes text)
     → AnswersRead AnswersCheck (check_of (put_behind bytes text)) (done (ruling_line Accepted))
 
--- the bytes are a problem, and the text is a verdict on it that is true, with evidence that holds; behind the problem, `check`
--- accepts it
-pub record IsDecision (bytes text : List ℕ) : Type 0 where
-  pub problem : ProblemText
-  pub read : problem_of bytes ≡ Ok problem
-  pub verdict : Verdict
-  pub is : text ≡ version_text Tidy verdict
-  pub evidence : HasEvidence verdict
-  pub holds : Holds (grid_of problem.first) (grid_of problem.second) verdict
-  pub is_true : IsTrueVerdict problem verdict
-  pub accepted : IsAcceptedBehind bytes text
-
--- the quandle of a verdict, if it is by one, has a text
-abbrev pub IsByWrittenQuandle : Verdict → Type 0
-IsByWrittenQuandle (Equal moves) = Unit {0}
-IsByWrittenQuandle (Different listed one two) = HasQuandleText listed
-IsByWrittenQuandle (UnknownBudget budget) = Unit {0}
-IsByWrittenQuandle (UnknownExhausted cap admitted) = Unit {0}
+-- the text is a decision on the bytes, and behind them `check` accepts it
+pub record IsCheckedDecision (bytes text : List ℕ) : Type 0 where
+  pub decision : IsDecision bytes text
+  pub accepted : IsAcceptedByCheck bytes text
 
 -- ---- two diagrams that were compared
 
@@ -105,7 +78,7 @@ pub record IsBraidCertificate (bytes : List ℕ) : Type 0 where
 -- what a job's text with Done says of its input is true, for `decide`, which writes a verdict, `check`, which accepts one,
 -- `linking` and `weights`, which compare two diagrams, and `braidcheck`, which accepts steps between two braids
 pub record IsTrueReply (job : Job) (bytes text : List ℕ) : Type 0 where
-  pub decided : job ≡ Decide → IsDecision bytes text
+  pub decided : job ≡ Decide → IsCheckedDecision bytes text
   pub accepted : job ≡ Check → IsCertificate bytes
   pub linked : job ≡ Linking → IsTrueLinking bytes text
   pub weighed : job ≡ Weights → IsTrueWeighing bytes text

@@ -1,5 +1,6 @@
 //! How many bytes an input may have, and which job answers it.
 ghost use Rattle.std.specs.Prelude.{◌≡◌, ◌≤◌, IfOk, IfSome};
+ghost use Rattle.decision_core.specs.declared.limits.TheConstants.{MAX_CERTIFICATE};
 ghost use Rattle.knot_jobs.specs.Words.{IsWithinBounds};
 ghost use Rattle.knot_jobs.specs.Answer.{limit_of, AnswersText};
 ghost use Rattle.knot_jobs.specs.Truth.{IsTrueReply};
@@ -9,8 +10,8 @@ use crate::jobs::{
     weights,
 };
 use crate::reply::Reply;
-use crate::status::Status;
 use crate::words::{Asked, Job};
+use decision_core::{MAX_CERTIFICATE, MAX_INPUT, Status};
 use search_pool::Gate;
 use std::alloc::{AllocError, Global};
 use std::sync::Wait;
@@ -20,12 +21,12 @@ impl Job {
     /// The most bytes that an input of the job may have; `sample` has no input.
     pub fn limit(self) -> Option<usize>
         ensures limit { result ≡ limit_of self }
-        ensures small { IfSome result (λ limit. limit ≤ 33554432) }
+        ensures small { IfSome result (λ limit. limit ≤ MAX_CERTIFICATE) }
     {
         match self {
-            Job::Check => Some(33_554_432),
+            Job::Check => Some(MAX_CERTIFICATE),
             Job::Sample => None,
-            _ => Some(1_048_576),
+            _ => Some(MAX_INPUT),
         }
     }
 }

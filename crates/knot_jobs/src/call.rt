@@ -10,8 +10,8 @@ ghost use Rattle.knot_jobs.specs.Delivered.{IsRefused, IsWithoutReply, IsWritten
 
 use crate::answer::{answer, answer_alone};
 use crate::reply::Reply;
-use crate::status::Status;
 use crate::words::{Asked, Job, WordsFault, read_words};
+use decision_core::Status;
 use knot_ports::{ReadEnd, Sink, Source, give_all, read_all};
 use search_pool::{Finding, Gate};
 use std::alloc::{AllocError, Global};

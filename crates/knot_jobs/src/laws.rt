@@ -1,5 +1,5 @@
 //! Laws of words, answers and endings, over the definitions alone.
-ghost use Rattle.std.specs.Prelude.{◌≡◌, ◌⊎◌, ℕ, List, Option, Some, None, Ok, true};
+ghost use Rattle.std.specs.Prelude.{◌≡◌, ◌⊎◌, ℕ, List, Option, Some, None, true};
 ghost use Rattle.clap.specs.Walk.{Text};
 ghost use Rattle.std.specs.List.{AllByRecursion};
 ghost use Rattle.grid_core.specs.Diagram.{Diagram, IsGrid, size};
@@ -9,31 +9,28 @@ ghost use Rattle.colour_rows.specs.Colouring.{IsColouring};
 ghost use Rattle.braid_core.specs.Braid.{Word, IsBraid};
 ghost use Rattle.braid_moves.specs.declared.ruling.BraidRuling.TheVariants.{Accepted};
 ghost use Rattle.braid_moves.specs.Ruling.{ruling};
-ghost use Rattle.verdict_core.specs.declared.problem.ProblemText.{ProblemText};
 ghost use Rattle.verdict_core.specs.declared.verdict.Verdict.{Verdict};
-ghost use Rattle.verdict_core.specs.Diagrams.{grid_of};
-ghost use Rattle.verdict_core.specs.Evidence.{Holds, IsTidyVerdict};
 ghost use Rattle.verdict_core.specs.Names.{NamedQuandle};
-ghost use Rattle.knot_text.specs.Printed.{HasQuandleText, HasVersionText, version_text};
-ghost use Rattle.knot_text.specs.Shapes.{problem_of};
+ghost use Rattle.knot_text.specs.Printed.{HasQuandleText, HasVersionText};
 ghost use Rattle.search_book.specs.declared.problem.Problem.{Problem};
 ghost use Rattle.search_pool.specs.declared.finding.Finding.{Finding};
 ghost use Rattle.pair_verdict.specs.Decided.{Decides};
 ghost use Rattle.knot_jobs.specs.Words.{Asks, AsksNothing};
-ghost use Rattle.knot_jobs.specs.Status.{IsOfDefinedAnswer, IsOfAnswer};
+ghost use Rattle.decision_core.specs.Status.{IsOfDefinedAnswer, IsOfAnswer};
+ghost use Rattle.decision_core.specs.Decision.{IsDecision, IsShort};
 ghost use Rattle.knot_jobs.specs.Answer.{limit_of, part_for, leaves_no_choice, IsWithin, IsInShape, Answers};
 ghost use Rattle.knot_jobs.specs.Call.{Call, Failed};
 ghost use Rattle.knot_jobs.specs.Ending.{IsDue, Ends};
-ghost use Rattle.knot_jobs.specs.Jobs.Decide.{IsShort, with_workers};
+ghost use Rattle.knot_jobs.specs.Jobs.Decide.{with_workers};
 ghost use Rattle.knot_jobs.specs.Jobs.Replay.{Carries};
 ghost use Rattle.knot_jobs.specs.EquallyMany.{HaveEquallyMany};
-ghost use Rattle.knot_jobs.specs.Truth.{IsDecision, IsByWrittenQuandle};
+ghost use Rattle.knot_jobs.specs.Truth.{IsAcceptedByCheck};
 
 use crate::reply::Reply;
-use crate::status::Status;
 use crate::words::Asked;
 use braid_moves::BraidMove;
 use colour_list::laws::no_more_colourings_than_choices;
+use decision_core::Status;
 use grid_moves::Move;
 use knot_text::Version;
 
@@ -126,17 +123,7 @@ pub fn a_decision_has_a_text()
     no_more_colourings_than_choices();
 }
 
-/// The quandles of a problem that was read have texts. A verdict that holds of its diagrams, whoever found it, by moves or by a quandle
-/// that has a text, whose moves, if any, are a tidy list, is as it is printed a decision on the input: it is true, and behind the input
-/// `check` accepts it.
-pub fn a_verdict_that_holds_is_a_decision()
-    ensures quandles { (bytes : List ℕ) (problem : ProblemText) → problem_of bytes ≡ Ok problem → AllByRecursion HasQuandleText problem.quandles }
-    ensures decision { (bytes : List ℕ) (problem : ProblemText) (verdict : Verdict)
-        → problem_of bytes ≡ Ok problem
-        → Holds (grid_of problem.first) (grid_of problem.second) verdict
-        → IsByWrittenQuandle verdict
-        → IsTidyVerdict verdict
-        → IsDecision bytes (version_text Version.Tidy verdict) }
-{
-    no_more_colourings_than_choices();
-}
+/// A decision on an input, whoever found it, is accepted by the job `check` behind the input, where both are within its limit of bytes.
+pub fn a_decision_is_accepted_by_check()
+    ensures { (bytes text : List ℕ) → IsDecision bytes text → IsAcceptedByCheck bytes text }
+{}

@@ -9,12 +9,11 @@ mod jobs;
 pub mod laws;
 mod lines;
 mod reply;
-mod status;
 #[cfg(test)]
 mod tests;
 mod words;
 
 pub use call::{run, run_alone};
-pub use status::Status;
+pub use decision_core::Status;
 pub use walk_samples::sample_walk;
 pub use words::{Asked, Job, WordsFault, read_words};

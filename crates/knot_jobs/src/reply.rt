@@ -3,7 +3,7 @@ ghost use Rattle.std.specs.Prelude.{◌≡◌, IfOk};
 ghost use Rattle.knot_jobs.specs.Reply.{without_search, too_long, IsFaultReply};
 
 use crate::lines::{limit_bytes, limit_line, malformed_line};
-use crate::status::Status;
+use decision_core::Status;
 use grid_core::Items;
 use knot_text::TextFault;
 use search_pool::Finding;

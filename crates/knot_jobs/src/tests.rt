@@ -10,7 +10,7 @@ mod weights;
 mod words;
 
 use crate::call::run_alone;
-use crate::status::Status;
+use decision_core::Status;
 use knot_ports::{MemSink, MemSource};
 use std::alloc::{AllocError, Global};
 use std::test::Fail;

@@ -2,7 +2,7 @@
 use Rattle.std.proofs.Common.{ℕ, ◌-◌, List, Bool, cond, Ok, Err, codes, nat_le}
 use Rattle.std.specs.Prelude.{is_none}
 use Rattle.quandle_core.specs.Quandle.{Table}
-use Rattle.colour_weights.specs.Fault.{first_fault}
+use Rattle.cocycle_core.specs.Fault.{first_fault}
 use Rattle.text_lines.specs.Lines.{NumberedLine}
 use Rattle.knot_text.specs.declared.fault.TextFault.TheVariants.{Malformed}
 use Rattle.knot_text.specs.declared.weights.TheConstants.{MAX_MODULUS}

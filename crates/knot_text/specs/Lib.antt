@@ -16,13 +16,11 @@ pub mod Weights
 pub mod Printed
 pub mod WrittenThere
 pub mod FirstBadLine
-pub mod LineKinds
-pub mod FirstLines
 pub use Rattle.text_lines.specs.Lines
 pub use Rattle.text_lines.specs.Tokens
 pub use Rattle.text_lines.specs.Spelled
 pub use Rattle.text_lines.specs.Appended
 pub use Rattle.verdict_core.specs.Diagrams
 pub use Rattle.verdict_core.specs.Names
-pub use Rattle.colour_weights.specs.Cocycle
-pub use Rattle.colour_weights.specs.Fault
+pub use Rattle.cocycle_core.specs.Cocycle
+pub use Rattle.cocycle_core.specs.Fault

@@ -1,8 +1,8 @@
 -- The whole text of two diagrams, a quandle, and a cocycle of this quandle: `weight` with the modulus, and the lines of its table.
 use Rattle.std.specs.Prelude.{ℕ, ◌-◌, List, ◌++◌, codes, Result, Ok, Err, is_none, nat_le, if◌then◌else◌}
 use Rattle.quandle_core.specs.Quandle.{Table}
-use Rattle.colour_weights.specs.Cocycle.{Cochain}
-use Rattle.colour_weights.specs.Fault.{first_fault}
+use Rattle.cocycle_core.specs.Cocycle.{Cochain}
+use Rattle.cocycle_core.specs.Fault.{first_fault}
 use Rattle.text_lines.specs.Lines.{NumberedLine, Text, text_of}
 use Rattle.knot_text.specs.declared.fault.TextFault.{TextFault}
 use Rattle.knot_text.specs.declared.fault.TextFault.TheVariants.{Malformed}

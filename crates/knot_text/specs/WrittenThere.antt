@@ -7,7 +7,7 @@ use Rattle.braid_core.specs.Braid.{IsBraid}
 use Rattle.braid_moves.specs.declared.step.BraidMove.{BraidMove}
 use Rattle.braid_moves.specs.declared.step.BraidMove.TheVariants.{Insert}
 use Rattle.colour_rows.specs.Colouring.{AreColours}
-use Rattle.colour_weights.specs.Cocycle.{Cochain, IsCocycle, value}
+use Rattle.cocycle_core.specs.Cocycle.{Cochain, IsCocycle, value}
 use Rattle.quandle_core.specs.Quandle.{Table}
 use Rattle.text_lines.specs.Lines.{NumberedLine, Text, text_of}
 use Rattle.verdict_core.specs.declared.verdict.Verdict.{Verdict}

@@ -9,7 +9,6 @@ mod colour_lines;
 mod colours;
 mod fault;
 mod grids;
-pub mod laws;
 mod letters;
 mod moves;
 mod numbers;

@@ -8,7 +8,7 @@ use crate::numbers::numbers_below;
 use crate::quandles::{append, quandle_item, table_front};
 use crate::reading::{at_most, last_number, next_line, text_end, word};
 use crate::shapes::diagram_item;
-use colour_weights::Cocycle;
+use cocycle_core::Cocycle;
 use quandle_core::Quandle;
 use std::alloc::Global;
 use text_lines::{Line, Lines};

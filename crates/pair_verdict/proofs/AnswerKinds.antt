@@ -15,7 +15,7 @@ use Rattle.search_book.specs.declared.event.End.{End}
 use Rattle.search_book.specs.declared.event.End.TheVariants.{Met, Spent, Exhausted}
 use Rattle.search_book.specs.State.{State}
 use Rattle.verdict_core.specs.Evidence.{IsTidyVerdict, Claims, Holds, TellsApart, HasEvidence}
-use Rattle.verdict_core.proofs.ToldApart.{told_apart}
+use Rattle.cert_check.proofs.ToldApart.{told_apart}
 use Rattle.verdict_core.specs.Names.{NamedQuandle}
 use Rattle.verdict_core.specs.declared.verdict.Verdict.{Verdict}
 use Rattle.verdict_core.specs.declared.verdict.Verdict.TheVariants.{Equal, Different, UnknownBudget, UnknownExhausted}

@@ -11,8 +11,8 @@ use Rattle.knot_text.specs.Printed.{HasQuandleText}
 use Rattle.knot_text.specs.Shapes.{problem_of}
 use Rattle.pair_verdict.specs.Separates.{separates, first_separating}
 use Rattle.pair_verdict.proofs.FirstFound.{find_passes, holds_by}
-use Rattle.knot_jobs.specs.Truth.{IsByWrittenQuandle}
-use Rattle.knot_jobs.proofs.PrintedVerdicts.{found}
+use Rattle.decision_core.specs.Decision.{IsByWrittenQuandle}
+use Rattle.decision_core.proofs.PrintedVerdicts.{found}
 use Rattle.seek_core.specs.Candidates.{fitting, candidates}
 use Rattle.seek_core.specs.Formulas.{formula_quandles}
 use Rattle.seek_core.specs.declared.finding.Search.{Search}

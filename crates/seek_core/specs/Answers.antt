@@ -4,9 +4,9 @@ use Rattle.std.specs.Io.KnownBytes.{Keeps, Appends}
 use Rattle.knot_ports.specs.Sink.{AppendsFront}
 use Rattle.knot_text.specs.declared.fault.TextFault.TheVariants as bad
 use Rattle.knot_text.specs.Shapes.{problem_of}
-use Rattle.knot_jobs.specs.declared.status.Status.{Status}
-use Rattle.knot_jobs.specs.declared.status.Status.TheVariants as status
-use Rattle.knot_jobs.specs.Truth.{IsDecision}
+use Rattle.decision_core.specs.declared.status.Status.{Status}
+use Rattle.decision_core.specs.declared.status.Status.TheVariants as status
+use Rattle.decision_core.specs.Decision.{IsDecision}
 use Rattle.verdict_core.specs.declared.problem.ProblemText.{ProblemText}
 use Rattle.verdict_core.specs.Diagrams.{grid_of, columns}
 use Rattle.pair_verdict.specs.Separates.{first_separating}
@@ -15,7 +15,7 @@ use Rattle.seek_core.specs.declared.answer.Answer.{Answer}
 use Rattle.seek_core.specs.declared.answer.Answer.TheVariants as answer
 use Rattle.seek_core.specs.declared.ending.Ending.{Ending}
 use Rattle.seek_core.specs.declared.ending.Ending.TheVariants as ending
-use Rattle.seek_core.specs.declared.ending.TheConstants.{MAX_BYTES}
+use Rattle.decision_core.specs.declared.limits.TheConstants.{MAX_INPUT}
 use Rattle.seek_core.specs.Candidates.{candidates}
 
 -- the bytes are a problem whose diagrams have so many columns, these quandles were tried on them, and none of these separates them
@@ -44,7 +44,7 @@ Ends bytes before after ending.Done = WritesDecision bytes before after
 Ends bytes before after (ending.NotFound tried) = WasTriedInVain bytes tried × Keeps before after
 Ends bytes before after (ending.Malformed line) = (problem_of bytes ≡ Err (bad.Malformed line)) × Keeps before after
 Ends bytes before after (ending.Limit line) = (problem_of bytes ≡ Err (bad.Limit line)) × Keeps before after
-Ends bytes before after ending.TooLong = (MAX_BYTES < length bytes) × Keeps before after
+Ends bytes before after ending.TooLong = (MAX_INPUT < length bytes) × Keeps before after
 Ends bytes before after ending.WriteFault = (text : List ℕ) × (IsDecision bytes text × AppendsFront before after text)
 Ends bytes before after ending.OutOfMemory = Keeps before after
 

@@ -11,7 +11,7 @@ use Rattle.verdict_core.specs.Diagrams.{grid_of}
 use Rattle.verdict_core.specs.Evidence.{Holds, IsTidyVerdict}
 use Rattle.verdict_core.specs.Names.{NamedQuandle}
 use Rattle.pair_verdict.specs.Separates.{first_separating, IsDifferentBy}
-use Rattle.knot_jobs.specs.Truth.{IsByWrittenQuandle}
+use Rattle.decision_core.specs.Decision.{IsByWrittenQuandle}
 use Rattle.seek_core.specs.declared.finding.Search.{Search}
 use Rattle.seek_core.specs.Candidates.{candidates}
 

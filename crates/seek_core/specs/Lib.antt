@@ -12,4 +12,4 @@ pub use Rattle.verdict_core.specs.Evidence
 pub use Rattle.knot_text.specs.Printed
 pub use Rattle.knot_text.specs.Shapes
 pub use Rattle.pair_verdict.specs.Separates
-pub use Rattle.knot_jobs.specs.Truth
+pub use Rattle.decision_core.specs.Decision

@@ -1,6 +1,6 @@
 -- A problem that comes in parts.
 use Rattle.std.specs.Prelude.{ℕ, List, [], fold}
-use Rattle.knot_jobs.specs.Truth.{put_behind}
+use Rattle.decision_core.specs.Decision.{put_behind}
 
 -- the parts one behind the other, each from the beginning of a line on
 abbrev pub joined : List (List ℕ) → List ℕ

@@ -7,8 +7,8 @@ ghost use Rattle.seek_core.specs.Answers.{IsTrueAnswer};
 
 use crate::bounds::Bounds;
 use crate::finding::{Search, find};
+use decision_core::laws::a_verdict_that_holds_is_a_decision;
 use grid_core::Items;
-use knot_jobs::laws::a_verdict_that_holds_is_a_decision;
 use knot_text::{TextFault, print_verdict, read_problem};
 use meeting_walks::Watch;
 use memory_core::OutOfMemory;

@@ -1,24 +1,21 @@
 //! The top call: the answer to an input, written.
 ghost use Rattle.std.specs.Prelude.{◌≡◌, ◌<◌, ◌≤◌, ℕ, List, length};
 ghost use Rattle.knot_ports.specs.Faults.{Rose};
-ghost use Rattle.knot_jobs.specs.declared.status.Status.TheVariants as status;
+ghost use Rattle.decision_core.specs.declared.status.Status.TheVariants as status;
 ghost use Rattle.seek_core.specs.declared.ending.Ending.TheVariants as ending;
-ghost use Rattle.seek_core.specs.declared.ending.TheConstants.{MAX_BYTES};
+ghost use Rattle.decision_core.specs.declared.limits.TheConstants.{MAX_INPUT};
 ghost use Rattle.seek_core.specs.Answers.{Ends, WritesDecision, IsTooLong, IsTrueAnswer, ending_status};
 ghost use Rattle.seek_core.specs.Parts.{joined};
 
 use crate::answer::{Answer, Tried, answer_to};
 use crate::bounds::Bounds;
 use crate::parts::join_parts;
+use decision_core::{MAX_INPUT, Status};
 use grid_core::Items;
-use knot_jobs::Status;
 use knot_ports::{Sink, give_all};
 use meeting_walks::Watch;
 use std::alloc::Global;
 use std::thread::Threads;
-
-/// The most bytes that an input may have.
-pub const MAX_BYTES: usize = 1_048_576;
 
 /// How a call of `run` ended.
 #[derive(Drop)]
@@ -31,7 +28,7 @@ pub enum Ending {
     Malformed { line: usize },
     /// The first bad line exceeds a limit.
     Limit { line: usize },
-    /// The input has more than `MAX_BYTES` bytes.
+    /// The input has more than `MAX_INPUT` bytes.
     TooLong,
     /// The sink failed.
     WriteFault,
@@ -59,7 +56,7 @@ impl Ending {
 ///
 /// Where it ends with status 0, the text of a verdict was written, what it says of the two diagrams is true, and behind the input `check`
 /// accepts it, where both are within its limit of bytes. Else nothing was written, or, where the sink failed, a front of such a text: the
-/// whole text is made before the first write. That a verdict is found is not promised. A longer input than `MAX_BYTES` is answered by
+/// whole text is made before the first write. That a verdict is found is not promised. A longer input than `MAX_INPUT` is answered by
 /// `TooLong`, or by want of memory, and the sink is said to have failed only where its count of faults rose, or stands at its last value.
 pub fn run<R: Threads + Sync, K: Sink, W: Watch>(
     rt: &R,
@@ -71,7 +68,7 @@ pub fn run<R: Threads + Sync, K: Sink, W: Watch>(
 ) -> Ending
     ensures decides { ending_status result ≡ status.Done → WritesDecision (joined parts.now) (K.held sink.old) (K.held sink.new) }
     ensures ends { Ends (joined parts.now) (K.held sink.old) (K.held sink.new) result }
-    ensures long { MAX_BYTES < length (joined parts.now) → IsTooLong result }
+    ensures long { MAX_INPUT < length (joined parts.now) → IsTooLong result }
     ensures fault { result ≡ ending.WriteFault → Rose (K.faults sink.old) (K.faults sink.new) }
     ensures count { K.faults sink.old ≤ K.faults sink.new }
 {
@@ -91,11 +88,11 @@ fn run_whole<R: Threads + Sync, K: Sink, W: Watch>(
     watch: &mut W,
 ) -> Ending
     ensures ends { Ends bytes.now (K.held sink.old) (K.held sink.new) result }
-    ensures long { MAX_BYTES < length bytes.now → IsTooLong result }
+    ensures long { MAX_INPUT < length bytes.now → IsTooLong result }
     ensures fault { result ≡ ending.WriteFault → Rose (K.faults sink.old) (K.faults sink.new) }
     ensures count { K.faults sink.old ≤ K.faults sink.new }
 {
-    if bytes.len() > MAX_BYTES {
+    if bytes.len() > MAX_INPUT {
         return Ending::TooLong;
     }
     match answer_to(rt, alloc, bytes, bounds, watch) {

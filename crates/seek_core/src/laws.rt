@@ -18,7 +18,7 @@ ghost use Rattle.seek_core.specs.Formulas.{formula_quandles, HaveOwnTables, Have
 ghost use Rattle.seek_core.specs.Parts.{joined};
 
 use crate::answer::Tried;
-use knot_jobs::laws::a_verdict_that_holds_is_a_decision;
+use decision_core::laws::a_verdict_that_holds_is_a_decision;
 
 /// Each quandle by formula is the one that its name names, and has a text.
 pub fn quandles_by_formula_have_texts()

@@ -16,7 +16,7 @@ mod tests;
 
 pub use answer::{Answer, Tried, answer_to};
 pub use bounds::Bounds;
-pub use ending::{Ending, MAX_BYTES, run};
+pub use ending::{Ending, run};
 pub use finding::{Search, find};
 pub use formulas::formula_quandles;
 pub use parts::join_parts;

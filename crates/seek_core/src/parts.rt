@@ -1,7 +1,7 @@
 //! A problem that comes in parts.
 ghost use Rattle.std.specs.Prelude.{◌≡◌, IfOk, OnOk};
 ghost use Rattle.text_lines.specs.Lines.{are_whole_lines};
-ghost use Rattle.knot_jobs.specs.Truth.{put_behind};
+ghost use Rattle.decision_core.specs.Decision.{put_behind};
 ghost use Rattle.seek_core.specs.Parts.{joined};
 
 use grid_core::Items;

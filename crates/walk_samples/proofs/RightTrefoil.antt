@@ -3,7 +3,7 @@ use Rattle.std.proofs.Common.{◌≤◌, arith, refl}
 use Rattle.grid_core.specs.Diagram.{IsGrid, size}
 use Rattle.grid_core.proofs.Accepted.{accepted_lists}
 use Rattle.walk_samples.specs.declared.walk.TheConstants.{LARGEST}
-use Rattle.walk_samples.specs.Walk.{right_trefoil}
+use Rattle.grid_core.specs.Trefoils.{right_trefoil}
 
 pub right_trefoil_grid : IsGrid right_trefoil
 right_trefoil_grid = accepted_lists right_trefoil.x right_trefoil.o refl

@@ -13,7 +13,8 @@ use Rattle.quandle_core.proofs.Linear.{trivial_is, dihedral_is, tetrahedral_is}
 use Rattle.colour_list.specs.Listing.{colourings}
 use Rattle.colour_laws.proofs.Counted.{equivalent_lengths}
 use Rattle.walk_samples.specs.declared.walk.TheConstants.{TURNS, LARGEST}
-use Rattle.walk_samples.specs.Walk.{right_trefoil, words, generator_of, Walks}
+use Rattle.grid_core.specs.Trefoils.{right_trefoil}
+use Rattle.walk_samples.specs.Walk.{words, generator_of, Walks}
 use Rattle.walk_samples.specs.Text.{counts_text, walk_text, sample_text, TellsOfWalk}
 use Rattle.walk_samples.proofs.Walked.{walk_length, walk_within, words_length}
 use Rattle.walk_samples.proofs.Printed.{pair, counts, seed_line, walk_pieces, counts_by_name}

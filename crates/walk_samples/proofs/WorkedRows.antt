@@ -6,7 +6,8 @@ use Rattle.grid_core.specs.declared.mark.Corner.TheVariants.{LowLeft, LowRight, 
 use Rattle.grid_core.proofs.WorkedRows.{unknot}
 use Rattle.grid_moves.specs.declared.step.Move.TheVariants.{ShiftColumns, ShiftRows, Stabilise, Destabilise}
 use Rattle.walk_samples.specs.Candidates.{candidates}
-use Rattle.walk_samples.specs.Walk.{right_trefoil, words_of, generator_of, Picks}
+use Rattle.grid_core.specs.Trefoils.{right_trefoil}
+use Rattle.walk_samples.specs.Walk.{words_of, generator_of, Picks}
 
 -- two shifts, and eight stabilisations in each column: the two columns touch, and the one block has four marks
 of_unknot : candidates unknot ≡ ShiftColumns 1 ∷ ShiftRows 1

@@ -4,6 +4,7 @@ pub mod Walk
 pub mod Text
 pub use Rattle.grid_core.specs.Diagram
 pub use Rattle.grid_core.specs.Parts
+pub use Rattle.grid_core.specs.Trefoils
 pub use Rattle.grid_moves.specs.Step
 pub use Rattle.grid_moves.specs.Joining
 pub use Rattle.grid_moves.specs.MoveLists

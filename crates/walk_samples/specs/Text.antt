@@ -11,7 +11,8 @@ use Rattle.knot_text.specs.Printed.{name_tokens}
 use Rattle.verdict_core.specs.declared.verdict.Verdict.TheVariants.{Equal}
 use Rattle.cert_check.specs.declared.ruling.Ruling.TheVariants.{Accepted}
 use Rattle.cert_check.specs.Ruling.{RulesOn}
-use Rattle.walk_samples.specs.Walk.{right_trefoil, words, Walks}
+use Rattle.grid_core.specs.Trefoils.{right_trefoil}
+use Rattle.walk_samples.specs.Walk.{words, Walks}
 
 -- the name of a quandle with a colon, and how many colourings d and e have by it
 abbrev pub counts_tokens : Diagram → Diagram → NamedQuandle → List (List ℕ)

@@ -8,10 +8,6 @@ use Rattle.grid_moves.specs.Step.{Step}
 use Rattle.walk_samples.specs.declared.walk.TheConstants.{TURNS, STREAM}
 use Rattle.walk_samples.specs.Candidates.{candidates}
 
--- where each walk starts
-abbrev pub right_trefoil : Diagram
-right_trefoil = record { x = 4 ∷ 3 ∷ 2 ∷ 1 ∷ 0 ∷ []; o = 2 ∷ 1 ∷ 0 ∷ 4 ∷ 3 ∷ [] }
-
 -- the generator of a seed, before its first word
 abbrev pub generator_of : ℕ → Lcg
 generator_of seed = started 64 multiplier_64 seed (increment_of 64 STREAM)

@@ -8,7 +8,8 @@ ghost use Rattle.grid_moves.specs.Joining.{JoinsWithin};
 ghost use Rattle.walk_samples.specs.declared.walk.TheConstants.{LARGEST, TURNS};
 ghost use Rattle.grid_moves.specs.MoveLists.{is_slide};
 ghost use Rattle.walk_samples.specs.Candidates.{candidates};
-ghost use Rattle.walk_samples.specs.Walk.{right_trefoil, words, Walks};
+ghost use Rattle.grid_core.specs.Trefoils.{right_trefoil};
+ghost use Rattle.walk_samples.specs.Walk.{words, Walks};
 ghost use Rattle.walk_samples.specs.Text.{walk_text, sample_text};
 
 use grid_moves::Move;

@@ -5,7 +5,8 @@ ghost use Rattle.grid_moves.specs.Step.{Step};
 ghost use Rattle.grid_moves.specs.Joining.{JoinsWithin};
 ghost use Rattle.std.specs.List.{Contains};
 ghost use Rattle.walk_samples.specs.Candidates.{candidates};
-ghost use Rattle.walk_samples.specs.Walk.{right_trefoil, words, Picks, Walks};
+ghost use Rattle.grid_core.specs.Trefoils.{right_trefoil};
+ghost use Rattle.walk_samples.specs.Walk.{words, Picks, Walks};
 
 use crate::candidates::candidates;
 use grid_core::Grid;

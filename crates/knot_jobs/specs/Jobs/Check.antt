@@ -7,8 +7,8 @@ use Rattle.cert_check.specs.declared.ruling.Ruling.{Ruling}
 use Rattle.cert_check.specs.declared.ruling.Ruling.TheVariants.{Accepted, Rejected}
 use Rattle.cert_check.specs.Ruling.{RulesOn}
 use Rattle.knot_jobs.specs.declared.reply.Reply.{Reply}
-use Rattle.knot_jobs.specs.declared.status.Status.{Status}
-use Rattle.knot_jobs.specs.declared.status.Status.TheVariants as status
+use Rattle.decision_core.specs.declared.status.Status.{Status}
+use Rattle.decision_core.specs.declared.status.Status.TheVariants as status
 use Rattle.knot_jobs.specs.Lines.{ruling_line}
 use Rattle.knot_jobs.specs.Reply.{without_search}
 

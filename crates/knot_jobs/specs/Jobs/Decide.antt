@@ -1,20 +1,19 @@
 -- The job `decide`: two diagrams and quandles are answered by the verdict on the diagrams.
-use Rattle.std.specs.Prelude.{◌≡◌, ◌≤◌, ◌+◌, min, max, ℕ, length}
+use Rattle.std.specs.Prelude.{◌≡◌, ◌+◌, min, max, ℕ}
 use Rattle.grid_core.specs.declared.grid.TheConstants.{MAX_SIZE}
 use Rattle.grid_core.specs.Diagram.{Diagram, size}
 use Rattle.search_book.specs.declared.problem.Problem.{Problem}
 use Rattle.verdict_core.specs.declared.problem.ProblemText.{ProblemText}
 use Rattle.verdict_core.specs.declared.verdict.Verdict.{Verdict}
 use Rattle.verdict_core.specs.declared.verdict.Verdict.TheVariants.{Equal, Different, UnknownBudget, UnknownExhausted}
-use Rattle.knot_text.specs.declared.reading.TheConstants.{MAX_NUMBER}
 use Rattle.knot_text.specs.Printed.{version_text}
 use Rattle.knot_text.specs.declared.verdicts.Version.TheVariants.{Tidy}
 use Rattle.verdict_core.specs.Diagrams.{grid_of}
 use Rattle.pair_verdict.specs.Decided.{Decides}
 use Rattle.knot_jobs.specs.declared.reply.Reply.{Reply}
 use Rattle.knot_jobs.specs.declared.words.Asked.{Asked}
-use Rattle.knot_jobs.specs.declared.status.Status.{Status}
-use Rattle.knot_jobs.specs.declared.status.Status.TheVariants as status
+use Rattle.decision_core.specs.declared.status.Status.{Status}
+use Rattle.decision_core.specs.declared.status.Status.TheVariants as status
 
 -- the greatest size of a diagram on the way: the larger size and the spare, at most MAX_SIZE
 abbrev pub cap_of : Diagram → Diagram → ℕ → ℕ
@@ -41,13 +40,6 @@ verdict_status (Equal moves) = status.Done
 verdict_status (Different listed one two) = status.Done
 verdict_status (UnknownBudget budget) = status.Unknown
 verdict_status (UnknownExhausted cap admitted) = status.Unknown
-
--- the moves of a verdict, if any, are not too many for a text
-abbrev pub IsShort : Verdict → Type 0
-IsShort (Equal moves) = length moves ≤ MAX_NUMBER
-IsShort (Different listed one two) = Unit {0}
-IsShort (UnknownBudget budget) = Unit {0}
-IsShort (UnknownExhausted cap admitted) = Unit {0}
 
 -- the verdict on the diagrams, with the search of so many workers behind it
 pub record AnswersDecide (asked : Asked) (input : ProblemText) (reply : Reply) : Type 0 where

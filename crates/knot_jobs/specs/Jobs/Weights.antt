@@ -6,7 +6,7 @@ use Rattle.std.specs.Fmt.{decimal}
 use Rattle.grid_core.specs.Diagram.{Diagram as Marks}
 use Rattle.grid_core.specs.Parts.{bottoms}
 use Rattle.colour_list.specs.Fits.{fits}
-use Rattle.colour_weights.specs.Cocycle.{Cochain}
+use Rattle.cocycle_core.specs.Cocycle.{Cochain}
 use Rattle.colour_weights.specs.Weights.{weights}
 use Rattle.text_lines.specs.Spelled.{line_text}
 use Rattle.verdict_core.specs.Diagrams.{grid_of}

@@ -19,11 +19,11 @@ ghost use Rattle.knot_jobs.specs.Jobs.Braid.{word_fixed_lines, word_fixed_text, 
 
 use crate::jobs::colour::push_listing;
 use crate::reply::Reply;
-use crate::status::Status;
 use braid_core::laws::the_fixed_points_are_listed;
 use colour_list::laws::{each_colouring_is_listed_once, the_complete_list_ascends};
 use colour_list::{ListFault, list};
 use colour_rows::Colouring;
+use decision_core::Status;
 use grid_braid::laws::colourings_at_the_feet_are_the_fixed_points;
 use grid_braid::{feet_of, word_of};
 use grid_core::Grid;

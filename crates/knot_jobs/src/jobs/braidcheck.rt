@@ -12,8 +12,8 @@ ghost use Rattle.knot_jobs.specs.Truth.{IsBraidCertificate};
 use crate::laws::accepted_braids_have_equally_many_colourings;
 use crate::lines::push_spaced;
 use crate::reply::Reply;
-use crate::status::Status;
 use braid_moves::{BraidMoveFault, BraidRuling, check_braids};
+use decision_core::Status;
 use knot_text::{BraidCheckText, read_braidcheck};
 use std::alloc::{AllocError, Global};
 

@@ -8,8 +8,8 @@ ghost use Rattle.knot_jobs.specs.Truth.{IsCertificate};
 
 use crate::lines::ruling_line;
 use crate::reply::Reply;
-use crate::status::Status;
 use cert_check::{Ruling, check};
+use decision_core::Status;
 use knot_text::read_check;
 use std::alloc::{AllocError, Global};
 

@@ -12,9 +12,9 @@ ghost use Rattle.knot_jobs.specs.Reply.{AnswersRead};
 ghost use Rattle.knot_jobs.specs.Jobs.Close.{fixed_lines, fixed_text, feet_line, close_text, AnswersClose};
 
 use crate::reply::Reply;
-use crate::status::Status;
 use braid_closure::close;
 use braid_core::{Braid, FixFault, Tuple, fixed_points};
+use decision_core::Status;
 use knot_text::{CloseText, Listed, print_grid, push_quandle, read_close};
 use quandle_core::Quandle;
 use std::alloc::{AllocError, Global};

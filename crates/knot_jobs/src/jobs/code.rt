@@ -5,8 +5,8 @@ ghost use Rattle.knot_jobs.specs.Reply.{AnswersRead};
 ghost use Rattle.knot_jobs.specs.Jobs.Code.{code_text, AnswersCode};
 
 use crate::reply::Reply;
-use crate::status::Status;
 use crossing_codes::{code_of, gauss_text, pd_text};
+use decision_core::Status;
 use grid_core::Grid;
 use knot_text::{Diagram, read_diagram};
 use memory_core::OutOfMemory;

@@ -8,9 +8,9 @@ ghost use Rattle.knot_jobs.specs.Reply.{AnswersRead};
 ghost use Rattle.knot_jobs.specs.Jobs.Colour.{colourings_lines, listed_text, colour_text, AnswersColour};
 
 use crate::reply::Reply;
-use crate::status::Status;
 use colour_list::{ListFault, list};
 use colour_rows::Colouring;
+use decision_core::Status;
 use grid_core::Grid;
 use knot_text::{ColourText, Listed, push_list, push_quandle, read_colour};
 use quandle_core::Quandle;

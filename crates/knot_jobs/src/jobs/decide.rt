@@ -7,12 +7,12 @@ ghost use Rattle.knot_text.specs.Shapes.{problem_of};
 ghost use Rattle.knot_jobs.specs.Words.{IsWithinBounds};
 ghost use Rattle.knot_jobs.specs.Reply.{AnswersRead};
 ghost use Rattle.knot_jobs.specs.Jobs.Decide.{problem_for, verdict_status, AnswersDecide};
-ghost use Rattle.knot_jobs.specs.Truth.{IsDecision};
+ghost use Rattle.knot_jobs.specs.Truth.{IsCheckedDecision};
 
 use crate::laws::a_decision_has_a_text;
 use crate::reply::Reply;
-use crate::status::Status;
 use crate::words::Asked;
+use decision_core::Status;
 use grid_core::{Items, MAX_SIZE};
 use knot_text::{ProblemText, Verdict, print_verdict, read_problem};
 use memory_core::OutOfMemory;
@@ -33,7 +33,7 @@ pub(crate) fn answer<R: Threads + Wait + Sync, G: Gate + Sync>(
 ) -> Result<Reply, AllocError>
     requires bounds { IsWithinBounds asked.now }
     ensures answer { IfOk result (λ reply. AnswersRead (AnswersDecide asked.now) (problem_of bytes.now) reply) }
-    ensures claim { IfOk result (λ reply. reply.status ≡ Status.Done → IsDecision bytes.now reply.text) }
+    ensures claim { IfOk result (λ reply. reply.status ≡ Status.Done → IsCheckedDecision bytes.now reply.text) }
 {
     match read_problem(alloc, bytes) {
         Ok(input) => {
@@ -51,7 +51,7 @@ pub(crate) fn answer_alone(alloc: Global, asked: &Asked, bytes: &[u8]) -> Result
     requires bounds { IsWithinBounds asked.now }
     requires one { asked.now.workers ≡ 1 }
     ensures answer { IfOk result (λ reply. AnswersRead (AnswersDecide asked.now) (problem_of bytes.now) reply) }
-    ensures claim { IfOk result (λ reply. reply.status ≡ Status.Done → IsDecision bytes.now reply.text) }
+    ensures claim { IfOk result (λ reply. reply.status ≡ Status.Done → IsCheckedDecision bytes.now reply.text) }
 {
     match read_problem(alloc, bytes) {
         Ok(input) => {
@@ -77,7 +77,7 @@ fn answer_decision(
     requires tidy { IfOk decision (λ d. IsTidyVerdict d.verdict) }
     ensures answer { IfOk result (λ reply. AnswersDecide asked.now input.now reply) }
     ensures claim { (bytes : List ℕ) → problem_of bytes ≡ Ok input.now
-        → IfOk result (λ reply. reply.status ≡ Status.Done → IsDecision bytes reply.text) }
+        → IfOk result (λ reply. reply.status ≡ Status.Done → IsCheckedDecision bytes reply.text) }
 {
     a_decision_has_a_text();
     let Ok(decision) = decision else {

@@ -10,7 +10,7 @@ ghost use Rattle.knot_jobs.specs.Truth.{IsTrueLinking};
 
 use crate::comparison::push_comparison;
 use crate::reply::Reply;
-use crate::status::Status;
+use decision_core::Status;
 use grid_core::Grid;
 use knot_text::{Diagram, push_letter_line, read_pair};
 use linking_core::laws::equivalent_diagrams_have_equal_linking_numbers;

@@ -9,9 +9,9 @@ ghost use Rattle.knot_jobs.specs.Jobs.Replay.{Carries, coloured_text, Replays, S
 
 use crate::lines::{miscoloured_line, step_line};
 use crate::reply::Reply;
-use crate::status::Status;
 use colour_laws::carry;
 use colour_rows::{Colouring, is_colouring};
+use decision_core::Status;
 use grid_core::Grid;
 use grid_moves::{Move, MoveFault, apply, apply_all};
 use knot_text::{Listed, ReplayText, print_grid, read_replay};

@@ -3,7 +3,7 @@ ghost use Rattle.std.specs.Prelude.{IfOk};
 ghost use Rattle.knot_jobs.specs.Jobs.Sample.{AnswersSample};
 
 use crate::reply::Reply;
-use crate::status::Status;
+use decision_core::Status;
 use std::alloc::{AllocError, Global};
 use walk_samples::sample_text;
 

@@ -6,8 +6,8 @@ ghost use Rattle.knot_jobs.specs.Reply.{AnswersRead};
 ghost use Rattle.knot_jobs.specs.Jobs.Simplify.{end_line, simplified_text, AnswersSimplify};
 
 use crate::reply::Reply;
-use crate::status::Status;
 use crate::words::Asked;
+use decision_core::Status;
 use knot_text::{Diagram, print_grid, print_moves, read_diagram};
 use memory_core::OutOfMemory;
 use mono_simplify::{SimpleEnd, Simplified, simplify};

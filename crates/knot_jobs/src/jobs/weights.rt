@@ -15,10 +15,11 @@ ghost use Rattle.knot_jobs.specs.Truth.{IsTrueWeighing};
 
 use crate::comparison::push_comparison;
 use crate::reply::Reply;
-use crate::status::Status;
+use cocycle_core::Cocycle;
 use colour_list::{ListFault, fits};
 use colour_weights::laws::equivalent_diagrams_have_equal_weights;
-use colour_weights::{Cocycle, weights};
+use colour_weights::weights;
+use decision_core::Status;
 use grid_core::Grid;
 use knot_text::{WeightText, read_weights};
 use std::alloc::{AllocError, Global};

@@ -1,7 +1,7 @@
 //! Whole calls: worked examples, faults at each call of the source and the sink, and inputs of the greatest length.
 use super::{Outside, run_line, words_of};
 use crate::call::run_alone;
-use crate::status::Status;
+use decision_core::Status;
 use grid_core::MAX_SIZE;
 use knot_ports::{QuietSink, QuietSource};
 use quandle_core::MAX_ORDER;

@@ -1,7 +1,7 @@
 //! Decisions: worked verdicts, the searches that are kept, and certificates that `check` accepts behind their problems.
 use super::{Outside, run_line, words_of};
 use crate::call::run;
-use crate::status::Status;
+use decision_core::Status;
 use knot_ports::{MemSink, MemSource, QuietSink, QuietSource};
 use search_book::End;
 use search_pool::{Finding, OpenGate};

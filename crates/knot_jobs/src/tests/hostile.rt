@@ -3,7 +3,7 @@
 use super::calls::{CALM, Row, compare};
 use super::{Outside, run_line, words_of};
 use crate::call::run;
-use crate::status::Status;
+use decision_core::Status;
 use knot_ports::{QuietSink, QuietSource};
 use search_pool::OpenGate;
 use std::alloc::{AllocError, Global};

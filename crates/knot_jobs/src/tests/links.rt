@@ -1,6 +1,6 @@
 //! Braid words of diagrams, and two diagrams compared by their linking numbers.
 use super::calls::{Row, compare};
-use crate::status::Status;
+use decision_core::Status;
 use std::test::Fail;
 
 /// The word of each diagram, and the fixed points of its action in lexicographic order, which is not that of the colourings.

@@ -2,7 +2,7 @@
 use super::decisions::TREFOILS;
 use super::words_of;
 use crate::call::{run, run_alone};
-use crate::status::Status;
+use decision_core::Status;
 use knot_ports::{MemSink, MemSource};
 use search_book::{End, Event};
 use search_pool::{Finding, Gate};

@@ -1,7 +1,7 @@
 //! Diagrams that are simplified.
 use super::calls::{Row, compare};
 use super::{Outside, run_line};
-use crate::status::Status;
+use decision_core::Status;
 use std::test::Fail;
 
 #[test]

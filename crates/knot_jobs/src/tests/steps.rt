@@ -1,6 +1,6 @@
 //! Steps between two braids, ruled on.
 use super::calls::{Row, compare};
-use crate::status::Status;
+use decision_core::Status;
 use std::test::Fail;
 
 /// The figure eight knot, step by step to its mirror image.

@@ -1,7 +1,7 @@
 //! Two diagrams compared by the weights of their colourings.
 use super::calls::{CALM, Row, compare};
 use super::run_line;
-use crate::status::Status;
+use decision_core::Status;
 use std::alloc::Global;
 use std::test::Fail;
 

@@ -1,5 +1,5 @@
 use Rattle.colour_list.specs.Listing.{lists_of}
-use Rattle.verdict_core.proofs.ToldApart.{told_apart}
+use Rattle.cert_check.proofs.ToldApart.{told_apart}
 use Rattle.cert_check.proofs.laws.an_accepted_verdict_is_true.Goals as goal
 
 pub returns-clause-different : goal.returns-clause-different

@@ -2,7 +2,7 @@ use Rattle.std.proofs.Common.{subst}
 use Rattle.quandle_core.specs.Quandle.{Table, IsQuandle}
 use Rattle.colour_list.specs.Listing.{lists_of}
 use Rattle.cert_check.proofs.Rulings.{accepted_lists}
-use Rattle.verdict_core.proofs.ToldApart.{told_apart}
+use Rattle.cert_check.proofs.ToldApart.{told_apart}
 use Rattle.cert_check.proofs.lists.check_lists.Goals as goal
 
 pub returns-in-None-clause-ruling : goal.returns-in-None-clause-ruling

@@ -1,6 +1,6 @@
 use Rattle.std.proofs.Common.{rules, ◌∙◌, List, ℕ, Option, IfSome, sym, subst}
 use Rattle.verdict_core.specs.declared.verdict.Verdict.{Verdict}
-use Rattle.knot_jobs.specs.Truth.{IsDecision}
+use Rattle.decision_core.specs.Decision.{IsDecision}
 use Rattle.seek_core.specs.declared.answer.Tried.{Tried}
 use Rattle.seek_core.specs.Found.{IsFindingOf}
 use Rattle.seek_core.proofs.Separated.{in_vain_of}

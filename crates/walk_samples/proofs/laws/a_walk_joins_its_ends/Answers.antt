@@ -1,6 +1,7 @@
 use Rattle.std.proofs.Common.{◌∙◌}
 use Rattle.walk_samples.specs.declared.walk.TheConstants.{TURNS}
-use Rattle.walk_samples.specs.Walk.{right_trefoil, words, generator_of}
+use Rattle.grid_core.specs.Trefoils.{right_trefoil}
+use Rattle.walk_samples.specs.Walk.{words, generator_of}
 use Rattle.walk_samples.proofs.Walked.{walk_length, walk_within, words_length}
 use Rattle.walk_samples.proofs.RightTrefoil.{right_trefoil_small}
 use Rattle.walk_samples.proofs.laws.a_walk_joins_its_ends.Goals as goal

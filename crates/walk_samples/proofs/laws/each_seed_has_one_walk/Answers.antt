@@ -1,4 +1,5 @@
-use Rattle.walk_samples.specs.Walk.{right_trefoil, words}
+use Rattle.grid_core.specs.Trefoils.{right_trefoil}
+use Rattle.walk_samples.specs.Walk.{words}
 use Rattle.walk_samples.proofs.Walked.{some_walk, same_walk}
 use Rattle.walk_samples.proofs.RightTrefoil.{right_trefoil_grid, right_trefoil_small}
 use Rattle.walk_samples.proofs.laws.each_seed_has_one_walk.Goals as goal

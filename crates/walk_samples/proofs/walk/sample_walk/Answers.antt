@@ -1,7 +1,8 @@
 use Rattle.std.proofs.Common.{◌+◌, ◌-◌, ◌++◌, [], arith, refl, subst, sym}
 use Rattle.std.proofs.lemmas.List.{append-nil}
 use Rattle.walk_samples.specs.declared.walk.TheConstants.{TURNS}
-use Rattle.walk_samples.specs.Walk.{right_trefoil, words, words_of, Walks}
+use Rattle.grid_core.specs.Trefoils.{right_trefoil}
+use Rattle.walk_samples.specs.Walk.{words, words_of, Walks}
 use Rattle.walk_samples.proofs.Picked.{pick_contained}
 use Rattle.walk_samples.proofs.Walked.{words_left, no_words_left, walked_more, walk_within}
 use Rattle.walk_samples.proofs.walk.sample_walk.Goals as goal

@@ -2,7 +2,8 @@ use Rattle.std.proofs.Common.{◌≡◌, ◌≤◌, ◌-◌, ◌++◌, List, vec
 use Rattle.grid_core.specs.Diagram.{Diagram, size}
 use Rattle.grid_moves.specs.declared.step.Move.{Move}
 use Rattle.walk_samples.specs.declared.walk.TheConstants.{TURNS, LARGEST}
-use Rattle.walk_samples.specs.Walk.{right_trefoil, words, words_of, Walks}
+use Rattle.grid_core.specs.Trefoils.{right_trefoil}
+use Rattle.walk_samples.specs.Walk.{words, words_of, Walks}
 use Rattle.walk_samples.proofs.walk.sample_walk.Given as goal
 
 abbrev pub invariant-loop-turn : goal.invariant-loop-turn

@@ -1,13 +1,17 @@
-use Rattle.std.proofs.Common.{sym, ◌∙◌, subst}
+use Rattle.std.proofs.Common.{sym, refl, ◌∙◌, subst}
 use Rattle.std.proofs.lemmas.Result.{IfOk-at_ok}
 use Rattle.verdict_core.specs.Diagrams.{grid_of}
 use Rattle.verdict_core.specs.Evidence.{Claims, Holds, HasEvidence, IsTidyVerdict}
 use Rattle.pair_verdict.specs.declared.decision.Decision.{Decision}
 use Rattle.pair_verdict.specs.Decided.{Decides}
 use Rattle.knot_jobs.specs.Jobs.Decide.{problem_for}
-use Rattle.knot_jobs.specs.Truth.{IsAcceptedBehind}
+use Rattle.knot_jobs.specs.Truth.{IsCheckedDecision}
 use Rattle.knot_jobs.proofs.Decisions.{has_evidence}
-use Rattle.knot_jobs.proofs.AcceptedBehind.{has_text, accepted_behind}
+use Rattle.knot_text.specs.declared.verdicts.Version.TheVariants.{Tidy}
+use Rattle.knot_text.specs.Printed.{version_text}
+use Rattle.decision_core.specs.Decision.{IsDecision}
+use Rattle.decision_core.proofs.AcceptedBehind.{accepted_behind}
+use Rattle.knot_jobs.proofs.AcceptedBehind.{has_text, accepted_by_check}
 use Rattle.knot_jobs.proofs.jobs.decide.answer_decision.Goals as goal
 
 pub print_verdict-requires : goal.print_verdict-requires
@@ -28,13 +32,16 @@ returns-clause-claim c = λ bytes read done.
     let claims = IfOk-at_ok (λ (d : Decision). Claims first second d.verdict) c.in-Ok.is c.requires.claims in
     let text = has_text c.a_decision_has_a_text.ensures bytes asked input asked.workers v kept read decides in
     let printed = c.from_vec.ensures ∙ c.in-Ok-print_verdict.ensures in
-    record {
+    let written = version_text Tidy v in
+    let decision : IsDecision bytes written = record {
       problem = input;
       read = read;
       verdict = v;
-      is = printed;
+      is = refl;
       evidence = evidence;
       holds = holds;
       is_true = claims;
-      accepted = subst (IsAcceptedBehind bytes) (sym printed) (accepted_behind bytes input v read text holds);
-    }
+      accepted = accepted_behind bytes input v read text holds;
+    } in
+    let checked : IsCheckedDecision bytes written = record { decision = decision; accepted = accepted_by_check bytes written decision } in
+    subst (IsCheckedDecision bytes) (sym printed) checked

@@ -1,0 +1,5 @@
+pub mod Grids
+pub mod PrintedVerdicts
+pub mod AcceptedBehind
+pub mod HeldVerdicts
+mod WorkedRows

@@ -1,9 +1,0 @@
-use Rattle.knot_text.proofs.BraidAgain.{braid_read}
-use Rattle.knot_text.proofs.GridsRead.{braid_is}
-use Rattle.knot_text.proofs.laws.a_written_braid_is_read.Goals as goal
-
-pub returns-clause-text : goal.returns-clause-text
-returns-clause-text c = braid_read
-
-pub returns-clause-braid : goal.returns-clause-braid
-returns-clause-braid c = braid_is

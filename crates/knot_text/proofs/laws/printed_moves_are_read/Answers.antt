@@ -1,5 +1,0 @@
-use Rattle.knot_text.proofs.ReadBack.{moves_read}
-use Rattle.knot_text.proofs.laws.printed_moves_are_read.Goals as goal
-
-pub returns : goal.returns
-returns c = moves_read

@@ -1,6 +1,0 @@
-use Rattle.text_lines.specs.Lines.{text_of}
-use Rattle.knot_text.proofs.ColoursRead.{replay_colours}
-use Rattle.knot_text.proofs.laws.the_colours_of_a_replay_are_colours.Goals as goal
-
-pub returns : goal.returns
-returns c = λ bytes. replay_colours (text_of bytes)
