@@ -1,4 +1,4 @@
-//! The edge: std's readers and writers, of which no content is told.
+//! The edge: std's readers and writers, of which no content is told. What they keep for messages no clause speaks of.
 ghost use Rattle.std.specs.Prelude.{◌≡◌, ◌<◌, ◌≤◌, None, length, take, IfOk, OnOk, OnErr};
 ghost use Rattle.std.specs.Io.KnownBytes.{Keeps, Appends, Consumes, IsAtEnd};
 ghost use Rattle.knot_ports.specs.Faults.{Rose, one_more};
@@ -6,14 +6,25 @@ ghost use Rattle.knot_ports.specs.Faults.{Rose, one_more};
 use crate::failure::Failed;
 use crate::sink::Sink;
 use crate::source::Source;
+use arrayvec::ArrayVec;
+use std::alloc::Global;
+use std::io;
 use std::io::{Read, Write};
 use std::marker::Model;
 
-/// A source over a reader. It counts the reader's errors, and tells nothing of its bytes. A contract sees it as its count.
+/// How many bytes of what is written a sink keeps: the line that names a bad line is no longer.
+const SHORT: usize = 40;
+
+/// A source over a reader. It counts the reader's errors, keeps the last one and a front of the bytes, so that they can be told of, and
+/// tells a contract nothing of its bytes: a contract sees it as its count.
 #[derive(Drop)]
 pub struct StdSource<R> {
     reader: R,
+    error: Option<io::Error>,
     errors: u64,
+    front: Vec<u8>,
+    /// How many bytes are kept at most: none from where memory was wanting on.
+    most: usize,
 }
 
 impl<R> Model for StdSource<R> {
@@ -24,16 +35,53 @@ impl<R> Model for StdSource<R> {
     ghost view = { λ s. s.errors };
 }
 
-impl<R: Read> StdSource<R> {
-    /// A source over this reader, with no error counted.
-    pub fn new(reader: R) -> StdSource<R>
+impl<R: Read + Drop> StdSource<R> {
+    /// A source over this reader, with no error counted, that keeps the first `most` bytes.
+    pub fn new(alloc: Global, reader: R, most: usize) -> StdSource<R>
         ensures { result ≡ 0 }
     {
-        StdSource { reader, errors: 0 }
+        StdSource {
+            reader,
+            error: None,
+            errors: 0,
+            front: Vec::new(alloc),
+            most,
+        }
+    }
+
+    /// The last error.
+    pub fn error(&self) -> Option<&io::Error> {
+        self.error.as_ref()
+    }
+
+    /// The same.
+    pub fn into_error(self) -> Option<io::Error> {
+        self.error
+    }
+
+    /// A front of the bytes that came.
+    pub fn front(&self) -> &[u8] {
+        self.front.as_slice()
+    }
+
+    /// Whether fewer bytes came than are kept, so that the front has them all.
+    pub fn is_whole(&self) -> bool {
+        self.front.len() < self.most
+    }
+
+    /// Keeps bytes, as far as they are wanted and there is memory.
+    fn keep(&mut self, piece: &[u8])
+        ensures { self.new ≡ self.old }
+    {
+        let left = self.most.saturating_sub(self.front.len());
+        let (wanted, _) = piece.split_at(left.min(piece.len()));
+        if self.front.extend_from_slice(wanted).is_err() {
+            self.most = 0;
+        }
     }
 }
 
-impl<R: Read> Source for StdSource<R> {
+impl<R: Read + Drop> Source for StdSource<R> {
     ghost left = { λ s. None };
 
     ghost faults = { λ s. s };
@@ -52,8 +100,13 @@ impl<R: Read> Source for StdSource<R> {
         ensures err { OnErr result (self.new ≡ one_more self.old) }
     {
         match self.reader.read(room) {
-            Ok(count) => Ok(count),
-            Err(_) => {
+            Ok(count) => {
+                let (read, _) = room.split_at(count);
+                self.keep(read);
+                Ok(count)
+            }
+            Err(error) => {
+                self.error = Some(error);
                 self.errors = self.errors.saturating_add(1);
                 Err(Failed)
             }
@@ -61,11 +114,14 @@ impl<R: Read> Source for StdSource<R> {
     }
 }
 
-/// A sink over a writer. It counts the writer's errors and its empty writes, and tells nothing of its bytes. A contract sees it as its count.
+/// A sink over a writer. It counts the writer's errors and its empty writes, keeps the last error and the first bytes, and tells a contract
+/// nothing of its bytes: a contract sees it as its count.
 #[derive(Drop)]
 pub struct StdSink<W> {
     writer: W,
+    error: Option<io::Error>,
     errors: u64,
+    front: ArrayVec<u8, SHORT>,
 }
 
 impl<W> Model for StdSink<W> {
@@ -76,16 +132,45 @@ impl<W> Model for StdSink<W> {
     ghost view = { λ s. s.errors };
 }
 
-impl<W: Write> StdSink<W> {
+impl<W: Write + Drop> StdSink<W> {
     /// A sink over this writer, with no error counted.
     pub fn new(writer: W) -> StdSink<W>
         ensures { result ≡ 0 }
     {
-        StdSink { writer, errors: 0 }
+        StdSink {
+            writer,
+            error: None,
+            errors: 0,
+            front: ArrayVec::new(),
+        }
+    }
+
+    /// The error of the last fault; an empty write has none.
+    pub fn error(&self) -> Option<&io::Error> {
+        self.error.as_ref()
+    }
+
+    /// The same.
+    pub fn into_error(self) -> Option<io::Error> {
+        self.error
+    }
+
+    /// The first bytes that were written, 40 at most.
+    pub fn front(&self) -> &[u8] {
+        self.front.as_slice()
+    }
+
+    /// Keeps bytes, as far as there is room.
+    fn keep(&mut self, piece: &[u8])
+        ensures { self.new ≡ self.old }
+    {
+        let left = SHORT.saturating_sub(self.front.len());
+        let (kept, _) = piece.split_at(left.min(piece.len()));
+        let _fits = self.front.try_extend_from_slice(kept);
     }
 }
 
-impl<W: Write> Sink for StdSink<W> {
+impl<W: Write + Drop> Sink for StdSink<W> {
     ghost held = { λ s. None };
 
     ghost faults = { λ s. s };
@@ -104,9 +189,15 @@ impl<W: Write> Sink for StdSink<W> {
         ensures ok { OnOk result (self.new ≡ self.old) }
         ensures err { OnErr result (self.new ≡ one_more self.old) }
     {
-        match self.writer.write(piece) {
-            Ok(count) if count > 0 || piece.is_empty() => Ok(count),
-            _ => {
+        let written = self.writer.write(piece);
+        match written {
+            Ok(count) if count > 0 || piece.is_empty() => {
+                let (taken, _) = piece.split_at(count);
+                self.keep(taken);
+                Ok(count)
+            }
+            other => {
+                self.error = other.err();
                 self.errors = self.errors.saturating_add(1);
                 Err(Failed)
             }
@@ -117,7 +208,6 @@ impl<W: Write> Sink for StdSink<W> {
 #[cfg(test)]
 mod tests {
     use super::*;
-    use std::io;
     use std::test::Fail;
 
     /// At each call it gives the next byte of its script, or an error where there is none.
@@ -175,7 +265,7 @@ mod tests {
     #[test]
     fn std_source_passes_reads_on_and_counts_errors(rt: HostRuntime) -> Result<(), Fail> {
         let script = [Some(7), None, Some(9), None];
-        let mut source = StdSource::new(ScriptReader { script, call: 0 });
+        let mut source = StdSource::new(rt.alloc(), ScriptReader { script, call: 0 }, 8);
         let expected = [
             (Ok(1), 7, 0),
             (Err(Failed), 0, 1),
@@ -189,6 +279,46 @@ mod tests {
             assert_eq!(rt; room, [byte, 0, 0]);
             assert_eq!(rt; source.errors, errors);
         }
+        assert_eq!(rt; source.front(), [7, 9].as_slice());
+        assert!(rt; source.is_whole());
+        assert!(rt; source.error().is_some());
+        Ok(())
+    }
+
+    /// It gives what it has, as many bytes a call as there is room for.
+    #[derive(Drop)]
+    struct WholeReader<'a> {
+        left: &'a [u8],
+    }
+
+    impl<'a> Read for WholeReader<'a> {
+        fn read(&mut self, buf: &mut [u8]) -> io::Result<usize> {
+            let count = self.left.len().min(buf.len());
+            let (front, behind) = self.left.split_at(count);
+            buf[..count].copy_from_slice(front);
+            self.left = behind;
+            Ok(count)
+        }
+    }
+
+    #[test]
+    fn std_source_passes_on_all_bytes_of_a_read_and_keeps_a_front(
+        rt: HostRuntime,
+    ) -> Result<(), Fail> {
+        let mut source = StdSource::new(rt.alloc(), WholeReader { left: b"abcdefg" }, 5);
+        let expected: [(usize, [u8; 4], &[u8]); 3] = [
+            (4, [b'a', b'b', b'c', b'd'], b"abcd"),
+            (3, [b'e', b'f', b'g', 0], b"abcde"),
+            (0, [0; 4], b"abcde"),
+        ];
+        for (count, bytes, front) in expected {
+            let mut room = [0; 4];
+            assert_eq!(rt; source.take(&mut room), Ok(count));
+            assert_eq!(rt; room, bytes);
+            assert_eq!(rt; source.front(), front);
+        }
+        assert!(rt; !source.is_whole());
+        assert!(rt; source.into_error().is_none());
         Ok(())
     }
 
@@ -215,6 +345,8 @@ mod tests {
             assert_eq!(rt; sink.errors, errors);
         }
         assert_eq!(rt; sink.writer.held.as_slice(), b"abcd".as_slice());
+        assert_eq!(rt; sink.front(), b"abcd".as_slice());
+        assert!(rt; sink.error().is_some());
         Ok(())
     }
 }

@@ -1,9 +1,8 @@
 //! What goes wrong, in words.
 ghost use Rattle.std.specs.Prelude.{◌≢◌};
-ghost use Rattle.knot_jobs.specs.declared.status.Status.TheVariants as status;
+ghost use Rattle.decision_core.specs.declared.status.Status.TheVariants as status;
 
-use knot_jobs::Status;
-use seek_core::MAX_BYTES;
+use decision_core::{MAX_INPUT, Status};
 use seek_faults::NotOne;
 use std::{fmt, io};
 
@@ -27,6 +26,10 @@ pub(crate) enum Failure<'a> {
         name: &'a str,
         why: NotOne,
     },
+    /// The file that the verdict would be written to is one of those that are read.
+    ReadAndWritten {
+        name: &'a str,
+    },
     /// The verdict can't be written.
     Write {
         name: &'a str,
@@ -45,6 +48,7 @@ impl<'a> Failure<'a> {
             Failure::Read { .. } => Status::ReadFault,
             Failure::Long { .. } => Status::Limit,
             Failure::NotOne { .. } => Status::Malformed,
+            Failure::ReadAndWritten { .. } => Status::Usage,
             Failure::Write { .. } => Status::WriteFault,
             Failure::OutOfMemory => Status::OutOfMemory,
         }
@@ -64,17 +68,35 @@ fn write_io<W: fmt::Write>(
     }
 }
 
+/// Writes what a file that can't be read may have been meant as.
+fn write_job<W: fmt::Write>(f: &mut fmt::Formatter<W>, name: &str) -> fmt::Result {
+    match name {
+        "decide" | "check" => write!(
+            f,
+            "; `{name}` is a job of `knot`, and `seek` takes files without a job"
+        ),
+        _ => Ok(()),
+    }
+}
+
 impl<'a> fmt::Display for Failure<'a> {
     fn fmt<W: fmt::Write>(&self, f: &mut fmt::Formatter<W>) -> fmt::Result {
         match self {
-            Failure::Read { name, error } => write_io(f, name, "read", error),
+            Failure::Read { name, error } => {
+                write_io(f, name, "read", error)?;
+                write_job(f, name)
+            }
             Failure::Long { name } => {
-                write!(f, "{name} makes the problem longer than {MAX_BYTES} bytes")
+                write!(f, "{name} makes the problem longer than {MAX_INPUT} bytes")
             }
             Failure::NotOne { name, why } => match why.line() {
                 Some(line) => write!(f, "{name}, line {line}: {why}"),
                 None => write!(f, "{name}: {why}"),
             },
+            Failure::ReadAndWritten { name } => write!(
+                f,
+                "{name} is one of the files that are read, and the verdict would take its place: name another one behind `--out`"
+            ),
             Failure::Write { name, error } => write_io(f, name, "written", error),
             Failure::OutOfMemory => write!(f, "there is not enough memory"),
         }

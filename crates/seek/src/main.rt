@@ -2,25 +2,26 @@
 //! What is written with status 0 is a decision on the problem, by the contract of `run` of seek_core, which is called here.
 #![tactic(auto)]
 
+mod clash;
 mod failure;
 mod out_file;
 mod parts;
-mod ports;
 mod progress;
 mod report;
 
+use crate::clash::{read_and_written, reads_input};
 use crate::failure::{Failure, OUTPUT};
 use crate::out_file::OutFile;
 use crate::parts::Parts;
-use crate::ports::TellingSink;
 use crate::progress::Teller;
 use crate::report::{tell, tell_ending};
 use clap::error::ErrorKind;
-use knot_jobs::Status;
-use knot_ports::Sink;
+use decision_core::Status;
+use knot_ports::{Sink, StdSink};
 use seek_core::{Bounds, Ending, run};
-use seek_words::{Asked, read_words};
+use seek_words::{Asked, Talk, option_bounds, read_words};
 use std::io;
+use std::io::IsTerminal;
 use std::process::ExitCode;
 use std::thread::Threads;
 
@@ -62,6 +63,9 @@ fn answer_words(rt: &HostRuntime, error: &clap::Error) -> Status {
         return Status::OutOfMemory;
     }
     if error.use_stderr() {
+        if let Ok(Some(bounds)) = option_bounds(rt.alloc(), error) {
+            let _told = eprintln!(rt; "seek: {bounds}");
+        }
         return Status::Usage;
     }
     match printed {
@@ -78,16 +82,23 @@ fn answer_words(rt: &HostRuntime, error: &clap::Error) -> Status {
 
 /// Reads the diagrams, seeks a verdict on them, and writes it.
 fn seek<R: Threads + Sync>(rt: &HostRuntime, threads: &R, asked: &Asked) -> Status {
+    if let Some(name) = read_and_written(rt, asked) {
+        return tell(rt, &Failure::ReadAndWritten { name });
+    }
+    if asked.talk != Talk::Quiet && reads_input(asked) && rt.stdin().is_terminal() {
+        let _told = eprintln!(rt; "seek: standard input is read, up to its end (Ctrl-D)");
+    }
     let parts = match Parts::read(rt, asked) {
         Ok(parts) => parts,
         Err(failure) => return tell(rt, &failure),
     };
+    let mut teller = Teller::new(rt, asked.talk);
     let written = match asked.out {
-        Some(path) => to_file(rt, threads, &parts, asked, path),
-        None => to_output(rt, threads, &parts, asked),
+        Some(path) => to_file(rt, threads, &parts, asked, path, &mut teller),
+        None => to_output(rt, threads, &parts, asked, &mut teller),
     };
     match written {
-        Ok(ending) => tell_ending(rt, asked, &parts, &ending),
+        Ok(ending) => tell_ending(rt, asked, &parts, &ending, teller.steps()),
         Err(failure) => tell(rt, &failure),
     }
 }
@@ -99,15 +110,15 @@ fn run_told<R: Threads + Sync, K: Sink>(
     parts: &Parts,
     asked: &Asked,
     sink: &mut K,
+    teller: &mut Teller,
 ) -> Ending {
-    let mut teller = Teller::new(rt, asked.talk);
     let ending = run(
         threads,
         rt.alloc(),
         parts.bytes(),
         bounds_of(asked),
         sink,
-        &mut teller,
+        teller,
     );
     teller.end();
     ending
@@ -129,9 +140,10 @@ fn to_output<'a, R: Threads + Sync>(
     threads: &R,
     parts: &Parts,
     asked: &Asked,
+    teller: &mut Teller,
 ) -> Result<Ending, Failure<'a>> {
-    let mut sink = TellingSink::new(rt.stdout());
-    match run_told(rt, threads, parts, asked, &mut sink) {
+    let mut sink = StdSink::new(rt.stdout());
+    match run_told(rt, threads, parts, asked, &mut sink, teller) {
         Ending::WriteFault => Err(Failure::Write {
             name: OUTPUT,
             error: sink.into_error(),
@@ -147,6 +159,7 @@ fn to_file<'a, R: Threads + Sync>(
     parts: &Parts,
     asked: &Asked,
     path: &'a str,
+    teller: &mut Teller,
 ) -> Result<Ending, Failure<'a>> {
     let Ok(mut file) = OutFile::new(rt, path) else {
         return Err(Failure::OutOfMemory);
@@ -157,7 +170,7 @@ fn to_file<'a, R: Threads + Sync>(
             error: Some(error),
         });
     }
-    let ending = run_told(rt, threads, parts, asked, &mut file);
+    let ending = run_told(rt, threads, parts, asked, &mut file, teller);
     match ending {
         Ending::Done => match file.keep() {
             Ok(()) => Ok(Ending::Done),

@@ -2,10 +2,9 @@
 ghost use Rattle.std.specs.Prelude.{◌≡◌, ◌++◌, codes, IfOk};
 
 use crate::failure::Failure;
-use crate::ports::TellingSource;
+use decision_core::MAX_INPUT;
 use grid_core::Items;
-use knot_ports::{ReadEnd, read_all};
-use seek_core::MAX_BYTES;
+use knot_ports::{ReadEnd, StdSource, read_all};
 use seek_faults::one_diagram;
 use seek_words::{Asked, Diagrams, Given};
 use std::alloc::{AllocError, Global};
@@ -160,8 +159,8 @@ fn read_source<'a, R: Read + Drop>(
     name: &'a str,
     reader: R,
 ) -> Result<Vec<u8>, Failure<'a>> {
-    let mut source = TellingSource::new(reader);
-    match read_all(alloc, &mut source, MAX_BYTES) {
+    let mut source = StdSource::new(alloc, reader, 0);
+    match read_all(alloc, &mut source, MAX_INPUT) {
         Ok(bytes) => Ok(bytes),
         Err(ReadEnd::TooLong) => Err(Failure::Long { name }),
         Err(ReadEnd::Fault) => Err(Failure::Read {

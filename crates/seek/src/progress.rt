@@ -28,6 +28,8 @@ pub(crate) struct Teller<'a> {
     last: Option<Instant>,
     /// Whether a line stands on the terminal.
     is_written: bool,
+    /// How many steps the first worker has made.
+    steps: u64,
 }
 
 impl<'a> Teller<'a> {
@@ -43,6 +45,7 @@ impl<'a> Teller<'a> {
             way,
             last,
             is_written: false,
+            steps: 0,
         }
     }
 
@@ -81,6 +84,11 @@ impl<'a> Teller<'a> {
         self.is_written = self.way == Way::OneLine;
     }
 
+    /// How many steps the first worker has made.
+    pub(crate) fn steps(&self) -> u64 {
+        self.steps
+    }
+
     /// Clears the line of a terminal.
     pub(crate) fn end(&mut self) {
         if self.is_written {
@@ -102,6 +110,7 @@ fn way_of(talk: Talk, is_terminal: bool) -> Way {
 
 impl<'a> Watch for Teller<'a> {
     fn note(&mut self, progress: Progress) {
+        self.steps = progress.steps;
         if self.way != Way::Silent && self.is_due() {
             self.tell(progress);
         }

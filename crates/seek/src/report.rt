@@ -1,19 +1,26 @@
 //! What is told on standard error.
 ghost use Rattle.std.specs.Prelude.{◌≡◌, ◌≢◌};
-ghost use Rattle.knot_jobs.specs.declared.status.Status.TheVariants as status;
+ghost use Rattle.decision_core.specs.declared.status.Status.TheVariants as status;
 ghost use Rattle.seek_core.specs.Answers.{ending_status};
 
 use crate::failure::{Failure, OUTPUT};
 use crate::parts::Parts;
-use knot_jobs::Status;
+use decision_core::Status;
 use seek_core::{Ending, Tried, join_parts};
-use seek_faults::reason_at;
+use seek_faults::{BraidReason, Reason, reason_at};
 use seek_words::{Asked, Talk};
 use std::fmt;
 use verdict_core::{Listed, QuandleName};
 
-/// Tells how a call ended, where that is not with a verdict: the status, which is 0 only where it ended with one.
-pub(crate) fn tell_ending(rt: &HostRuntime, asked: &Asked, parts: &Parts, ending: &Ending) -> Status
+/// Tells how a call ended, where that is not with a verdict: the status, which is 0 only where it ended with one. The first worker has
+/// made so many steps.
+pub(crate) fn tell_ending(
+    rt: &HostRuntime,
+    asked: &Asked,
+    parts: &Parts,
+    ending: &Ending,
+    made: u64,
+) -> Status
     ensures { result ≡ status.Done → ending_status ending.now ≡ status.Done }
 {
     match ending {
@@ -25,10 +32,9 @@ pub(crate) fn tell_ending(rt: &HostRuntime, asked: &Asked, parts: &Parts, ending
                     workers: asked.workers,
                     steps: asked.steps,
                     seed: asked.seed,
+                    made,
                 };
-                let _told = eprintln!(rt;
-                    "seek: nothing found: {tried}, and {walks} led to no list of moves"
-                );
+                let _told = eprintln!(rt; "seek: nothing found: {tried}, and {walks}");
             }
             Status::Unknown
         }
@@ -70,8 +76,27 @@ fn tell_line(rt: &HostRuntime, parts: &Parts, at: usize, kind: Status) -> Status
     };
     let (name, line) = parts.place(at);
     let reason = reason_at(problem.as_slice(), at);
-    let _told = eprintln!(rt; "seek: {name}, line {line}: {reason}");
+    let form = if name.ends_with("--braid") && is_of_form(reason) {
+        BRAID_FORM
+    } else {
+        ""
+    };
+    let _told = eprintln!(rt; "seek: {name}, line {line}: {reason}{form}");
     kind
+}
+
+/// What is said of a braid among the words that has another form.
+const BRAID_FORM: &str =
+    "; behind --braid stand the number of strands and the letters, with blanks between, as \"2 1 1 1\"";
+
+/// Whether a line has not the form of a braid.
+fn is_of_form(reason: Reason) -> bool {
+    match reason {
+        Reason::NoNumber { .. }
+        | Reason::Braid(BraidReason::NoStrands)
+        | Reason::Braid(BraidReason::NoLetter { .. }) => true,
+        _ => false,
+    }
 }
 
 /// What was tried, as a part of a sentence.
@@ -103,6 +128,8 @@ struct Walks {
     workers: u32,
     steps: u64,
     seed: u64,
+    /// The steps that the first worker has made.
+    made: u64,
 }
 
 impl fmt::Display for Walks {
@@ -111,14 +138,28 @@ impl fmt::Display for Walks {
             workers,
             steps,
             seed,
+            made,
         } = *self;
+        let found = "led to no list of moves";
+        let is_early = made < steps;
         if workers > 1 {
             write!(
                 f,
-                "walks of {workers} workers, of up to {steps} steps each, from seed {seed} on,"
-            )
+                "walks of {workers} workers, of up to {steps} steps each, from seed {seed} on, {found}"
+            )?;
         } else {
-            write!(f, "walks of up to {steps} steps from seed {seed}")
+            write!(f, "walks of up to {steps} steps from seed {seed} {found}")?;
+        }
+        match (is_early, workers > 1) {
+            (false, _) => Ok(()),
+            (true, true) => write!(
+                f,
+                "; the first worker stopped after {made}, which met nothing new for long"
+            ),
+            (true, false) => write!(
+                f,
+                "; they stopped after {made}, which met nothing new for long, so that more steps change nothing, and another seed may"
+            ),
         }
     }
 }

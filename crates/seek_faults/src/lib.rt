@@ -1,4 +1,4 @@
-//! Why a line of a problem is bad, in words, for whoever wrote it.
+//! Why a line of an input is bad, in words, for whoever wrote it.
 //! That a line is bad is knot_text's to say, with a proof; here the line is read once more, beside it, to find out what to say of it.
 #![tactic(auto)]
 
@@ -9,6 +9,9 @@ mod numbers;
 mod quandles;
 mod reader;
 mod reason;
+mod shape;
+#[cfg(test)]
+mod shape_tests;
 mod shown;
 #[cfg(test)]
 mod tests;
@@ -17,6 +20,7 @@ pub use alone::{NotOne, one_diagram};
 pub use braids::BraidReason;
 pub use grids::GridReason;
 pub use quandles::{Family, QuandleReason};
-pub use reader::reason_at;
-pub use reason::{Due, Reason};
+pub use reader::{reason_at, reason_in};
+pub use reason::{Due, Reason, Which};
+pub use shape::{PROBLEM, Part, Shape, Then};
 pub use shown::Shown;

@@ -117,7 +117,7 @@ impl<'a> fmt::Display for QuandleReason<'a> {
             QuandleReason::Many => {
                 write!(
                     f,
-                    "there are more than the {MAX_QUANDLES} quandles that a problem may have"
+                    "there are more than the {MAX_QUANDLES} quandles that an input may have"
                 )
             }
             QuandleReason::RowLength { count, order } => write!(

@@ -3,21 +3,38 @@
 use crate::braids::BraidReason;
 use crate::grids::GridReason;
 use crate::quandles::QuandleReason;
+use crate::shape::{Limits, Part};
 use crate::shown::Shown;
 use std::fmt;
 use text_lines::MAX_DIGITS;
 
-/// What is due in a line of a problem.
+/// Which of the diagrams of an input.
+#[derive(Clone, Copy, Debug, PartialEq, Eq)]
+pub enum Which {
+    Only,
+    First,
+    Second,
+}
+
+/// What is due in a line of an input.
 #[derive(Clone, Copy, Debug, PartialEq, Eq)]
 pub enum Due {
-    /// The first line of the first or the second diagram.
-    Diagram { which: u8 },
-    /// The line of the Os of the first or the second diagram.
-    Rings { which: u8 },
+    /// The first line of a diagram.
+    Diagram { which: Which, is_braid: bool },
+    /// The line of the Os of a diagram.
+    Rings { which: Which },
     /// A row of the table of a quandle, counted from 0.
     Row { row: usize },
     /// A quandle, or nothing.
+    Quandles { are_two: bool },
+    /// A quandle.
     Quandle,
+    /// Nothing.
+    Nothing { are_two: bool },
+    /// The first line of a part; in the place of a verdict's a quandle may stand.
+    Begin { part: Part },
+    /// A further line of the part that begins in a line.
+    Behind { part: Part, line: usize },
 }
 
 /// Why a line is not what is due.
@@ -37,42 +54,96 @@ pub enum Reason<'a> {
     Braid(BraidReason<'a>),
     /// It is no quandle.
     Quandle(QuandleReason<'a>),
+    /// A limit of a part is exceeded.
+    Limit { part: Part },
     /// No reason was found.
     Other { due: Due },
 }
 
-/// The first or the second.
-fn ordinal(which: u8) -> &'static str {
-    if which == 1 { "first" } else { "second" }
+impl Which {
+    /// The article and the number of a diagram that isn't there yet.
+    fn new(self) -> &'static str {
+        match self {
+            Which::Only => "a",
+            Which::First => "the first",
+            Which::Second => "the second",
+        }
+    }
+
+    /// The same of one that has begun.
+    fn begun(self) -> &'static str {
+        match self {
+            Which::Only => "the",
+            Which::First => "the first",
+            Which::Second => "the second",
+        }
+    }
+}
+
+/// The diagrams of an input, as they are called.
+fn diagrams(are_two: bool) -> &'static str {
+    if are_two {
+        "the two diagrams"
+    } else {
+        "the diagram"
+    }
 }
 
 impl fmt::Display for Due {
     fn fmt<W: fmt::Write>(&self, f: &mut fmt::Formatter<W>) -> fmt::Result {
         match self {
-            Due::Diagram { which } => {
-                let which = ordinal(*which);
-                write!(
-                    f,
-                    "the {which} diagram is due, as lines `x ..` and `o ..` or as a line `braid ..`"
-                )
+            Due::Diagram { which, is_braid } => {
+                let which = which.new();
+                if *is_braid {
+                    write!(f, "{which} braid is due, as a line `braid ..`")
+                } else {
+                    write!(
+                        f,
+                        "{which} diagram is due, as lines `x ..` and `o ..` or as a line `braid ..`"
+                    )
+                }
             }
             Due::Rings { which } => {
-                let which = ordinal(*which);
-                write!(f, "the line `o ..` of the {which} diagram is due")
+                let which = which.begun();
+                write!(f, "the line `o ..` of {which} diagram is due")
             }
             Due::Row { row } => {
                 let row = *row;
                 write!(f, "row {row} of the table of a quandle is due")
             }
-            Due::Quandle => write!(f, "only lines `quandle ..` may follow the two diagrams"),
+            Due::Quandles { are_two } => {
+                let diagrams = diagrams(*are_two);
+                write!(f, "only lines `quandle ..` may follow {diagrams}")
+            }
+            Due::Quandle => write!(f, "a line `quandle ..` is due"),
+            Due::Nothing { are_two } => {
+                let diagrams = diagrams(*are_two);
+                write!(f, "nothing may follow {diagrams}")
+            }
+            Due::Begin { part } => write_begin(f, *part),
+            Due::Behind { part, line } => {
+                write!(f, "more is due behind line {line}, where {part}")
+            }
         }
     }
+}
+
+/// Writes what is due where a part may begin.
+fn write_begin<W: fmt::Write>(f: &mut fmt::Formatter<W>, part: Part) -> fmt::Result {
+    f.write_str(match part {
+        Part::Verdict => {
+            "lines `quandle ..` or a verdict are due, from `certificate ..`, `equal ..`, `different ..` or `unknown ..` on"
+        }
+        Part::Moves => "a line `moves ..` with their number is due",
+        Part::Steps => "a line `steps ..` with their number is due",
+        Part::Cocycle => "a line `weight ..` with a modulus is due",
+    })
 }
 
 impl<'a> fmt::Display for Reason<'a> {
     fn fmt<W: fmt::Write>(&self, f: &mut fmt::Formatter<W>) -> fmt::Result {
         match self {
-            Reason::Ends { due } => write!(f, "the problem ends here, and {due}"),
+            Reason::Ends { due } => write!(f, "the input ends here, and {due}"),
             Reason::Begins { due, token } => write!(f, "the line begins with {token}, and {due}"),
             Reason::NoNumber { token } => write!(f, "{token} is not a number"),
             Reason::Digits { token } => {
@@ -84,6 +155,16 @@ impl<'a> fmt::Display for Reason<'a> {
             Reason::Grid(reason) => write!(f, "{reason}"),
             Reason::Braid(reason) => write!(f, "{reason}"),
             Reason::Quandle(reason) => write!(f, "{reason}"),
+            Reason::Limit { part } => {
+                let limits = Limits(*part);
+                write!(f, "a limit is exceeded: {limits}")
+            }
+            Reason::Other {
+                due: Due::Behind { part, line },
+            } => write!(
+                f,
+                "the line is not what is due behind line {line}, where {part}"
+            ),
             Reason::Other { due } => write!(f, "the line is not what is due: {due}"),
         }
     }

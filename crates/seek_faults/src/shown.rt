@@ -4,18 +4,43 @@ use std::fmt;
 
 /// How many bytes of a token are shown.
 const MOST: usize = 24;
+/// The bytes of a byte order mark, U+FEFF, which some programs put before a text.
+const MARK: &[u8] = b"\xef\xbb\xbf";
+/// The bytes of U+2212, the minus sign of typeset texts.
+const MINUS: &[u8] = b"\xe2\x88\x92";
 
-/// A token of a text, as it is shown in a sentence: its first bytes, and a `?` for each that is no printable ASCII.
+/// A token of a text, as it is shown in a sentence: its first bytes, and a `?` for each that is no printable ASCII. A byte order mark, which
+/// nobody sees, and the minus sign of typeset texts, which looks like another one, are named behind it.
 #[derive(Clone, Copy, Debug, PartialEq, Eq)]
 pub struct Shown<'a>(pub &'a [u8]);
 
 impl<'a> fmt::Display for Shown<'a> {
     fn fmt<W: fmt::Write>(&self, f: &mut fmt::Formatter<W>) -> fmt::Result {
+        let (text, is_marked) = match self.0.strip_prefix(MARK) {
+            Some(rest) => (rest, true),
+            None => (self.0, false),
+        };
+        let mut has_minus = false;
+        let mut rest = text;
         f.write_str("`")?;
-        for byte in self.0.iter().take(MOST) {
-            f.write_char(printable(*byte))?;
+        for _shown in 0..MOST {
+            let (shown, behind) = match (rest.strip_prefix(MINUS), rest.split_first()) {
+                (Some(behind), _) => ('−', behind),
+                (None, Some((byte, behind))) => (printable(*byte), behind),
+                (None, None) => break,
+            };
+            has_minus = has_minus || shown == '−';
+            f.write_char(shown)?;
+            rest = behind;
         }
-        f.write_str(if self.0.len() > MOST { "…`" } else { "`" })
+        f.write_str(if rest.is_empty() { "`" } else { "…`" })?;
+        if is_marked {
+            f.write_str(" (behind a byte order mark, which has to go)")?;
+        }
+        if has_minus {
+            f.write_str(" (with U+2212, a minus sign from a text; write -)")?;
+        }
+        Ok(())
     }
 }
 

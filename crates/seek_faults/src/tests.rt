@@ -15,7 +15,7 @@ const GRIDS: [Row; 10] = [
     (
         b"",
         1,
-        "the problem ends here, and the first diagram is due, as lines `x ..` and `o ..` or as a line `braid ..`",
+        "the input ends here, and the first diagram is due, as lines `x ..` and `o ..` or as a line `braid ..`",
     ),
     (
         b"y 0 1\n",
@@ -25,7 +25,7 @@ const GRIDS: [Row; 10] = [
     (
         b"x 0 1\n",
         2,
-        "the problem ends here, and the line `o ..` of the first diagram is due",
+        "the input ends here, and the line `o ..` of the first diagram is due",
     ),
     (
         b"x 4 3 2 1 7\n",
@@ -106,7 +106,7 @@ const BRAIDS: [Row; 8] = [
     (
         b"braid 2 1 1 1\n",
         2,
-        "the problem ends here, and the second diagram is due, as lines `x ..` and `o ..` or as a line `braid ..`",
+        "the input ends here, and the second diagram is due, as lines `x ..` and `o ..` or as a line `braid ..`",
     ),
 ];
 
@@ -171,7 +171,7 @@ const QUANDLES: [Row; 18] = [
     (
         b"braid 1\nbraid 1\nquandle table 2\n0 0\n",
         5,
-        "the problem ends here, and row 1 of the table of a quandle is due",
+        "the input ends here, and row 1 of the table of a quandle is due",
     ),
     (
         b"braid 1\nbraid 1\nquandle table 2\n0 0\n1\n",
@@ -290,7 +290,7 @@ fn each_limit_has_its_sentence(rt: HostRuntime) -> Result<(), Fail> {
 #[test]
 fn a_quandle_too_many_has_its_sentence(rt: HostRuntime) -> Result<(), Fail> {
     let most = format!(in rt.alloc();
-        "there are more than the {MAX_QUANDLES} quandles that a problem may have"
+        "there are more than the {MAX_QUANDLES} quandles that an input may have"
     )?;
     let rows: [(&str, &str); 5] = [
         ("quandle trivial 2\n", most.as_str()),

@@ -129,28 +129,28 @@ fn with_bounds<'a>(alloc: Global, command: Command<'a>) -> Result<Command<'a>, A
             SEED,
             clap::value_parser!(u64),
             "1",
-            "The seed of the random walks",
+            "The seed of the random walks, from 0 on",
         ))?
         .arg(number_arg(
             alloc,
             STEPS,
             clap::value_parser!(u64),
             "8000000",
-            "How many steps the walks of a worker may make",
+            "How many steps the walks of a worker may make, from 0 on",
         ))?
         .arg(number_arg(
             alloc,
             ROOM,
             clap::value_parser!(u32),
             "524288",
-            "How many forms a worker may remember",
+            "How many forms a worker may remember, from 0 on",
         ))?
         .arg(number_arg(
             alloc,
             WORKERS,
             clap::value_parser!(u32).range(1..=64),
             "1",
-            "How many workers seek, each with a seed of its own; the fewest steps win",
+            "How many workers seek, 1 to 64, each with a seed of its own; the fewest steps win",
         ))
 }
 

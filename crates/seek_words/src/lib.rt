@@ -4,9 +4,11 @@
 mod asked;
 mod command;
 mod given;
+mod limits;
 #[cfg(test)]
 mod tests;
 
 pub use asked::{Asked, Talk, read_words};
 pub use command::VERSION;
 pub use given::{Diagrams, Given};
+pub use limits::option_bounds;

@@ -1,6 +1,7 @@
 //! Words, and what they ask for.
 use crate::asked::{Talk, read_words};
 use crate::given::{Diagrams, Given};
+use crate::limits::option_bounds;
 use std::alloc::Global;
 use std::test::Fail;
 
@@ -117,6 +118,42 @@ fn other_words_are_refused_in_words(rt: HostRuntime) -> Result<(), Fail> {
         assert_eq!(rt; error.exit_code(), code);
         let text = format!(in rt.alloc(); "{error}")?;
         assert!(rt; text.as_str().contains(part), "{text}");
+    }
+    Ok(())
+}
+
+#[test]
+fn refused_numbers_have_their_bounds_told(rt: HostRuntime) -> Result<(), Fail> {
+    let rows: [(&[&str], Option<&str>); 7] = [
+        (
+            &["--steps", "1e6"],
+            Some("--steps is a whole number from 0 to"),
+        ),
+        (
+            &["--seed=-1"],
+            Some("--seed is a whole number from 0 to 18446744073709551615"),
+        ),
+        (
+            &["--room", "4294967296"],
+            Some("--room is a whole number from 0 to 4294967295"),
+        ),
+        (
+            &["--workers", "0"],
+            Some("--workers is a whole number from 1 to 64"),
+        ),
+        (&["--colour"], None),
+        (&["--help"], None),
+        (&["--braid", "1"], None),
+    ];
+    for (line, expected) in rows {
+        let list = words(rt.alloc(), line)?;
+        let Err(error) = read_words(rt.alloc(), list.as_slice()) else {
+            return Err(Fail::from("taken"));
+        };
+        match (option_bounds(rt.alloc(), &error)?, expected) {
+            (Some(told), Some(begins)) => assert!(rt; told.starts_with(begins), "{told}"),
+            (told, expected) => assert_eq!(rt; told, expected),
+        }
     }
     Ok(())
 }

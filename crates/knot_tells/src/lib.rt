@@ -1,0 +1,12 @@
+//! What `knot` tells on standard error, in words, beside what it answers.
+//! What it answers is knot_jobs' to say, with a proof; here the words and the input are looked at once more, for whoever wrote them.
+#![tactic(auto)]
+
+mod lines;
+mod sentence;
+mod shapes;
+#[cfg(test)]
+mod tests;
+mod words;
+
+pub use sentence::{Sentence, reading, sentence_of};

@@ -1,0 +1,162 @@
+//! What is told of a call, as a sentence.
+
+use crate::lines::{Named, has_line, named_in};
+use crate::shapes::shape_of;
+use crate::words::{BadWords, JOBS, bad_words};
+use knot_jobs::{Job, Status, read_words};
+use knot_ports::{StdSink, StdSource};
+use seek_faults::{Reason, Shown, reason_in};
+use std::alloc::Global;
+use std::fs::Files;
+use std::io::{Read, Write};
+use std::{fmt, io};
+
+/// What is told of a call that ended otherwise than with an answer.
+#[derive(Debug, Drop)]
+pub enum Sentence<'a> {
+    /// Why the words ask for no job.
+    Words(BadWords<'a>),
+    /// Why a line is bad.
+    Line { line: usize, reason: Reason<'a> },
+    /// A line is bad, and it isn't known why.
+    LineAlone { line: usize, is_limit: bool },
+    /// The input is too long.
+    Long,
+    /// Reading failed.
+    Read { error: Option<&'a io::Error> },
+    /// Writing failed.
+    Write { error: Option<&'a io::Error> },
+    /// Memory was wanting.
+    OutOfMemory,
+}
+
+/// The job that is asked for, if it reads an input.
+pub fn reading(alloc: Global, words: &[String]) -> Option<Job> {
+    match read_words(alloc, words) {
+        Ok(asked) if asked.job != Job::Sample => Some(asked.job),
+        Ok(_) | Err(_) => None,
+    }
+}
+
+/// What is told of a call that ended with this status, if anything is; its source and its sink were these.
+pub fn sentence_of<'a, R: Read + Drop, W: Write + Drop>(
+    files: &impl Files,
+    alloc: Global,
+    words: &'a [String],
+    status: Status,
+    source: &'a StdSource<R>,
+    sink: &'a StdSink<W>,
+) -> Option<Sentence<'a>> {
+    match status {
+        Status::Done | Status::Unknown | Status::Rejected => None,
+        Status::Usage => match bad_words(files, alloc, words) {
+            Ok(bad) => Some(Sentence::Words(bad)),
+            Err(_) => Some(Sentence::Words(BadWords::Other)),
+        },
+        Status::Malformed | Status::Limit => {
+            let is_limit = status == Status::Limit;
+            line_sentence(reading(alloc, words)?, is_limit, source, sink)
+        }
+        Status::ReadFault => Some(Sentence::Read {
+            error: source.error(),
+        }),
+        Status::WriteFault => Some(Sentence::Write {
+            error: sink.error(),
+        }),
+        Status::OutOfMemory => Some(Sentence::OutOfMemory),
+    }
+}
+
+/// What is told of the line that an answer names, or of the length of the input.
+fn line_sentence<'a, R: Read + Drop, W: Write + Drop>(
+    job: Job,
+    is_limit: bool,
+    source: &'a StdSource<R>,
+    sink: &StdSink<W>,
+) -> Option<Sentence<'a>> {
+    let line = match named_in(sink.front())? {
+        Named::Bytes => return Some(Sentence::Long),
+        Named::Line(line) => line,
+    };
+    let shape = shape_of(job)?;
+    let front = source.front();
+    if source.is_whole() || has_line(front, line) {
+        let reason = reason_in(shape, front, line, is_limit);
+        return Some(Sentence::Line { line, reason });
+    }
+    Some(Sentence::LineAlone { line, is_limit })
+}
+
+impl<'a> fmt::Display for Sentence<'a> {
+    fn fmt<W: fmt::Write>(&self, f: &mut fmt::Formatter<W>) -> fmt::Result {
+        match self {
+            Sentence::Words(bad) => write!(f, "{bad}"),
+            Sentence::Line { line, reason } => write!(f, "line {line}: {reason}"),
+            Sentence::LineAlone {
+                line,
+                is_limit: true,
+            } => write!(f, "line {line} exceeds a limit"),
+            Sentence::LineAlone { line, .. } => write!(f, "line {line} is not what is due there"),
+            Sentence::Long => write!(f, "the input has more bytes than the job takes"),
+            Sentence::Read { error } => write_io(f, "standard input can't be read", *error),
+            Sentence::Write { error } => write_io(f, "standard output can't be written", *error),
+            Sentence::OutOfMemory => write!(f, "there is not enough memory"),
+        }
+    }
+}
+
+/// Writes what can't be done, and why.
+fn write_io<W: fmt::Write>(
+    f: &mut fmt::Formatter<W>,
+    what: &str,
+    error: Option<&io::Error>,
+) -> fmt::Result {
+    match error {
+        Some(error) => write!(f, "{what}: {error}"),
+        None => write!(f, "{what}"),
+    }
+}
+
+impl<'a> fmt::Display for BadWords<'a> {
+    fn fmt<W: fmt::Write>(&self, f: &mut fmt::Formatter<W>) -> fmt::Result {
+        match self {
+            BadWords::NoJob => write!(f, "a job is due; the jobs are {JOBS}"),
+            BadWords::OtherJob { word } => {
+                let word = Shown(word.as_bytes());
+                write!(f, "there is no job {word}; the jobs are {JOBS}")
+            }
+            BadWords::File { job, file } => write!(
+                f,
+                "{file} is a file, and a job reads standard input: knot {job} < {file}"
+            ),
+            BadWords::TwoJobs { first, second } => {
+                let (first, second) = (Shown(first.as_bytes()), Shown(second.as_bytes()));
+                write!(
+                    f,
+                    "one job is due, and here are the words {first} and {second}"
+                )
+            }
+            BadWords::Value { knob, value } => {
+                let value = Shown(value.as_bytes());
+                write!(f, "{knob}, and {value} is none")
+            }
+            BadWords::NoValue { knob } => write!(f, "{knob}, and none stands behind it"),
+            BadWords::Twice { knob } => {
+                let name = knob.name;
+                write!(f, "{name} stands twice")
+            }
+            BadWords::NoOption { word } => {
+                let word = Shown(word.as_bytes());
+                write!(
+                    f,
+                    "there is no option {word}; the options are --workers, --budget, --spare and --seed, with a whole number each"
+                )
+            }
+            BadWords::Help => write!(
+                f,
+                "the launcher ./knot and docs/FORMATS.md have the help; the jobs are {JOBS}"
+            ),
+            BadWords::Other => write!(f, "the words ask for no job; the jobs are {JOBS}"),
+        }
+    }
+}

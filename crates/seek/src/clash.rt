@@ -1,0 +1,47 @@
+//! Which files are read: whether standard input is among them, and whether one is written too.
+
+use seek_words::{Asked, Diagrams, Given};
+use std::fs;
+use std::os::unix::fs::MetadataExt;
+
+/// The first of the files that are read that is the one that is written, under whichever names; None without one. Devices and pipes may
+/// be both.
+pub(crate) fn read_and_written<'a>(rt: &HostRuntime, asked: &Asked<'a>) -> Option<&'a str> {
+    let (device, number) = file_at(rt, asked.out?)?;
+    let is_it = |path: &str| file_at(rt, path) == Some((device, number));
+    for given in diagrams_of(asked) {
+        match given {
+            Given::File(path) if path != "-" && is_it(path) => return Some(path),
+            Given::File(_) | Given::Braid(_) => {}
+        }
+    }
+    for path in &asked.quandles {
+        if *path != "-" && is_it(*path) {
+            return Some(*path);
+        }
+    }
+    None
+}
+
+/// Whether standard input is read.
+pub(crate) fn reads_input(asked: &Asked) -> bool {
+    let [first, second] = diagrams_of(asked);
+    let input = Given::File("-");
+    first == input || second == input || asked.quandles.contains(&"-")
+}
+
+/// The diagrams that are given, twice where they are one problem.
+fn diagrams_of<'a>(asked: &Asked<'a>) -> [Given<'a>; 2] {
+    match asked.diagrams {
+        Diagrams::Problem(given) => [given, given],
+        Diagrams::Pair(first, second) => [first, second],
+    }
+}
+
+/// The device and the number of the file at a path, where it has bytes of its own.
+fn file_at(rt: &HostRuntime, path: &str) -> Option<(u64, u64)> {
+    match fs::metadata(rt, path) {
+        Ok(found) if found.is_file() => Some((found.dev(), found.ino())),
+        Ok(_) | Err(_) => None,
+    }
+}

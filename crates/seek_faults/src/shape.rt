@@ -1,0 +1,122 @@
+//! What inputs are made of.
+
+use colour_list::MAX_COLOURINGS;
+use grid_core::MAX_SIZE;
+use quandle_core::MAX_ORDER;
+use std::fmt;
+use text_lines::MAX_DIGITS;
+
+/// The greatest number of a move or a step, and the greatest modulus.
+const MAX_BYTE: u8 = u8::MAX;
+/// The greatest absolute value of a letter in a step.
+const MAX_LETTER: i8 = i8::MAX;
+
+/// What an input is made of: diagrams, and what follows them.
+#[derive(Clone, Copy, Debug, PartialEq, Eq)]
+pub struct Shape {
+    /// Two diagrams, or one.
+    pub are_two: bool,
+    /// Whether each is a braid.
+    pub are_braids: bool,
+    pub then: Then,
+}
+
+/// What follows the diagrams.
+#[derive(Clone, Copy, Debug, PartialEq, Eq)]
+pub enum Then {
+    Nothing,
+    /// Any number of quandles.
+    Quandles,
+    /// Any number of quandles, and a further part.
+    QuandlesAnd(Part),
+    /// One quandle, and a further part.
+    QuandleAnd(Part),
+    /// A further part.
+    Only(Part),
+}
+
+/// A part of an input that isn't read here: its lines are known by where it begins.
+#[derive(Clone, Copy, Debug, PartialEq, Eq)]
+pub enum Part {
+    Verdict,
+    /// Moves, and what may stand behind them.
+    Moves,
+    Steps,
+    Cocycle,
+}
+
+/// Two diagrams and any number of quandles.
+pub const PROBLEM: Shape = Shape {
+    are_two: true,
+    are_braids: false,
+    then: Then::Quandles,
+};
+
+impl Then {
+    /// Whether a quandle may stand behind the diagrams and so many quandles.
+    pub(crate) fn takes_quandle(self, quandles: usize) -> bool {
+        match self {
+            Then::Quandles | Then::QuandlesAnd(_) => true,
+            Then::QuandleAnd(_) => quandles < 1,
+            Then::Nothing | Then::Only(_) => false,
+        }
+    }
+
+    /// The part that may begin behind so many quandles.
+    pub(crate) fn part(self, quandles: usize) -> Option<Part> {
+        match self {
+            Then::QuandlesAnd(part) | Then::Only(part) => Some(part),
+            Then::QuandleAnd(part) if quandles > 0 => Some(part),
+            Then::QuandleAnd(_) | Then::Nothing | Then::Quandles => None,
+        }
+    }
+}
+
+impl Part {
+    /// Whether its first line may begin with a word.
+    pub(crate) fn begins(self, token: &[u8]) -> bool {
+        let words: &[&[u8]] = match self {
+            Part::Verdict => &[b"certificate", b"equal", b"different", b"unknown"],
+            Part::Moves => &[b"moves"],
+            Part::Steps => &[b"steps"],
+            Part::Cocycle => &[b"weight"],
+        };
+        words.iter().any(|word| *word == token)
+    }
+}
+
+/// The limits of the lines of a part, in words.
+#[derive(Clone, Copy)]
+pub(crate) struct Limits(pub(crate) Part);
+
+impl fmt::Display for Limits {
+    fn fmt<W: fmt::Write>(&self, f: &mut fmt::Formatter<W>) -> fmt::Result {
+        match self.0 {
+            Part::Verdict => write!(
+                f,
+                "a list has at most {MAX_COLOURINGS} lines, a quandle at most {MAX_ORDER} elements, a number of a move is at most {MAX_BYTE}, "
+            ),
+            Part::Moves => write!(
+                f,
+                "a number of a move is at most {MAX_BYTE}, a quandle has at most {MAX_ORDER} elements, a diagram at most {MAX_SIZE} columns, "
+            ),
+            Part::Steps => write!(
+                f,
+                "a number of a step is at most {MAX_BYTE}, a letter at most {MAX_LETTER}, "
+            ),
+            Part::Cocycle => write!(f, "the modulus is at most {MAX_BYTE}, "),
+        }?;
+        write!(f, "and any number has at most {MAX_DIGITS} digits")
+    }
+}
+
+impl fmt::Display for Part {
+    fn fmt<W: fmt::Write>(&self, f: &mut fmt::Formatter<W>) -> fmt::Result {
+        f.write_str(match self {
+            Part::Verdict => "the verdict begins",
+            Part::Moves => "the moves begin",
+            Part::Steps => "the steps begin",
+            Part::Cocycle => "the cocycle begins",
+        })
+    }
+}
