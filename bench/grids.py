@@ -1,11 +1,11 @@
-"""Grids for the benches, and lists and walks of moves from them; diagrams and moves are those of tools/."""
+"""Grids for the benches, and lists and walks of moves from them; diagrams and moves are those of tools/lib/, whose place is known here."""
 import os
 import random
 import sys
 
 sys.path.insert(0, os.path.join(os.path.dirname(os.path.abspath(__file__)), "..", "tools"))
-from diagrams import CORNERS, Grid, crossings, grid_text
-from moves import Illegal, made
+from lib.diagrams import CORNERS, Grid, crossings, grid_text
+from lib.moves import Illegal, made
 
 UNKNOT = Grid((0, 1), (1, 0))
 RIGHT_TREFOIL = Grid((4, 3, 2, 1, 0), (2, 1, 0, 4, 3))

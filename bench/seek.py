@@ -27,17 +27,17 @@ import tempfile
 import time
 from typing import NamedTuple
 
+# grids knows where the modules of tools/ are.
+from grids import UNKNOT
+from lib.diagrams import CORNERS, MAX_SIZE, Braid, Grid, grid_of, grid_text
+from lib.moves import Illegal, made
 from measure import CRATES, PROGRAM, built, counted
 
 TOP = os.path.join(CRATES, "..")
-sys.path.insert(0, os.path.join(TOP, "tools"))
-from diagrams import CORNERS, MAX_SIZE, Braid, Grid, grid_of, grid_text
-from moves import Illegal, made
 
 SEEK = os.path.join(CRATES, "seek", "out", "seek")
 # The line before a verdict.
 HEAD = "certificate 2\n"
-UNKNOT = Grid((0, 1), (1, 0))
 MOVES = 3_000
 SIZES = (12, 14, 16, 18, 20, 22, 24)
 LINKS = {

@@ -17,16 +17,23 @@ import random
 import subprocess
 import sys
 
-import crossing_codes
+from lib import calls, crossing_codes
 
 TOP = os.path.dirname(os.path.dirname(os.path.abspath(__file__)))
 KNOT = os.environ.get("KNOT", f"{TOP}/knot")
 
 
+def written(job, text):
+    """What a job writes of a text that it takes."""
+    run = subprocess.run([KNOT, job], input=text.encode(), stdout=subprocess.PIPE, check=False)
+    if run.returncode:
+        raise calls.Fault(f"{KNOT} {job}: status {run.returncode}, {run.stdout.decode(errors='replace').strip() or 'nothing written'}, of {text!r}")
+    return run.stdout.decode()
+
+
 def knot(job, text):
     """What a job writes, in lines of tokens."""
-    run = subprocess.run([KNOT, job], input=text.encode(), stdout=subprocess.PIPE, check=True)
-    return [line.split() for line in run.stdout.decode().splitlines()]
+    return [line.split() for line in written(job, text).splitlines()]
 
 
 # ---- diagrams
@@ -66,8 +73,7 @@ def alone(xs, os_, columns):
 # ---- links of Regina
 
 def code_of(text):
-    run = subprocess.run([KNOT, "code"], input=text.encode(), stdout=subprocess.PIPE, check=True)
-    return crossing_codes.kinked(crossing_codes.read_code(run.stdout.decode()))
+    return crossing_codes.kinked(crossing_codes.read_code(written("code", text)))
 
 
 def closure_code(strands, letters):
@@ -188,4 +194,4 @@ def main():
 
 
 if __name__ == "__main__":
-    main()
+    calls.run("against_regina.py", main)

@@ -1,5 +1,8 @@
 #!/usr/bin/env python3
-"""Finds 2-cocycles of quandles mod 2, 3, 4 and 5, and pairs of knots that the weights of colourings tell apart.
+"""Finds 2-cocycles of quandles mod 2, 3, 4 and 5, and knots that the weights of colourings tell apart.
+
+    tools/cocycles.py find [LIST ...] < PROBLEM finds, for two diagrams, the first cocycle by which their weights differ, and writes the
+                                                input of the job `weights` that tells them apart
 
     tools/cocycles.py classes LIST ...          prints, for each quandle of the files, cocycles that give all others by sums,
                                                 multiples and coboundaries, as items `quandle` and `weight`
@@ -8,35 +11,29 @@
                                                 (--write FOLDER writes an input of `weights` for each)
     tools/cocycles.py weights LIST < PROBLEM    prints the weights of two diagrams by each cocycle that `classes` prints
 
-A LIST has quandles as in quandles/, KNOTS is a CSV file with columns `name` and `braid`. A cocycle φ mod k has φ(x, x) = 0 and
+A LIST has quandles as in quandles/; for `find` and `weights` a cocycle may stand behind a quandle, as in the ready tables of
+quandles/weights/. `find` takes the cheapest first: those that leave the fewest colourings to try, and few equations where the cocycles
+have to be found. Without a LIST it takes the ready tables, and all connected quandles up to order 16, or that of --largest. It says what it tried,
+and ends with 1 where nothing tells the two apart.
+
+KNOTS is a CSV file with columns `name` and `braid`, or those of --name and --braid. A cocycle φ mod k has φ(x, x) = 0 and
 φ(x, y) + φ(x ▷ y, z) = φ(x, z) + φ(x ▷ z, y ▷ z); a coboundary is f(x) - f(x ▷ y), by which all weights are 0.
 """
 import argparse
 import itertools
 import os
+import re
 import sys
-from collections import Counter
+from collections import Counter, namedtuple
 
-import linear
 import quandles
-from cohomology import classes_of_cocycles
-from connected import is_connected
-from diagrams import (BadText, Braid, Lines, crossings, ends, fixed_points, grid_of, grid_text, is_colouring, is_up, mirror_braid, quandle_text,
-                      read_diagram, walk)
+from lib import calls, linear, weighing
+from lib.cohomology import classes_of_cocycles
+from lib.connected import is_connected
+from lib.diagrams import Lines, bottoms, diagram_text, fits, fixed_points, grid_of, mirror_braid, quandle_text, read_diagram, read_quandles
+from lib.weighing import cocycle_text
 
 MODULI = (2, 3, 4, 5)
-
-
-def cocycle_fault(table, cocycle, modulus):
-    """The first law that a square of numbers fails as a cocycle, or None."""
-    order = len(table)
-    for x in range(order):
-        if cocycle[x][x] % modulus:
-            return f"φ({x}, {x}) is not 0"
-    for x, y, z in itertools.product(range(order), repeat=3):
-        if (cocycle[x][y] + cocycle[table[x][y]][z] - cocycle[x][z] - cocycle[table[x][z]][table[y][z]]) % modulus:
-            return f"the law fails at {x}, {y}, {z}"
-    return None
 
 
 def square(order, vector):
@@ -44,24 +41,12 @@ def square(order, vector):
     return [[vector.get(x * order + y, 0) for y in range(order)] for x in range(order)]
 
 
-def cocycle_text(cocycle, modulus):
-    return f"weight {modulus}\n" + "".join(" ".join(map(str, row)) + "\n" for row in cocycle)
-
-
 # Weights
 
 def weight_on_grid(grid, quandle, cocycle, colours):
     """The weight of a colouring, not reduced: each crossing's sign times φ(x, y), y the column's colour and x the walk's colour on the
     right of an up column or the left of a down one, that is on the right of the strand over."""
-    pieces = {row: walk(grid, quandle, colours, row) for row in range(len(grid.xs))}
-    total = 0
-    for column, row, sign in crossings(grid):
-        if is_up(grid, column):
-            colour = next(colour for left, _, colour in pieces[row] if left == column)
-        else:
-            colour = next(colour for _, right, colour in pieces[row] if right == column)
-        total += sign * cocycle[colour][colours[column]]
-    return total
+    return sum(times * cocycle[x][y] for (x, y), times in weighing.pairs_met(grid, quandle, colours).items())
 
 
 def pairs_met(braid, quandle, feet):
@@ -139,10 +124,6 @@ def say_classes(paths, moduli):
               for modulus, squares in cocycles_of(quandle, moduli) for cocycle in squares)
 
 
-def diagram_text(diagram):
-    return f"braid {diagram.strands} {' '.join(map(str, diagram.letters))}\n" if isinstance(diagram, Braid) else grid_text(diagram)
-
-
 def searched_pairs(knots):
     """Pairs of names and braids: each knot and its mirror image, and each two knots, the second one also mirrored."""
     for place, (name, braid) in enumerate(knots):
@@ -188,8 +169,7 @@ class Counts:
             yield quandle, modulus, cocycle, weights_line(one, factors, modulus), weights_line(two, factors, modulus)
 
 
-def say_search(knots_path, paths, moduli, folder):
-    knots = quandles.read_knots(knots_path)
+def say_search(knots, paths, moduli, folder):
     counts = Counts(read_lists(paths), moduli)
     print(f"{len(counts.listed)} connected quandles, {len(counts.cocycles)} pairs of a quandle and a modulus with a cocycle that is no coboundary")
     equal = told = 0
@@ -206,45 +186,138 @@ def say_search(knots_path, paths, moduli, folder):
         print(f"{name} and {other}: order {len(quandle.over)} mod {modulus}, weights {' '.join(map(str, one))} and {' '.join(map(str, two))}")
         if folder:
             path = os.path.join(folder, f"{name}-{other.replace(' image of ', '-')}.txt")
-            with open(path, "w", encoding="utf-8") as out:
-                out.write(f"# {name} and {other}, found by tools/cocycles.py search; an input of weights, which says for the two:\n"
-                          + "".join(f"# weights {' '.join(map(str, line))}\n" for line in (one, two))
-                          + diagram_text(first) + diagram_text(second) + quandle_text(quandle) + cocycle_text(cocycle, modulus))
+            calls.put(path, f"# {name} and {other}, found by tools/cocycles.py search; an input of weights, which says for the two:\n"
+                      + "".join(f"# weights {' '.join(map(str, line))}\n" for line in (one, two))
+                      + diagram_text(first) + diagram_text(second) + quandle_text(quandle) + cocycle_text(cocycle, modulus))
     print(f"{equal} pairs have equal numbers of colourings by all quandles that fit both; weights tell {told} of them apart")
 
 
 def all_colourings(grid, quandle):
-    """All colourings of a grid, by trying its columns from the left; for small ones."""
-    size = len(grid.xs)
-    ready = [[row for row in range(size) if max(ends(grid, row)) == column] for column in range(size)]
-    found = [[]]
-    for column in range(size):
-        found = [colours + [colour] for colours in found for colour in range(len(quandle.over))
-                 if all(walk(grid, quandle, colours + [colour], row)[-1][2] == colour for row in ready[column])]
-    return [colours for colours in found if is_colouring(grid, quandle, colours)]
+    """All colourings of a grid, in lexicographic order."""
+    return sorted(weighing.colourings(grid, quandle))
 
 
-def say_weights(paths, moduli, text):
+# The weights of one pair
+
+# A quandle, its cocycles where they are given, as a modulus and a list of squares each, and what it is called in a message.
+Candidate = namedtuple("Candidate", "quandle given name")
+
+
+def candidates_of(paths):
+    """The quandles of lists and of ready tables, each once with each cocycle."""
+    found = {}
+    for path in paths:
+        with calls.naming(path):
+            weighed = weighing.read_weighed_quandles(Lines(calls.text_of(path)))
+        stem = os.path.basename(path).removesuffix(".txt")
+        for place, (quandle, cocycle) in enumerate(weighed, 1):
+            given = [(cocycle[0], [cocycle[1]])] if cocycle else None
+            name = f"{stem} number {place}" if len(weighed) > 1 else stem
+            found.setdefault((quandle.over, repr(given)), Candidate(quandle, given, name))
+    return list(found.values())
+
+
+def read_pair(text):
+    """Two diagrams, and nothing else; or with quandles behind them, which are left aside."""
     lines = Lines(text)
-    grids = [grid_of(read_diagram(lines)) for _ in range(2)]
+    pair = [read_diagram(lines) for _ in range(2)]
+    read_quandles(lines)
     lines.done()
-    say_apart(filter(None, (weights_text(grids, quandle, moduli) for quandle in read_lists(paths))))
+    return pair
 
 
-def weights_text(grids, quandle, moduli):
+def say_weights(paths, moduli):
+    grids = [grid_of(diagram) for diagram in read_pair(calls.text_of())]
+    say_apart(filter(None, (weights_text(grids, candidate, moduli) for candidate in candidates_of(paths))))
+
+
+def weights_text(grids, candidate, moduli):
     """For each cocycle of the quandle its table, and the weights of both diagrams."""
     texts = []
-    colourings = [all_colourings(grid, quandle) for grid in grids]
-    for modulus, squares in cocycles_of(quandle, moduli):
+    quandle = candidate.quandle
+    found = [weighing.all_met(grid, quandle, is_connected(quandle.over)) for grid in grids]
+    for modulus, squares in candidate.given or cocycles_of(quandle, moduli):
         for cocycle in squares:
-            rows = []
-            for grid, found in zip(grids, colourings):
-                counted = Counter(weight_on_grid(grid, quandle, cocycle, colours) % modulus for colours in found)
-                rows.append([counted[weight] for weight in range(modulus)])
+            rows = [weights_line(weighing.weights(met, [cocycle], modulus), [1], modulus) for met in found]
             texts.append(quandle_text(quandle) + cocycle_text(cocycle, modulus)
                          + "".join(f"weights {' '.join(map(str, row))}\n" for row in rows)
                          + ("alike\n" if rows[0] == rows[1] else "different\n"))
     return "\n".join(texts)
+
+
+def default_lists(largest):
+    """The ready tables and the connected quandles of quandles/, up to an order."""
+    folder = os.path.join(os.path.dirname(os.path.dirname(os.path.realpath(__file__))), "quandles")
+    ready = [os.path.join(folder, "weights", name) for name in sorted(os.listdir(os.path.join(folder, "weights"))) if re.fullmatch(r"[A-Z]\w*\.txt", name)]
+    lists = [os.path.join(folder, name) for name in sorted(os.listdir(folder)) if re.fullmatch(r"connected-\d+\.txt", name)]
+    return ready + [path for path in lists if int(re.search(r"\d+", os.path.basename(path))[0]) <= largest]
+
+
+def cost(candidate, grids):
+    """Some measure of the work: the colourings that are tried, and the equations of cocycles that aren't given."""
+    order = len(candidate.quandle.over)
+    most = max(map(bottoms, grids))
+    return order ** (most - is_connected(candidate.quandle.over)) + (0 if candidate.given else order ** 3)
+
+
+def difference(candidate, grids, moduli):
+    """(modulus, cocycle, weights, weights) by which two diagrams differ, or None, and how many cocycles were tried.
+
+    Where the numbers of colourings differ, all cocycles tell it, and the one of zeros is taken."""
+    order = len(candidate.quandle.over)
+    found = [weighing.all_met(grid, candidate.quandle, is_connected(candidate.quandle.over)) for grid in grids]
+    one, two = (len(met) * each for met, each in found)
+    if one != two:
+        return (2, [[0] * order for _ in range(order)], [one, 0], [two, 0]), 0
+    tried = 0
+    for modulus, squares in candidate.given or cocycles_of(candidate.quandle, moduli):
+        tried += len(squares)
+        one, two = (weighing.weights(met, squares, modulus) for met in found)
+        factors = first_difference(one, two, squares, modulus)
+        if factors:
+            cocycle = [[sum(factor * part[x][y] for factor, part in zip(factors, squares)) % modulus for y in range(order)] for x in range(order)]
+            return (modulus, cocycle, weights_line(one, factors, modulus), weights_line(two, factors, modulus)), tried
+    return None, tried
+
+
+def note(said):
+    calls.note(f"cocycles.py: {said}")
+
+
+def say_find(paths, moduli, out):
+    """Writes what tells two diagrams apart, and says what was tried; ends with 1 where nothing was found."""
+    pair = read_pair(calls.text_of())
+    grids = [grid_of(diagram) for diagram in pair]
+    every = candidates_of(paths)
+    fitting = sorted((one for one in every if all(fits(one.quandle, grid) for grid in grids)), key=lambda one: cost(one, grids))
+    cocycles_tried, found, in_vain = 0, None, []
+    for candidate in fitting:
+        found, tried = difference(candidate, grids, moduli)
+        if found:
+            break
+        cocycles_tried += tried
+        in_vain.append(len(candidate.quandle.over))
+    say_tried(in_vain, cocycles_tried, len(every) - len(fitting), grids)
+    if not found:
+        note("nothing found, which says nothing of the two")
+        raise SystemExit(1)
+    modulus, cocycle, *rows = found
+    lines = [f"weights {' '.join(map(str, row))}\n" for row in rows]
+    named = f"{candidate.name}, of order {len(candidate.quandle.over)}"
+    if sum(rows[0]) != sum(rows[1]):
+        note(f"{named}, has {sum(rows[0])} colourings of the first and {sum(rows[1])} of the second: behind the two, decide tells them apart by it")
+    else:
+        note(f"{named}, with a cocycle mod {modulus} tells them apart: {' and '.join(line.strip() for line in lines)}")
+    calls.put(out, f"# {candidate.name}, found by tools/cocycles.py find; an input of weights, which says for the two:\n"
+              + "".join(f"# {line}" for line in lines) + "".join(map(diagram_text, pair)) + quandle_text(candidate.quandle) + cocycle_text(cocycle, modulus))
+
+
+def say_tried(orders, cocycles_tried, too_large, grids):
+    """Says how many quandles, of these orders, were tried in vain."""
+    if orders:
+        note(f"tried in vain: {len(orders)} quandles of orders up to {max(orders)}, with {cocycles_tried} cocycles")
+    if too_large:
+        note(f"too large for one of the diagrams, of {' and '.join(str(bottoms(grid)) for grid in grids)} bottoms: {too_large} quandles")
 
 
 def moduli_of(text):
@@ -262,23 +335,28 @@ def main():
     jobs = parser.add_subparsers(dest="job", required=True, metavar="JOB")
     common = argparse.ArgumentParser(add_help=False)
     common.add_argument("--moduli", type=moduli_of, default=list(MODULI), help="powers of primes, parted by commas; 2,3,4,5 where none are given")
-    for name, said in (("classes", "print cocycles"), ("search", "search a table of knots"), ("weights", "the weights of two diagrams")):
+    given = (("find", "the first cocycle that tells two diagrams apart"), ("classes", "print cocycles"), ("search", "search a table of knots"),
+             ("weights", "the weights of two diagrams"))
+    for name, said in given:
         job = jobs.add_parser(name, help=said, parents=[common])
         if name == "search":
-            job.add_argument("knots")
+            job.add_argument("knots", metavar="KNOTS")
             job.add_argument("--write", metavar="FOLDER", help="write an input of `weights` for each pair found into this folder")
-        job.add_argument("lists", nargs="+", metavar="LIST")
+            quandles.add_columns(job)
+        if name == "find":
+            job.add_argument("--largest", type=int, default=16, metavar="N", help="the largest order of connected quandles, where no LIST is given, to 32 (16)")
+            job.add_argument("--out", metavar="FILE", help="where the input of `weights` goes; standard output where none is given")
+        job.add_argument("lists", nargs="*" if name == "find" else "+", metavar="LIST")
     words = parser.parse_args()
-    try:
-        if words.job == "classes":
-            say_classes(words.lists, words.moduli)
-        elif words.job == "search":
-            say_search(words.knots, words.lists, words.moduli, words.write)
-        else:
-            say_weights(words.lists, words.moduli, sys.stdin.read())
-    except (OSError, BadText) as fault:
-        sys.exit(f"cocycles.py: {fault}")
+    if words.job == "classes":
+        say_classes(words.lists, words.moduli)
+    elif words.job == "search":
+        say_search(quandles.read_knots(words.knots, words.name, words.braid), words.lists, words.moduli, words.write)
+    elif words.job == "weights":
+        say_weights(words.lists, words.moduli)
+    else:
+        say_find(words.lists or default_lists(words.largest), words.moduli, words.out)
 
 
 if __name__ == "__main__":
-    main()
+    calls.run("cocycles.py", main)

@@ -7,42 +7,49 @@ INPUT is a file, or standard input where none is given. It holds one of these, a
   a diagram                               one picture
   a diagram and moves                     a frame for the diagram and one behind each move
   two diagrams, quandles, `equal N`       the same, for a certificate; the line `certificate 2` may stand before `equal`
+  two diagrams, quandles, `different ..`  both diagrams, each in one of its colourings, and how many are listed
   any of the first two, then a quandle and colours: each strand in its colour, carried along the moves
-The picture goes to standard output where no FILE is given. Verticals pass over horizontals, and a horizontal has a gap where it
+A long list of moves makes a long picture: --frames and --no-shifts leave frames out. The picture goes to standard output where no FILE
+is given; it has a title and a text for those who don't see it. Verticals pass over horizontals, and a horizontal has a gap where it
 passes under. Arrows lead from X to O along the columns and from O to X along the rows. The colours' numbers stand below the columns.
 """
 import argparse
-import sys
 from xml.sax.saxutils import escape
 
-from diagrams import BadText, Lines, covers, ends, grid_of, is_colouring, number_of, read_diagram, read_moves, read_quandle, walk
-from moves import Illegal, carried, made
+from lib import calls
+from lib.diagrams import (BadText, Lines, covers, ends, grid_of, is_colouring, move_text, number_of, read_diagram, read_moves, read_quandle, read_quandles,
+                          walk)
+from lib.moves import Illegal, carried, made
 
-# Sixteen colours that stay apart on white.
+# Sixteen colours that stay apart on white. Of more colours the next sixteen have them again; the numbers below the columns tell which.
 PALETTE = ("#1f5fbf", "#d62728", "#1a8a34", "#e08a00", "#7b3fb0", "#00949e", "#c2388f", "#6b4a2b",
            "#77a31a", "#5b6770", "#0b2e66", "#8c1218", "#0d5c2e", "#b5a100", "#4c6ef5", "#e36b54")
 INK = "#222222"
 
 
-def move_text(move):
-    return " ".join(map(str, move))
+class Frame:
+    """What one picture shows: a grid, its colours or None, the quandle or None, and what stands above it."""
+
+    def __init__(self, grid, colours=None, quandle=None, caption=""):
+        self.grid, self.colours, self.quandle, self.caption = grid, colours, quandle, caption
 
 
 def read_frames(text):
-    """Pairs of a caption and a grid, the colours of each or None, and the quandle or None."""
+    """The frames of a text: one, one for each move, or those of two diagrams that differ; and whether they are such two."""
     lines = Lines(text)
     grid = grid_of(read_diagram(lines))
     moves = []
     if lines.peek() in ("x", "braid"):
-        read_diagram(lines)
-        while lines.peek() == "quandle":
-            read_quandle(lines)
+        second = grid_of(read_diagram(lines))
+        read_quandles(lines)
         if lines.peek() == "certificate":
             line, tokens = lines.take("the line 'certificate 2'")
             if tokens[1:] != ["2"]:
                 raise BadText("the line 'certificate 2' is due", line)
+        if lines.peek() == "different":
+            return read_different(lines, grid, second), True
         if lines.peek() != "equal":
-            raise BadText("behind two diagrams and quandles a verdict 'equal' is due", lines.take("a verdict 'equal'")[0])
+            raise BadText("behind two diagrams and quandles a verdict 'equal' or 'different' is due", lines.take("a verdict")[0])
     if lines.peek() in ("moves", "equal"):
         moves = read_moves(lines)
     quandle = colours = None
@@ -52,25 +59,46 @@ def read_frames(text):
     if lines.peek() == "colours" and not quandle:
         raise BadText("a quandle is due before the colours", lines.take("a quandle")[0])
     lines.done()
-    frames, shades = [("", grid)], [colours]
+    return along(grid, moves, quandle, colours), False
+
+
+def along(grid, moves, quandle, colours):
+    """A frame for the grid and one behind each move, with the carried colours."""
+    frames = [Frame(grid, colours, quandle)]
     for place, move in enumerate(moves):
         try:
-            next_grid = made(grid, move)
+            after = made(grid, move)
         except Illegal as fault:
             raise BadText(f"move {place}, '{move_text(move)}', is not legal: {fault}") from None
         if quandle:
             colours = carried(grid, quandle, colours, move)
-        grid = next_grid
-        frames.append((move_text(move), grid))
-        shades.append(colours)
-    return frames, shades, quandle
+        grid = after
+        frames.append(Frame(grid, colours, quandle, move_text(move)))
+    return frames
 
 
-def read_colours(lines, grid, quandle):
-    line, tokens = lines.take("the line 'colours'")
-    if tokens[0] != "colours":
+def read_different(lines, first, second):
+    """Both diagrams of a verdict `different`, each in one of the colourings listed, with how many there are."""
+    quandle = read_quandle(lines, "different")
+    frames = []
+    for grid in (first, second):
+        line, tokens = lines.take("the line 'list'")
+        if tokens[0] != "list" or len(tokens) != 2:
+            raise BadText("a line 'list' with a number is due", line)
+        listed = [read_colours(lines, grid, quandle, head=False) for _ in range(number_of(tokens[1], line))]
+        # One with as many colours as any has shows most.
+        shown = max(listed, key=lambda colours: len(set(colours)), default=None)
+        frames.append(Frame(grid, shown, quandle if listed else None, f"{len(listed)} colourings"))
+    lines.done()
+    return frames
+
+
+def read_colours(lines, grid, quandle, head=True):
+    """The colours of a line `colours`, or without a head of a line in a list."""
+    line, tokens = lines.take("the line 'colours'" if head else "a line of colours")
+    if head and tokens[0] != "colours":
         raise BadText("the line 'colours' is due", line)
-    colours = [number_of(token, line) for token in tokens[1:]]
+    colours = [number_of(token, line) for token in tokens[head:]]
     if len(colours) != len(grid.xs):
         raise BadText(f"the diagram has {len(grid.xs)} columns, and {len(colours)} colours are given", line)
     if any(colour >= len(quandle.over) for colour in colours):
@@ -95,11 +123,11 @@ def line_of(x1, y1, x2, y2, ink):
     return f'<path d="M{number(x1)} {number(y1)} L{number(x2)} {number(y2)}" stroke="{ink}"/>'
 
 
-class Frame:
-    """One grid, its left lower corner at a place of the page."""
+class Drawing:
+    """One frame, its left lower corner at a place of the page."""
 
-    def __init__(self, grid, colours, quandle, cell, left, foot, marks):
-        self.grid, self.colours, self.quandle, self.cell, self.marks = grid, colours, quandle, cell, marks
+    def __init__(self, frame, cell, left, foot, marks):
+        self.grid, self.colours, self.quandle, self.cell, self.marks = frame.grid, frame.colours, frame.quandle, cell, marks
         self.left, self.foot = left, foot
 
     def x(self, column):
@@ -109,7 +137,7 @@ class Frame:
         return self.foot - (row + 0.5) * self.cell
 
     def ink(self, colour):
-        return INK if colour is None else PALETTE[colour]
+        return INK if colour is None else PALETTE[colour % len(PALETTE)]
 
     def column_ink(self, column):
         return self.ink(self.colours[column] if self.colours else None)
@@ -151,26 +179,81 @@ class Frame:
         return lines, arrows, words
 
 
-def picture(frames, shades, quandle, cell, across, marks):
+# What is drawn, and the words for it
+
+def places_of(text, count):
+    """The frames that `--frames` names, of so many: places and runs `a..b`, parted by commas. Two places and then `..` go on by the same step,
+    and `..` alone goes on by one; both end with the last frame. Raises ValueError."""
+    places = []
+    for part in text.split(","):
+        if part == "..":
+            step = places[-1] - places[-2] if len(places) > 1 else 1
+            if not places or step < 1:
+                raise ValueError("before '..' stand one place or two that grow")
+            places += [*range(places[-1] + step, count, step), count - 1]
+        elif ".." in part:
+            first, last = map(int, part.split(".."))
+            places += range(first, last + 1)
+        else:
+            places.append(int(part))
+    # Places behind the last frame are left aside, as a step that doesn't meet it is.
+    return sorted({place for place in places if 0 <= place < count})
+
+
+def chosen(frames, asked, no_shifts):
+    """Places and frames to be drawn. Where moves in between are left out, three points stand in the caption."""
+    places = places_of(asked, len(frames)) if asked else list(range(len(frames)))
+    if no_shifts:
+        places = [place for place in places if not frames[place].caption.startswith("shift") or place == len(frames) - 1]
+    kept = []
+    for before, place in zip([-1, *places], places):
+        frame = frames[place]
+        caption = frame.caption if place == before + 1 or not frame.caption else f"... {frame.caption}"
+        kept.append((place, Frame(frame.grid, frame.colours, frame.quandle, caption)))
+    return kept
+
+
+def said_of(kept, is_pair):
+    """A title and a text for those who don't see the picture."""
+    grids = [frame.grid for _, frame in kept]
+    least, most = min(len(grid.xs) for grid in grids), max(len(grid.xs) for grid in grids)
+    sizes = f"{least} columns" if least == most else f"{least} to {most} columns"
+    if is_pair:
+        title = f"Two grid diagrams that differ: {' and '.join(frame.caption for _, frame in kept)}"
+    elif len(grids) == 1:
+        title = f"A grid diagram of {sizes}"
+    else:
+        title = f"{len(grids)} grid diagrams of {sizes}, along moves"
+    texts = []
+    for place, frame in kept if len(kept) < 3 else [kept[0], kept[-1]]:
+        number = f"Frame {place}" + (f", {frame.caption}" if frame.caption else "") + ": " if len(kept) > 1 else ""
+        colours = f"; colours {' '.join(map(str, frame.colours))} by {frame.quandle.name}" if frame.colours else ""
+        texts.append(f"{number}Xs in rows {' '.join(map(str, frame.grid.xs))}, Os in rows {' '.join(map(str, frame.grid.os))}{colours}.")
+    return title, " ".join(texts)
+
+
+def picture(kept, is_pair, cell, across, marks, title=None):
     """The text of the SVG file: frames from left to right, `across` of them in a line."""
-    across = min(across, len(frames))
-    size = max(len(grid.xs) for _, grid in frames)
-    wide, high = (size + 1) * cell, (size + (1.2 if quandle else 0.6)) * cell + (0.9 * cell if len(frames) > 1 else 0)
-    total_wide, total_high = wide * across, high * -(-len(frames) // across)
+    across = min(across, len(kept))
+    size = max(len(frame.grid.xs) for _, frame in kept)
+    are_coloured = any(frame.quandle for _, frame in kept)
+    wide, high = (size + 1) * cell, (size + (1.2 if are_coloured else 0.6)) * cell + (0.9 * cell if len(kept) > 1 else 0)
+    total_wide, total_high = wide * across, high * -(-len(kept) // across)
     lines, arrows, words = [], [], []
-    for place, ((caption, grid), colours) in enumerate(zip(frames, shades)):
-        left = place % across * wide + (size + 1 - len(grid.xs)) * cell / 2
-        top = place // across * high
-        if len(frames) > 1:
-            label = f"{place}. {caption}" if caption else "0."
-            words.append(f'<text x="{number(place % across * wide + wide / 2)}" y="{number(top + 0.75 * cell)}" fill="{INK}">{escape(label)}</text>')
+    for number_drawn, (place, frame) in enumerate(kept):
+        left = number_drawn % across * wide + (size + 1 - len(frame.grid.xs)) * cell / 2
+        top = number_drawn // across * high
+        if len(kept) > 1:
+            label = frame.caption if is_pair else f"{place}. {frame.caption}".strip()
+            words.append(f'<text x="{number(number_drawn % across * wide + wide / 2)}" y="{number(top + 0.75 * cell)}" fill="{INK}">{escape(label)}</text>')
             top += 0.9 * cell
-        frame = Frame(grid, colours, quandle, cell, left, top + 0.3 * cell + (size + len(grid.xs)) * cell / 2, marks)
-        for kept, more in zip((lines, arrows, words), frame.drawn()):
-            kept += more
-    head = (f'<svg xmlns="http://www.w3.org/2000/svg" viewBox="0 0 {number(total_wide)} {number(total_high)}" '
+        drawing = Drawing(frame, cell, left, top + 0.3 * cell + (size + len(frame.grid.xs)) * cell / 2, marks)
+        for all_of, more in zip((lines, arrows, words), drawing.drawn()):
+            all_of += more
+    said, text = said_of(kept, is_pair)
+    head = (f'<svg xmlns="http://www.w3.org/2000/svg" role="img" viewBox="0 0 {number(total_wide)} {number(total_high)}" '
             f'width="{number(total_wide)}" height="{number(total_high)}">')
-    return "\n".join([head, '<rect width="100%" height="100%" fill="#ffffff"/>',
+    return "\n".join([head, f"<title>{escape(title or said)}</title>", f"<desc>{escape(text)}</desc>", '<rect width="100%" height="100%" fill="#ffffff"/>',
                       f'<g fill="none" stroke-width="{number(0.11 * cell)}" stroke-linecap="round">', *lines, "</g>", *arrows,
                       f'<g font-family="sans-serif" font-size="{number(0.45 * cell)}" text-anchor="middle">', *words, "</g>", "</svg>", ""])
 
@@ -182,24 +265,22 @@ def main():
     parser.add_argument("--cell", type=int, default=24, help="the side of a cell, 8 to 200 (24)")
     parser.add_argument("--across", type=int, default=4, help="how many frames stand in a line (4)")
     parser.add_argument("--marks", action="store_true", help="write the marks X and O too")
+    parser.add_argument("--frames", metavar="PLACES", help="only these frames, counted from 0: as 0,5,9 or 3..7 or 0,10,.. for each tenth and the last")
+    parser.add_argument("--no-shifts", action="store_true", help="leave out the frames behind shifts, but for the last frame")
+    parser.add_argument("--title", help="the picture's title for those who don't see it, in place of one that counts columns and frames")
     words = parser.parse_args()
     if not 8 <= words.cell <= 200 or words.across < 1:
         parser.error("a cell is 8 to 200, and at least one frame stands in a line")
+    with calls.naming(words.input):
+        frames, is_pair = read_frames(calls.text_of(words.input))
     try:
-        if words.input:
-            with open(words.input, encoding="utf-8") as source:
-                text = source.read()
-        else:
-            text = sys.stdin.read()
-        drawn = picture(*read_frames(text), words.cell, words.across, words.marks)
-        if words.out:
-            with open(words.out, "w", encoding="utf-8") as out:
-                out.write(drawn)
-        else:
-            sys.stdout.write(drawn)
-    except (OSError, UnicodeDecodeError, BadText) as fault:
-        sys.exit(f"draw.py: {fault}")
+        kept = chosen(frames, words.frames, words.no_shifts)
+    except ValueError:
+        parser.error(f"--frames {words.frames} names no places")
+    if not kept:
+        parser.error(f"--frames {words.frames} names none of the {len(frames)} frames")
+    calls.put(words.out, picture(kept, is_pair, words.cell, words.across, words.marks, words.title))
 
 
 if __name__ == "__main__":
-    main()
+    calls.run("draw.py", main)

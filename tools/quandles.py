@@ -6,18 +6,19 @@
     tools/quandles.py count                   how many were found of each order, and how many there are
     tools/quandles.py pairs KNOTS LIST ...    how many pairs of a table of knots the built-in list and each list tell apart
 
-FOLDER is quandles/ beside this folder where none is given. KNOTS is a CSV file with columns `name` and `braid`.
+FOLDER is quandles/ beside this folder where none is given. KNOTS is a CSV file with columns `name` and `braid`, or those of --name and --braid.
 A quandle is connected where its translations lead from each colour to each other one.
 """
 import argparse
 import csv
+import io
 import itertools
 import os
 import re
-import sys
 
-from connected import Collection, KNOWN, is_connected
-from diagrams import (BadText, Braid, Lines, MAX_COLOURINGS, MAX_QUANDLES, braid_fault, built_in_list, fixed_points, quandle_of, quandle_text,
+from lib import calls
+from lib.connected import Collection, KNOWN, is_connected
+from lib.diagrams import (BadText, Braid, Lines, MAX_COLOURINGS, MAX_QUANDLES, braid_fault, built_in_list, fixed_points, quandle_of, quandle_text,
                       read_quandles)
 
 # The largest orders of the ready lists: of the short one, and of the others.
@@ -63,15 +64,10 @@ def list_text(head, entries):
     return text
 
 
-def write(path, text):
-    with open(path, "w", encoding="utf-8") as out:
-        out.write(text)
-
-
 def write_tables(collection, folder):
     for order, found in collection.found.items():
         if found and order > 1:
-            write(os.path.join(folder, f"connected-{order:02}.txt"), tables_text(collection, order))
+            calls.put(os.path.join(folder, f"connected-{order:02}.txt"), tables_text(collection, order))
 
 
 def write_lists(collection, folder):
@@ -91,49 +87,55 @@ def write_lists(collection, folder):
     made = "Made by tools/quandles.py lists. Append it to a problem: cat problem.txt quandles/{}"
     common = "Each pair of duals is here once: they count alike on a knot that is the same as itself run through backwards."
     short = [entry for entry in entries if entry[0] <= SHORT]
-    write(os.path.join(folder, "list-short.txt"),
+    calls.put(os.path.join(folder, "list-short.txt"),
           list_text([f"trivial 2 and {len(short)} connected quandles up to order {SHORT}, the small ones first.", common,
                      made.format("list-short.txt")], short))
-    write(os.path.join(folder, "list-one-of-each-pair.txt"),
+    calls.put(os.path.join(folder, "list-one-of-each-pair.txt"),
           list_text([f"trivial 2 and {len(entries)} connected quandles up to order {LISTED}, the small ones first.", common,
                      made.format("list-one-of-each-pair.txt")], entries))
     full = sorted(entries + duals[:MAX_QUANDLES - 1 - len(entries)], key=lambda entry: entry[0])
     left_out = [f"{order} number {place + 1}" for order, place in sorted(entry[:2] for entry in entries + duals if entry not in full)]
-    write(os.path.join(folder, "list-64.txt"),
+    calls.put(os.path.join(folder, "list-64.txt"),
           list_text([f"trivial 2 and {len(full)} connected quandles up to order {LISTED}, duals too, the small ones first: the {MAX_QUANDLES} that a problem takes.",
                      f"Left out: {', '.join(left_out) or 'none'}.", made.format("list-64.txt")], full))
 
 
 # Knots
 
-def read_knots(path):
-    """Names and braids of a CSV file with the columns `name` and `braid`."""
-    knots = []
-    with open(path, newline="", encoding="utf-8") as lines:
-        reader = csv.DictReader(lines)
-        if not {"name", "braid"} <= set(reader.fieldnames or []):
-            raise BadText(f"{path} has no columns 'name' and 'braid'", 1)
-        for row in reader:
-            word = row["braid"] or ""
-            if not re.fullmatch(r"\s*[{\[]\s*-?\d+(\s*,\s*-?\d+)*\s*[}\]]\s*", word):
-                raise BadText(f"'{word}' is no braid word as {{1,-2,1}}", reader.line_num)
-            letters = tuple(int(letter) for letter in re.findall(r"-?\d+", word))
-            braid = Braid(max(map(abs, letters)) + 1, letters)
-            if braid_fault(braid):
-                raise BadText(f"{row['name']}: {braid_fault(braid)}", reader.line_num)
-            knots.append((row["name"], braid))
-    return knots
+def add_columns(parser):
+    """The words that name the columns of a table of knots."""
+    for name, said in (("name", "names"), ("braid", "braid words as {1,-2,1}")):
+        parser.add_argument(f"--{name}", default=name, metavar="COLUMN", help=f"the title of the column of {said} ({name})")
+
+
+def read_knots(path, names="name", braids="braid"):
+    """Names and braids of a CSV file, from the columns of these titles."""
+    with calls.naming(path):
+        reader = csv.DictReader(io.StringIO(calls.text_of(path).removeprefix("\ufeff"), newline=""))
+        titles = reader.fieldnames or []
+        for title, word in ((names, "--name"), (braids, "--braid")):
+            if title not in titles:
+                raise BadText(f"no column '{title}', but {', '.join(map(repr, titles)) or 'none at all'}; {word} names another one", 1)
+        return [(row[names], braid_of(row[names], row[braids] or "", reader.line_num)) for row in reader]
+
+
+def braid_of(name, word, line):
+    """The braid of an entry of a table."""
+    if not re.fullmatch(r"\s*[{\[]\s*-?\d+(\s*,\s*-?\d+)*\s*[}\]]\s*", word):
+        raise BadText(f"'{word}' is no braid word as {{1,-2,1}}", line)
+    letters = tuple(int(letter) for letter in re.findall(r"-?\d+", word))
+    braid = Braid(max(map(abs, letters)) + 1, letters)
+    if braid_fault(braid):
+        raise BadText(f"{name}: {braid_fault(braid)}", line)
+    return braid
 
 
 def read_list(path):
     """The quandles of a file, which has nothing else."""
-    with open(path, encoding="utf-8") as text:
-        lines = Lines(text.read())
-    try:
+    with calls.naming(path):
+        lines = Lines(calls.text_of(path))
         quandles = read_quandles(lines)
         lines.done()
-    except BadText as fault:
-        raise BadText(f"{path}, {fault}") from None
     return quandles
 
 
@@ -152,8 +154,7 @@ def told_apart(counts, pairs):
     return [(a, b) for a, b in pairs if any(None not in (row[a], row[b]) and row[a] != row[b] for row in counts)]
 
 
-def say_pairs(path, list_paths):
-    knots = read_knots(path)
+def say_pairs(knots, list_paths):
     lists = [("built-in list", built_in_list())]
     lists += [(list_path, read_list(list_path)) for list_path in list_paths]
     neighbours = [(place, place + 1) for place in range(len(knots) - 1)]
@@ -181,23 +182,21 @@ def main():
         jobs.add_parser(name, help=said).add_argument("folder", nargs="?", default=beside)
     jobs.add_parser("count", help="how many were found")
     pairs = jobs.add_parser("pairs", help="how many pairs each list tells apart")
-    pairs.add_argument("knots")
-    pairs.add_argument("lists", nargs="*")
+    pairs.add_argument("knots", metavar="KNOTS")
+    pairs.add_argument("lists", nargs="*", metavar="LIST")
+    add_columns(pairs)
     words = parser.parse_args()
-    try:
-        if words.job == "pairs":
-            say_pairs(words.knots, words.lists)
-        elif words.job == "count":
-            say_count(Collection())
-        elif not os.path.isdir(words.folder):
-            parser.error(f"there is no folder {words.folder}")
-        elif words.job == "tables":
-            write_tables(Collection(), words.folder)
-        else:
-            write_lists(Collection(LISTED), words.folder)
-    except (OSError, BadText) as fault:
-        sys.exit(f"quandles.py: {fault}")
+    if words.job == "pairs":
+        say_pairs(read_knots(words.knots, words.name, words.braid), words.lists)
+    elif words.job == "count":
+        say_count(Collection())
+    elif not os.path.isdir(words.folder):
+        parser.error(f"there is no folder {words.folder}")
+    elif words.job == "tables":
+        write_tables(Collection(), words.folder)
+    else:
+        write_lists(Collection(LISTED), words.folder)
 
 
 if __name__ == "__main__":
-    main()
+    calls.run("quandles.py", main)

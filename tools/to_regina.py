@@ -3,10 +3,11 @@
 
     ./knot code < diagram.txt | tools/to_regina.py [--kinks]
     ./knot code < diagram.txt | tools/to_regina.py --print      the call alone, for regina-python
+    tools/to_regina.py [--print] CODE ...                       files, also those of tools/batch.py --job code
 
 Regina takes the rows as they stand. Run with Regina 7.3 (Debian's package regina-normal, /usr/bin/python3).
 """
-import crossing_codes
+from lib import crossing_codes
 
 
 def expression(code):
@@ -28,4 +29,4 @@ def built(code):
 
 
 if __name__ == "__main__":
-    crossing_codes.main("to_regina.py", __doc__, expression, built)
+    crossing_codes.program("to_regina.py", __doc__, expression, built)

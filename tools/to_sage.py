@@ -3,13 +3,14 @@
 
     ./knot code < diagram.txt | sage --python tools/to_sage.py [--kinks]
     ./knot code < diagram.txt | tools/to_sage.py --print        the call alone, for Sage's prompt
+    tools/to_sage.py [--print] CODE ...                         files, also those of tools/batch.py --job code
 
 Sage lists the edges of a crossing the other way round: it takes [i, l, k, j] for X[i,j,k,l]. Run with Sage 9.5 (Debian's package sagemath).
 Loops alone are always given kinks: Sage 9.5 takes a braid without letters for one component, however many strands it has. The Jones
 polynomial is asked for by the sum over states: the other way of Sage 9.5 goes through a braid, and was wrong, or did not end, for a
 component that passes over everywhere.
 """
-import crossing_codes
+from lib import crossing_codes
 
 
 def rows_of(code):
@@ -36,4 +37,4 @@ def built(code):
 
 
 if __name__ == "__main__":
-    crossing_codes.main("to_sage.py", __doc__, expression, built)
+    crossing_codes.program("to_sage.py", __doc__, expression, built)

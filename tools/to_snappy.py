@@ -3,10 +3,11 @@
 
     ./knot code < diagram.txt | tools/to_snappy.py [--kinks]
     ./knot code < diagram.txt | tools/to_snappy.py --print      the call alone, for SnapPy's prompt
+    tools/to_snappy.py [--print] CODE ...                       files, also those of tools/batch.py --job code
 
 By its documentation SnapPy takes the rows as they stand. This was not run with SnapPy, which wasn't to be had.
 """
-import crossing_codes
+from lib import crossing_codes
 
 
 def expression(code):
@@ -27,4 +28,4 @@ def built(code):
 
 
 if __name__ == "__main__":
-    crossing_codes.main("to_snappy.py", __doc__, expression, built)
+    crossing_codes.program("to_snappy.py", __doc__, expression, built)

@@ -2,7 +2,7 @@
 # An array job for the queue Slurm: sbatch examples/batch/array-job.sh PROBLEMS ANSWERS
 # Each of the 16 tasks runs one part of the folder; all write into the same ANSWERS. When all have ended, call
 # tools/batch.py PROBLEMS ANSWERS once: it runs what has no answer, checks the certificates and writes the summary.
-# Submit it at the top of the tree, with the program built. Sent again, it does only what is left.
+# Submit it at the top of the tree, with both programs built, or with --no-seek in the call below. Sent again, it does only what is left.
 #SBATCH --job-name=knot
 #SBATCH --array=1-16
 #SBATCH --cpus-per-task=4

@@ -2,19 +2,36 @@
 import os
 import subprocess
 import sys
+import tempfile
 
 ROOT = os.path.dirname(os.path.dirname(os.path.dirname(os.path.abspath(__file__))))
 TOOLS = os.path.join(ROOT, "tools")
 LISTS = os.path.join(ROOT, "quandles")
 KNOTS = os.path.join(LISTS, "knots-to-8.csv")
 
-sys.path.insert(0, TOOLS)
+# The programs, lib with what they share, and the independent reader of the formats.
+sys.path[:0] = [TOOLS, os.path.join(ROOT, "tests")]
 
 
 def run(script, *words, text=""):
     """Runs a script of tools/ and answers its status, standard output and standard error."""
     done = subprocess.run([sys.executable, os.path.join(TOOLS, script), *words], input=text, capture_output=True, text=True, check=False)
     return done.returncode, done.stdout, done.stderr
+
+
+def call(words, text="", **more):
+    """Runs any command with captured streams, but for those that are given."""
+    streams = {"input": text, "stdout": subprocess.PIPE, "stderr": subprocess.PIPE, **more}
+    if "stdin" in streams:
+        del streams["input"]
+    return subprocess.run(words, text=True, check=False, **streams)
+
+
+def scratch(case):
+    """A folder that is removed when a test ends."""
+    kept = tempfile.TemporaryDirectory()
+    case.addCleanup(kept.cleanup)
+    return kept.name
 
 
 def read(*parts):

@@ -1,7 +1,7 @@
-"""Tests of tools/batch.py, with a stand-in for knot, and with knot itself where it is built."""
+"""Tests of tools/batch.py, with a stand-in for knot."""
 import csv
 import os
-import re
+import resource
 import shutil
 import signal
 import subprocess
@@ -10,10 +10,12 @@ import tempfile
 import time
 import unittest
 
-TREE = os.path.dirname(os.path.dirname(os.path.dirname(os.path.abspath(__file__))))
+import common
+from lib.whole_files import host_name
+
+TREE = common.ROOT
 SCRIPT = os.path.join(TREE, "tools", "batch.py")
 STAND_IN = os.path.join(TREE, "tests", "tools", "stand_in.py")
-BUILT = os.environ.get("KNOT") or os.path.join(TREE, "crates", "knot", "out", "knot")
 HAS_PARALLEL = shutil.which("parallel") is not None
 
 STAGES = "# two stages\nfirst --spare 1 --budget 100\nsecond --spare 1 --budget 200\n"
@@ -28,6 +30,9 @@ class BatchTest(unittest.TestCase):
         self.answers = os.path.join(self.folder, "answers")
         self.calls = os.path.join(self.folder, "calls")
         self.stages = self.put("stages.txt", STAGES)
+        # Called by this name the stand-in is seek.
+        self.seek = os.path.join(self.folder, "seek")
+        os.symlink(STAND_IN, self.seek)
         os.mkdir(self.problems)
 
     def put(self, name, text):
@@ -43,7 +48,7 @@ class BatchTest(unittest.TestCase):
         return [sys.executable, "-B", SCRIPT, "--with", "python", "--processes", "2", "--stages", self.stages, *words]
 
     def environment(self, program=STAND_IN):
-        return {**os.environ, "KNOT": program}
+        return {**os.environ, "KNOT": program, "SEEK": self.seek}
 
     def run_it(self, *words):
         words = words or (self.problems, self.answers)
@@ -84,7 +89,7 @@ class StagesTest(BatchTest):
         found = [(rows[name]["verdict"], rows[name]["evidence"], rows[name]["stage"], rows[name]["check"]) for name in "abc"]
         self.assertEqual(found, [("equal", "2", "first", "accepted"), ("different", "dihedral 3", "second", "accepted"),
                                  ("unknown", "budget 200", "second", "")])
-        self.assertEqual(list(rows["a"]), ["name", "verdict", "evidence", "stage", "seconds", "check"])
+        self.assertEqual(list(rows["a"]), ["name", "first", "second", "verdict", "evidence", "stage", "seconds", "check"])
         self.assertRegex(rows["a"]["seconds"], r"^[0-9]+\.[0-9]{3}$")
         self.assertEqual(self.calls_made(), ["check", "check"] + ["decide --spare 1 --budget 100"] * 3 + ["decide --spare 1 --budget 200"] * 2)
 
@@ -175,10 +180,38 @@ class FaultsTest(BatchTest):
         self.assertEqual(status, 2)
         self.assertRegex(errors, "false does not run here: on no input it ends with status 1, and not with 3")
         self.assertFalse(os.path.exists(self.answers))
-        os.mkdir(os.path.join(self.problems, "folder.txt"))
-        status, _, errors = self.batch()
-        self.assertEqual(status, 2)
-        self.assertIn("folder.txt: this is no file that can be read", errors)
+
+    def test_what_can_not_be_read_is_not_the_end_of_the_batch(self):
+        self.problem("a", "# at 100: 0 equal 0\n")
+        os.mkdir(os.path.join(self.problems, "d.txt"))
+        os.symlink("nowhere", os.path.join(self.problems, "l.txt"))
+        os.mkfifo(os.path.join(self.problems, "p.txt"))
+        status, out, errors = self.batch()
+        self.assertEqual((status, out), (3, "4 problems: 1 equal, 3 without an answer; 1 of 1 certificates accepted\n"))
+        for text in ("d.txt: it is a folder\n", "l.txt: it is a link to nowhere, where nothing is\n", "p.txt: it is no file\n"):
+            self.assertEqual(errors.count(text), 1, errors)
+        rows = self.rows()
+        self.assertEqual((rows["a"]["verdict"], rows["d"]["verdict"], rows["d"]["evidence"]), ("equal", "none", "it is a folder"))
+
+    def test_a_folder_in_the_place_of_an_answer(self):
+        self.problem("a", "# at 100: 0 equal 0\n")
+        self.problem("b", "# at 100: 0 equal 0\n")
+        os.makedirs(os.path.join(self.answers, "answers", "b.txt"))
+        status, out, errors = self.batch()
+        self.assertEqual((status, out), (3, "2 problems: 1 equal, 1 without an answer; 1 of 1 certificates accepted\n"))
+        self.assertIn(f"b.txt: {self.answers}/answers/b.txt: Is a directory", errors)
+
+    def test_a_file_that_can_not_be_written_is_named(self):
+        self.problem("a", "# at 100: 0 equal 2 / " + " / ".join(["shift rows 1"] * 400) + "\n")
+
+        def small_files():
+            resource.setrlimit(resource.RLIMIT_FSIZE, (7000, 7000))
+        done = subprocess.run(self.words(self.problems, self.answers), env=self.environment(), capture_output=True, text=True, check=False,
+                              preexec_fn=small_files)
+        self.assertEqual(done.returncode, 3)
+        self.assertIn(f"{self.answers}/certificates/a.txt: File too large\n", done.stderr)
+        self.assertNotIn("None", done.stderr)
+        self.assertNotIn("Traceback", done.stderr)
 
     def test_answers_that_cannot_be_written(self):
         self.problem("a", "# at 100: 0 equal 0\n")
@@ -276,7 +309,7 @@ class FaultsTest(BatchTest):
     def test_help_and_bad_words(self):
         status, out, _ = self.run_it("--help")
         self.assertEqual(status, 0)
-        self.assertIn("examples:\n  tools/batch.py problems answers", out)
+        self.assertIn("examples:\n  tools/batch.py examples/batch/problems answers", out)
         self.assertEqual(self.run_it("a")[0], 2)
         self.problem("a", "")
         self.assertEqual(self.batch("--processes", "0")[0], 2)
@@ -308,6 +341,25 @@ class OtherJobsTest(BatchTest):
         self.put("stages.txt", "only\n")
         status, out, _ = self.batch("--job", "colour")
         self.assertEqual((status, out), (0, "1 problems: 1 answered\n"))
+
+    def test_linking_and_weights_have_their_last_line_as_verdict(self):
+        self.put("stages.txt", "only\n")
+        self.problem("a", "# at none: 0 numbers 1 1 / numbers -1 -1 / different\n")
+        self.problem("b", "# at none: 0 numbers / numbers / alike\n")
+        for job in ("linking", "weights"):
+            status, out, errors = self.batch("--job", job)
+            self.assertEqual((status, out), (0, "2 problems: 1 alike, 1 different\n"), errors)
+            rows = self.rows()
+            self.assertEqual([(rows[name]["verdict"], rows[name]["evidence"], rows[name]["check"]) for name in "ab"],
+                             [("different", "numbers 1 1 / numbers -1 -1", ""), ("alike", "numbers / numbers", "")])
+        self.assertEqual(set(name.split(os.sep)[0] for name in self.kept_files()), {"answers", "summary.csv"})
+
+    def test_wide_and_the_check_of_braids(self):
+        self.put("stages.txt", "only\n")
+        self.problem("a", "# at none: 0 wide 2 5\n")
+        self.assertEqual(self.batch("--job", "weights")[1], "1 problems: 1 wide\n")
+        self.problem("a", "# at none: 0 accepted\n")
+        self.assertEqual(self.batch("--job", "braidcheck")[1], "1 problems: 1 accepted\n")
 
 
 class PartsTest(BatchTest):
@@ -365,9 +417,6 @@ class SignalsTest(BatchTest):
     def test_parts_that_a_kill_left_are_swept(self):
         self.problem("a", "# at 100: 0 equal 0\n")
         self.batch()
-        sys.path.insert(0, os.path.join(TREE, "tools"))
-        from whole_files import host_name
-        sys.path.pop(0)
         gone = subprocess.run([sys.executable, "-c", "import os; print(os.getpid())"], capture_output=True, text=True, check=True).stdout.strip()
         old = self.put(f"answers/answers/.a.txt.{host_name()}.{gone}.0.part", "half")
         new = self.put(f"answers/answers/.b.txt.{host_name()}.{os.getpid()}.0.part", "half")
@@ -398,40 +447,6 @@ class ParallelTest(BatchTest):
             self.problem(name, "# at 200: 0 equal 0\n")
         status, out, errors = self.batch("--with", "auto", "--hosts", hosts)
         self.assertEqual((status, out), (0, "3 problems: 3 equal; 3 of 3 certificates accepted\n"), errors)
-
-
-@unittest.skipUnless(os.access(BUILT, os.X_OK), "knot is not built here; KNOT may name a built one")
-class BuiltTest(BatchTest):
-    """With knot itself: the example's table, from braids and arcs to certificates."""
-
-    def environment(self, program=BUILT):
-        return super().environment(program)
-
-    def from_table(self, *words):
-        script = os.path.join(TREE, "tools", "from_table.py")
-        table = os.path.join(TREE, "examples", "table", "knots.csv")
-        return subprocess.run([sys.executable, "-B", script, table, self.problems, *words], capture_output=True, text=True, check=False)
-
-    def test_braids_against_arcs(self):
-        self.from_table("--diagram", "braid_notation", "--second", "arc_notation")
-        stages = os.path.join(TREE, "examples", "table", "stages.txt")
-        done = subprocess.run([sys.executable, "-B", SCRIPT, "--with", "python", "--stages", stages, self.problems, self.answers],
-                              env=self.environment(), capture_output=True, text=True, check=False)
-        rows = self.rows()
-        self.assertEqual(rows["3_1_mirrored"]["verdict"], "unknown")
-        self.assertEqual((rows["3_1"]["verdict"], rows["3_1"]["check"]), ("equal", "accepted"))
-        self.assertEqual({row["verdict"] for row in rows.values()} - {"equal", "unknown"}, set())
-        self.assertEqual(done.returncode, 1, done.stderr)
-        again = subprocess.run([sys.executable, "-B", SCRIPT, "--job", "check", os.path.join(self.answers, "certificates"),
-                                os.path.join(self.folder, "again")], env=self.environment(), capture_output=True, text=True, check=False)
-        self.assertEqual(again.returncode, 0, again.stderr)
-
-    def test_signs_of_the_trefoils_by_code(self):
-        for words, sign in (((), "+"), (("--mirror",), "-"), (("--arcs", "rows"), "+")):
-            self.from_table("--diagram", "arc_notation", "--only", "3_1", "--replace", *words)
-            with open(os.path.join(self.problems, "3_1.txt"), "rb") as file:
-                code = subprocess.run([BUILT, "code"], stdin=file, capture_output=True, text=True, check=True).stdout
-            self.assertEqual(set(re.findall("[OU][0-9]+([+-])", code)), {sign})
 
 
 if __name__ == "__main__":

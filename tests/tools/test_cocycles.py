@@ -7,11 +7,12 @@ from collections import Counter
 
 import common
 import cocycles
-import cohomology
-import connected
-import diagrams
-import linear
-from moves import carried, made
+import knot_invariants
+import quandles
+import reader
+import weight_tables
+from lib import cohomology, connected, crossing_codes, diagrams, linear, weighing
+from lib.moves import carried, made
 
 TETRAHEDRAL = diagrams.tetrahedral()
 # The cocycle mod 2 of Carter, Jelsovsky, Kamada, Langford and Saito (2003) for the tetrahedral quandle, up to a coboundary.
@@ -61,14 +62,14 @@ class Cocycles(unittest.TestCase):
             table = [[0] * 4 for _ in range(4)]
             for (x, y), entry in zip(places, entries):
                 table[x][y] = entry
-            wanted += cocycles.cocycle_fault(TETRAHEDRAL.over, table, 2) is None
+            wanted += weighing.cocycle_fault(TETRAHEDRAL.over, table, 2) is None
         span = linear.Span(2)
         for vector in cohomology.cocycles(TETRAHEDRAL.over, 2):
             span.put(vector)
         self.assertEqual(2 ** len(span.rows), wanted)
 
     def test_the_published_cocycle_is_one_and_no_coboundary(self):
-        self.assertIsNone(cocycles.cocycle_fault(TETRAHEDRAL.over, COCYCLE, 2))
+        self.assertIsNone(weighing.cocycle_fault(TETRAHEDRAL.over, COCYCLE, 2))
         span = linear.Span(2)
         for vector in cohomology.coboundaries(TETRAHEDRAL.over, 2):
             span.put(vector)
@@ -81,13 +82,13 @@ class Cocycles(unittest.TestCase):
             for found in connected.Collection(order).found[order]:
                 for modulus, squares in cocycles.cocycles_of(diagrams.quandle_of("", found.table), (2, 3, 4, 5)):
                     for square in squares:
-                        self.assertIsNone(cocycles.cocycle_fault(found.table, square, modulus))
+                        self.assertIsNone(weighing.cocycle_fault(found.table, square, modulus))
 
     def test_coboundaries_are_cocycles_and_weigh_nothing(self):
         braid = diagrams.Braid(2, (1, 1, 1))
         for vector in cohomology.coboundaries(FOUR_CYCLES, 4):
             square = cocycles.square(6, vector)
-            self.assertIsNone(cocycles.cocycle_fault(FOUR_CYCLES, square, 4))
+            self.assertIsNone(weighing.cocycle_fault(FOUR_CYCLES, square, 4))
             counted = cocycles.weights_of_braid(braid, diagrams.quandle_of("", FOUR_CYCLES), [square], 4)
             self.assertEqual(set(counted), {(0,)})
 
@@ -141,32 +142,116 @@ class Weights(unittest.TestCase):
             self.assertEqual(sorted(os.listdir(folder)), ["3_1-mirror-3_1.txt", "knots.csv"])
 
     def test_the_stored_problems_say_what_their_heads_say(self):
-        names = sorted(os.listdir(os.path.join(common.LISTS, "weights")))
+        ready = {f"{name}.txt" for name in weight_tables.READY}
+        names = sorted(set(os.listdir(os.path.join(common.LISTS, "weights"))) - ready)
         self.assertTrue(names)
         for name in names:
             text = common.read("quandles", "weights", name)
             head = [line for line in text.splitlines() if line.startswith("# weights ")]
             lines = diagrams.Lines(text)
             pair = [diagrams.read_diagram(lines) for _ in range(2)]
-            quandle = diagrams.read_quandle(lines)
-            modulus = int(lines.take("weight")[1][1])
-            cocycle = [[int(entry) for entry in lines.take("a line")[1]] for _ in quandle.over]
-            lines.done()
-            self.assertIsNone(cocycles.cocycle_fault(quandle.over, cocycle, modulus), name)
+            ((quandle, (modulus, cocycle)),) = weighing.read_weighed_quandles(lines)
             found = []
-            for braid in pair:
-                counted = cocycles.weights_of_braid(braid, quandle, [cocycle], modulus)
+            for diagram in pair:
+                if isinstance(diagram, diagrams.Braid):
+                    counted = cocycles.weights_of_braid(diagram, quandle, [cocycle], modulus)
+                else:
+                    counted = weighing.weights(weighing.all_met(diagram, quandle, True), [cocycle], modulus)
                 found.append("# weights " + " ".join(str(counted[weight,]) for weight in range(modulus)))
             self.assertEqual(head, found, name)
             self.assertNotEqual(*found)
 
 
+    def test_the_grids_among_them_are_the_knots_of_the_table_and_their_mirror_images(self):
+        knots = dict(quandles.read_knots(common.KNOTS))
+        for name in ("7_2", "7_6", "8_1", "8_4", "8_13"):
+            lines = diagrams.Lines(common.read("quandles", "weights", f"{name}-mirror-{name}.txt"))
+            grid, mirrored = (diagrams.read_diagram(lines) for _ in range(2))
+            self.assertEqual(mirrored, diagrams.mirror_image(grid))
+            self.assertLessEqual(diagrams.bottoms(grid), 2)
+            code = crossing_codes.read_code(knot_invariants.code_of_grid(*map(list, grid)))
+            self.assertEqual(knot_invariants.jones_of_rows(code.rows, crossing_codes.signs(code)), knot_invariants.jones_polynomial(*knots[name]), name)
+
+
+class Find(unittest.TestCase):
+    RIGHT_AND_LEFT = "x 4 3 2 1 0\no 2 1 0 4 3\nbraid 2 -1 -1 -1\n"
+
+    def ruled(self, text, wanted):
+        """What the job weights says of an input, by the independent reader."""
+        answer = reader.answer([b"weights"], text.encode())
+        self.assertEqual((answer.status, answer.text.decode()), (0, wanted))
+
+    def test_the_trefoils_by_the_lists_of_the_tree(self):
+        status, out, said = common.run("cocycles.py", "find", text=self.RIGHT_AND_LEFT)
+        self.assertEqual((status, said), (0, "cocycles.py: T5, of order 12, with a cocycle mod 5 tells them apart: weights 12 0 0 0 60 and weights 12 60 0 0 0\n"))
+        self.assertTrue(out.startswith("# T5, found by"))
+        self.assertIn("x 4 3 2 1 0\no 2 1 0 4 3\nbraid 2 -1 -1 -1\nquandle table 12\n", out)
+        self.ruled(out, "weights 12 0 0 0 60\nweights 12 60 0 0 0\ndifferent\n")
+
+    def test_cocycles_of_lists_are_found_and_what_was_tried_is_said(self):
+        lists = [os.path.join(common.LISTS, f"connected-0{order}.txt") for order in (7, 6, 4)]
+        with tempfile.TemporaryDirectory() as folder:
+            path = os.path.join(folder, "out.txt")
+            status, out, said = common.run("cocycles.py", "find", *lists, "--moduli", "4,2", "--out", path, text=self.RIGHT_AND_LEFT)
+            with open(path, encoding="utf-8") as written:
+                text = written.read()
+        self.assertEqual((status, out), (0, ""))
+        # The cheapest first: one quandle of order 4, with a cocycle mod 4 and one mod 2, and the other one of order 6 come before.
+        self.assertRegex(said, r"tried in vain: 2 quandles of orders up to 6, with \d+ cocycles\n.*connected-06 number 2, of order 6, with a cocycle mod 4")
+        self.ruled(text, "weights 6 24 0 0\nweights 6 0 0 24\ndifferent\n")
+
+    def test_where_nothing_tells_apart_it_is_said(self):
+        lists = [os.path.join(common.LISTS, name) for name in ("connected-06.txt", os.path.join("weights", "T5.txt"), os.path.join("weights", "T7.txt"))]
+        status, out, said = common.run("cocycles.py", "find", *lists, text="braid 3 1 -2 1 -2\nbraid 3 -1 2 -1 2\n")
+        self.assertEqual((status, out), (1, ""))
+        self.assertIn("tried in vain: 4 quandles of orders up to 24", said)
+        self.assertTrue(said.endswith("cocycles.py: nothing found, which says nothing of the two\n"))
+
+    def test_quandles_that_do_not_fit_are_counted(self):
+        table = os.path.join(common.LISTS, "weights", "T7.txt")
+        status, out, said = common.run("cocycles.py", "find", table, text="braid 4 1 2 3\nbraid 4 1 2 3 3 3\n")
+        self.assertEqual((status, out), (1, ""))
+        self.assertIn("too large for one of the diagrams, of 4 and 4 bottoms: 1 quandles", said)
+
+    def test_unequal_numbers_of_colourings_are_enough(self):
+        status, out, said = common.run("cocycles.py", "find", os.path.join(common.LISTS, "connected-03.txt"), text="braid 2 1 1 1\nx 0 1\no 1 0\n")
+        self.assertEqual(status, 0)
+        self.assertIn("9 colourings of the first and 3 of the second", said)
+        self.ruled(out, "weights 9 0\nweights 3 0\ndifferent\n")
+
+    def test_colourings_by_rows_are_what_trying_all_finds(self):
+        for quandle in (TETRAHEDRAL, diagrams.dihedral(3), diagrams.trivial(2)):
+            for grid in (diagrams.Grid((4, 3, 2, 1, 0), (2, 1, 0, 4, 3)), diagrams.Grid((0, 1, 2, 3, 4), (2, 4, 3, 1, 0)), diagrams.closure(diagrams.Braid(2, (1, 1)))[0]):
+                every = itertools.product(range(len(quandle.over)), repeat=len(grid.xs))
+                self.assertEqual(cocycles.all_colourings(grid, quandle), [list(colours) for colours in every if diagrams.is_colouring(grid, quandle, colours)])
+
+    def test_a_ready_table_that_is_no_cocycle_is_refused(self):
+        with tempfile.NamedTemporaryFile("w", suffix=".txt") as bad:
+            bad.write("quandle dihedral 3\nweight 3\n0 1 0\n0 0 0\n0 0 0\n")
+            bad.flush()
+            status, _, said = common.run("cocycles.py", "find", bad.name, text=self.RIGHT_AND_LEFT)
+        self.assertEqual(status, 1)
+        self.assertTrue(said.startswith(f"cocycles.py: {bad.name}: line 5: no cocycle"), said)
+
+
 class Words(unittest.TestCase):
+    def test_a_table_of_knots_may_have_other_titles(self):
+        small = os.path.join(common.LISTS, "connected-04.txt")
+        path = os.path.join(common.scratch(self), "knots.csv")
+        with open(path, "w", encoding="utf-8") as out:
+            out.write('Knot,Braid Notation\n3_1,"{1,1,1}"\n')
+        status, out, said = common.run("cocycles.py", "search", path, small, "--moduli", "2", "--name", "Knot", "--braid", "Braid Notation")
+        self.assertEqual((status, said), (0, ""))
+        self.assertIn("3_1 and mirror image of 3_1: equal numbers of colourings, and equal weights", out)
+        status, _, said = common.run("cocycles.py", "search", path, small)
+        self.assertEqual(status, 1)
+        self.assertTrue(said.startswith(f"cocycles.py: {path}: line 1: no column 'name', but 'Knot', 'Braid Notation'"), said)
+
     def test_help_and_bad_input(self):
         self.assertEqual(common.run("cocycles.py", "--help")[0], 0)
         small = os.path.join(common.LISTS, "connected-04.txt")
         self.assertEqual(common.run("cocycles.py", "classes", small, "--moduli", "6")[0], 2)
-        self.assertEqual(common.run("cocycles.py", "classes", "no such file")[0], 1)
+        self.assertEqual(common.run("cocycles.py", "classes", "no such file"), (1, "", "cocycles.py: no such file: No such file or directory\n"))
         self.assertEqual(common.run("cocycles.py", "weights", small, text="x 0 1\no 1 0\n")[0], 1)
         status, out, _ = common.run("cocycles.py", "classes", small, "--moduli", "2")
         self.assertEqual(status, 0)

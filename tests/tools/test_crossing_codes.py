@@ -5,9 +5,8 @@ import os
 import unittest
 
 import common
-import crossing_codes
-import diagrams
 import knot_invariants
+from lib import crossing_codes, diagrams
 
 SCRIPTS = ("to_regina.py", "to_sage.py", "to_snappy.py")
 TREFOIL = "crossings 3\nX[5,3,6,2]\nX[1,5,2,4]\nX[3,1,4,6]\nloops 0\ngauss U2+ O1+ U3+ O2+ U1+ O3+\n"
@@ -81,6 +80,27 @@ class Codes(unittest.TestCase):
                 status, out, said = common.run(script, "--print", text=text)
                 self.assertEqual((status, out), (1, ""))
                 self.assertTrue(said.startswith(script))
+
+    def test_what_the_batch_wrote_is_read(self):
+        text = '# problem sha256 7f0c by code\n# tried {"stage": "only"}\n# text sha256 51d3\n' + TREFOIL
+        self.assertEqual(crossing_codes.read_code(text), crossing_codes.read_code(TREFOIL))
+        with self.assertRaises(crossing_codes.BadCode) as caught:
+            crossing_codes.read_code("# problem sha256 7f0c by code\nmalformed line 1\n")
+        self.assertIn("line 2: 'crossings N' is due", str(caught.exception))
+
+    def test_several_files_are_told_apart(self):
+        folder = common.scratch(self)
+        paths = [os.path.join(folder, name) for name in ("one.txt", "two.txt", "three.txt")]
+        for path, text in zip(paths, ("# a comment\n" + TREFOIL, "crossings 0\nloops 2\n", "crossings 1\n")):
+            with open(path, "w", encoding="utf-8") as out:
+                out.write(text)
+        status, out, said = common.run("to_regina.py", "--print", *paths[:2])
+        self.assertEqual((status, out), (0, f"# {paths[0]}\nLink.fromPD([[5, 3, 6, 2], [1, 5, 2, 4], [3, 1, 4, 6]])\n# {paths[1]}\nLink(2)\n"))
+        self.assertEqual(said, f"{paths[1]}: note: 2 of the components have no crossing, and the rows do not hold them (--kinks puts them in)\n")
+        # Nothing is written of a file at fault, and what stands before it is.
+        status, out, said = common.run("to_regina.py", "--print", paths[0], paths[2])
+        self.assertEqual((status, said), (1, f"to_regina.py: {paths[2]}: the line 'loops' is missing\n"))
+        self.assertIn("Link.fromPD", out)
 
     def test_help_and_missing_files(self):
         for script in SCRIPTS:

@@ -1,11 +1,11 @@
-"""The moves, closures and carried colours of tools/diagrams.py against the stored examples of the program."""
+"""The moves, closures and carried colours of tools/lib against the stored examples of the program."""
 import glob
 import os
 import unittest
 
 import common
-import diagrams
-from moves import Illegal, carried, made
+from lib import diagrams
+from lib.moves import Illegal, carried, made
 
 
 def replayed(text):
@@ -58,10 +58,16 @@ class Diagrams(unittest.TestCase):
             self.assertEqual(diagrams.bottoms(diagrams.closure(diagrams.Braid(3, letters))[0]), 3)
 
     def test_faults_name_their_line(self):
-        for text, line in (("x 0 1\no 0 1\n", 2), ("x 0 1 1\no 1 0 2\n", 1), ("braid 2 2\n", 1), ("braid 9 1\n", 1), ("y 0 1\n", 1), ("", 2)):
+        for text, line in (("x 0 1\no 0 1\n", 2), ("x 0 1 1\no 1 0 2\n", 1), ("braid 2 2\n", 1), ("braid 9 1\n", 1), ("y 0 1\n", 1), ("", 1), ("x 0 1\n", 2), ("x 0 1", 2), ("x 0 1\n\n", 3)):
             with self.assertRaises(diagrams.BadText) as caught:
                 diagrams.read_diagram(diagrams.Lines(text))
             self.assertEqual(caught.exception.line, line, text)
+
+    def test_a_byte_order_mark_is_named(self):
+        with self.assertRaises(diagrams.BadText) as caught:
+            diagrams.Lines("\ufeffx 0 1\no 1 0\n")
+        self.assertEqual(caught.exception.line, 1)
+        self.assertIn("byte order mark", str(caught.exception))
 
     def test_a_table_that_fails_the_third_law_is_refused_at_its_last_line(self):
         with self.assertRaises(diagrams.BadText) as caught:

@@ -87,11 +87,56 @@ class Pictures(unittest.TestCase):
         words = [word.text for word in picture.iter(f"{SVG}text")]
         self.assertEqual(words, ["0.", "1. destabilise 2 2", "2. destabilise 1 1", "3. destabilise 0 0"])
 
+    def captions(self, text, *words):
+        return [word.text for word in drawn(text, *words).iter(f"{SVG}text")]
+
+    def test_frames_can_be_chosen(self):
+        text = TREFOIL + "moves 6\n" + "".join(f"shift {which} 1\n" for which in ("rows", "columns") * 3)
+        self.assertEqual(self.captions(text, "--frames", "0,2,.."), ["0.", "2. ... shift columns 1", "4. ... shift columns 1", "6. ... shift columns 1"])
+        self.assertEqual(self.captions(text, "--frames", "0,4,.."), ["0.", "4. ... shift columns 1", "6. ... shift columns 1"])
+        self.assertEqual(self.captions(text, "--frames", "1..2,5,99"), ["1. ... shift rows 1", "2. shift columns 1", "5. ... shift rows 1"])
+        self.assertEqual(self.captions(text, "--frames", "4,.."), ["4. ... shift columns 1", "5. shift rows 1", "6. shift columns 1"])
+        for bad in ("..", "a", "3,2,..", "99", "1,,2"):
+            status, out, said = common.run("draw.py", "--frames", bad, text=text)
+            self.assertEqual((status, out), (2, ""), bad)
+            self.assertIn(f"--frames {bad} names no", said)
+
+    def test_shifts_can_be_left_out(self):
+        text = TREFOIL + "moves 4\nshift rows 1\nstabilise 0 x lowleft\nshift columns 1\nshift rows 2\n"
+        self.assertEqual(self.captions(text, "--no-shifts"), ["0.", "2. ... stabilise 0 x lowleft", "4. ... shift rows 2"])
+
+    def test_a_picture_says_what_it_shows(self):
+        for text, title, said in ((TREFOIL, "A grid diagram of 5 columns", "Xs in rows 4 3 2 1 0, Os in rows 2 1 0 4 3."),
+                                  (TREFOIL + "quandle dihedral 3\ncolours 0 1 2 0 2\n", "A grid diagram of 5 columns", "colours 0 1 2 0 2 by dihedral 3."),
+                                  (common.read("examples", "check", "disguised-unknot.txt"), "4 grid diagrams of 2 to 5 columns, along moves",
+                                   "Frame 3, destabilise 0 0: Xs in rows 0 1, Os in rows 1 0.")):
+            picture = drawn(text)
+            self.assertEqual(picture.get("role"), "img")
+            self.assertEqual(picture[0].tag, f"{SVG}title")
+            self.assertEqual(picture[0].text, title)
+            self.assertTrue(picture.find(f"{SVG}desc").text.endswith(said))
+        self.assertEqual(drawn(TREFOIL, "--title", "3 < 4 & more")[0].text, "3 < 4 & more")
+
+    def test_a_verdict_different_has_both_diagrams_in_a_colouring_each(self):
+        picture = drawn(common.read("examples", "check", "trefoil-unknot-different.txt"))
+        self.assertEqual([word.text for word in picture.iter(f"{SVG}text")], ["9 colourings", "0", "1", "2", "0", "2", "3 colourings", "0", "0"])
+        self.assertEqual(picture[0].text, "Two grid diagrams that differ: 9 colourings and 3 colourings")
+        self.assertEqual({ink for _, _, ink in segments(picture)}, set(draw.PALETTE[:3]))
+        # By a table, with the line of a version, and with a list that has nothing.
+        self.assertIn("table 3", drawn(common.read("examples", "check", "trefoil-unknot-by-a-table.txt")).find(f"{SVG}desc").text)
+        words = [word.text for word in drawn("x 0 1\no 1 0\nx 0 1\no 1 0\ncertificate 2\ndifferent trivial 2\nlist 0\nlist 1\n1 1\n").iter(f"{SVG}text")]
+        self.assertEqual(words, ["0 colourings", "1 colourings", "1", "1"])
+
+    def test_more_than_sixteen_colours_can_be_drawn(self):
+        picture = drawn("x 0 1\no 1 0\nquandle trivial 32\ncolours 31 31\n")
+        self.assertEqual([word.text for word in picture.iter(f"{SVG}text")], ["31", "31"])
+
     def test_the_pictures_of_the_guide_are_what_the_script_writes(self):
         for name, words, text in (
                 ("right-trefoil.svg", ["--marks"], TREFOIL),
                 ("right-trefoil-coloured.svg", [], TREFOIL + "quandle dihedral 3\ncolours 0 1 2 0 2\n"),
                 ("disguised-unknot.svg", [], common.read("examples", "check", "disguised-unknot.txt")),
+                ("trefoil-unknot-different.svg", [], common.read("examples", "check", "trefoil-unknot-different.txt")),
                 ("trefoil-word-coloured.svg", [], common.read("examples", "replay", "trefoil-word-coloured.txt"))):
             self.assertEqual(common.run("draw.py", *words, text=text)[:2], (0, common.read("docs", "pictures", name)))
 
@@ -111,14 +156,21 @@ class Pictures(unittest.TestCase):
     def test_bad_input_is_refused(self):
         self.assertEqual(common.run("draw.py", "--help")[0], 0)
         for text, said in ((TREFOIL + "moves 1\nexchange columns 0\n", "interleaved"), (TREFOIL + "quandle dihedral 3\ncolours 0 1 2 0 1\n", "no colouring"),
-                           (TREFOIL + "quandle dihedral 3\ncolours 0 1 2\n", "line 4"), (TREFOIL + "quandle dihedral 3\n", "line 5"),
-                           (TREFOIL + "colours 0 0 0 0 0\n", "line 3: a quandle is due before the colours"), ("x 0 1\n", "line 3"), ("", "line 2"),
-                           (TREFOIL + TREFOIL + "unknown budget 5\n", "line 5"), (TREFOIL + "moves 2\nshift rows 1\n", "line 6"),
+                           (TREFOIL + "quandle dihedral 3\ncolours 0 1 2\n", "line 4"), (TREFOIL + "quandle dihedral 3\n", "line 4"),
+                           (TREFOIL + "colours 0 0 0 0 0\n", "line 3: a quandle is due before the colours"), ("x 0 1\n", "line 2"), ("", "line 1"),
+                           (TREFOIL + TREFOIL + "unknown budget 5\n", "line 5: behind two diagrams and quandles a verdict 'equal' or 'different' is due"), (TREFOIL + "moves 2\nshift rows 1\n", "line 5"),
                            (TREFOIL + "moves 1\nshift rows 9\n", "range")):
             status, out, fault = common.run("draw.py", text=text)
             self.assertEqual((status, out), (1, ""), text)
             self.assertIn(said, fault)
-        self.assertEqual(common.run("draw.py", "no such file")[0], 1)
+        self.assertEqual(common.run("draw.py", "no such file"), (1, "", "draw.py: no such file: No such file or directory\n"))
+        self.assertEqual(common.run("draw.py", "--out", "/no/such/folder", text=TREFOIL), (1, "", "draw.py: /no/such/folder: No such file or directory\n"))
+        path = os.path.join(common.scratch(self), "bad.txt")
+        with open(path, "w", encoding="utf-8") as out:
+            out.write("x 0 1\no 0 1\n")
+        self.assertEqual(common.run("draw.py", path)[2], f"draw.py: {path}: line 2: column 0 has its X and its O in one cell\n")
+        text = "x 0 1\no 1 0\nx 0 1\no 1 0\ndifferent dihedral 3\nlist 1\n0 1\nlist 0\n"
+        self.assertEqual(common.run("draw.py", text=text), (1, "", "draw.py: line 7: the colours are no colouring\n"))
         self.assertEqual(common.run("draw.py", "--cell", "1", text=TREFOIL)[0], 2)
 
 

@@ -85,14 +85,14 @@ class BraidTest(TableTest):
                 self.assertEqual(self.one(entry), "braid 3 1 1 -2 1 -2\n")
 
     def test_strands_are_as_few_as_the_letters_need(self):
-        self.assertEqual(self.one("{1,-4}"), "braid 5 1 -4\n")
+        self.assertEqual(self.one("{1,-2,3}"), "braid 4 1 -2 3\n")
         self.assertEqual(self.one("{}"), "braid 1\n")
 
     def test_strands_of_a_column(self):
-        path = self.table('name,word,strands\na,"{1,1}",3\nb,"{1,1}",\nc,"{1,1}",two\nd,"{2,{1}}",3\n')
+        path = self.table('name,word,strands\na,"{1,2}",3\nb,"{1,1}",\nc,"{1,1}",two\nd,"{2,{1}}",3\n')
         status, _, errors = self.call(path, self.out, "--diagram", "word", "--strands", "strands")
         self.assertEqual(status, 1)
-        self.assertEqual((self.made("a"), self.made("b")), ("# a\nbraid 3 1 1\n", "# b\nbraid 2 1 1\n"))
+        self.assertEqual((self.made("a"), self.made("b")), ("# name: a\nbraid 3 1 2\n", "# name: b\nbraid 2 1 1\n"))
         self.assertIn(f"{path}:4: c: the number of strands is 'two'", errors)
         self.assertIn(f"{path}:5: d: the entry has 2 strands, and the column of strands 3", errors)
         self.assertEqual(self.files(), ["a.txt", "b.txt"])
@@ -103,7 +103,7 @@ class BraidTest(TableTest):
 
     def test_limits_are_those_of_today(self):
         self.assertEqual(self.one("{" + ",".join(["1"] * 44) + "}"), "braid 2" + " 1" * 44 + "\n")
-        self.assertEqual(self.one("{7}"), "braid 8 7\n")
+        self.assertEqual(self.one("{1,2,3,4,5,6,7}"), "braid 8 1 2 3 4 5 6 7\n")
 
     def test_words_that_cannot_be_had(self):
         for entry, reason in (
@@ -191,7 +191,7 @@ class ArcsTest(TableTest):
         path = self.table('name,entry\nk,"{{5,3},{2,4},{3,1},{5,2},{1,4}}"\n')
         status, _, errors = self.call(path, self.out, "--diagram", "entry")
         self.assertEqual((status, errors), (0, ""))
-        self.assertEqual(self.made("k"), "# k\n# turned, so that each row has one X and one O: pair 2, 4\n" + RIGHT_TREFOIL)
+        self.assertEqual(self.made("k"), "# name: k\n# turned, so that each row has one X and one O: pair 2, 4\n" + RIGHT_TREFOIL)
 
     def test_arcs_that_cannot_be_had(self):
         wide = "{" + ",".join("{%d,%d}" % (k, k % 49 + 1) for k in range(1, 50)) + "}"
@@ -214,11 +214,11 @@ class TableShapesTest(TableTest):
                            ('\ufeffname,word\na,"{1,1,1}"\n', "knots.csv")):
             with self.subTest(text):
                 status, _, errors = self.call(self.table(text, name), self.out, "--diagram", "word")
-                self.assertEqual((status, errors, self.made("a")), (0, "", "# a\nbraid 2 1 1 1\n"))
+                self.assertEqual((status, errors, self.made("a")), (0, "", "# name: a\nbraid 2 1 1 1\n"))
 
     def test_standard_input_and_columns_by_number(self):
         status, _, _ = self.call("-", self.out, "--no-header", "--name", "2", "--diagram", "1", "--delimiter", ";", given="{1};a\n")
-        self.assertEqual((status, self.made("a")), (0, "# a\nbraid 2 1\n"))
+        self.assertEqual((status, self.made("a")), (0, "# name: a\nbraid 2 1\n"))
 
     def test_a_second_header(self):
         path = self.table("name|word\nName|Braid Word\na|{1}\n")
@@ -244,16 +244,35 @@ class TableShapesTest(TableTest):
             f"{path}:9: A: the file A.txt is taken by a"])
 
     def test_files_that_are_there(self):
-        path = self.table("name,word\na,{1}\n")
+        path = self.table("name,word\na,{1}\nb,{1}\n")
         self.assertEqual(self.call(path, self.out, "--diagram", "word")[0], 0)
-        self.assertEqual(self.call(path, self.out, "--diagram", "word")[0], 0)
-        self.table("name,word\na,{2}\n")
-        status, _, errors = self.call(path, self.out, "--diagram", "word")
-        self.assertEqual(status, 1)
+        status, out, _ = self.call(path, self.out, "--diagram", "word")
+        self.assertEqual((status, out), (0, f"2 rows: 2 diagrams in {self.out}, 0 not to be had\n"))
+        self.table("name,word\na,{-1}\nb,{1}\nc,{0}\n")
+        status, out, errors = self.call(path, self.out, "--diagram", "word")
+        self.assertEqual((status, out), (1, f"3 rows: 1 diagrams in {self.out}, 1 not written, 1 not to be had\n"))
         self.assertIn("is there already, with another content", errors)
-        self.assertEqual(self.made("a"), "# a\nbraid 2 1\n")
-        self.assertEqual(self.call(path, self.out, "--diagram", "word", "--replace")[0], 0)
-        self.assertEqual(self.made("a"), "# a\nbraid 3 2\n")
+        self.assertEqual(self.made("a"), "# name: a\nbraid 2 1\n")
+        self.assertEqual(self.call(path, self.out, "--diagram", "word", "--replace")[0], 1)
+        self.assertEqual(self.made("a"), "# name: a\nbraid 2 -1\n")
+
+    def test_a_name_too_long_for_a_file_is_one_bad_row(self):
+        path = self.table(f"name,word\na,{{1}}\n{'b' * 600},{{1}}\n{'c' * 150},{{1}}\n{'d' * 150},{{1}}\n")
+        status, out, errors = self.call(path, self.out, "--diagram", "word")
+        self.assertEqual((status, out), (1, f"4 rows: 3 diagrams in {self.out}, 1 not to be had\n"))
+        self.assertEqual(errors, f"{path}:3: {'b' * 40}... (600 letters): the name makes a file's name of 604 letters, and 180 are the most\n")
+        status, out, errors = self.call(path, os.path.join(self.folder, "pairs"), "--diagram", "word", "--all-pairs")
+        self.assertEqual((status, out), (1, f"4 rows: 2 problems in {self.folder}/pairs, 1 not written, 3 not to be had\n"))
+        self.assertIn(f"{path}:4: {'c' * 40}... (302 letters): the file's name would have 306 letters, and 180 are the most", errors)
+
+    def test_columns_by_their_titles_but_for_blanks_marks_and_capitals(self):
+        path = self.table("Name|Braid Notation|braid_notation\na|{1}|{-1}\n")
+        self.assertEqual(self.call(path, self.out, "--diagram", "braid_notation")[0], 0)
+        self.assertEqual(self.made("a"), "# name: a\nbraid 2 -1\n")
+        self.assertEqual(self.call(path, self.out, "--diagram", "BRAID NOTATION", "--replace")[0], 2)
+        path = self.table("Knot Name|Braid Notation\na|{1}\n")
+        self.assertEqual(self.call(path, self.out, "--name", "knot_name", "--diagram", "braid_notation", "--replace")[0], 0)
+        self.assertEqual(self.made("a"), "# name: a\nbraid 2 1\n")
 
     def test_tables_that_cannot_be_read(self):
         good = self.table("name,word\na,{1}\n", "good.csv")
@@ -288,12 +307,12 @@ class TableShapesTest(TableTest):
 class ProblemsTest(TableTest):
     def setUp(self):
         super().setUp()
-        self.knots = self.table('name|word|arcs\na|{1,1,1}|{{5,3},{4,2},{3,1},{2,5},{1,4}}\nb|{1,-2,1,-2}|{{1,2}}\nc|{1}|\nd|{2}|{{1,2},{2,1}}\n')
+        self.knots = self.table('name|word|arcs\na|{1,1,1}|{{5,3},{4,2},{3,1},{2,5},{1,4}}\nb|{1,-2,1,-2}|{{1,2}}\nc|{1}|\nd|{1,2}|{{1,2},{2,1}}\n')
 
     def test_two_columns_of_a_row(self):
         status, out, errors = self.call(self.knots, self.out, "--diagram", "word", "--second", "arcs")
         self.assertEqual((status, self.files()), (1, ["a.txt", "d.txt"]))
-        self.assertEqual(self.made("a"), "# a\n# word\nbraid 2 1 1 1\n# arcs\n" + RIGHT_TREFOIL)
+        self.assertEqual(self.made("a"), "# first: a\n# column: word\nbraid 2 1 1 1\n# second: a\n# column: arcs\n" + RIGHT_TREFOIL)
         self.assertEqual(errors.splitlines(), [
             f"{self.knots}:3: b: column 3: one pair alone, and a grid has two columns or more",
             f"{self.knots}:4: c: column 3: the entry is empty"])
@@ -303,13 +322,13 @@ class ProblemsTest(TableTest):
         self.call(self.knots, self.out, "--diagram", "word", "--second", "arcs", "--mirror", "second")
         lines = self.made("a").splitlines()
         self.assertEqual(lines[2], "braid 2 1 1 1")
-        self.assertEqual(grid_facts.writhe(*grid_facts.grid_of("\n".join(lines[4:]))), -3)
+        self.assertEqual(grid_facts.writhe(*grid_facts.grid_of("\n".join(lines[5:]))), -3)
 
     def test_neighbours(self):
         status, _, errors = self.call(self.knots, self.out, "--diagram", "word", "--neighbours")
         self.assertEqual((status, errors), (0, ""))
         self.assertEqual(self.files(), ["a__b.txt", "b__c.txt", "c__d.txt"])
-        self.assertEqual(self.made("a__b"), "# a\nbraid 2 1 1 1\n# b\nbraid 3 1 -2 1 -2\n")
+        self.assertEqual(self.made("a__b"), "# first: a\nbraid 2 1 1 1\n# second: b\nbraid 3 1 -2 1 -2\n")
 
     def test_neighbours_of_a_row_that_cannot_be_had(self):
         status, out, _ = self.call(self.knots, self.out, "--diagram", "arcs", "--neighbours")
@@ -330,9 +349,24 @@ class ProblemsTest(TableTest):
         self.assertEqual(self.files(), ["a__d.txt"])
 
     def test_a_name_that_no_row_has(self):
-        status, _, errors = self.call(self.knots, self.out, "--diagram", "word", "--only", "a z")
+        status, out, errors = self.call(self.knots, self.out, "--diagram", "word", "--only", "a z")
         self.assertEqual((status, self.files()), (1, ["a.txt"]))
         self.assertIn("z: no row has this name", errors)
+        self.assertEqual(out, f"1 rows: 1 diagrams in {self.out}, 0 not to be had, 1 names that no row has\n")
+
+    def test_names_with_blanks(self):
+        path = self.table("name|word\n3_1 mirrored|{-1,-1,-1}\n3_1|{1,1,1}\nmirrored|{1}\n4_1|{1,-2,1,-2}\n")
+        self.assertEqual(self.call(path, self.out, "--diagram", "word", "--only", "3_1 mirrored", "--only", "4_1")[0], 0)
+        self.assertEqual(self.files(), ["3_1_mirrored.txt", "4_1.txt"])
+        self.assertEqual(self.made("3_1_mirrored"), "# name: 3_1 mirrored\nbraid 2 -1 -1 -1\n")
+
+    def test_names_of_pairs_that_make_the_same_file_name(self):
+        path = self.table("name|word\nT(2,3)|{1,1,1}\nT[2,3]|{-1,-1,-1}\n4_1|{1,-2,1,-2}\n")
+        status, out, errors = self.call(path, self.out, "--diagram", "word", "--all-pairs")
+        self.assertEqual((status, self.files()), (1, ["T_2,3___4_1.txt", "T_2,3___T_2,3_.txt"]))
+        self.assertEqual(self.made("T_2,3___4_1"), "# first: T(2,3)\nbraid 2 1 1 1\n# second: 4_1\nbraid 3 1 -2 1 -2\n")
+        self.assertIn("T[2,3]__4_1: the file T_2,3___4_1.txt is taken by T(2,3)__4_1", errors)
+        self.assertEqual(out, f"3 rows: 2 problems in {self.out}, 1 not written, 0 not to be had\n")
 
     def test_quandles_behind_each(self):
         quandles = self.table("quandle dihedral 11", "quandles.txt")
@@ -349,7 +383,7 @@ class ExampleTest(TableTest):
         for name in self.files():
             lines = self.made(name[:-len(".txt")]).splitlines()
             braid = [int(word) for word in re.sub("braid ", "", lines[2]).split()]
-            arcs = grid_facts.grid_of("\n".join(lines[4:]))
+            arcs = grid_facts.grid_of("\n".join(lines[5:]))
             same = grid_facts.jones(*grid_facts.closure(braid[0], braid[1:])) == grid_facts.jones(*arcs)
             self.assertEqual(same, name != "3_1_mirrored.txt", name)
 

@@ -7,13 +7,9 @@ import tempfile
 import unittest
 
 import common
-import connected
-import diagrams
-import extensions
-import fields
-import groups
 import knot_invariants
 import quandles
+from lib import connected, diagrams, extensions, fields, groups
 
 # Half of each symmetric polynomial up to its middle, as printed in Rolfsen's Knots and Links (1976), with the first coefficient positive.
 ALEXANDER = {
@@ -331,14 +327,27 @@ class Words(unittest.TestCase):
                 table.flush()
                 status, _, fault = common.run("quandles.py", "pairs", table.name)
             self.assertEqual(status, 1, text)
-            self.assertIn("line", fault)
-        self.assertEqual(common.run("quandles.py", "pairs", "no such file")[0], 1)
+            self.assertTrue(fault.startswith(f"quandles.py: {table.name}: line "), fault)
+        self.assertEqual(common.run("quandles.py", "pairs", "no such file"), (1, "", "quandles.py: no such file: No such file or directory\n"))
         with tempfile.NamedTemporaryFile("w", suffix=".txt") as bad:
             bad.write("quandle table 3\n0 2 0\n2 1 1\n1 0 2\n")
             bad.flush()
             status, _, fault = common.run("quandles.py", "pairs", common.KNOTS, bad.name)
         self.assertEqual(status, 1)
-        self.assertIn(f"{bad.name}, line 4", fault)
+        self.assertTrue(fault.startswith(f"quandles.py: {bad.name}: line 4: "), fault)
+
+
+    def test_a_table_may_have_other_titles(self):
+        text = '\ufeffKnot,Braid Notation\n3_1,"{1,1,1}"\n4_1,"{1,-2,1,-2}"\n'
+        with tempfile.NamedTemporaryFile("w", suffix=".csv", encoding="utf-8") as table:
+            table.write(text)
+            table.flush()
+            status, out, fault = common.run("quandles.py", "pairs", table.name, "--name", "Knot", "--braid", "Braid Notation")
+            self.assertEqual((status, fault), (0, ""))
+            self.assertIn("1 of 1 pairs told apart", out)
+            status, _, fault = common.run("quandles.py", "pairs", table.name, "--name", "Knot")
+            self.assertEqual(status, 1)
+            self.assertIn(f"{table.name}: line 1: no column 'braid', but 'Knot', 'Braid Notation'; --braid names another one", fault)
 
 
 if __name__ == "__main__":

@@ -1,8 +1,10 @@
-"""Diagrams, quandles and colourings for the scripts in this folder, by the definitions of docs/DEFINITIONS.md.
+"""Diagrams, quandles and colourings for the programs of tools/, by the definitions of docs/DEFINITIONS.md.
 
 Nothing here is proved. What a script finds is to be checked by `./knot check`.
 """
 from collections import namedtuple
+
+from .calls import Fault
 
 MAX_SIZE = 48
 MAX_STRANDS = 8
@@ -13,7 +15,7 @@ MAX_QUANDLES = 64
 CORNERS = ("lowleft", "lowright", "highleft", "highright")
 
 
-class BadText(ValueError):
+class BadText(Fault):
     """A text that can't be read. `line` is counted from 1, or None."""
 
     def __init__(self, message, line=None):
@@ -102,14 +104,19 @@ class Lines:
     """The lines of a text that are not skipped, with their numbers from 1, taken one by one."""
 
     def __init__(self, text):
+        if text.startswith("\ufeff"):
+            raise BadText("the text begins with a byte order mark, which the program doesn't take; save it without", 1)
         self.lines = []
-        number = 0
-        for number, line in enumerate(text.split("\n"), 1):
+        every = text.split("\n")
+        if every[-1] == "":
+            every.pop()
+        for number, line in enumerate(every, 1):
             tokens = line.replace("\t", " ").removesuffix("\r").split(" ")
             tokens = [token for token in tokens if token]
             if tokens and not tokens[0].startswith("#"):
                 self.lines.append((number, tokens))
-        self.end = number + 1
+        # Where something is due and the text ends, as the program counts.
+        self.end = len(every) + 1
         self.place = 0
 
     def peek(self):
@@ -187,10 +194,11 @@ def read_grid(lines):
     return Grid(tuple(xs), tuple(os_))
 
 
-def read_quandle(lines):
+def read_quandle(lines, word="quandle"):
+    """The quandle of a line `quandle`, or of another word that stands before its name, with the lines of its table."""
     line, tokens = lines.take("a quandle")
-    if tokens[0] != "quandle" or len(tokens) < 2:
-        raise BadText("a line 'quandle' with a name is due", line)
+    if tokens[0] != word or len(tokens) < 2:
+        raise BadText(f"a line '{word}' with a name is due", line)
     name, numbers = tokens[1], [number_of(token, line) for token in tokens[2:]]
     wanted = {"trivial": 1, "dihedral": 1, "tetrahedral": 0, "alexander": 2, "table": 1}.get(name)
     if wanted is None or wanted != len(numbers):
@@ -252,6 +260,10 @@ def move_of(line, tokens):
     raise BadText(f"'{' '.join(tokens)}' is no move", line)
 
 
+def move_text(move):
+    return " ".join(map(str, move))
+
+
 # Grids
 
 def grid_text(grid):
@@ -287,9 +299,29 @@ def grid_of(diagram):
     return closure(diagram)[0] if isinstance(diagram, Braid) else diagram
 
 
+def diagram_text(diagram):
+    """The lines of a grid or of a braid."""
+    if isinstance(diagram, Braid):
+        return " ".join(map(str, ("braid", diagram.strands, *diagram.letters))) + "\n"
+    return grid_text(diagram)
+
+
 def mirror_braid(braid):
     """The word of the mirror image: every sign changed."""
     return Braid(braid.strands, tuple(-letter for letter in braid.letters))
+
+
+def mirror_image(diagram):
+    """Of a grid the picture turned upside down, in which columns pass over rows as before."""
+    if isinstance(diagram, Braid):
+        return mirror_braid(diagram)
+    size = len(diagram.xs)
+    return Grid(*(tuple(size - 1 - row for row in marks) for marks in diagram))
+
+
+def reverse(diagram):
+    """The same link, run through backwards: a word from its end, and of a grid the Xs and the Os in each other's place."""
+    return Braid(diagram.strands, diagram.letters[::-1]) if isinstance(diagram, Braid) else Grid(diagram.os, diagram.xs)
 
 
 def ends(grid, row):

@@ -5,8 +5,8 @@ The field is that of the polynomials in t mod a prime and mod one without a fact
 """
 import itertools
 
-import linear
-from fields import times_t
+from . import linear
+from .fields import times_t
 
 
 def rows_of_t(prime, coefficients):

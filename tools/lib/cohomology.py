@@ -4,7 +4,7 @@ A vector stands for a square of numbers: the place of φ(x, y) is x * q + y, whe
 """
 import itertools
 
-import linear
+from . import linear
 
 
 def cocycle_equations(table):

@@ -43,3 +43,29 @@ def fields(size):
             for coefficients in itertools.product(range(prime), repeat=degree):
                 if coefficients[0] and is_irreducible(prime, coefficients):
                     yield prime, coefficients
+
+
+class Field:
+    """The field of p^d elements that t^d + ... makes, a polynomial without a factor. An element is a number from 0 to p^d - 1, whose digits
+    to the base p are its coefficients, that of 1 the lowest."""
+
+    def __init__(self, prime, coefficients=(0,)):
+        degree = len(coefficients)
+        self.size = prime ** degree
+        vectors = [tuple(element // prime ** power % prime for power in range(degree)) for element in range(self.size)]
+        index = {vector: element for element, vector in enumerate(vectors)}
+        self.plus = [[index[tuple((a + b) % prime for a, b in zip(first, second))] for second in vectors] for first in vectors]
+        self.minus = [index[tuple(-a % prime for a in vector)] for vector in vectors]
+        self.times = [[0] * self.size for _ in vectors]
+        for element, vector in enumerate(vectors):
+            for other, factors in enumerate(vectors):
+                # The powers of t times the one, each as often as the other has it.
+                power, total = vector, (0,) * degree
+                for factor in factors:
+                    total = tuple((a + factor * b) % prime for a, b in zip(total, power))
+                    power = times_t(power, coefficients, prime)
+                self.times[element][other] = index[total]
+
+    def inverse(self, element):
+        """The element times which it is 1. Raises ValueError for 0."""
+        return self.times[element].index(1)

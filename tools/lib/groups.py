@@ -1,7 +1,7 @@
 """Groups of permutations, by generators. A permutation is a tuple: the images of 0, 1, and so on."""
 import itertools
 
-from fields import times_t
+from .fields import times_t
 
 
 # Permutations and what they generate

@@ -1,8 +1,9 @@
 """Reads what `./knot code` prints, for to_regina.py, to_sage.py and to_snappy.py."""
 import argparse
 import re
-import sys
 from collections import namedtuple
+
+from . import calls
 
 # `rows` are the crossings as [i, j, k, l]; `loops` counts the components without a crossing; `components` has for each other one its
 # passages as (is_over, crossing, sign), crossings counted from 1.
@@ -13,17 +14,19 @@ component that passes over at each of its crossings. With --kinks each of these 
 hold all there is, and the writhe grows by one for each kink."""
 
 
-class BadCode(ValueError):
+class BadCode(calls.Fault):
     """A text that `./knot code` doesn't print."""
 
 
 def read_code(text):
+    """The code of a text. Lines that begin with `#`, as tools/batch.py puts before it, are skipped."""
     rows, loops, components = [], None, []
-    lines = text.splitlines()
-    head = re.fullmatch(r"crossings (\d+)", lines[0]) if lines else None
+    lines = [(number, line) for number, line in enumerate(text.splitlines(), 1) if not line.startswith("#")]
+    number, line = lines[0] if lines else (len(text.splitlines()) + 1, None)
+    head = re.fullmatch(r"crossings (\d+)", line or "")
     if not head:
-        raise BadCode(f"line 1: 'crossings N' is due, as ./knot code prints it{', and not ' + repr(lines[0]) if lines else ''}")
-    for number, line in enumerate(lines[1:], 2):
+        raise BadCode(f"line {number}: 'crossings N' is due, as ./knot code prints it{f', and not {line!r}' if line else ''}")
+    for number, line in lines[1:]:
         row = re.fullmatch(r"X\[(\d+),(\d+),(\d+),(\d+)\]", line)
         circles = re.fullmatch(r"loops (\d+)", line)
         if row and loops is None:
@@ -78,37 +81,43 @@ def kinked(code):
     return Code(rows, 0, components)
 
 
-def say_lost(code):
+def say_lost(code, named):
     """Tells on standard error what the rows don't hold."""
     if code.loops:
-        print(f"note: {code.loops} of the components have no crossing, and the rows do not hold them (--kinks puts them in)", file=sys.stderr)
+        calls.note(f"{named}note: {code.loops} of the components have no crossing, and the rows do not hold them (--kinks puts them in)")
     for place in all_over(code):
-        print(f"note: component {place + 1} passes over everywhere, and the rows do not hold its direction (--kinks tells it)", file=sys.stderr)
+        calls.note(f"{named}note: component {place + 1} passes over everywhere, and the rows do not hold its direction (--kinks tells it)")
 
 
-def main(name, doc, expression, built):
-    """The words and the ends of the three scripts: `expression(code)` is the call as text, `built(code)` makes the link and shows it."""
-    parser = argparse.ArgumentParser(description=f"{doc}\n{LOST}", formatter_class=argparse.RawDescriptionHelpFormatter)
-    parser.add_argument("input", nargs="?", help="what ./knot code printed; standard input where none is given")
-    parser.add_argument("--kinks", action="store_true", help="put in loops, and directions, by kinks")
-    parser.add_argument("--print", action="store_true", help="only write the call; needs no module")
-    words = parser.parse_args()
-    try:
-        if words.input:
-            with open(words.input, encoding="utf-8") as source:
-                code = read_code(source.read())
-        else:
-            code = read_code(sys.stdin.read())
-    except (OSError, UnicodeDecodeError, BadCode) as fault:
-        sys.exit(f"{name}: {fault}")
+def show(name, words, path, expression, built):
+    """Writes the call of one code, or makes the link and shows it."""
+    with calls.naming(path):
+        code = read_code(calls.text_of(path))
+    several = len(words.input) > 1
     if words.kinks:
         code = kinked(code)
-    say_lost(code)
+    say_lost(code, f"{path}: " if several else "")
+    if several:
+        print(f"# {path}")
     if words.print:
         print(expression(code))
         return
     try:
         built(code)
     except ImportError as fault:
-        print(f"{name}: {fault}; install it, or use --print", file=sys.stderr)
-        sys.exit(3)
+        calls.note(f"{name}: {fault}; install it, or use --print")
+        raise SystemExit(3) from None
+
+
+def program(name, doc, expression, built):
+    """Runs one of the three programs: `expression(code)` is the call as text, `built(code)` makes the link and shows it."""
+    def main():
+        parser = argparse.ArgumentParser(description=f"{doc}\n{LOST}", formatter_class=argparse.RawDescriptionHelpFormatter)
+        parser.add_argument("input", nargs="*", help="what ./knot code printed, or tools/batch.py --job code wrote; standard input where none is given")
+        parser.add_argument("--kinks", action="store_true", help="put in loops, and directions, by kinks")
+        parser.add_argument("--print", action="store_true", help="only write the call; needs no module")
+        words = parser.parse_args()
+        for path in words.input or [None]:
+            show(name, words, path, expression, built)
+
+    calls.run(name, main)

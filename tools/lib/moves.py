@@ -1,5 +1,5 @@
 """Moves on grids and what they make of colours, by the definitions of docs/DEFINITIONS.md. A move is a tuple as diagrams.read_moves has it."""
-from diagrams import Grid, MAX_SIZE, ends, is_up
+from .diagrams import Grid, MAX_SIZE, ends, is_up
 
 
 class Illegal(ValueError):
@@ -114,6 +114,42 @@ def destabilised(grid, column, row):
             new_other.append(down(other[place]))
     xs, os_ = (new_own, new_other) if kind == "x" else (new_other, new_own)
     return Grid(tuple(xs), tuple(os_))
+
+
+def undone(grid, move):
+    """The move that leads back from where a legal move leads to."""
+    word, size = move[0], len(grid.xs)
+    if word == "shift":
+        return "shift", move[1], size - move[2]
+    if word == "stabilise":
+        return "destabilise", move[1], (grid.xs if move[2] == "x" else grid.os)[move[1]]
+    if word == "destabilise":
+        return stabilisation_at(grid, *move[1:])
+    return move
+
+
+def stabilisation_at(grid, column, row):
+    """The stabilisation that makes a block of three marks. The kind is that of two of them, and the corner is where the third one is."""
+    block = {(kind, side, marks[column + side] - row) for kind, marks in (("x", grid.xs), ("o", grid.os)) for side in (0, 1)
+             if marks[column + side] in (row, row + 1)}
+    kind = "x" if sum(mark[0] == "x" for mark in block) == 2 else "o"
+    ((_, side, height),) = (mark for mark in block if mark[0] != kind)
+    return "stabilise", column, kind, ("low", "high")[height] + ("left", "right")[side]
+
+
+def tidied(grid, moves):
+    """Moves that lead from a grid to where the given ones lead, with at most one shift of columns and then one of rows in each run of shifts."""
+    kept, size, by = [], len(grid.xs), {"columns": 0, "rows": 0}
+    for move in [*moves, None]:
+        if move and move[0] == "shift":
+            by[move[1]] = (by[move[1]] + move[2]) % size
+            continue
+        kept += [("shift", which, by[which]) for which in ("columns", "rows") if by[which]]
+        by = {"columns": 0, "rows": 0}
+        if move:
+            kept.append(move)
+            size += {"stabilise": 1, "destabilise": -1}.get(move[0], 0)
+    return kept
 
 
 def carried(grid, quandle, colours, move):

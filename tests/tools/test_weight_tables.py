@@ -1,0 +1,115 @@
+"""The ready tables of quandles with cocycles: laws, files, and what they say of knots and their mirror images."""
+import os
+import tempfile
+import unittest
+
+import common
+import cocycles
+import quandles
+import weight_tables
+from lib import diagrams, weighing
+from lib.connected import is_connected
+from lib.fields import Field
+
+# The numbers of colours and the moduli: the conjugates of a matrix are as many as the matrices of determinant 1, q³ − q, by its torus.
+SIZES = {"T5": (12, 5), "T7": (24, 7), "M20a": (20, 3), "M20b": (20, 6), "M30": (30, 4), "M42a": (42, 8), "M42b": (42, 8), "M42c": (42, 8), "M56b": (56, 6)}
+# Knots of the table that are their own mirror images, perhaps run through backwards.
+AMPHICHIRAL = ("4_1", "6_3", "8_9", "8_17", "8_18")
+
+
+def read_table(text):
+    """The quandle, the modulus and the cocycle."""
+    lines = diagrams.Lines(text)
+    table = [[int(entry) for entry in lines.take("a line")[1]] for _ in range(int(lines.take("quandle table")[1][2]))]
+    modulus = int(lines.take("weight")[1][1])
+    cocycle = [[int(entry) for entry in lines.take("a line")[1]] for _ in table]
+    lines.done()
+    return diagrams.quandle_of(f"table {len(table)}", table), modulus, cocycle
+
+
+def weights(braid, quandle, modulus, cocycle):
+    return cocycles.weights_line(cocycles.weights_of_braid(braid, quandle, [cocycle], modulus), [1], modulus)
+
+
+class Fields(unittest.TestCase):
+    def test_a_field_is_one(self):
+        for field, prime in ((Field(5), 5), (Field(2, (1, 1)), 2), (Field(3, (1, 0)), 3), (Field(2, (1, 1, 0)), 2)):
+            elements = range(field.size)
+            for a in elements:
+                self.assertEqual(field.plus[a][field.minus[a]], 0)
+                self.assertEqual((field.times[a][1], field.plus[a][0]), (a, a))
+                self.assertEqual(sorted(field.times[a]), sorted(elements) if a else [0] * field.size)
+                for b in elements:
+                    self.assertEqual(field.times[a][b], field.times[b][a])
+                    for c in elements:
+                        self.assertEqual(field.times[a][field.times[b][c]], field.times[field.times[a][b]][c])
+                        self.assertEqual(field.times[a][field.plus[b][c]], field.plus[field.times[a][b]][field.times[a][c]])
+            with self.assertRaises(ValueError):
+                field.inverse(0)
+
+
+class Tables(unittest.TestCase):
+    def test_the_files_are_what_the_script_writes(self):
+        with tempfile.TemporaryDirectory() as folder:
+            self.assertEqual(common.run("weight_tables.py", folder), (0, "", ""))
+            self.assertEqual(sorted(os.listdir(folder)), sorted(f"{name}.txt" for name in weight_tables.READY))
+            for name in weight_tables.READY:
+                with open(os.path.join(folder, f"{name}.txt"), encoding="utf-8") as written:
+                    self.assertEqual(written.read(), common.read("quandles", "weights", f"{name}.txt"), name)
+
+    def test_each_is_a_connected_quandle_with_a_cocycle(self):
+        self.assertEqual(sorted(SIZES), sorted([*weight_tables.READY, *weight_tables.LARGER]))
+        for name, (order, wanted) in SIZES.items():
+            quandle, modulus, cocycle = read_table(weight_tables.text_of(name))
+            self.assertEqual((len(quandle.over), modulus), (order, wanted), name)
+            self.assertIsNone(diagrams.quandle_fault(quandle.over), name)
+            self.assertTrue(is_connected(quandle.over), name)
+            self.assertIsNone(weighing.cocycle_fault(quandle.over, cocycle, modulus), name)
+            self.assertTrue(all(0 <= value < modulus for row in cocycle for value in row), name)
+            self.assertEqual(order <= diagrams.MAX_ORDER, name in weight_tables.READY)
+
+    def test_transvections_add_multiples_of_vectors(self):
+        for prime in (5, 7):
+            vectors = [(a, b) for a in range(prime) for b in range(prime) if 0 < (a or b) <= prime // 2]
+            table = read_table(weight_tables.text_of(f"T{prime}"))[0].over
+            for x, (a, b) in enumerate(vectors):
+                for y, (c, d) in enumerate(vectors):
+                    det = a * d - b * c
+                    image = (a + det * c) % prime, (b + det * d) % prime
+                    self.assertIn(vectors[table[x][y]], (image, (-image[0] % prime, -image[1] % prime)))
+
+    def test_a_torus_that_is_not_cyclic_is_refused(self):
+        with self.assertRaises(ValueError):
+            weight_tables.conjugates(Field(5), ((2, 0), (0, 2)))
+
+
+class Weights(unittest.TestCase):
+    def test_the_two_trefoils_as_the_guide_has_them(self):
+        quandle, modulus, cocycle = read_table(common.read("quandles", "weights", "T5.txt"))
+        for letter, wanted in ((1, [12, 0, 0, 0, 60]), (-1, [12, 60, 0, 0, 0])):
+            self.assertEqual(weights(diagrams.Braid(2, (letter,) * 3), quandle, modulus, cocycle), wanted)
+        self.assertEqual(common.read("examples", "weights", "two-trefoils-twelve-colours.out"), "weights 12 0 0 0 60\nweights 12 60 0 0 0\ndifferent\n")
+        self.assertTrue(common.read("examples", "weights", "two-trefoils-twelve-colours.txt").endswith(
+            common.read("quandles", "weights", "T5.txt").split("./knot weights\n")[1]))
+
+    def test_mirror_images_as_the_guide_has_them(self):
+        tables = {name: read_table(common.read("quandles", "weights", f"{name}.txt")) for name in weight_tables.READY}
+        told = {}
+        for name, braid in quandles.read_knots(common.KNOTS):
+            if braid.strands <= 3:
+                told[name] = {table for table, found in tables.items() if weights(braid, *found) != weights(diagrams.mirror_braid(braid), *found)}
+        for name in AMPHICHIRAL:
+            self.assertEqual(told[name], set(), name)
+        for name, wanted in (("5_1", {"M20a", "M20b", "M30"}), ("6_2", {"T7", "M20b"}), ("8_16", {"T7", "M20b"}), ("7_3", {"M20b"}), ("8_2", {"T7"}),
+                             ("7_1", set()), ("7_5", set())):
+            self.assertEqual(told[name], wanted, name)
+
+
+class Words(unittest.TestCase):
+    def test_bad_words(self):
+        self.assertEqual(common.run("weight_tables.py", "--larger")[0], 2)
+        self.assertEqual(common.run("weight_tables.py", "no such folder")[0], 2)
+
+
+if __name__ == "__main__":
+    unittest.main()

@@ -1,0 +1,233 @@
+"""A folder of problems, and what is run and kept of each."""
+import concurrent.futures
+import os
+import signal
+import subprocess
+import sys
+import tempfile
+import time
+
+from lib.batch_answers import (ANSWERED, LIMIT, MALFORMED, REJECTED, WRITES_ANSWER, Answer, Tried, adds_too_much, answer_bytes, ended_line,
+                           next_stage, read_answer, says, without_head_line)
+from lib.batch_programs import Runner, why_none
+from lib.batch_stages import digest, stage_key, stage_text
+from lib.script_streams import complain, reason_of
+from lib.whole_files import sweep_parts, write_whole
+
+# What is kept of a problem, one file in each.
+FOLDERS = ("answers", "certificates", "rulings")
+
+# Jobs whose answers begin with a verdict that check takes; the last is a program's that takes no name of a job.
+WITH_VERDICT = ("decide", "seek", "")
+
+
+def tell(text):
+    """Says something on standard error."""
+    complain(f"batch.py: {text}")
+
+
+class Batch:
+    """A folder of problems, and the folder of what is made of it."""
+
+    def __init__(self, options, stages, programs=None):
+        self.problems = options.problems
+        self.answers = options.answers
+        self.job = options.job
+        self.stages = stages
+        self.programs = programs
+        self.runner = programs.runner if programs else Runner()
+
+    def problem_path(self, name):
+        """The file of a problem."""
+        return os.path.join(self.problems, name + ".txt")
+
+    def path(self, folder, name):
+        """The file of a problem in one of the folders."""
+        return os.path.join(self.answers, folder, name + ".txt")
+
+    def make_folders(self):
+        """Makes the folders that are missing, and sweeps what calls that are gone have left half written."""
+        for folder in FOLDERS:
+            full = os.path.join(self.answers, folder)
+            os.makedirs(full, exist_ok=True)
+            sweep_parts(full)
+        sweep_parts(self.answers)
+
+    def forget(self, names):
+        """Removes all that is kept of these problems."""
+        for name in names:
+            for folder in FOLDERS:
+                remove(self.path(folder, name))
+
+    def problem(self, name):
+        """The bytes of a problem."""
+        with open(self.problem_path(name), "rb") as file:
+            return file.read()
+
+    def answer(self, name):
+        """The problem, and the answer that is kept for it."""
+        problem = self.problem(name)
+        return problem, read_answer(self.path("answers", name), problem, self.job)
+
+    def next_stage(self, name):
+        """The stage in which this problem is to be tried next, or None."""
+        return next_stage(self.answer(name)[1], self.stages)
+
+    # --- one problem
+
+    def try_stage(self, name, stage):
+        """Runs one problem in one stage and keeps what the program wrote. False where it gave no answer; then nothing changes."""
+        problem, answer = self.answer(name)
+        given = problem
+        for _, added in stage.added:
+            given = ended_line(given) + added
+        ran = self.runner.run(self.programs.call(stage.job, stage.words), given)
+        if ran.status is None:
+            return False
+        if ran.status not in WRITES_ANSWER:
+            tell(f"{self.problem_path(name)}: stage {stage.name}: no answer, {why_none(ran.status, ran.told)}")
+            return False
+        if self.problem(name) != problem:
+            tell(f"{self.problem_path(name)}: it was changed while it was run")
+            return False
+        tried = Tried(stage.name, stage_text(stage), stage_key(stage), ran.status, round(ran.seconds, 3), says(ran.body), ran.told,
+                      adds_too_much(problem, stage, ran.status, ran.body))
+        answer = Answer([*(answer.tried if answer else []), tried], ran.body)
+        write_named(self.path("answers", name), answer_bytes(problem, self.job, answer))
+        return True
+
+    def certificate(self, name):
+        """The problem with its verdict behind it, or None where there is no evidence."""
+        problem, answer = self.answer(name)
+        if self.job not in WITH_VERDICT or answer is None or answer.tried[-1].status != ANSWERED:
+            return None
+        if without_head_line(answer.body).split(b" ", 1)[0] not in (b"equal", b"different"):
+            return None
+        return ended_line(problem) + answer.body
+
+    def check(self, name):
+        """Writes the certificate and what the checker says of it; what is said of this very certificate already is kept."""
+        certificate = self.certificate(name)
+        paths = self.path("certificates", name), self.path("rulings", name)
+        if certificate is None:
+            for path in paths:
+                remove(path)
+            return
+        if read_bytes(paths[0]) != certificate:
+            write_named(paths[0], certificate)
+        if ruling_of(paths[1], certificate) is not None:
+            return
+        ran = self.runner.run([self.programs.path("check"), "check"], certificate)
+        if ran.status is None:
+            return
+        if ran.status not in (ANSWERED, MALFORMED, LIMIT, REJECTED):
+            tell(f"{paths[0]}: the checker gave no ruling, {why_none(ran.status, ran.told)}")
+            return
+        write_named(paths[1], f"# certificate sha256 {digest(certificate)}\n".encode() + ran.body)
+
+    # --- many problems
+
+    def guarded(self, act, name):
+        """Calls act for this name. Where a file can't be read or written, the file is named, and the result is False."""
+        try:
+            return act(name)
+        except OSError as error:
+            tell(f"{self.problem_path(name)}: {reason_of(error)}")
+            return False
+
+    def each(self, names, act, processes):
+        """Calls act for every name, so many at once. When a signal comes, what runs is ended and nothing is begun."""
+        with concurrent.futures.ThreadPoolExecutor(processes) as pool:
+            futures = [pool.submit(self.guarded, act, name) for name in names]
+            try:
+                for future in concurrent.futures.as_completed(futures):
+                    future.result()
+            except BaseException:
+                self.runner.stop()
+                for future in futures:
+                    future.cancel()
+                raise
+
+    def run_stages(self, names, options):
+        """Runs the stages in order, each for the problems that are due for it."""
+        for stage in self.stages:
+            due = {name: self.guarded(self.next_stage, name) for name in names}
+            # What can't be read was named, and is left to the summary.
+            names = [name for name in names if due[name] is not False]
+            waiting = [name for name in names if due[name] is stage]
+            if not waiting:
+                continue
+            tell(f"stage {stage.name}: {len(waiting)} problems")
+            if options.parallel:
+                self.run_parallel(waiting, stage, options)
+            else:
+                self.each(waiting, lambda name: self.try_stage(name, stage), options.processes)
+
+    def run_parallel(self, names, stage, options):
+        """The same by GNU parallel: one process of the script for a problem."""
+        call = ["parallel", "-q", "-0", "--no-run-if-empty", "--joblog", "+" + os.path.join(self.answers, "jobs.log")]
+        if options.hosts:
+            call += ["--sshloginfile", options.hosts, options.script]
+        else:
+            call += ["--jobs", str(options.processes), sys.executable, options.script]
+        call += ["--stage=" + stage.name, "--job=" + self.job, "--program=" + self.programs.path("knot"),
+                 "--seeker=" + self.programs.path("seek")]
+        if options.stages:
+            call += ["--stages=" + options.stages]
+        call += ["--", "{}", self.answers]
+        given = b"".join(os.fsencode(self.problem_path(name)) + b"\0" for name in names)
+        with tempfile.TemporaryFile() as source:
+            source.write(given)
+            source.seek(0)
+            process = subprocess.Popen(call, stdin=source, start_new_session=True)
+            try:
+                process.wait()
+            except BaseException:
+                end_parallel(process)
+                raise
+        # Its status counts the calls that failed; what has no answer is looked for in the folder.
+        if process.returncode == 255 or process.returncode < 0:
+            tell(f"GNU parallel ended with status {process.returncode}")
+
+
+def end_parallel(process):
+    """GNU parallel begins nothing after one SIGTERM and ends what runs after a second."""
+    for _ in range(2):
+        if process.poll() is None:
+            process.terminate()
+            time.sleep(0.2)
+    try:
+        process.wait(timeout=10)
+    except subprocess.TimeoutExpired:
+        os.killpg(process.pid, signal.SIGKILL)
+        process.wait()
+
+
+def write_named(path, data):
+    """Writes a file whole or not at all; an error of the system has this path, and not that of the part beside it, or none."""
+    try:
+        write_whole(path, data)
+    except OSError as error:
+        raise OSError(error.errno, error.strerror, path) from None
+
+
+def remove(path):
+    """Removes a file where it is there."""
+    if os.path.exists(path):
+        os.unlink(path)
+
+
+def read_bytes(path):
+    """The bytes of a file, or None where there is none."""
+    try:
+        with open(path, "rb") as file:
+            return file.read()
+    except FileNotFoundError:
+        return None
+
+
+def ruling_of(path, certificate):
+    """What the checker said of this very certificate, or None."""
+    data = read_bytes(path)
+    head = f"# certificate sha256 {digest(certificate)}\n".encode()
+    return data[len(head):].decode().strip() if data and data.startswith(head) else None

@@ -1,0 +1,134 @@
+"""The summary of a batch: a line for each problem, what is wrong with it, and the exit status that follows."""
+import collections
+import csv
+import io
+import os
+import re
+
+from lib.batch_answers import REFUSED, UNKNOWN, deciding, in_one_line
+from lib.batch_runs import FOLDERS, ruling_of, tell, write_named
+from lib.script_streams import reason_of, say
+
+# name: that of the problem's file. first, second: what the problem's comments call its diagrams.
+Row = collections.namedtuple("Row", "name first second verdict evidence stage seconds check")
+
+VERDICTS = ("equal", "different", "unknown", "accepted", "rejected", "alike", "wide")
+
+NAME_LINE = re.compile(r"^# (name|first|second): (.*?)\r?$", re.M)
+
+
+def natural(name):
+    """A key by which 3_1 stands before 10_1."""
+    return [(0, int(part), "") if part.isdecimal() else (1, 0, part) for part in re.split("([0-9]+)", name) if part]
+
+
+def names_in(folder):
+    """The names of the files NAME.txt of a folder, but for hidden ones."""
+    return [name[:-len(".txt")] for name in os.listdir(folder) if name.endswith(".txt") and not name.startswith(".")]
+
+
+def diagram_names(problem):
+    """What the comments `# first: ..` and `# second: ..` call the diagrams; `# name: ..` is the only diagram's. Else empty."""
+    found = {}
+    for key, name in NAME_LINE.findall(problem.decode("utf-8", "replace")):
+        found.setdefault("first" if key == "name" else key, name.strip())
+    return found.get("first", ""), found.get("second", "")
+
+
+def in_short(tried):
+    """Verdict and evidence of a try."""
+    if tried.status in REFUSED:
+        return "refused", tried.says or in_one_line(tried.told)
+    first, _, rest = tried.says.partition(" ")
+    if tried.status == UNKNOWN:
+        # seek writes nothing then, and says on standard error what was tried; its sentence is kept with the answer.
+        return "unknown", rest if first == "unknown" else tried.says or in_one_line(tried.told).partition(":")[0]
+    if first in VERDICTS:
+        return first, rest
+    return "answered", ""
+
+
+def unread(name, reason):
+    """The row of a problem that can't be read."""
+    return Row(name, "", "", "none", reason, "", "", "")
+
+
+def row_of(batch, name):
+    """The row of a problem."""
+    try:
+        problem, answer = batch.answer(name)
+        first, second = diagram_names(problem)
+        tried = deciding(answer, batch.stages)
+        if tried is None:
+            return Row(name, first, second, "none", "", "", "", "")
+        seconds = f"{sum(one.seconds for one in answer.tried):.3f}"
+        certificate = batch.certificate(name)
+        check = "" if certificate is None else ruling_of(batch.path("rulings", name), certificate) or "none"
+        return Row(name, first, second, *in_short(tried), tried.stage, seconds, check)
+    except OSError as error:
+        return unread(name, reason_of(error))
+
+
+def faults_of(batch, row):
+    """What is wrong with a row, in words."""
+    if row.verdict == "none":
+        yield row.evidence or "no answer"
+        return
+    stage = batch.guarded(batch.next_stage, row.name)
+    if row.verdict == "refused":
+        yield f"refused at stage {row.stage}: {row.evidence}"
+    elif row.verdict == "rejected":
+        yield f"rejected: {row.evidence}"
+    elif stage:
+        yield f"no answer at stage {stage.name}"
+    if row.check not in ("", "accepted"):
+        yield f"the certificate is not accepted: {row.check}"
+
+
+def summary_bytes(rows):
+    """The file of the summary."""
+    out = io.StringIO(newline="")
+    writer = csv.writer(out, lineterminator="\n")
+    writer.writerow(Row._fields)
+    writer.writerows(rows)
+    return out.getvalue().encode("utf-8", "surrogateescape")
+
+
+def counts_of(rows):
+    """How many rows have which verdict, in words."""
+    counts = collections.Counter(row.verdict for row in rows)
+    none = counts.pop("none", 0)
+    texts = [f"{count} {verdict}" for verdict, count in sorted(counts.items())]
+    return ", ".join(texts + [f"{none} without an answer"] * (none > 0))
+
+
+def report(batch, names, unreadable, with_summary):
+    """Writes the summary, names each fault on standard error, and gives the exit status.
+
+    `unreadable` has the names of the problems that can't be read, each with the reason.
+    """
+    rows = [unread(name, unreadable[name]) if name in unreadable else row_of(batch, name) for name in names]
+    if not with_summary:
+        # Certificates are made and checked when the parts are put together.
+        rows = [row._replace(check="") for row in rows]
+    status = 1 if any(row.verdict == "unknown" for row in rows) else 0
+    for row in rows:
+        for fault in faults_of(batch, row):
+            tell(f"{batch.problem_path(row.name)}: {fault}")
+            status = 3
+    line = f"{len(rows)} problems: {counts_of(rows)}"
+    if with_summary:
+        write_named(os.path.join(batch.answers, "summary.csv"), summary_bytes(rows))
+        checks = [row.check for row in rows if row.check]
+        if checks:
+            line += f"; {checks.count('accepted')} of {len(checks)} certificates accepted"
+        tell_strays(batch, names)
+    say(line)
+    return status
+
+
+def tell_strays(batch, names):
+    """Names what is kept of problems that aren't there."""
+    for folder in FOLDERS:
+        for name in sorted(set(names_in(os.path.join(batch.answers, folder))) - set(names), key=natural):
+            tell(f"{batch.path(folder, name)}: no problem of this name; not counted")

@@ -1,0 +1,142 @@
+"""The call of the script that makes inputs from a table: its words, and what is done in which order."""
+import argparse
+import os
+
+from lib.script_streams import StreamError, WordsParser, complain, input_bytes, reason_of, say
+from lib.table_inputs import Faults, absent_names, items_of, lost_inputs, outputs_of, write_all
+from lib.table_rows import Table, TableError, decoded
+
+ABOUT = "Makes inputs for knot and seek from a table of knots: one diagram a row, or one problem for each pair that is asked for."
+
+EPILOG = """\
+The table has a row for each knot: a name, and a braid word as {1,1,-2,1,-2} or [1, 1, -2, 1, -2], with its strands in front
+as {3,{1,1,-2,1,-2}}, in a column of their own, or as few as the letters need; or an arc presentation as {{5,2},{1,3},...} or
+[[5,2],[1,3],...]. Which of both an entry is, is seen by its brackets.
+
+PD, DT and Gauss codes aren't read. A column is refused whose title says that it has them, and so is an entry that looks like
+one: lists of four; 2, 4 and so on, each once; or each number once with either sign, from three crossings on. SnapPy's
+braid_word() and Sage's Link(pd).braid() make braid words. A word that leaves letters out has a split closure, and a warning.
+
+Letter k of a braid is the positive crossing of strands k and k + 1, and -k the negative one, as in Sage. Pair k of an arc
+presentation is column k from the left, with the two rows of its ends counted from below, from 1; columns pass over rows, and
+each runs from its first number to its second. With --arcs rows, pair k is row k from below, and has the columns of its ends from
+the left; this is the same knot. A table with the other crossings, or with rows counted from above, has the mirror images: --mirror.
+
+A column is named by its title, in which blanks, marks and capitals don't matter, or by its number from 1.
+
+examples:
+  tools/from_table.py examples/table/knots.csv diagrams --diagram braid_notation
+  tools/from_table.py examples/table/knots.csv problems --diagram braid_notation --second arc_notation
+  tools/from_table.py examples/table/knots.csv problems --diagram braid_notation --neighbours
+  tools/from_table.py examples/table/knots.csv diagrams --diagram braid_notation --only "3_1 mirrored" --only "4_1 5_1"
+
+exit status:
+  0  all that was asked for is written
+  1  some entries can't be had, or some files are there already with another content; each is named on standard error
+  2  the words are no call, or the table can't be read, or its column has codes by its title; nothing is written
+  3  a file or standard output can't be written; the files before it are
+"""
+
+
+def parser():
+    """The words of the script."""
+    words = WordsParser(prog="from_table.py", description=ABOUT, epilog=EPILOG, allow_abbrev=False,
+                        formatter_class=argparse.RawDescriptionHelpFormatter)
+    words.add_argument("table", metavar="TABLE", help="a CSV or TSV file in UTF-8, or - for standard input")
+    words.add_argument("folder", metavar="FOLDER", help="where a file NAME.txt is written for each; made where it is missing")
+    words.add_argument("--name", default="name", metavar="COLUMN", help="the column of names (default: name)")
+    words.add_argument("--diagram", required=True, metavar="COLUMN", help="the column of braid words or arc presentations")
+    words.add_argument("--strands", metavar="COLUMN", help="the column of the numbers of strands; an empty field there: as few as do")
+    asked = words.add_mutually_exclusive_group()
+    asked.add_argument("--second", metavar="COLUMN", help="a problem for each row: this column against the first")
+    asked.add_argument("--all-pairs", action="store_true", help="a problem for each two rows")
+    asked.add_argument("--neighbours", action="store_true", help="a problem for each row and the next one")
+    words.add_argument("--only", action="append", metavar="NAMES",
+                       help="only the rows of these names: one whole name, blanks and all, or names parted by blanks, or @FILE with one name "
+                            "a line; it may be given again")
+    words.add_argument("--quandles", metavar="FILE", help="put this file's lines behind each input")
+    words.add_argument("--as", dest="as_kind", choices=("braid",),
+                       help="take each list of numbers for a braid word, also where it looks like a DT code or a Gauss code")
+    words.add_argument("--arcs", choices=("columns", "rows"), default="columns", help="what a pair of an arc presentation is (default: columns)")
+    words.add_argument("--mirror", nargs="?", const="both", choices=("diagram", "second", "both"),
+                       help="take the mirror images, of the entries of one column or of both")
+    words.add_argument("--reverse", nargs="?", const="both", choices=("diagram", "second", "both"), help="run through the diagrams backwards")
+    words.add_argument("--delimiter", metavar="MARK", help="what parts the fields (default: tab, |, ; or comma, by the file's name and first line)")
+    words.add_argument("--no-header", action="store_true", help="the first line is a row like any other; columns have their numbers")
+    words.add_argument("--skip-rows", type=int, default=0, metavar="N", help="leave out N rows behind the header, as some tables have two")
+    words.add_argument("--replace", action="store_true", help="write over files that are there with another content")
+    return words
+
+
+def wanted_names(only, names):
+    """The names that the options `--only` ask for, or None where there are none; `names` are those of the table."""
+    if only is None:
+        return None
+    wanted = []
+    for text in only:
+        if text.strip() in names:
+            wanted.append(text.strip())
+        elif text.startswith("@"):
+            wanted += [line.strip() for line in decoded(text[1:], read_bytes(text[1:])).splitlines() if line.strip()]
+        else:
+            wanted += text.split()
+    return list(dict.fromkeys(wanted))
+
+
+def read_bytes(path):
+    """The bytes of a file, or for `-` of standard input."""
+    try:
+        if path == "-":
+            return input_bytes()
+        with open(path, "rb") as file:
+            return file.read()
+    except StreamError as error:
+        raise TableError(str(error)) from None
+    except OSError as error:
+        raise TableError(f"{path}: {error.strerror}") from None
+
+
+def quandle_lines(path):
+    """The text of a file of quandles, with its last line feed; nothing where there is no file."""
+    if path is None:
+        return ""
+    text = decoded(path, read_bytes(path))
+    return text if text.endswith("\n") else text + "\n"
+
+
+def count_line(rows, made, left, lost, absent, options):
+    """How many inputs were asked for, and what became of them: as many were made, weren't written or can't be had."""
+    kind = "problems" if options.second or options.all_pairs or options.neighbours else "diagrams"
+    parts = [f"{made} {kind} in {options.folder}", *([f"{left} not written"] if left else []), f"{lost} not to be had",
+             *([f"{absent} names that no row has"] if absent else [])]
+    return f"{rows} rows: {', '.join(parts)}"
+
+
+def main(words):
+    """Does what the words ask for: the exit status."""
+    options = parser().parse_args(words)
+    options.delimiter = "\t" if options.delimiter == "\\t" else options.delimiter
+    if options.delimiter is not None and len(options.delimiter) != 1:
+        parser().error("--delimiter takes one character")
+    if options.skip_rows < 0:
+        parser().error("--skip-rows takes 0 or more")
+    faults = Faults()
+    try:
+        path = options.table
+        table = Table(path if path != "-" else "(standard input)", read_bytes(path), options)
+        wanted = wanted_names(options.only, {table.name_of(fields) for _, fields in table.rows})
+        quandles = quandle_lines(options.quandles)
+    except TableError as error:
+        complain(f"from_table.py: {error}")
+        return 2
+    items = items_of(table, wanted, options, faults)
+    absent = absent_names(table, wanted, faults)
+    try:
+        os.makedirs(options.folder, exist_ok=True)
+        made, left = write_all(outputs_of(items, options, quandles), table, options.folder, options.replace, faults)
+    except OSError as error:
+        complain(f"from_table.py: {reason_of(error)}")
+        return 3
+    lost = lost_inputs(items, options)
+    say(count_line(len(items), made, left, lost, absent, options))
+    return 1 if faults.count or lost else 0

@@ -1,0 +1,141 @@
+"""Weights of a grid's colourings: the colourings are found row by row from below, and each counts its crossings by a cocycle.
+
+A cocycle φ mod k is a square of numbers: line x has φ(x, 0), φ(x, 1), and so on.
+"""
+import itertools
+from collections import Counter
+
+from .diagrams import BadText, covers, ends, is_up, number_of, read_quandle, walk
+
+MAX_MODULUS = 255
+
+
+# Cocycles
+
+def cocycle_fault(table, cocycle, modulus):
+    """The first law that a square of numbers fails as a cocycle, or None."""
+    order = len(table)
+    for x in range(order):
+        if cocycle[x][x] % modulus:
+            return f"φ({x}, {x}) is not 0"
+    for x, y, z in itertools.product(range(order), repeat=3):
+        if (cocycle[x][y] + cocycle[table[x][y]][z] - cocycle[x][z] - cocycle[table[x][z]][table[y][z]]) % modulus:
+            return f"the law fails at {x}, {y}, {z}"
+    return None
+
+
+def cocycle_text(cocycle, modulus):
+    return f"weight {modulus}\n" + "".join(" ".join(map(str, row)) + "\n" for row in cocycle)
+
+
+def read_cocycle(lines, quandle):
+    """The modulus and the square of an item `weight` behind its quandle."""
+    line, tokens = lines.take("the line 'weight'")
+    if tokens[0] != "weight" or len(tokens) != 2:
+        raise BadText("a line 'weight' with a modulus is due", line)
+    modulus = number_of(tokens[1], line)
+    if not 2 <= modulus <= MAX_MODULUS:
+        raise BadText(f"a modulus is 2 to {MAX_MODULUS}", line)
+    order = len(quandle.over)
+    square = []
+    for _ in range(order):
+        line, tokens = lines.take("a line of the cocycle")
+        square.append([number_of(token, line) for token in tokens])
+        if len(square[-1]) != order or any(value >= modulus for value in square[-1]):
+            raise BadText(f"the line has not {order} numbers below {modulus}", line)
+    fault = cocycle_fault(quandle.over, square, modulus)
+    if fault:
+        raise BadText(f"no cocycle: {fault}", line)
+    return modulus, square
+
+
+def read_weighed_quandles(lines):
+    """Quandles to the end of the text, each with the modulus and the cocycle that stand behind it, or None."""
+    found = []
+    while lines.peek() == "quandle":
+        quandle = read_quandle(lines)
+        found.append((quandle, read_cocycle(lines, quandle) if lines.peek() == "weight" else None))
+    lines.done()
+    return found
+
+
+# Colourings and weights
+
+
+def rows_from_below(grid):
+    """For each row its left and right column, whether each begins there as the row is reached, and the columns that it passes under."""
+    rows = []
+    for row in range(len(grid.xs)):
+        left, right = ends(grid, row)
+        begins = [min(grid.xs[column], grid.os[column]) == row for column in (left, right)]
+        rows.append((left, right, *begins, [column for column in range(left + 1, right) if covers(grid, column, row)]))
+    return rows
+
+
+def colourings(grid, quandle, first=None):
+    """Yields all colourings as lists of colours by column; with `first`, those in which the left end of the lowest row has this colour.
+
+    A row that is the lower end of both its columns, a bottom, leaves a colour to choose; all others follow, or don't come right.
+    """
+    over, back = quandle.over, quandle.back
+    order = range(len(over))
+    rows = [(*row[:4], [(column, *((back, over) if is_up(grid, column) else (over, back))) for column in row[4]]) for row in rows_from_below(grid)]
+    colours = [None] * len(grid.xs)
+
+    def end_of(colour, passed):
+        for column, onward, _ in passed:
+            colour = onward[colour][colours[column]]
+        return colour
+
+    def start_of(colour, passed):
+        for column, _, backward in reversed(passed):
+            colour = backward[colour][colours[column]]
+        return colour
+
+    def go_on(place):
+        if place == len(rows):
+            yield list(colours)
+            return
+        left, right, left_begins, right_begins, passed = rows[place]
+        if left_begins and right_begins:
+            for colour in order if place or first is None else (first,):
+                colours[left] = colour
+                colours[right] = end_of(colour, passed)
+                yield from go_on(place + 1)
+            return
+        if left_begins:
+            colours[left] = start_of(colours[right], passed)
+        elif right_begins:
+            colours[right] = end_of(colours[left], passed)
+        elif end_of(colours[left], passed) != colours[right]:
+            return
+        yield from go_on(place + 1)
+
+    yield from go_on(0)
+
+
+def pairs_met(grid, quandle, colours):
+    """How often a colouring counts each φ(x, y), with signs: y is the colour of the column of a crossing, and x that of the row's strand on
+    the column's right-hand side."""
+    met = Counter()
+    for row in range(len(grid.xs)):
+        pieces = walk(grid, quandle, colours, row)
+        to_the_right = grid.os[pieces[0][0]] == row
+        for (_, column, before), (_, _, after) in zip(pieces, pieces[1:]):
+            up = is_up(grid, column)
+            met[after if up else before, colours[column]] += 1 if up != to_the_right else -1
+    return met
+
+
+def all_met(grid, quandle, connected):
+    """What all colourings count, and how many colourings each stands for. Of a connected quandle each colour of the lowest row sees the same
+    weights, since translations change a cocycle by a coboundary; so one colour is enough."""
+    return [pairs_met(grid, quandle, colours) for colours in colourings(grid, quandle, 0 if connected else None)], len(quandle.over) if connected else 1
+
+
+def weights(found, cocycles, modulus):
+    """How many colourings have each list of weights, one for each cocycle, by what `all_met` found."""
+    counted = Counter()
+    for met in found[0]:
+        counted[tuple(sum(times * cocycle[x][y] for (x, y), times in met.items()) % modulus for cocycle in cocycles)] += found[1]
+    return counted

@@ -1,0 +1,169 @@
+#!/usr/bin/env python3
+"""Makes the ready tables of quandles/weights/, quandles with 2-cocycles that tell many knots from their mirror images.
+
+    tools/weight_tables.py [FOLDER]             writes T5, T7, M20a, M20b and M30, of at most 32 colours
+    tools/weight_tables.py --larger FOLDER      writes M42a, M42b, M42c and M56b, which are too large for the program today
+
+FOLDER is quandles/weights/ beside this folder where none is given. A table stands behind two diagrams, as the job weights reads it:
+
+    cat problem.txt quandles/weights/T5.txt | ./knot weights
+
+The colours are the conjugates of a matrix x0 by the matrices of determinant 1 over a field of q elements, with x ▷ y = y⁻¹ x y. For each
+colour x take s(x) of determinant 1 with s(x)⁻¹ x0 s(x) = x. Then x0⁻¹ s(x) y s(x ▷ y)⁻¹ has determinant 1 and commutes with x0; those
+that do make a cyclic group, the torus of x0, and φ(x, y) is the logarithm to one of its generators. It is a 2-cocycle: the pairs of a
+colour and an element of the torus are a covering of the quandle (Eisermann 2014), and such coverings are those by 2-cocycles (Carter,
+Jelsovsky, Kamada, Langford and Saito 2003). Another choice of s changes it by a coboundary, which no weight sees.
+
+T and a prime p: x0 is the transvection (1 1 / 0 1). A conjugate of it is a vector v of the plane mod p up to sign, that of
+w ↦ w + det(w, v) v, and x ▷ y = x + det(x, y) y; the torus is that of the powers of x0, up to sign. M and the number of colours: x0 is
+another matrix, with two eigenvalues in the field or with none.
+"""
+import argparse
+import itertools
+import os
+from collections import namedtuple
+
+from lib import calls
+from lib.diagrams import quandle_of, quandle_text
+from lib.fields import Field
+
+IDENTITY = ((1, 0), (0, 1))
+FOUR = (2, (1, 1))
+
+# The colours as matrices, the first of them x0; s(x) by colour; the logarithm of each element of the torus, and its order.
+Conjugates = namedtuple("Conjugates", "field colours sections logarithms modulus said")
+
+
+# Matrices of two rows
+
+def product(field, *factors):
+    def entry(first, second, row, column):
+        return field.plus[field.times[first[row][0]][second[0][column]]][field.times[first[row][1]][second[1][column]]]
+
+    found = IDENTITY
+    for factor in factors:
+        found = tuple(tuple(entry(found, factor, row, column) for column in (0, 1)) for row in (0, 1))
+    return found
+
+
+def determinant(field, matrix):
+    (a, b), (c, d) = matrix
+    return field.plus[field.times[a][d]][field.minus[field.times[b][c]]]
+
+
+def inverse(field, matrix):
+    (a, b), (c, d) = matrix
+    by = field.inverse(determinant(field, matrix))
+    return tuple(tuple(field.times[by][entry] for entry in row) for row in ((d, field.minus[b]), (field.minus[c], a)))
+
+
+def matrices_of_determinant_1(field):
+    for a, b, c, d in itertools.product(range(field.size), repeat=4):
+        if determinant(field, ((a, b), (c, d))) == 1:
+            yield (a, b), (c, d)
+
+
+def powers(field, matrix):
+    """All powers of a matrix, from the identity."""
+    found = [IDENTITY]
+    while len(found) == 1 or found[-1] != IDENTITY:
+        found.append(product(field, found[-1], matrix))
+    return found[:-1]
+
+
+# Conjugates
+
+def transvections(prime):
+    """The conjugates of (1 1 / 0 1) mod an odd prime, by the vectors (a, b) up to sign of which the first number but 0 is at most (p − 1) / 2."""
+    field = Field(prime)
+    vectors = [vector for vector in itertools.product(range(prime), repeat=2) if 0 < (vector[0] or vector[1]) <= prime // 2]
+    colours, sections = [], {}
+    for a, b in vectors:
+        colour = ((1 + b * a) % prime, b * b % prime), (-a * a % prime, (1 - a * b) % prime)
+        colours.append(colour)
+        # A matrix of determinant 1 with the vector as its second row takes x0 to the vector's transvection.
+        sections[colour] = ((pow(b, -1, prime), 0) if b else (0, -pow(a, -1, prime) % prime), (a, b))
+    logarithms = {}
+    for exponent, power in enumerate(powers(field, colours[0])):
+        logarithms[power] = logarithms[tuple(tuple(field.minus[entry] for entry in row) for row in power)] = exponent
+    return Conjugates(field, colours, sections, logarithms, prime, f"vectors of the plane mod {prime} up to sign, x ▷ y = x + det(x, y) y")
+
+
+def conjugates(field, start):
+    """The conjugates of a matrix whose torus is cyclic, itself first and the others in order."""
+    sections = {start: IDENTITY}
+    torus = []
+    for matrix in matrices_of_determinant_1(field):
+        sections.setdefault(product(field, inverse(field, matrix), start, matrix), matrix)
+        if product(field, matrix, start) == product(field, start, matrix):
+            torus.append(matrix)
+    generator = max(torus, key=lambda matrix: len(powers(field, matrix)))
+    logarithms = {power: exponent for exponent, power in enumerate(powers(field, generator))}
+    if len(logarithms) != len(torus):
+        raise ValueError(f"the torus of {start} is not cyclic")
+    (a, b), (c, d) = start
+    named = f"mod {field.size}" if field.size != 4 else "over the field of 4, whose elements are 0, 1, t = 2 and t + 1 = 3"
+    said = f"the class of the matrix ({a} {b} / {c} {d}) {named}, under the matrices of determinant 1"
+    return Conjugates(field, [start] + sorted(set(sections) - {start}), sections, logarithms, len(torus), said)
+
+
+def operation(found):
+    """The table of x ▷ y = y⁻¹ x y."""
+    index = {colour: place for place, colour in enumerate(found.colours)}
+    return [[index[product(found.field, inverse(found.field, y), x, y)] for y in found.colours] for x in found.colours]
+
+
+def cocycle(found, table):
+    """The logarithms of x0⁻¹ s(x) y s(x ▷ y)⁻¹, line by line."""
+    field, colours, sections = found.field, found.colours, found.sections
+    first = inverse(field, colours[0])
+    back = {colour: inverse(field, sections[colour]) for colour in colours}
+    return [[found.logarithms[product(field, first, sections[x], y, back[colours[table[place][other]]])] for other, y in enumerate(colours)]
+            for place, x in enumerate(colours)]
+
+
+# Tables
+
+READY = {
+    "T5": lambda: transvections(5),
+    "T7": lambda: transvections(7),
+    "M20a": lambda: conjugates(Field(*FOUR), ((1, 0), (0, 2))),
+    # The roots of X² − X + 2 are not in the field of 5.
+    "M20b": lambda: conjugates(Field(5), ((0, 1), (3, 1))),
+    "M30": lambda: conjugates(Field(5), ((1, 0), (0, 2))),
+}
+LARGER = {
+    "M42a": lambda: conjugates(Field(7), ((0, 1), (4, 1))),
+    "M42b": lambda: conjugates(Field(7), ((0, 1), (3, 1))),
+    "M42c": lambda: conjugates(Field(7), ((0, 1), (1, 1))),
+    "M56b": lambda: conjugates(Field(7), ((1, 0), (0, 2))),
+}
+
+
+def text_of(name):
+    """The whole file of one of the names in READY and LARGER."""
+    found = {**READY, **LARGER}[name]()
+    table = operation(found)
+    use = f"Append it to two diagrams: cat problem.txt quandles/weights/{name}.txt | ./knot weights" if name in READY else "Too large for the program today."
+    lines = [f"# {name}: {found.said}; a cocycle mod {found.modulus}.", f"# Made by tools/weight_tables.py. {use}"]
+    squares = "".join(" ".join(map(str, row)) + "\n" for row in cocycle(found, table))
+    return "\n".join(lines) + "\n" + quandle_text(quandle_of(f"table {len(table)}", table)) + f"weight {found.modulus}\n" + squares
+
+
+def main():
+    parser = argparse.ArgumentParser(description=__doc__, formatter_class=argparse.RawDescriptionHelpFormatter)
+    beside = os.path.join(os.path.dirname(os.path.dirname(os.path.abspath(__file__))), "quandles", "weights")
+    parser.add_argument("folder", nargs="?", metavar="FOLDER", help="where the files NAME.txt are written")
+    parser.add_argument("--larger", action="store_true", help="the tables of more than 32 colours; FOLDER has to be given")
+    words = parser.parse_args()
+    if words.larger and words.folder is None:
+        parser.error("the larger tables want a FOLDER")
+    folder = beside if words.folder is None else words.folder
+    if not os.path.isdir(folder):
+        parser.error(f"there is no folder {folder}")
+    for name in LARGER if words.larger else READY:
+        calls.put(os.path.join(folder, f"{name}.txt"), text_of(name))
+
+
+if __name__ == "__main__":
+    calls.run("weight_tables.py", main)
