@@ -153,10 +153,10 @@ def input_of(cell):
     return re.sub(r" /( |$)", "\n", match[1]).encode()
 
 
-def table(formats):
-    """Each row of FORMATS.md, of which the answer is stated there."""
-    with open(formats) as file:
-        text = file.read().split("\n## Small bad inputs\n", 1)[1]
+def table(page):
+    """Each row of the page of small bad inputs, of which the answer is stated there."""
+    with open(page) as file:
+        text = file.read()
     for line in text.splitlines():
         cells = [cell.strip() for cell in line.strip("|").split(" | ")]
         if len(cells) == 4 and re.fullmatch(r"`[a-z]+`", cells[0]) and cells[0].strip("`").encode() in reader.JOBS:
@@ -442,11 +442,11 @@ def examples(bases):
         yield Case("examples", name, [job, *further], text)
 
 
-def sections(bases, seed, formats):
+def sections(bases, seed, page):
     """Every section but the random changes, in order."""
     return {
         "examples": lambda: examples(bases),
-        "table": lambda: table(formats),
+        "table": lambda: table(page),
         "words": lambda: (case for part in (words(), random_words(seed, 3000)) for case in part),
         "streams": lambda: streams(bases),
         "memory": memory,

@@ -24,12 +24,14 @@ import calls
 import cases
 import changes
 import reader
-from reader import DONE, OUT_OF_MEMORY, READ_FAULT, USAGE, WRITE_FAULT
+from reader import DONE, OUT_OF_MEMORY, READ_FAULT, REJECTED, UNKNOWN, USAGE, WRITE_FAULT
 
 HERE = os.path.dirname(os.path.abspath(__file__))
 TOP = os.path.dirname(HERE)
-FORMATS = os.path.join(TOP, "docs", "FORMATS.md")
+BAD_INPUTS = os.path.join(TOP, "docs", "BAD-INPUTS.md")
 EXAMPLES = os.path.join(TOP, "examples")
+# The statuses of answers, beside which nothing stands on standard error.
+ANSWERED = (DONE, UNKNOWN, REJECTED)
 
 
 # ---------------------------------------------------------------- one case
@@ -52,9 +54,14 @@ def crash_of(ended):
         return "it hangs"
     if ended.status < 0:
         return f"it ends by signal {signal.Signals(-ended.status).name}"
-    if ended.errors:
+    if not is_told(ended.errors) or ended.errors and ended.status in ANSWERED:
         return f"it writes on standard error: {ended.errors[:200]!r}"
     return None
+
+
+def is_told(errors):
+    """Whether nothing stands on standard error but at most one sentence of the program."""
+    return not errors or errors.startswith(b"knot: ") and errors.count(b"\n") == 1
 
 
 def is_front(part, whole):
@@ -85,9 +92,9 @@ class Trier:
         problem = crash_of(ended) or answer.problem_with(ended.status, ended.text)
         if case.due is not None:
             if ended.text != case.due:
-                problem = f"text {ended.text[:100]!r}, and FORMATS.md says {case.due!r}"
+                problem = f"text {ended.text[:100]!r}, and BAD-INPUTS.md says {case.due!r}"
             elif getattr(answer, "text", None) != case.due:
-                problem = f"the reader says {answer.text[:100]!r}, and FORMATS.md says {case.due!r}"
+                problem = f"the reader says {answer.text[:100]!r}, and BAD-INPUTS.md says {case.due!r}"
         return ended, answer.kind, problem
 
     def due(self, case):
@@ -200,7 +207,7 @@ class Trier:
         if case.need not in self.starts:
             # Whether the system can load the program at all within so little.
             ended = self.caller.call_by([], b"", before=before)
-            self.starts[case.need] = ended.status in (USAGE, OUT_OF_MEMORY) and not ended.errors
+            self.starts[case.need] = ended.status in (USAGE, OUT_OF_MEMORY) and is_told(ended.errors)
         ended = self.caller.call_by(case.words, case.data, before=before)
         if not self.starts[case.need]:
             return calls.Ended(None, b""), "not started", "text on standard output" if ended.text else None
@@ -345,7 +352,7 @@ def main():
     program = program_of(options.program)
     wanted = [name for name in options.only.split(",") if name]
     bases = changes.examples(EXAMPLES, reader.JOBS)
-    sections = cases.sections(bases, options.seed, FORMATS)
+    sections = cases.sections(bases, options.seed, BAD_INPUTS)
     sections["changes"] = lambda: range(options.first, options.first + options.cases)
     total, begin = Figures(), time.time()
     with Pool(options.jobs, begin_worker, (program, options.seed, options.patience, options.again)) as pool:

@@ -4,7 +4,8 @@
     tests/refused.py [--most N] [NAME..]    every example, or those with one of these words in their name
     KNOT=/some/where/knot tests/refused.py  another program
 
-Each such run must end with status 7 and nothing written, or with the example's own answer. Each number is refused alone, and once
+Each such run must end with status 7 and nothing written, or with the example's own answer; a sentence on standard error may stand beside
+either. Each number is refused alone, and once
 more with all requests behind it. Of an example with more than N requests (300 where nothing is said) N numbers are tried, evenly
 spread. Needs a C compiler, cc. Ends with 0 where no answer differs; else each difference is printed, and it ends with 1."""
 import argparse
@@ -68,9 +69,10 @@ def main():
                 for further in ({}, {"REFUSE_ON": "1"}):
                     ended = run(program, library, call, data, REFUSE=str(number), **further)
                     runs += 1
-                    if ended == (OUT_OF_MEMORY, b"", b""):
+                    is_told = not ended[2] or ended[2].startswith(b"knot: ")
+                    if is_told and ended[:2] == (OUT_OF_MEMORY, b""):
                         memory += 1
-                    elif ended == due:
+                    elif is_told and ended[:2] == due[:2]:
                         own += 1
                     else:
                         differences += 1

@@ -1,13 +1,14 @@
 #!/usr/bin/env python3
-"""Sets what `seek` says of bad lines beside what `knot decide` answers: the same line, the same status, and a reason for it.
+"""Sets what `seek` says of bad lines beside what `knot decide` answers: the same line, the same status, and a reason for it, which
+`knot` tells on standard error too.
 
     python3 tests/sentences.py                  20,000 random changes of the examples of `decide` and of the texts below
     python3 tests/sentences.py --cases 500      fewer
     python3 tests/sentences.py --seed 2         others
 
-`knot` names the first bad line exactly, by a proof; why it is bad is found by `seek` alone, and no proof speaks of it. A case differs
-where the status or the line is another one, where the reason is that none was found, and where `seek` finds fault with a text that
-`knot` takes. Status 0 where none does.
+`knot` names the first bad line exactly, by a proof; why it is bad is found beside it, and no proof speaks of that. A case differs
+where the status or the line is another one, where the reason is that none was found or the two tell different ones, and where `seek`
+finds fault with a text that `knot` takes. Status 0 where none does.
 """
 import argparse
 import os
@@ -38,10 +39,10 @@ def bases():
 
 
 def said_by_knot(text):
-    """The status, and the line that is named, if one is."""
+    """The status, the line that is named, if one is, and what is told on standard error."""
     done = subprocess.run([KNOT, "decide", "--budget", "2"], input=text, capture_output=True)
     named = re.fullmatch(rb"(?:malformed|limit) line ([0-9]+)\n", done.stdout)
-    return done.returncode, int(named[1]) if named else None
+    return done.returncode, int(named[1]) if named else None, done.stderr
 
 
 def said_by_seek(text):
@@ -57,13 +58,15 @@ def said_by_seek(text):
 
 def difference(text):
     """What differs, and the kind of reason, without its numbers and tokens."""
-    status, line = said_by_knot(text)
+    status, line, told = said_by_knot(text)
     own, place, reason = said_by_seek(text)
     kind = re.sub(rb"`[^`]*`|-?[0-9]+", b"_", reason).decode(errors="replace") if place else ""
     if line is None:
         return (None if place is None and own in (0, 1) else f"knot takes it, seek: status {own}, {reason}"), kind
     if (own, place) != (status, line):
         return f"knot: status {status}, line {line}; seek: status {own}, line {place}, {reason}", kind
+    if told != b"knot: line %d: %s\n" % (place, reason):
+        return f"knot tells {told}, seek: {reason}", kind
     if reason.startswith(b"the line is not what is due"):
         return f"no reason: {reason}", kind
     return None, kind

@@ -1,6 +1,6 @@
 #!/usr/bin/env python3
-"""Tries the reader without the program: against the stored answers of the examples, the small bad inputs of FORMATS.md, and the
-laws of docs/DEFINITIONS.md on random grids.
+"""Tries the reader without the program: against the stored answers of the examples, the rows of docs/BAD-INPUTS.md, and
+the laws of docs/DEFINITIONS.md on random grids.
 
     python3 tests/try_reader.py [SEED]
 """
@@ -11,7 +11,7 @@ import sys
 import cases
 import changes
 import reader
-from hostile import EXAMPLES, FORMATS
+from hostile import BAD_INPUTS, EXAMPLES
 
 
 def stored(path):
@@ -33,7 +33,7 @@ def try_examples():
 
 
 def try_table():
-    rows = list(cases.table(FORMATS))
+    rows = list(cases.table(BAD_INPUTS))
     for row in rows:
         assert reader.answer(row.words, row.data).text == row.due, row.name
     return len(rows)
