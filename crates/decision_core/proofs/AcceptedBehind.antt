@@ -10,9 +10,9 @@ use Rattle.verdict_core.specs.declared.verdict.Verdict.TheVariants.{Equal, Diffe
 use Rattle.verdict_core.specs.Names.{NamedQuandle}
 use Rattle.verdict_core.specs.Diagrams.{grid_of, columns}
 use Rattle.verdict_core.specs.Evidence.{Holds}
-use Rattle.knot_text.specs.declared.reading.TheConstants.{MAX_NUMBER}
+use Rattle.text_items.specs.declared.reading.TheConstants.{MAX_NUMBER}
 use Rattle.knot_text.specs.declared.verdicts.Version.TheVariants.{Tidy}
-use Rattle.knot_text.specs.Quandles.{built_in, or_built_in}
+use Rattle.text_items.specs.Quandles.{built_in, or_built_in}
 use Rattle.knot_text.specs.Printed.{move_tokens, version_lines, version_text, HasQuandleText, HasVersionText}
 use Rattle.knot_text.specs.Shapes.{problem_of, check_of}
 use Rattle.knot_text.proofs.ShapesSay.{problem_in_says}

@@ -22,7 +22,7 @@ use Rattle.verdict_core.specs.declared.verdict.Verdict.{Verdict}
 use Rattle.verdict_core.specs.declared.verdict.Verdict.TheVariants.{Equal, Different, UnknownBudget, UnknownExhausted}
 use Rattle.verdict_core.specs.Evidence.{Holds, TellsApart}
 use Rattle.verdict_core.proofs.Named.{named_is}
-use Rattle.knot_text.specs.declared.reading.TheConstants.{MAX_NUMBER}
+use Rattle.text_items.specs.declared.reading.TheConstants.{MAX_NUMBER}
 use Rattle.knot_text.specs.Printed.{HasMoveText, HaveText, HasListText, HasQuandleText, HasVerdictText}
 use Rattle.decision_core.specs.Decision.{IsByWrittenQuandle, IsShort}
 

@@ -6,7 +6,7 @@ use Rattle.verdict_core.specs.declared.verdict.Verdict.{Verdict}
 use Rattle.verdict_core.specs.declared.verdict.Verdict.TheVariants.{Equal, Different, UnknownBudget, UnknownExhausted}
 use Rattle.verdict_core.specs.Diagrams.{grid_of}
 use Rattle.verdict_core.specs.Evidence.{Claims, Holds, HasEvidence}
-use Rattle.knot_text.specs.declared.reading.TheConstants.{MAX_NUMBER}
+use Rattle.text_items.specs.declared.reading.TheConstants.{MAX_NUMBER}
 use Rattle.knot_text.specs.declared.verdicts.Version.TheVariants.{Tidy}
 use Rattle.knot_text.specs.Printed.{version_text, HasQuandleText}
 use Rattle.knot_text.specs.Shapes.{problem_of, check_of}

@@ -5,12 +5,12 @@ use Rattle.std.specs.List.{list_any, list_all}
 use Rattle.std.specs.Str.{bytes_eq}
 use Rattle.text_lines.specs.Lines.{NumberedLine}
 use Rattle.text_lines.specs.Numbers.{number_of}
-use Rattle.knot_text.specs.declared.reading.TheConstants.{MAX_NUMBER}
-use Rattle.knot_text.specs.declared.fault.TextFault.{TextFault}
-use Rattle.knot_text.specs.declared.fault.TextFault.TheVariants.{Malformed, Limit}
-use Rattle.knot_text.specs.Reading.{◌>>=◌, next_token, line_end, word, or_malformed, number, last_number, last_count, at_most, token_among, next_line}
-use Rattle.knot_text.specs.Reading.{no_token_among, each_token}
-use Rattle.knot_text.specs.Numbers.{numbers, is_long, numbers_below}
+use Rattle.text_items.specs.declared.reading.TheConstants.{MAX_NUMBER}
+use Rattle.text_items.specs.declared.fault.TextFault.{TextFault}
+use Rattle.text_items.specs.declared.fault.TextFault.TheVariants.{Malformed, Limit}
+use Rattle.text_items.specs.Reading.{◌>>=◌, next_token, line_end, word, or_malformed, number, last_number, last_count, at_most, token_among, next_line}
+use Rattle.text_items.specs.Reading.{no_token_among, each_token}
+use Rattle.text_items.specs.Numbers.{numbers, is_long, numbers_below}
 use Rattle.knot_text.specs.FirstBadLine.{NamesLine}
 use Rattle.knot_text.proofs.Steady.{bind_ok, bind_err, ok_is, Steady, Anywhere, line_steady}
 

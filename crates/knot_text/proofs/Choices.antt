@@ -1,8 +1,8 @@
 -- Of two readers, the first word of the next line decides which one reads.
 use Rattle.std.proofs.Common.{◌≡◌, ℕ, List, [], ◌∷◌, ◌++◌, Bool, true, false, cond, Result, Ok, Err, refl, sym, ap, ◌∙◌, inl, inr, ◌⊎◌}
 use Rattle.text_lines.specs.Lines.{NumberedLine, Text, first_starts}
-use Rattle.knot_text.specs.declared.fault.TextFault.{TextFault}
-use Rattle.knot_text.specs.declared.fault.TextFault.TheVariants.{Malformed}
+use Rattle.text_items.specs.declared.fault.TextFault.{TextFault}
+use Rattle.text_items.specs.declared.fault.TextFault.TheVariants.{Malformed}
 use Rattle.knot_text.specs.FirstBadLine.{lines_then, AreGood, FailsAtLine, FailsAtEnd, FailsFirst}
 use Rattle.knot_text.proofs.Steady.{Anywhere, Took, AreTaken, BadLine, Steady}
 use Rattle.knot_text.proofs.FirstFault.{nothing_good, ok_again}

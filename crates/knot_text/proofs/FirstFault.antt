@@ -2,9 +2,9 @@
 use Rattle.std.proofs.Common.{◌≡◌, ℕ, List, [], ◌∷◌, ◌++◌, Result, Ok, Err, refl, sym, ap, subst, ◌∙◌, append_assoc, inl, inr, ◌⊎◌}
 use Rattle.std.specs.Prelude.{IsOk}
 use Rattle.text_lines.specs.Lines.{NumberedLine, Text}
-use Rattle.knot_text.specs.declared.fault.TextFault.{TextFault}
-use Rattle.knot_text.specs.declared.fault.TextFault.TheVariants.{Malformed}
-use Rattle.knot_text.specs.Reading.{◌>>=◌, text_end}
+use Rattle.text_items.specs.declared.fault.TextFault.{TextFault}
+use Rattle.text_items.specs.declared.fault.TextFault.TheVariants.{Malformed}
+use Rattle.text_items.specs.Reading.{◌>>=◌, text_end}
 use Rattle.knot_text.specs.FirstBadLine.{lines_then, AreGood, FailsAtLine, FailsAtEnd, FailsFirst}
 use Rattle.knot_text.proofs.Steady.{Stop, Anywhere, Steady, then_read, then_ok, then_err, bind_err, no_line, regroup}
 

@@ -13,11 +13,11 @@ use Rattle.grid_core.proofs.Accepted.{faultless}
 use Rattle.grid_core.proofs.OneEach.{IsApart, each_below, each_apart}
 use Rattle.text_lines.specs.Lines.{Text}
 use Rattle.text_lines.specs.Spelled.{numbered}
-use Rattle.knot_text.specs.Reading.{next_line}
-use Rattle.knot_text.specs.Numbers.{numbers_behind}
-use Rattle.knot_text.specs.Grids.{is_one_each, are_rows, x_at, o_at, grid_item}
+use Rattle.text_items.specs.Reading.{next_line}
+use Rattle.text_items.specs.Numbers.{numbers_behind}
+use Rattle.text_items.specs.Grids.{is_one_each, are_rows, x_at, o_at, grid_item}
 use Rattle.knot_text.specs.Printed.{rows_tokens, grid_lines}
-use Rattle.knot_text.proofs.GridLines.{no_repeat}
+use Rattle.text_items.proofs.GridLines.{no_repeat}
 use Rattle.knot_text.proofs.StepsAgain.{line_of, lines_before, IsShort, word_again, values_again, none_long, all_below, all_short}
 
 -- a row that differs from all others is not repeated

@@ -11,17 +11,18 @@ use Rattle.braid_core.specs.Fault.{first_fault as word_fault}
 use Rattle.braid_core.proofs.Accepted.{none_braid}
 use Rattle.braid_closure.proofs.Grids.{closure_grid}
 use Rattle.text_lines.specs.Lines.{NumberedLine, Text, first_starts}
-use Rattle.knot_text.specs.declared.fault.TextFault.TheVariants.{Malformed, Limit}
+use Rattle.text_items.specs.declared.fault.TextFault.TheVariants.{Malformed, Limit}
 use Rattle.verdict_core.specs.declared.diagrams.Diagram.{Diagram}
 use Rattle.verdict_core.specs.declared.diagrams.Diagram.TheVariants.{Grid, Braid}
 use Rattle.verdict_core.specs.declared.problem.ProblemText.{ProblemText}
-use Rattle.knot_text.specs.Reading.{◌>>=◌, next_line, word, number}
-use Rattle.knot_text.specs.Numbers.{numbers_behind}
-use Rattle.knot_text.specs.Grids.{x_at, o_at, grid_item}
-use Rattle.knot_text.specs.Braids.{letters, exceeds, braid_of, braid_at, braid_item}
-use Rattle.knot_text.specs.Quandles.{quandle_list}
+use Rattle.text_items.specs.Reading.{◌>>=◌, next_line, word, number}
+use Rattle.text_items.specs.Numbers.{numbers_behind}
+use Rattle.text_items.specs.Grids.{x_at, o_at, grid_item}
+use Rattle.text_items.specs.Braids.{letters, exceeds, braid_of, braid_at, braid_item}
+use Rattle.text_items.specs.Quandles.{quandle_list}
 use Rattle.verdict_core.specs.Diagrams.{grid_of}
-use Rattle.knot_text.specs.Shapes.{braid_diagram, grid_diagram, diagram_item, problem_item}
+use Rattle.text_items.specs.Diagrams.{braid_diagram, grid_diagram, diagram_item}
+use Rattle.knot_text.specs.Shapes.{problem_item}
 use Rattle.knot_text.proofs.Steady.{bind_ok, ok_is}
 
 tested : (x rows : List ℕ) (n : ℕ) (d : Marks) (f : Option GridFault) → first_fault x rows ≡ f

@@ -16,22 +16,22 @@ use Rattle.grid_moves.specs.declared.step.Move.{Move}
 use Rattle.grid_moves.specs.declared.step.Move.TheVariants.{ShiftColumns, ShiftRows, ExchangeColumns, ExchangeRows, SlideColumns, SlideRows}
 use Rattle.grid_moves.specs.declared.step.Move.TheVariants.{Destabilise}
 use Rattle.text_lines.specs.Lines.{NumberedLine}
-use Rattle.knot_text.specs.declared.fault.TextFault.{TextFault}
-use Rattle.knot_text.specs.declared.fault.TextFault.TheVariants.{Malformed}
-use Rattle.knot_text.specs.declared.reading.TheConstants.{MAX_NUMBER, MAX_PLACE}
-use Rattle.knot_text.specs.declared.quandles.Written.{Written}
-use Rattle.knot_text.specs.declared.quandles.Written.TheVariants as written
+use Rattle.text_items.specs.declared.fault.TextFault.{TextFault}
+use Rattle.text_items.specs.declared.fault.TextFault.TheVariants.{Malformed}
+use Rattle.text_items.specs.declared.reading.TheConstants.{MAX_NUMBER, MAX_PLACE}
+use Rattle.text_items.specs.declared.quandles.Written.{Written}
+use Rattle.text_items.specs.declared.quandles.Written.TheVariants as written
 use Rattle.verdict_core.specs.declared.verdict.Verdict.{Verdict}
 use Rattle.verdict_core.specs.declared.verdict.Verdict.TheVariants.{UnknownExhausted}
-use Rattle.knot_text.specs.Reading.{◌>>=◌, next_token, word, number, last_number, at_most}
-use Rattle.knot_text.specs.Numbers.{is_long, numbers_behind}
-use Rattle.knot_text.specs.Grids.{are_rows, x_at, o_at}
-use Rattle.knot_text.specs.Braids.{letter_of, exceeds, braid_of, braid_at}
-use Rattle.knot_text.specs.Colours.{colours_at}
-use Rattle.knot_text.specs.Moves.{last_place, one_place, on_axis, shift, exchange, slide, kind_at, corner_at, stabilise, destabilise, move_at, tidy_move_at}
+use Rattle.text_items.specs.Reading.{◌>>=◌, next_token, word, number, last_number, at_most}
+use Rattle.text_items.specs.Numbers.{is_long, numbers_behind}
+use Rattle.text_items.specs.Grids.{are_rows, x_at, o_at}
+use Rattle.text_items.specs.Braids.{letter_of, exceeds, braid_of, braid_at}
+use Rattle.text_items.specs.Colours.{colours_at}
+use Rattle.text_items.specs.Moves.{last_place, one_place, on_axis, shift, exchange, slide, kind_at, corner_at, stabilise, destabilise, move_at, tidy_move_at}
 use Rattle.grid_moves.specs.Tidy.{may_follow}
 use Rattle.knot_text.specs.declared.verdicts.TheConstants.{TIDY_VERSION}
-use Rattle.knot_text.specs.Quandles.{with_order, alexander_at, tetrahedral_at, written_at}
+use Rattle.text_items.specs.Quandles.{with_order, alexander_at, tetrahedral_at, written_at}
 use Rattle.knot_text.specs.Verdicts.{budget_at, exhausted_at, unknown_at, version_at}
 use Rattle.knot_text.proofs.AtLine.{At, Keeps, at_ok, at_malformed, at_limit, at_bind, at_cond, at_same, keeps_ok, keeps_err, keeps_bind}
 use Rattle.knot_text.proofs.AtLine.{keeps_cond, keeps_same, next_token_at, next_token_keeps, line_end_at, line_end_keeps, word_at}

@@ -1,12 +1,3 @@
-pub mod Turns
-pub mod Values
-pub mod Cuts
-mod Keeping
-pub mod GridLines
-pub mod BraidLines
-pub mod ColoursLines
-pub mod TableLines
-pub mod Lists
 pub mod LineTexts
 pub mod LetterTexts
 pub mod StepsAgain

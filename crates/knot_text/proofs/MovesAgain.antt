@@ -12,10 +12,10 @@ use Rattle.grid_moves.specs.declared.step.Move.TheVariants.{ShiftColumns, ShiftR
 use Rattle.grid_moves.specs.declared.step.Move.TheVariants.{Stabilise, Destabilise}
 use Rattle.text_lines.specs.Lines.{Text}
 use Rattle.text_lines.specs.Spelled.{numbered}
-use Rattle.knot_text.specs.declared.reading.TheConstants.{MAX_PLACE}
-use Rattle.knot_text.specs.Reading.{next_line, next_token, line_end}
+use Rattle.text_items.specs.declared.reading.TheConstants.{MAX_PLACE}
+use Rattle.text_items.specs.Reading.{next_line, next_token, line_end}
 use Rattle.grid_moves.specs.Tidy.{may_follow, are_tidy_behind}
-use Rattle.knot_text.specs.Moves.{last_place, shift, exchange, slide, kind_at, corner_at, stabilise, destabilise, move_at, next_move, move_lines, tidy_move_at, tidy_move, tidy_moves, moves_item}
+use Rattle.text_items.specs.Moves.{last_place, shift, exchange, slide, kind_at, corner_at, stabilise, destabilise, move_at, next_move, move_lines, tidy_move_at, tidy_move, tidy_moves, moves_item}
 use Rattle.knot_text.specs.Printed.{kind_word, corner_word, move_tokens, moves_lines, HasMoveText, HaveText}
 use Rattle.knot_text.proofs.StepsAgain.{line_of, lines_before, word_again, number_again, last_again, most_again, count_again, turns_again}
 

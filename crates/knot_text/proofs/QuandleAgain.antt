@@ -14,16 +14,16 @@ use Rattle.quandle_core.specs.Fault.{first_fault}
 use Rattle.quandle_core.proofs.Accepted.{none_from_quandle}
 use Rattle.text_lines.specs.Lines.{Text}
 use Rattle.text_lines.specs.Spelled.{numbered}
-use Rattle.knot_text.specs.declared.fault.TextFault.{TextFault}
-use Rattle.knot_text.specs.declared.fault.TextFault.TheVariants.{Malformed}
-use Rattle.knot_text.specs.declared.reading.TheConstants.{MAX_NUMBER}
+use Rattle.text_items.specs.declared.fault.TextFault.{TextFault}
+use Rattle.text_items.specs.declared.fault.TextFault.TheVariants.{Malformed}
+use Rattle.text_items.specs.declared.reading.TheConstants.{MAX_NUMBER}
 use Rattle.verdict_core.specs.declared.names.QuandleName.{QuandleName}
 use Rattle.verdict_core.specs.declared.names.QuandleName.TheVariants as name
 use Rattle.verdict_core.specs.Names.{NamedQuandle, IsOrder, Names, is_order, called}
 use Rattle.verdict_core.proofs.Named.{is_order_of}
-use Rattle.knot_text.specs.Reading.{next_line, next_token, line_end}
-use Rattle.knot_text.specs.Numbers.{numbers_below, is_long}
-use Rattle.knot_text.specs.Quandles.{written_at, alexander_at, tetrahedral_at, table_row, table_rows, table_item, quandle_at}
+use Rattle.text_items.specs.Reading.{next_line, next_token, line_end}
+use Rattle.text_items.specs.Numbers.{numbers_below, is_long}
+use Rattle.text_items.specs.Quandles.{written_at, alexander_at, tetrahedral_at, table_row, table_rows, table_item, quandle_at}
 use Rattle.knot_text.specs.Printed.{name_tokens, row_tokens, table_lines, HasFactor}
 use Rattle.knot_text.proofs.LineTexts.{map_decimals}
 use Rattle.knot_text.proofs.StepsAgain.{line_of, lines_before, number_again, last_again, below_again}

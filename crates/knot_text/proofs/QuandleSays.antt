@@ -18,18 +18,18 @@ use Rattle.quandle_core.specs.Tables.{trivial, dihedral, alexander, tetrahedral,
 use Rattle.quandle_core.specs.Fault.{first_fault}
 use Rattle.quandle_core.proofs.Accepted.{quandle_from_none}
 use Rattle.text_lines.specs.Lines.{NumberedLine, Text, begins}
-use Rattle.knot_text.specs.declared.fault.TextFault.{TextFault}
-use Rattle.knot_text.specs.declared.reading.TheConstants.{MAX_NUMBER}
+use Rattle.text_items.specs.declared.fault.TextFault.{TextFault}
+use Rattle.text_items.specs.declared.reading.TheConstants.{MAX_NUMBER}
 use Rattle.verdict_core.specs.declared.names.QuandleName.{QuandleName}
 use Rattle.verdict_core.specs.declared.names.QuandleName.TheVariants as name
-use Rattle.knot_text.specs.declared.quandles.Written.{Written}
-use Rattle.knot_text.specs.declared.quandles.Written.TheVariants as written
+use Rattle.text_items.specs.declared.quandles.Written.{Written}
+use Rattle.text_items.specs.declared.quandles.Written.TheVariants as written
 use Rattle.verdict_core.proofs.Named.{order_is}
 use Rattle.verdict_core.specs.Names.{NamedQuandle, is_order, called}
-use Rattle.knot_text.specs.Reading.{◌>>=◌, or_malformed}
-use Rattle.knot_text.specs.Numbers.{numbers_below, is_long}
-use Rattle.knot_text.specs.Quandles.{with_order, alexander_at, tetrahedral_at, written_at, is_over, meant, table_row, table_rows}
-use Rattle.knot_text.specs.Quandles.{table_item, quandle_of, quandle_at, quandle_item, surplus_quandle, quandles}
+use Rattle.text_items.specs.Reading.{◌>>=◌, or_malformed}
+use Rattle.text_items.specs.Numbers.{numbers_below, is_long}
+use Rattle.text_items.specs.Quandles.{with_order, alexander_at, tetrahedral_at, written_at, is_over, meant, table_row, table_rows}
+use Rattle.text_items.specs.Quandles.{table_item, quandle_of, quandle_at, quandle_item, surplus_quandle, quandles}
 use Rattle.knot_text.specs.Printed.{name_tokens, row_tokens, table_lines, quandle_lines, HasQuandleText}
 use Rattle.knot_text.specs.WrittenThere.{StandInFront, listed_lines}
 use Rattle.knot_text.proofs.LineTexts.{map_decimals}

@@ -2,13 +2,13 @@
 use Rattle.std.proofs.Common.{◌≡◌, ℕ, zero, suc, List, [], ◌∷◌, ◌++◌, Bool, true, false, Result, Ok, Err, refl, sym, ap, subst, ◌∙◌, inl, inr, ◌⊎◌, codes}
 use Rattle.std.proofs.lemmas.Bool.{both_ways}
 use Rattle.text_lines.specs.Lines.{NumberedLine, Text, first_starts}
-use Rattle.knot_text.specs.declared.fault.TextFault.{TextFault}
-use Rattle.knot_text.specs.declared.fault.TextFault.TheVariants.{Limit}
-use Rattle.knot_text.specs.declared.quandles.TheConstants.{MAX_QUANDLES}
+use Rattle.text_items.specs.declared.fault.TextFault.{TextFault}
+use Rattle.text_items.specs.declared.fault.TextFault.TheVariants.{Limit}
+use Rattle.text_items.specs.declared.quandles.TheConstants.{MAX_QUANDLES}
 use Rattle.verdict_core.specs.Names.{NamedQuandle}
-use Rattle.knot_text.specs.Quandles.{or_built_in}
-use Rattle.knot_text.specs.Reading.{◌>>=◌, next_line, word}
-use Rattle.knot_text.specs.Quandles.{written_at, quandle_item, surplus_quandle, quandles, quandle_list}
+use Rattle.text_items.specs.Quandles.{or_built_in}
+use Rattle.text_items.specs.Reading.{◌>>=◌, next_line, word}
+use Rattle.text_items.specs.Quandles.{written_at, quandle_item, surplus_quandle, quandles, quandle_list}
 use Rattle.knot_text.specs.FirstBadLine.{lines_then, FailsAtEnd}
 use Rattle.knot_text.proofs.Steady.{Stop, Took, AreTaken, BadLine, Steady, then_read, bind_ok, bind_err, ok_is, then_steady}
 use Rattle.knot_text.proofs.AtLine.{At, at_limit, at_bind, at_same, word_at, word_keeps}

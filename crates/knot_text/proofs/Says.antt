@@ -2,8 +2,8 @@
 use Rattle.std.proofs.Common.{◌≡◌, ℕ, List, [], ◌∷◌, ◌++◌, Bool, true, false, cond, Result, Ok, Err, refl, sym, ap, ap₂, subst, ◌∙◌, append_assoc}
 use Rattle.std.proofs.lemmas.List.{map-append}
 use Rattle.text_lines.specs.Lines.{NumberedLine, Text}
-use Rattle.knot_text.specs.declared.fault.TextFault.{TextFault}
-use Rattle.knot_text.specs.Reading.{◌>>=◌, line_among, next_line}
+use Rattle.text_items.specs.declared.fault.TextFault.{TextFault}
+use Rattle.text_items.specs.Reading.{◌>>=◌, line_among, next_line}
 use Rattle.knot_text.specs.WrittenThere.{StandInFront}
 use Rattle.knot_text.proofs.Steady.{bind_ok, ok_is}
 

@@ -1,9 +1,9 @@
 -- Readers that take lines from the front alone and fail at the first bad line, and how larger ones are made of them.
 use Rattle.std.proofs.Common.{◌≡◌, ℕ, zero, suc, List, [], ◌∷◌, ◌++◌, Result, Ok, Err, refl, sym, ap, ap₂, subst, ◌∙◌, append_assoc, inl, inr, ◌⊎◌}
 use Rattle.text_lines.specs.Lines.{NumberedLine, Text}
-use Rattle.knot_text.specs.declared.fault.TextFault.{TextFault}
-use Rattle.knot_text.specs.declared.fault.TextFault.TheVariants.{Malformed}
-use Rattle.knot_text.specs.Reading.{◌>>=◌, in_turn, next_line}
+use Rattle.text_items.specs.declared.fault.TextFault.{TextFault}
+use Rattle.text_items.specs.declared.fault.TextFault.TheVariants.{Malformed}
+use Rattle.text_items.specs.Reading.{◌>>=◌, in_turn, next_line}
 use Rattle.knot_text.specs.FirstBadLine.{lines_then, IsStable, NamesLine, FailsAtEnd}
 
 -- ---- what a reader took

@@ -9,10 +9,10 @@ use Rattle.text_lines.specs.Lines.{NumberedLine, Text}
 use Rattle.text_lines.specs.Spelled.{numbered}
 use Rattle.text_lines.specs.Numbers.{number_of}
 use Rattle.text_lines.proofs.NumberTexts.{decimal_read}
-use Rattle.knot_text.specs.declared.fault.TextFault.{TextFault}
-use Rattle.knot_text.specs.declared.reading.TheConstants.{MAX_NUMBER}
-use Rattle.knot_text.specs.Reading.{in_turn, next_token, line_end, word, number, last_number, last_count, at_most, each_token}
-use Rattle.knot_text.specs.Numbers.{is_long, numbers_below}
+use Rattle.text_items.specs.declared.fault.TextFault.{TextFault}
+use Rattle.text_items.specs.declared.reading.TheConstants.{MAX_NUMBER}
+use Rattle.text_items.specs.Reading.{in_turn, next_token, line_end, word, number, last_number, last_count, at_most, each_token}
+use Rattle.text_items.specs.Numbers.{is_long, numbers_below}
 
 abbrev pub line_of : ℕ → List (List ℕ) → NumberedLine
 line_of n tokens = record { number = n; tokens = tokens }

@@ -8,12 +8,12 @@ use Rattle.colour_rows.specs.Colouring.{AreColours}
 use Rattle.grid_moves.specs.declared.step.Move.{Move}
 use Rattle.text_lines.specs.Lines.{NumberedLine, Text, begins}
 use Rattle.text_lines.specs.Spelled.{numbered}
-use Rattle.knot_text.specs.declared.reading.TheConstants.{MAX_NUMBER}
+use Rattle.text_items.specs.declared.reading.TheConstants.{MAX_NUMBER}
 use Rattle.verdict_core.specs.declared.verdict.Verdict.{Verdict}
 use Rattle.verdict_core.specs.declared.verdict.Verdict.TheVariants.{Equal, Different, UnknownBudget, UnknownExhausted}
 use Rattle.verdict_core.proofs.Named.{names_order}
 use Rattle.verdict_core.specs.Names.{NamedQuandle}
-use Rattle.knot_text.specs.Reading.{◌>>=◌, next_line, next_token}
+use Rattle.text_items.specs.Reading.{◌>>=◌, next_line, next_token}
 use Rattle.knot_text.specs.Verdicts.{equal_at, colour_line, list_item, different_at, budget_at, exhausted_at, unknown_at, unknown_item}
 use Rattle.knot_text.specs.Verdicts.{verdict_of, version_at, tidy_item, plain_item, versioned_item, verdict_item}
 use Rattle.knot_text.specs.declared.verdicts.TheConstants.{TIDY_VERSION}

@@ -4,12 +4,13 @@ use Rattle.std.specs.Prelude.{is_none}
 use Rattle.quandle_core.specs.Quandle.{Table}
 use Rattle.cocycle_core.specs.Fault.{first_fault}
 use Rattle.text_lines.specs.Lines.{NumberedLine}
-use Rattle.knot_text.specs.declared.fault.TextFault.TheVariants.{Malformed}
-use Rattle.knot_text.specs.declared.weights.TheConstants.{MAX_MODULUS}
-use Rattle.knot_text.specs.Reading.{◌>>=◌, at_most, text_end}
-use Rattle.knot_text.specs.Quandles.{table_rows, quandle_item}
-use Rattle.knot_text.specs.Shapes.{diagram_item}
-use Rattle.knot_text.specs.Weights.{modulus_at, cochain, cochain_item, cocycle_item, weight_in}
+use Rattle.text_items.specs.declared.fault.TextFault.TheVariants.{Malformed}
+use Rattle.text_items.specs.declared.cocycles.TheConstants.{MAX_MODULUS}
+use Rattle.text_items.specs.Reading.{◌>>=◌, at_most, text_end}
+use Rattle.text_items.specs.Quandles.{table_rows, quandle_item}
+use Rattle.text_items.specs.Diagrams.{diagram_item}
+use Rattle.text_items.specs.Cocycles.{modulus_at, cochain, cochain_item, cocycle_item}
+use Rattle.knot_text.specs.Weights.{weight_in}
 use Rattle.knot_text.specs.FirstBadLine.{FailsFirst}
 use Rattle.knot_text.proofs.Steady.{Anywhere, Steady, then_steady}
 use Rattle.knot_text.proofs.AtLine.{At, at_ok, at_malformed, at_bind, at_cond, at_same, at_most_at, word_at, word_keeps}

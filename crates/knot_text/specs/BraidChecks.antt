@@ -1,11 +1,11 @@
 -- The whole text of two braids and the steps that are to lead from one to the other.
 use Rattle.std.specs.Prelude.{ℕ, List, Result, Ok}
 use Rattle.text_lines.specs.Lines.{Text, text_of}
-use Rattle.knot_text.specs.declared.fault.TextFault.{TextFault}
+use Rattle.text_items.specs.declared.fault.TextFault.{TextFault}
 use Rattle.knot_text.specs.declared.braid_checks.BraidCheckText.{BraidCheckText}
-use Rattle.knot_text.specs.Reading.{◌>>=◌, text_end}
-use Rattle.knot_text.specs.Braids.{braid_item}
-use Rattle.knot_text.specs.BraidSteps.{steps_item}
+use Rattle.text_items.specs.Reading.{◌>>=◌, text_end}
+use Rattle.text_items.specs.Braids.{braid_item}
+use Rattle.text_items.specs.BraidSteps.{steps_item}
 
 -- two braids and steps, and nothing behind them
 unfoldable pub braidcheck_in : Text → Result BraidCheckText TextFault

@@ -1,8 +1,8 @@
 -- What it means that a reader takes lines from the front alone, and fails at the first bad line.
 use Rattle.std.specs.Prelude.{◌≡◌, ◌⊎◌, ℕ, List, ◌∷◌, ◌++◌, Result, Ok, Err, IsOk}
 use Rattle.text_lines.specs.Lines.{NumberedLine, Text}
-use Rattle.knot_text.specs.declared.fault.TextFault.{TextFault}
-use Rattle.knot_text.specs.declared.fault.TextFault.TheVariants.{Malformed, Limit}
+use Rattle.text_items.specs.declared.fault.TextFault.{TextFault}
+use Rattle.text_items.specs.declared.fault.TextFault.TheVariants.{Malformed, Limit}
 
 abbrev pub lines_then : List NumberedLine → ℕ → Text
 lines_then lines ending = record { lines = lines; ending = ending }

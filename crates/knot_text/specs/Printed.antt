@@ -18,7 +18,7 @@ use Rattle.quandle_core.specs.Quandle.{Table, over}
 use Rattle.colour_list.specs.declared.limits.TheConstants.{MAX_COLOURINGS}
 use Rattle.colour_rows.specs.Colouring.{AreColours}
 use Rattle.text_lines.specs.Spelled.{lines_text}
-use Rattle.knot_text.specs.declared.reading.TheConstants.{MAX_NUMBER, MAX_PLACE, MAX_LETTER}
+use Rattle.text_items.specs.declared.reading.TheConstants.{MAX_NUMBER, MAX_PLACE, MAX_LETTER}
 use Rattle.verdict_core.specs.declared.names.QuandleName.{QuandleName}
 use Rattle.verdict_core.specs.declared.names.QuandleName.TheVariants as name
 use Rattle.verdict_core.specs.declared.diagrams.Diagram.{Diagram}

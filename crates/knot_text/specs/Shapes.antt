@@ -1,36 +1,21 @@
 -- The whole text of a problem, a check, a replay, a listing of colourings, a closure and a lone diagram.
 use Rattle.std.specs.Prelude.{ℕ, List, codes, Result, Ok, if◌then◌else◌}
 use Rattle.text_lines.specs.Lines.{Text, text_of, begins}
-use Rattle.knot_text.specs.declared.fault.TextFault.{TextFault}
+use Rattle.text_items.specs.declared.fault.TextFault.{TextFault}
 use Rattle.verdict_core.specs.declared.diagrams.Diagram.{Diagram}
-use Rattle.verdict_core.specs.declared.diagrams.Diagram.TheVariants.{Grid, Braid}
 use Rattle.verdict_core.specs.declared.verdict.Verdict.{Verdict}
 use Rattle.verdict_core.specs.declared.problem.ProblemText.{ProblemText}
 use Rattle.knot_text.specs.declared.shapes.ReplayText.{ReplayText}
 use Rattle.knot_text.specs.declared.shapes.ColourText.{ColourText}
 use Rattle.knot_text.specs.declared.shapes.CloseText.{CloseText}
 use Rattle.verdict_core.specs.Diagrams.{columns}
-use Rattle.knot_text.specs.Reading.{◌>>=◌, text_end}
-use Rattle.knot_text.specs.Grids.{grid_item}
-use Rattle.knot_text.specs.Braids.{braid_item}
-use Rattle.knot_text.specs.Moves.{moves_item}
-use Rattle.knot_text.specs.Quandles.{quandle_list}
-use Rattle.knot_text.specs.Colours.{coloured}
+use Rattle.text_items.specs.Reading.{◌>>=◌, text_end}
+use Rattle.text_items.specs.Braids.{braid_item}
+use Rattle.text_items.specs.Diagrams.{diagram_item}
+use Rattle.text_items.specs.Moves.{moves_item}
+use Rattle.text_items.specs.Quandles.{quandle_list}
+use Rattle.text_items.specs.Colours.{coloured}
 use Rattle.knot_text.specs.Verdicts.{verdict_item}
-
-abbrev pub braid_diagram : Text → Result (Diagram × Text) TextFault
-braid_diagram text = do
-  braid ← braid_item text
-  Ok (Braid braid.0, braid.1)
-
-abbrev pub grid_diagram : Text → Result (Diagram × Text) TextFault
-grid_diagram text = do
-  grid ← grid_item text
-  Ok (Grid grid.0, grid.1)
-
--- a braid where a line that begins with `braid` is next, else a grid
-unfoldable pub diagram_item : Text → Result (Diagram × Text) TextFault
-diagram_item text = if begins (codes "braid") text then braid_diagram text else grid_diagram text
 
 -- two diagrams and any number of quandles, without which the built-in list stands
 unfoldable pub problem_item : Text → Result (ProblemText × Text) TextFault

@@ -5,18 +5,18 @@ use Rattle.arrayvec.specs.ArrayVec.{ArrayVec}
 use Rattle.colour_list.specs.declared.limits.TheConstants.{MAX_COLOURINGS}
 use Rattle.grid_moves.specs.declared.step.Move.{Move}
 use Rattle.text_lines.specs.Lines.{NumberedLine, Text, begins}
-use Rattle.knot_text.specs.declared.fault.TextFault.{TextFault}
-use Rattle.knot_text.specs.declared.fault.TextFault.TheVariants.{Malformed}
+use Rattle.text_items.specs.declared.fault.TextFault.{TextFault}
+use Rattle.text_items.specs.declared.fault.TextFault.TheVariants.{Malformed}
 use Rattle.verdict_core.specs.declared.verdict.Verdict.{Verdict}
 use Rattle.verdict_core.specs.declared.verdict.Verdict.TheVariants.{Equal, Different, UnknownBudget, UnknownExhausted}
-use Rattle.knot_text.specs.declared.reading.TheConstants.{MAX_NUMBER}
+use Rattle.text_items.specs.declared.reading.TheConstants.{MAX_NUMBER}
 use Rattle.knot_text.specs.declared.verdicts.TheConstants.{TIDY_VERSION}
 use Rattle.knot_text.specs.declared.verdicts.Version.{Version}
 use Rattle.knot_text.specs.declared.verdicts.Version.TheVariants.{Plain, Tidy}
-use Rattle.knot_text.specs.Reading.{◌>>=◌, in_turn, next_line, next_token, word, number, last_number, last_count, at_most}
-use Rattle.knot_text.specs.Numbers.{numbers_below}
-use Rattle.knot_text.specs.Moves.{move_lines, tidy_moves}
-use Rattle.knot_text.specs.Quandles.{quandle_at}
+use Rattle.text_items.specs.Reading.{◌>>=◌, in_turn, next_line, next_token, word, number, last_number, last_count, at_most}
+use Rattle.text_items.specs.Numbers.{numbers_below}
+use Rattle.text_items.specs.Moves.{move_lines, tidy_moves}
+use Rattle.text_items.specs.Quandles.{quandle_at}
 
 -- so many move lines of a version: of the second one the list is tidy
 abbrev pub moves_of : Version → ℕ → Text → Result (List Move × Text) TextFault

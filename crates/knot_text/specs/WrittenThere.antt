@@ -11,7 +11,7 @@ use Rattle.cocycle_core.specs.Cocycle.{Cochain, IsCocycle, value}
 use Rattle.quandle_core.specs.Quandle.{Table}
 use Rattle.text_lines.specs.Lines.{NumberedLine, Text, text_of}
 use Rattle.verdict_core.specs.declared.verdict.Verdict.{Verdict}
-use Rattle.knot_text.specs.declared.quandles.TheConstants.{MAX_QUANDLES}
+use Rattle.text_items.specs.declared.quandles.TheConstants.{MAX_QUANDLES}
 use Rattle.knot_text.specs.declared.verdicts.Version.{Version}
 use Rattle.verdict_core.specs.declared.diagrams.Diagram.{Diagram}
 use Rattle.verdict_core.specs.declared.problem.ProblemText.{ProblemText}
@@ -19,10 +19,10 @@ use Rattle.knot_text.specs.declared.shapes.ReplayText.{ReplayText}
 use Rattle.knot_text.specs.declared.shapes.ColourText.{ColourText}
 use Rattle.knot_text.specs.declared.shapes.CloseText.{CloseText}
 use Rattle.knot_text.specs.declared.braid_checks.BraidCheckText.{BraidCheckText}
-use Rattle.knot_text.specs.declared.weights.TheConstants.{MAX_MODULUS}
+use Rattle.text_items.specs.declared.cocycles.TheConstants.{MAX_MODULUS}
 use Rattle.knot_text.specs.declared.weights.WeightText.{WeightText}
 use Rattle.verdict_core.specs.Names.{NamedQuandle}
-use Rattle.knot_text.specs.Quandles.{or_built_in}
+use Rattle.text_items.specs.Quandles.{or_built_in}
 use Rattle.knot_text.specs.Printed.{moves_lines, HaveText, quandle_lines, HasQuandleText, version_lines, HasVersionText, braid_lines}
 use Rattle.knot_text.specs.Printed.{diagram_lines, HasDiagramText, colours_lines, step_tokens, steps_head, HaveStepsText}
 use Rattle.verdict_core.specs.Diagrams.{columns}

@@ -1,16 +1,14 @@
 //! The text of two braids and steps between them.
 ghost use Rattle.std.specs.Prelude.{◌≡◌};
-ghost use Rattle.knot_text.specs.Reading.{Gives};
+ghost use Rattle.text_items.specs.Reading.{Gives};
 ghost use Rattle.knot_text.specs.BraidChecks.{braidcheck_of};
 
-use crate::braid_steps::steps_item;
-use crate::braids::braid_item;
-use crate::fault::TextFault;
-use crate::reading::text_end;
 use braid_core::Braid;
 use braid_moves::BraidMove;
 use grid_core::Items;
 use std::alloc::Global;
+use text_items::reading::text_end;
+use text_items::{TextFault, braid_item, steps_item};
 use text_lines::Lines;
 
 /// Two braids, and the steps that are to lead from the first to the second.

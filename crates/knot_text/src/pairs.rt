@@ -1,12 +1,11 @@
 //! The text of two diagrams.
 ghost use Rattle.std.specs.Prelude.{◌≡◌};
-ghost use Rattle.knot_text.specs.Reading.{Gives};
+ghost use Rattle.text_items.specs.Reading.{Gives};
 ghost use Rattle.knot_text.specs.Pairs.{pair_of};
 
-use crate::fault::TextFault;
-use crate::reading::text_end;
-use crate::shapes::diagram_item;
 use std::alloc::Global;
+use text_items::reading::text_end;
+use text_items::{TextFault, diagram_item};
 use text_lines::Lines;
 use verdict_core::Diagram;
 

@@ -1,21 +1,16 @@
 //! The whole texts of the jobs.
 ghost use Rattle.std.specs.Prelude.{◌≡◌};
-ghost use Rattle.knot_text.specs.Reading.{Gives};
-ghost use Rattle.knot_text.specs.Shapes.{diagram_item, problem_item, problem_of, check_of, replay_of, colour_of, close_of, lone_diagram_of};
+ghost use Rattle.text_items.specs.Reading.{Gives};
+ghost use Rattle.knot_text.specs.Shapes.{problem_item, problem_of, check_of, replay_of, colour_of, close_of, lone_diagram_of};
 
-use crate::braids::braid_item;
-use crate::colours::coloured;
-use crate::fault::TextFault;
-use crate::grids::grid_item;
-use crate::moves::moves_item;
-use crate::quandles::quandle_list;
-use crate::reading::text_end;
 use crate::verdicts::verdict_item;
 use braid_core::Braid;
 use colour_rows::Colouring;
 use grid_core::Items;
 use grid_moves::Move;
 use std::alloc::Global;
+use text_items::reading::text_end;
+use text_items::{TextFault, braid_item, coloured, diagram_item, moves_item, quandle_list};
 use text_lines::Lines;
 use verdict_core::{Diagram, Listed, ProblemText, Verdict};
 
@@ -123,21 +118,9 @@ pub fn read_diagram(alloc: Global, bytes: &[u8]) -> Result<Diagram, TextFault>
     Ok(lone)
 }
 
-/// A braid where a line that begins with `braid` is next, else a grid. Takes memory for the letters of a braid alone.
-#[tactic(auto, unfolding(crate::specs::Shapes::diagram_item))]
-pub(crate) fn diagram_item(alloc: Global, lines: &mut Lines) -> Result<Diagram, TextFault>
-    ensures { Gives (λ d. (d, lines.new)) result (diagram_item lines.old) }
-{
-    if lines.begins(b"braid") {
-        Ok(Diagram::Braid(braid_item(alloc, lines)?))
-    } else {
-        Ok(Diagram::Grid(grid_item(lines)?))
-    }
-}
-
 /// Two diagrams and any number of quandles.
 #[tactic(auto, unfolding(crate::specs::Shapes::problem_item))]
-fn problem_item(alloc: Global, lines: &mut Lines) -> Result<ProblemText, TextFault>
+pub fn problem_item(alloc: Global, lines: &mut Lines) -> Result<ProblemText, TextFault>
     ensures { Gives (λ p. (p, lines.new)) result (problem_item lines.old) }
 {
     let first = diagram_item(alloc, lines)?;

@@ -8,9 +8,9 @@ mod replays;
 mod steps;
 mod weights;
 
-use crate::fault::TextFault;
 use std::alloc::Global;
 use std::test::Fail;
+use text_items::TextFault;
 use text_lines::push_number;
 
 /// The fault of a malformed line.

@@ -1,21 +1,19 @@
 //! Verdicts.
 ghost use Rattle.std.specs.Prelude.{◌≡◌, ◌≤◌};
 ghost use Rattle.grid_core.specs.declared.grid.TheConstants.{MAX_SIZE};
-ghost use Rattle.knot_text.specs.Reading.{Gives, in_turn};
+ghost use Rattle.text_items.specs.Reading.{Gives, in_turn};
 ghost use Rattle.knot_text.specs.Verdicts.{moves_of, equal_at, colour_line, list_item, different_at, budget_at, exhausted_at, unknown_at, unknown_item, verdict_of, version_at, tidy_item, plain_item, versioned_item, verdict_item};
 
-use crate::fault::TextFault;
-use crate::moves::{move_lines, tidy_moves};
-use crate::numbers::numbers_below;
-use crate::quandles::quandle_at;
-use crate::reading::{
-    MAX_NUMBER, at_most, last_count, last_number, next_line, next_token, number, word,
-};
 use colour_list::MAX_COLOURINGS;
 use colour_rows::Colouring;
 use grid_core::Items;
 use grid_moves::Move;
 use std::alloc::Global;
+use text_items::numbers::numbers_below;
+use text_items::reading::{
+    MAX_NUMBER, at_most, last_count, last_number, next_line, next_token, number, word,
+};
+use text_items::{TextFault, move_lines, quandle_at, tidy_moves};
 use text_lines::{Line, Lines};
 use verdict_core::Verdict;
 
@@ -263,7 +261,7 @@ fn versioned_item(
 
 /// A verdict of either version, on two diagrams with so many columns.
 #[tactic(auto, unfolding(crate::specs::Verdicts::verdict_item))]
-pub(crate) fn verdict_item(
+pub fn verdict_item(
     alloc: Global,
     first_width: u8,
     second_width: u8,

@@ -4,9 +4,9 @@ use crate::numbers::Numbers;
 use crate::reason::{Due, Reason};
 use crate::shown::Shown;
 use arrayvec::ArrayVec;
-use knot_text::MAX_QUANDLES;
 use quandle_core::{MAX_ORDER, MAX_TABLE, Quandle, QuandleFault};
 use std::fmt;
+use text_items::MAX_QUANDLES;
 use text_lines::Line;
 
 /// The families of quandles that have names.

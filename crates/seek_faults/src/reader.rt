@@ -7,7 +7,7 @@ use crate::quandles::{Table, quandle_reason, table_order};
 use crate::reason::{Due, Reason, Which};
 use crate::shape::{PROBLEM, Part, Shape, Then};
 use crate::shown::Shown;
-use knot_text::MAX_QUANDLES;
+use text_items::MAX_QUANDLES;
 use text_lines::{Line, Lines};
 
 /// Why a line of a problem is bad, where it is the first bad one, or what is due where the text ends. Lines are counted from 1. Of a line

@@ -3,10 +3,10 @@ use crate::alone::{NotOne, one_diagram};
 use crate::reader::reason_at;
 use braid_core::MAX_STRANDS;
 use grid_core::MAX_SIZE;
-use knot_text::MAX_QUANDLES;
 use quandle_core::MAX_ORDER;
 use std::alloc::Global;
 use std::test::Fail;
+use text_items::MAX_QUANDLES;
 
 /// A text, its first bad line, and what is said of it.
 type Row = (&'static [u8], usize, &'static str);

@@ -1,8 +1,8 @@
 -- Readers that answer the same value on texts of the same tokens, whatever the numbers of the lines.
 use Rattle.std.proofs.Common.{◌≡◌, ℕ, List, [], ◌∷◌, Bool, true, false, cond, Result, Ok, Err, refl, ap, subst, ◌∙◌}
 use Rattle.text_lines.specs.Lines.{NumberedLine, Text, begins, first_starts}
-use Rattle.knot_text.specs.declared.fault.TextFault.{TextFault}
-use Rattle.knot_text.specs.Reading.{◌>>=◌, line_among, next_line}
+use Rattle.text_items.specs.declared.fault.TextFault.{TextFault}
+use Rattle.text_items.specs.Reading.{◌>>=◌, line_among, next_line}
 use Rattle.knot_text.specs.WrittenThere.{tokens_by_line}
 use Rattle.knot_text.proofs.Steady.{bind_ok, ok_is}
 use Rattle.knot_text.proofs.StepsAgain.{line_of}

@@ -17,9 +17,9 @@ use Rattle.text_lines.specs.Numbers.{number_of}
 use Rattle.text_lines.specs.Spelled.{is_word, is_line, numbered}
 use Rattle.text_lines.proofs.NumberTexts.{decimal_read}
 use Rattle.text_lines.proofs.Written.{lines_read}
-use Rattle.knot_text.specs.declared.reading.TheConstants.{MAX_NUMBER}
-use Rattle.knot_text.specs.Reading.{next_line, each_token}
-use Rattle.knot_text.specs.Braids.{letter_of, is_long_letter, exceeds, braid_at, braid_item}
+use Rattle.text_items.specs.declared.reading.TheConstants.{MAX_NUMBER}
+use Rattle.text_items.specs.Reading.{next_line, each_token}
+use Rattle.text_items.specs.Braids.{letter_of, is_long_letter, exceeds, braid_at, braid_item}
 use Rattle.knot_text.specs.Printed.{letter_token, braid_lines, braid_text}
 use Rattle.knot_text.proofs.StepsAgain.{line_of, lines_before, word_again, number_again}
 use Rattle.knot_text.proofs.Words.{decimal_word}

@@ -13,10 +13,10 @@ use Rattle.braid_core.specs.declared.fault.BraidFault.TheVariants.{Letter}
 use Rattle.braid_core.specs.Braid.{Word}
 use Rattle.braid_core.specs.Fault.{is_outside, first_fault}
 use Rattle.text_lines.specs.Numbers.{is_number}
-use Rattle.knot_text.specs.declared.fault.TextFault.{TextFault}
-use Rattle.knot_text.specs.declared.fault.TextFault.TheVariants.{Malformed}
-use Rattle.knot_text.specs.Reading.{next_token, word, number, each_token}
-use Rattle.knot_text.specs.Braids.{letter_of, is_long_letter, braid_of, braid_at}
+use Rattle.text_items.specs.declared.fault.TextFault.{TextFault}
+use Rattle.text_items.specs.declared.fault.TextFault.TheVariants.{Malformed}
+use Rattle.text_items.specs.Reading.{next_token, word, number, each_token}
+use Rattle.text_items.specs.Braids.{letter_of, is_long_letter, braid_of, braid_at}
 use Rattle.text_laws.specs.LineKinds.{read_fault, fault_by, kind_fault, FailsByKind, is_overlong, worth, without_sign, is_letter}
 use Rattle.text_laws.specs.LineKinds.{is_letter_of, braid_kind}
 use Rattle.knot_text.proofs.StepsAgain.{line_of}

@@ -11,9 +11,9 @@ use Rattle.colour_rows.proofs.Colourings.{colours_test}
 use Rattle.quandle_core.specs.declared.quandle.TheConstants.{MAX_ORDER}
 use Rattle.text_lines.specs.Lines.{Text}
 use Rattle.text_lines.specs.Spelled.{numbered}
-use Rattle.knot_text.specs.Reading.{next_line}
-use Rattle.knot_text.specs.Numbers.{numbers_behind}
-use Rattle.knot_text.specs.Colours.{colours_at, colours_item}
+use Rattle.text_items.specs.Reading.{next_line}
+use Rattle.text_items.specs.Numbers.{numbers_behind}
+use Rattle.text_items.specs.Colours.{colours_at, colours_item}
 use Rattle.knot_text.specs.Printed.{colours_lines}
 use Rattle.knot_text.proofs.StepsAgain.{line_of, lines_before, IsShort, word_again, values_again, none_long, all_short}
 

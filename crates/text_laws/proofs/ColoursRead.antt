@@ -4,16 +4,17 @@ use Rattle.arrayvec.specs.ArrayVec.{ArrayVec}
 use Rattle.colour_rows.specs.Colouring.{AreColours, are_colours}
 use Rattle.colour_rows.proofs.Colourings.{colours_from}
 use Rattle.text_lines.specs.Lines.{NumberedLine, Text, first_starts}
-use Rattle.knot_text.specs.declared.fault.TextFault.TheVariants.{Malformed}
+use Rattle.text_items.specs.declared.fault.TextFault.TheVariants.{Malformed}
 use Rattle.knot_text.specs.declared.shapes.ReplayText.{ReplayText}
 use Rattle.verdict_core.specs.Names.{NamedQuandle}
-use Rattle.knot_text.specs.Reading.{◌>>=◌, next_line, text_end}
-use Rattle.knot_text.specs.Numbers.{numbers_behind}
-use Rattle.knot_text.specs.Moves.{moves_item}
-use Rattle.knot_text.specs.Quandles.{quandle_item}
-use Rattle.knot_text.specs.Colours.{colours_at, colours_item, coloured_item, some_coloured, coloured}
+use Rattle.text_items.specs.Reading.{◌>>=◌, next_line, text_end}
+use Rattle.text_items.specs.Numbers.{numbers_behind}
+use Rattle.text_items.specs.Moves.{moves_item}
+use Rattle.text_items.specs.Quandles.{quandle_item}
+use Rattle.text_items.specs.Colours.{colours_at, colours_item, coloured_item, some_coloured, coloured}
 use Rattle.verdict_core.specs.Diagrams.{columns}
-use Rattle.knot_text.specs.Shapes.{diagram_item, replay_in}
+use Rattle.text_items.specs.Diagrams.{diagram_item}
+use Rattle.knot_text.specs.Shapes.{replay_in}
 use Rattle.knot_text.proofs.Steady.{bind_ok, ok_is}
 
 -- a quandle with colours for so many columns, if there are any

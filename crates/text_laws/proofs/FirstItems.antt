@@ -8,19 +8,19 @@ use Rattle.grid_core.specs.Diagram.{Diagram}
 use Rattle.text_lines.specs.Lines.{NumberedLine, Text, starts}
 use Rattle.text_lines.specs.Numbers.{is_number}
 use Rattle.verdict_core.specs.declared.diagrams.Diagram.TheVariants as diagram
-use Rattle.knot_text.specs.declared.fault.TextFault.{TextFault}
-use Rattle.knot_text.specs.declared.fault.TextFault.TheVariants.{Malformed}
-use Rattle.knot_text.specs.declared.reading.TheConstants.{MAX_NUMBER}
+use Rattle.text_items.specs.declared.fault.TextFault.{TextFault}
+use Rattle.text_items.specs.declared.fault.TextFault.TheVariants.{Malformed}
+use Rattle.text_items.specs.declared.reading.TheConstants.{MAX_NUMBER}
 use Rattle.knot_text.specs.declared.verdicts.TheConstants.{TIDY_VERSION}
 use Rattle.knot_text.specs.declared.verdicts.Version.TheVariants.{Plain, Tidy}
-use Rattle.knot_text.specs.declared.weights.TheConstants.{MAX_MODULUS}
-use Rattle.knot_text.specs.Reading.{◌>>=◌, next_line, next_token, line_end, word, number, last_number, last_count, at_most}
-use Rattle.knot_text.specs.Grids.{o_at, grid_item}
-use Rattle.knot_text.specs.Braids.{braid_at, braid_item}
-use Rattle.knot_text.specs.Colours.{colours_item}
-use Rattle.knot_text.specs.Shapes.{diagram_item}
+use Rattle.text_items.specs.declared.cocycles.TheConstants.{MAX_MODULUS}
+use Rattle.text_items.specs.Reading.{◌>>=◌, next_line, next_token, line_end, word, number, last_number, last_count, at_most}
+use Rattle.text_items.specs.Grids.{o_at, grid_item}
+use Rattle.text_items.specs.Braids.{braid_at, braid_item}
+use Rattle.text_items.specs.Colours.{colours_item}
+use Rattle.text_items.specs.Diagrams.{diagram_item}
 use Rattle.knot_text.specs.Verdicts.{verdict_of, version_at, tidy_item, plain_item, versioned_item, verdict_item}
-use Rattle.knot_text.specs.Weights.{modulus_at, cochain, cochain_item, cocycle_item}
+use Rattle.text_items.specs.Cocycles.{modulus_at, cochain, cochain_item, cocycle_item}
 use Rattle.text_laws.specs.LineKinds.{read_fault, fault_by, kind_fault, FailsByKind, worth, numbers_of, x_kind, o_kind, colours_kind, braid_kind, modulus_kind}
 use Rattle.text_laws.specs.LineKinds.{counted_kind, says_version, certificate_kind}
 use Rattle.text_laws.specs.FirstLines.{count, or_later, on_top, fault_among, lines_fault, rows_fault, BeginsBy, BeginsWith, BeginsElse}

@@ -14,20 +14,20 @@ use Rattle.grid_moves.specs.declared.step.Move.TheVariants.{ShiftColumns, ShiftR
 use Rattle.quandle_core.specs.Fault.{first_fault as table_fault}
 use Rattle.text_lines.specs.Lines.{Text}
 use Rattle.text_lines.specs.Numbers.{number_of}
-use Rattle.knot_text.specs.declared.fault.TextFault.{TextFault}
-use Rattle.knot_text.specs.declared.reading.TheConstants.{MAX_NUMBER, MAX_PLACE}
-use Rattle.knot_text.specs.declared.quandles.TheConstants.{MAX_QUANDLES}
-use Rattle.knot_text.specs.declared.quandles.Written.{Written}
-use Rattle.knot_text.specs.declared.quandles.Written.TheVariants as written
-use Rattle.knot_text.specs.Reading.{◌>>=◌, next_token, line_end, word, or_malformed, number, last_number, last_count, at_most, each_token, in_turn}
-use Rattle.knot_text.specs.Numbers.{is_long, numbers_behind, numbers_below}
-use Rattle.knot_text.specs.Grids.{are_rows, x_at, o_at, grid_item}
-use Rattle.knot_text.specs.Braids.{letter_of, exceeds, braid_of, braid_at, braid_item}
-use Rattle.knot_text.specs.Moves.{last_place, one_place, shift, exchange, slide, kind_at, corner_at, stabilise, destabilise, move_at, next_move, moves_item, on_axis}
-use Rattle.knot_text.specs.Moves.{tidy_move_at, tidy_move, tidy_moves}
-use Rattle.knot_text.specs.Quandles.{with_order, alexander_at, tetrahedral_at, written_at, is_over, meant, table_row, table_rows}
-use Rattle.knot_text.specs.Quandles.{table_item, quandle_of, quandle_at, quandle_item, surplus_quandle, quandles, quandle_list}
-use Rattle.knot_text.specs.Colours.{colours_at, colours_item, coloured_item, coloured}
+use Rattle.text_items.specs.declared.fault.TextFault.{TextFault}
+use Rattle.text_items.specs.declared.reading.TheConstants.{MAX_NUMBER, MAX_PLACE}
+use Rattle.text_items.specs.declared.quandles.TheConstants.{MAX_QUANDLES}
+use Rattle.text_items.specs.declared.quandles.Written.{Written}
+use Rattle.text_items.specs.declared.quandles.Written.TheVariants as written
+use Rattle.text_items.specs.Reading.{◌>>=◌, next_token, line_end, word, or_malformed, number, last_number, last_count, at_most, each_token, in_turn}
+use Rattle.text_items.specs.Numbers.{is_long, numbers_behind, numbers_below}
+use Rattle.text_items.specs.Grids.{are_rows, x_at, o_at, grid_item}
+use Rattle.text_items.specs.Braids.{letter_of, exceeds, braid_of, braid_at, braid_item}
+use Rattle.text_items.specs.Moves.{last_place, one_place, shift, exchange, slide, kind_at, corner_at, stabilise, destabilise, move_at, next_move, moves_item, on_axis}
+use Rattle.text_items.specs.Moves.{tidy_move_at, tidy_move, tidy_moves}
+use Rattle.text_items.specs.Quandles.{with_order, alexander_at, tetrahedral_at, written_at, is_over, meant, table_row, table_rows}
+use Rattle.text_items.specs.Quandles.{table_item, quandle_of, quandle_at, quandle_item, surplus_quandle, quandles, quandle_list}
+use Rattle.text_items.specs.Colours.{colours_at, colours_item, coloured_item, coloured}
 use Rattle.knot_text.specs.Verdicts.{moves_of, equal_at, colour_line, list_item, different_at, budget_at, exhausted_at, unknown_at, unknown_item}
 use Rattle.knot_text.specs.Verdicts.{verdict_of, version_at, tidy_item, plain_item, versioned_item}
 use Rattle.knot_text.specs.declared.verdicts.TheConstants.{TIDY_VERSION}

@@ -8,12 +8,12 @@ use Rattle.quandle_core.specs.Tables.{is_unit}
 use Rattle.verdict_core.specs.Names.{NamedQuandle}
 use Rattle.text_lines.specs.Lines.{NumberedLine, Text, starts}
 use Rattle.text_lines.specs.Numbers.{is_number}
-use Rattle.knot_text.specs.declared.fault.TextFault.{TextFault}
-use Rattle.knot_text.specs.declared.fault.TextFault.TheVariants.{Malformed, Limit}
-use Rattle.knot_text.specs.declared.quandles.Written.{Written}
-use Rattle.knot_text.specs.declared.quandles.Written.TheVariants as written
-use Rattle.knot_text.specs.Reading.{◌>>=◌, next_line, next_token, line_end, word, number, last_number}
-use Rattle.knot_text.specs.Quandles.{with_order, alexander_at, tetrahedral_at, written_at, is_over, quandle_of, quandle_at, quandle_item, table_item}
+use Rattle.text_items.specs.declared.fault.TextFault.{TextFault}
+use Rattle.text_items.specs.declared.fault.TextFault.TheVariants.{Malformed, Limit}
+use Rattle.text_items.specs.declared.quandles.Written.{Written}
+use Rattle.text_items.specs.declared.quandles.Written.TheVariants as written
+use Rattle.text_items.specs.Reading.{◌>>=◌, next_line, next_token, line_end, word, number, last_number}
+use Rattle.text_items.specs.Quandles.{with_order, alexander_at, tetrahedral_at, written_at, is_over, quandle_of, quandle_at, quandle_item, table_item}
 use Rattle.verdict_core.specs.declared.verdict.Verdict.TheVariants.{Different}
 use Rattle.knot_text.specs.Verdicts.{list_item, different_at, verdict_of}
 use Rattle.knot_text.specs.declared.verdicts.Version.{Version}

@@ -9,7 +9,7 @@ use Rattle.std.proofs.lemmas.List.FromFn.{get_or-range_with_len, length-range_wi
 use Rattle.grid_core.specs.Diagram.{IsOneEach}
 use Rattle.grid_core.specs.Fault.{is_repeated}
 use Rattle.grid_core.proofs.OneEach.{IsApart, each_from_apart}
-use Rattle.knot_text.specs.Grids.{is_one_each, are_rows}
+use Rattle.text_items.specs.Grids.{is_one_each, are_rows}
 use Rattle.knot_text.proofs.GridAgain.{rows_are}
 
 -- a row that stands in two columns is repeated in the later one

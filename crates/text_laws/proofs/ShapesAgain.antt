@@ -7,7 +7,7 @@ use Rattle.arrayvec.specs.ArrayVec.{ArrayVec}
 use Rattle.grid_core.specs.Diagram.{IsGrid}
 use Rattle.braid_closure.proofs.Grids.{closure_grid}
 use Rattle.text_lines.specs.Lines.{NumberedLine, Text, starts, first_starts, begins}
-use Rattle.knot_text.specs.declared.quandles.TheConstants.{MAX_QUANDLES}
+use Rattle.text_items.specs.declared.quandles.TheConstants.{MAX_QUANDLES}
 use Rattle.verdict_core.specs.declared.diagrams.Diagram.{Diagram}
 use Rattle.verdict_core.specs.declared.diagrams.Diagram.TheVariants.{Grid, Braid}
 use Rattle.verdict_core.specs.declared.verdict.Verdict.{Verdict}
@@ -17,12 +17,13 @@ use Rattle.knot_text.specs.declared.shapes.ReplayText.{ReplayText}
 use Rattle.knot_text.specs.declared.shapes.ColourText.{ColourText}
 use Rattle.knot_text.specs.declared.shapes.CloseText.{CloseText}
 use Rattle.verdict_core.specs.Names.{NamedQuandle}
-use Rattle.knot_text.specs.Quandles.{or_built_in}
-use Rattle.knot_text.specs.Reading.{◌>>=◌, text_end}
-use Rattle.knot_text.specs.Quandles.{quandles, quandle_list}
-use Rattle.knot_text.specs.Colours.{coloured_item, coloured}
+use Rattle.text_items.specs.Quandles.{or_built_in}
+use Rattle.text_items.specs.Reading.{◌>>=◌, text_end}
+use Rattle.text_items.specs.Quandles.{quandles, quandle_list}
+use Rattle.text_items.specs.Colours.{coloured_item, coloured}
 use Rattle.verdict_core.specs.Diagrams.{grid_of, columns}
-use Rattle.knot_text.specs.Shapes.{diagram_item, problem_item, problem_in, check_in, replay_in, colour_in, close_in, lone_diagram_in}
+use Rattle.text_items.specs.Diagrams.{diagram_item}
+use Rattle.knot_text.specs.Shapes.{problem_item, problem_in, check_in, replay_in, colour_in, close_in, lone_diagram_in}
 use Rattle.knot_text.specs.Pairs.{pair_in}
 use Rattle.knot_text.specs.Printed.{moves_lines, quandle_lines, HasQuandleText, diagram_lines, HasDiagramText, colours_lines, version_lines}
 use Rattle.knot_text.specs.declared.verdicts.Version.{Version}

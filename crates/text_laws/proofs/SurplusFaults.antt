@@ -4,12 +4,12 @@ use Rattle.std.specs.Str.{bytes_eq}
 use Rattle.verdict_core.specs.Names.{NamedQuandle}
 use Rattle.text_lines.specs.Lines.{NumberedLine, Text}
 use Rattle.text_lines.specs.Numbers.{is_number}
-use Rattle.knot_text.specs.declared.fault.TextFault.{TextFault}
-use Rattle.knot_text.specs.declared.fault.TextFault.TheVariants.{Malformed, Limit}
-use Rattle.knot_text.specs.declared.quandles.Written.{Written}
-use Rattle.knot_text.specs.declared.quandles.Written.TheVariants as written
-use Rattle.knot_text.specs.Reading.{◌>>=◌, next_line, next_token, line_end, word, number, last_number}
-use Rattle.knot_text.specs.Quandles.{with_order, alexander_at, tetrahedral_at, written_at, surplus_quandle}
+use Rattle.text_items.specs.declared.fault.TextFault.{TextFault}
+use Rattle.text_items.specs.declared.fault.TextFault.TheVariants.{Malformed, Limit}
+use Rattle.text_items.specs.declared.quandles.Written.{Written}
+use Rattle.text_items.specs.declared.quandles.Written.TheVariants as written
+use Rattle.text_items.specs.Reading.{◌>>=◌, next_line, next_token, line_end, word, number, last_number}
+use Rattle.text_items.specs.Quandles.{with_order, alexander_at, tetrahedral_at, written_at, surplus_quandle}
 use Rattle.text_laws.specs.LineKinds.{read_fault, fault_by, kind_fault, fits, is_name, surplus_kind}
 use Rattle.text_laws.specs.FirstLines.{or_later, BeginsBy}
 use Rattle.knot_text.proofs.StepsAgain.{line_of}

@@ -11,12 +11,13 @@ use Rattle.cocycle_core.proofs.Accepted.{none_from_cocycle}
 use Rattle.text_lines.specs.Lines.{Text, text_of}
 use Rattle.text_lines.specs.Spelled.{numbered}
 use Rattle.verdict_core.proofs.Named.{named_is}
-use Rattle.knot_text.specs.declared.fault.TextFault.{TextFault}
-use Rattle.knot_text.specs.declared.fault.TextFault.TheVariants.{Malformed}
-use Rattle.knot_text.specs.declared.weights.TheConstants.{MAX_MODULUS}
+use Rattle.text_items.specs.declared.fault.TextFault.{TextFault}
+use Rattle.text_items.specs.declared.fault.TextFault.TheVariants.{Malformed}
+use Rattle.text_items.specs.declared.cocycles.TheConstants.{MAX_MODULUS}
 use Rattle.knot_text.specs.declared.weights.WeightText.{WeightText}
-use Rattle.knot_text.specs.Reading.{next_line}
-use Rattle.knot_text.specs.Weights.{modulus_at, cochain, cochain_item, cocycle_item, weight_in, weight_of}
+use Rattle.text_items.specs.Reading.{next_line}
+use Rattle.text_items.specs.Cocycles.{modulus_at, cochain, cochain_item, cocycle_item}
+use Rattle.knot_text.specs.Weights.{weight_in, weight_of}
 use Rattle.knot_text.specs.Printed.{row_tokens, quandle_lines, diagram_lines}
 use Rattle.knot_text.specs.WrittenThere.{tokens_by_line, StandInFront, said_by, value_lines, cocycle_lines, HasCocycleText, HasWeightText, weight_lines}
 use Rattle.knot_text.proofs.Tables.{row, rows_last}

@@ -9,9 +9,10 @@ use Rattle.cocycle_core.specs.declared.fault.CocycleFault.{CocycleFault}
 use Rattle.cocycle_core.proofs.Accepted.{cocycle_from_none}
 use Rattle.text_lines.specs.Lines.{NumberedLine, Text}
 use Rattle.verdict_core.proofs.Named.{named_is}
-use Rattle.knot_text.specs.declared.fault.TextFault.{TextFault}
-use Rattle.knot_text.specs.declared.weights.TheConstants.{MAX_MODULUS}
-use Rattle.knot_text.specs.Weights.{modulus_at, cochain, cochain_item, cocycle_item, weight_in}
+use Rattle.text_items.specs.declared.fault.TextFault.{TextFault}
+use Rattle.text_items.specs.declared.cocycles.TheConstants.{MAX_MODULUS}
+use Rattle.text_items.specs.Cocycles.{modulus_at, cochain, cochain_item, cocycle_item}
+use Rattle.knot_text.specs.Weights.{weight_in}
 use Rattle.knot_text.specs.Printed.{quandle_lines, HasQuandleText, diagram_lines, HasDiagramText}
 use Rattle.knot_text.specs.WrittenThere.{tokens_by_line, StandInFront, value_lines, cocycle_lines, HasCocycleText, HasWeightText, weight_lines}
 use Rattle.knot_text.proofs.Says.{Says, says_ok, says_err, says_bind, says_if, says_more, in_front_of, in_front_is, IsNext, next_says}

@@ -11,7 +11,7 @@ use Rattle.text_lines.proofs.Digits.{number_digits}
 use Rattle.text_lines.proofs.NumberTexts.{zero_by}
 use Rattle.text_lines.specs.declared.numbers.TheConstants.{MAX_DIGITS, OVERLONG}
 use Rattle.text_lines.specs.Numbers.{is_number}
-use Rattle.knot_text.specs.declared.reading.TheConstants.{MAX_NUMBER}
+use Rattle.text_items.specs.declared.reading.TheConstants.{MAX_NUMBER}
 use Rattle.text_laws.specs.LineKinds.{is_overlong, worth}
 
 -- OVERLONG stands for a number of too many digits

@@ -11,15 +11,15 @@ use Rattle.quandle_core.specs.declared.quandle.TheConstants.{MAX_ORDER}
 use Rattle.grid_moves.specs.declared.step.Move.{Move}
 use Rattle.text_lines.specs.Lines.{NumberedLine, Text}
 use Rattle.text_lines.specs.Spelled.{numbered}
-use Rattle.knot_text.specs.declared.fault.TextFault.{TextFault}
+use Rattle.text_items.specs.declared.fault.TextFault.{TextFault}
 use Rattle.verdict_core.specs.declared.verdict.Verdict.{Verdict}
 use Rattle.verdict_core.specs.Names.{NamedQuandle}
-use Rattle.knot_text.specs.Reading.{◌>>=◌, next_line}
-use Rattle.knot_text.specs.Grids.{grid_item}
-use Rattle.knot_text.specs.Braids.{braid_item}
-use Rattle.knot_text.specs.Moves.{moves_item}
-use Rattle.knot_text.specs.Quandles.{quandle_item}
-use Rattle.knot_text.specs.Colours.{colours_item}
+use Rattle.text_items.specs.Reading.{◌>>=◌, next_line}
+use Rattle.text_items.specs.Grids.{grid_item}
+use Rattle.text_items.specs.Braids.{braid_item}
+use Rattle.text_items.specs.Moves.{moves_item}
+use Rattle.text_items.specs.Quandles.{quandle_item}
+use Rattle.text_items.specs.Colours.{colours_item}
 use Rattle.knot_text.specs.Verdicts.{versioned_item, verdict_item}
 use Rattle.knot_text.specs.declared.verdicts.Version.{Version}
 use Rattle.knot_text.specs.Printed.{grid_lines, braid_lines, moves_lines, HaveText, name_tokens, quandle_lines, HasQuandleText}

@@ -11,14 +11,14 @@ use Rattle.quandle_core.specs.Tables.{is_unit}
 use Rattle.colour_rows.specs.Colouring.{are_colours}
 use Rattle.braid_core.specs.declared.braid.TheConstants.{MAX_STRANDS}
 use Rattle.text_lines.specs.declared.numbers.TheConstants.{MAX_DIGITS}
-use Rattle.knot_text.specs.declared.reading.TheConstants.{MAX_NUMBER, MAX_PLACE, MAX_LETTER}
+use Rattle.text_items.specs.declared.reading.TheConstants.{MAX_NUMBER, MAX_PLACE, MAX_LETTER}
 use Rattle.text_lines.specs.Lines.{NumberedLine, starts}
 use Rattle.text_lines.specs.Numbers.{is_number}
-use Rattle.knot_text.specs.declared.fault.TextFault.{TextFault}
-use Rattle.knot_text.specs.declared.fault.TextFault.TheVariants.{Malformed, Limit}
+use Rattle.text_items.specs.declared.fault.TextFault.{TextFault}
+use Rattle.text_items.specs.declared.fault.TextFault.TheVariants.{Malformed, Limit}
 use Rattle.knot_text.specs.declared.verdicts.TheConstants.{TIDY_VERSION}
-use Rattle.knot_text.specs.declared.weights.TheConstants.{MAX_MODULUS}
-use Rattle.knot_text.specs.Grids.{are_rows}
+use Rattle.text_items.specs.declared.cocycles.TheConstants.{MAX_MODULUS}
+use Rattle.text_items.specs.Grids.{are_rows}
 
 -- of the tokens of a line: they have the form; they exceed a limit; they say what can be
 pub record LineKind : Type 0 where

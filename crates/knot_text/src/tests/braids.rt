@@ -1,10 +1,10 @@
 //! Braids, by texts of closures and of lone diagrams.
-use crate::fault::TextFault;
 use crate::shapes::{read_close, read_diagram};
 use crate::tests::{limit, malformed, repeated};
 use grid_core::MAX_SIZE;
 use std::alloc::Global;
 use std::test::Fail;
+use text_items::TextFault;
 
 /// The fault of a text of a closure.
 fn close_fault(alloc: Global, text: &[u8]) -> Option<TextFault> {

@@ -1,10 +1,10 @@
 //! Verdicts, behind two unknots.
-use crate::fault::TextFault;
 use crate::shapes::read_check;
 use crate::tests::{limit, malformed, numbered};
 use quandle_core::MAX_ORDER;
 use std::alloc::Global;
 use std::test::Fail;
+use text_items::TextFault;
 
 /// The fault of a verdict on two unknots, which stands from line 5 on.
 fn fault_behind(alloc: Global, tail: &[u8]) -> Result<Option<TextFault>, Fail> {

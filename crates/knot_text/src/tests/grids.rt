@@ -1,11 +1,11 @@
 //! Grids, by texts of problems and listings.
-use crate::fault::TextFault;
 use crate::shapes::{read_colour, read_problem};
 use crate::tests::{limit, malformed};
 use grid_core::MAX_SIZE;
 use std::alloc::Global;
 use std::process::Abort;
 use std::test::Fail;
+use text_items::TextFault;
 use verdict_core::QuandleName;
 
 /// The fault of a text of a problem.

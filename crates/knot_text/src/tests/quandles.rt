@@ -1,10 +1,10 @@
 //! Quandle items, behind the unknot.
-use crate::fault::TextFault;
 use crate::shapes::{read_colour, read_problem};
 use crate::tests::{limit, malformed, numbered};
 use quandle_core::MAX_ORDER;
 use std::alloc::Global;
 use std::test::Fail;
+use text_items::TextFault;
 use verdict_core::QuandleName;
 
 /// The unknot, in two lines.

@@ -1,11 +1,11 @@
 //! Moves, behind the unknot.
-use crate::fault::TextFault;
 use crate::shapes::read_replay;
 use crate::tests::{limit, malformed, repeated};
 use grid_core::{Corner, Kind, MAX_SIZE};
 use grid_moves::Move;
 use std::alloc::Global;
 use std::test::Fail;
+use text_items::TextFault;
 use verdict_core::QuandleName;
 
 /// The fault of a replay of the unknot, whose moves stand from line 3 on.

@@ -1,10 +1,10 @@
 //! Steps between braids, behind two words of the trefoil.
 use crate::braid_checks::read_braidcheck;
-use crate::fault::TextFault;
 use crate::tests::{limit, malformed};
 use braid_moves::BraidMove;
 use std::alloc::Global;
 use std::test::Fail;
+use text_items::TextFault;
 
 /// The fault of a text of two braids, whose steps stand from line 3 on.
 fn fault_behind(alloc: Global, tail: &[u8]) -> Result<Option<TextFault>, Fail> {

@@ -1,9 +1,9 @@
 //! Texts of two diagrams, a quandle and a cocycle: two trefoils, or two unknots, and the tetrahedral quandle.
-use crate::fault::TextFault;
 use crate::tests::{limit, malformed};
 use crate::weights::read_weights;
 use std::alloc::Global;
 use std::test::Fail;
+use text_items::TextFault;
 use verdict_core::QuandleName;
 
 /// The right and the left trefoil, in four lines, and the tetrahedral quandle.

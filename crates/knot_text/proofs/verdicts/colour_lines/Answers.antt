@@ -1,7 +1,7 @@
 use Rattle.std.proofs.lemmas.Result.{err_from_is_err_and}
-use Rattle.knot_text.specs.Reading.{in_turn}
+use Rattle.text_items.specs.Reading.{in_turn}
 use Rattle.knot_text.specs.Verdicts.{colour_line}
-use Rattle.knot_text.proofs.Turns.{turn_more, turn_fails, turns_done}
+use Rattle.text_items.proofs.Turns.{turn_more, turn_fails, turns_done}
 use Rattle.knot_text.proofs.verdicts.colour_lines.Goals as goal
 
 pub returns-in_err-colour_line : goal.returns-in_err-colour_line

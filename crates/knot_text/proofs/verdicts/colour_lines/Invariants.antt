@@ -1,7 +1,7 @@
 use Rattle.std.proofs.Common.{◌≡◌, ◌-◌}
-use Rattle.knot_text.specs.Reading.{in_turn}
+use Rattle.text_items.specs.Reading.{in_turn}
 use Rattle.knot_text.specs.Verdicts.{colour_line}
-use Rattle.knot_text.proofs.Turns.{with_front}
+use Rattle.text_items.proofs.Turns.{with_front}
 use Rattle.knot_text.proofs.verdicts.colour_lines.Given as goal
 
 abbrev pub invariant-loop : goal.invariant-loop

@@ -1,7 +1,0 @@
-use Rattle.std.proofs.Common.{◌≡◌, take}
-use Rattle.std.specs.List.{filter_map}
-use Rattle.verdict_core.specs.Names.{quandle_named}
-use Rattle.knot_text.proofs.quandles.built_in.Given as goal
-
-abbrev pub invariant-loop-name : goal.invariant-loop-name
-invariant-loop-name l = l.listed.items ≡ filter_map quandle_named (take l.name-index l.name-items)

@@ -1,0 +1,9 @@
+pub mod Turns
+pub mod Values
+pub mod Cuts
+mod Keeping
+pub mod GridLines
+pub mod BraidLines
+pub mod ColoursLines
+pub mod TableLines
+pub mod Lists

@@ -1,0 +1,108 @@
+//! Lines of numbers.
+ghost use Rattle.std.specs.Prelude.{◌≡◌, ◌≤◌, ◌++◌, [], ◌∷◌, ℕ, List, nat_lt, IfOk};
+ghost use Rattle.arrayvec.specs.ArrayVec.{array_vec_len};
+ghost use Rattle.std.specs.List.{list_all};
+ghost use Rattle.grid_core.specs.declared.grid.TheConstants.{MAX_SIZE};
+ghost use Rattle.text_items.specs.Reading.{Gives};
+ghost use Rattle.text_items.specs.Numbers.{numbers, numbers_behind, numbers_below};
+ghost use Rattle.text_items.specs.Kept.{low, Tells, KeepsOrFails, CutsOrFails, are_kept_below};
+
+use crate::fault::TextFault;
+use crate::reading::{MAX_NUMBER, word};
+use grid_core::{MAX_SIZE, Rows};
+use text_lines::Line;
+
+/// What is kept of the numbers of a line.
+#[derive(Drop)]
+pub struct Kept {
+    /// The first `MAX_SIZE` of them, each cut down to at most 255.
+    pub first: Rows,
+    /// Whether there are more.
+    pub more: bool,
+    /// Whether one of them has too many digits.
+    pub long: bool,
+}
+
+/// All tokens that are left of a line, as numbers.
+fn numbers(line: &mut Line) -> Result<Kept, TextFault>
+    ensures { KeepsOrFails Tells result (numbers line.old) }
+{
+    let at = line.number();
+    let mut kept = Kept {
+        first: Rows::new(),
+        more: false,
+        long: false,
+    };
+    while let Some(token) = line.next_token() {
+        let Some(value) = text_lines::number(token) else {
+            return Err(TextFault::Malformed { line: at });
+        };
+        keep(&mut kept, value);
+    }
+    Ok(kept)
+}
+
+/// Keeps one number more.
+fn keep(kept: &mut Kept, value: u32)
+    ensures { (values : List ℕ) → Tells kept.old values → Tells kept.new (values ++ value ∷ []) }
+{
+    kept.long = kept.long || value > MAX_NUMBER;
+    if kept.first.is_full() {
+        kept.more = true;
+    } else {
+        kept.first.push(low(value));
+    }
+}
+
+/// The number, or 255 where it is larger.
+fn low(value: u32) -> u8
+    ensures { result ≡ low value }
+{
+    if value < 255 { value as u8 } else { 255 }
+}
+
+/// A word and at most `MAX_SIZE` numbers, each cut down to at most 255.
+#[tactic(auto, unfolding(crate::specs::Numbers::numbers_behind))]
+pub fn numbers_behind(expected: &[u8], line: &mut Line) -> Result<Rows, TextFault>
+    ensures { CutsOrFails result (numbers_behind expected.now line.old) }
+{
+    word(line, expected)?;
+    let at = line.number();
+    let kept = numbers(line)?;
+    if kept.more || kept.long {
+        return Err(TextFault::Limit { line: at });
+    }
+    Ok(kept.first)
+}
+
+/// So many numbers below the order, which is at most 255.
+#[tactic(auto, unfolding(crate::specs::Numbers::numbers_below))]
+pub fn numbers_below(width: u8, order: u8, line: &mut Line) -> Result<Rows, TextFault>
+    requires { width ≤ MAX_SIZE }
+    ensures numbers { Gives (λ r. r.items) result (numbers_below width order line.old) }
+    ensures len { IfOk result (λ r. array_vec_len r ≡ width) }
+{
+    let at = line.number();
+    let kept = numbers(line)?;
+    if kept.long {
+        return Err(TextFault::Limit { line: at });
+    }
+    if !are_below(&kept, width, order) {
+        return Err(TextFault::Malformed { line: at });
+    }
+    Ok(kept.first)
+}
+
+/// Whether so many numbers were kept, all of them below the order.
+fn are_below(kept: &Kept, width: u8, order: u8) -> bool
+    ensures { result ≡ are_kept_below kept.now width order }
+{
+    !kept.more && kept.first.len() == width as usize && all_below(kept.first.as_slice(), order)
+}
+
+/// Whether each number is below the order.
+pub(crate) fn all_below(numbers: &[u8], order: u8) -> bool
+    ensures { result ≡ list_all (λ v. nat_lt v order) numbers.now }
+{
+    numbers.iter().all(|number| *number < order)
+}
