@@ -1,6 +1,6 @@
 //! Command lines that are taken, and such that are not.
-use super::words_of;
-use crate::words::{Asked, Job, WordsFault, read_words};
+use crate::words_of;
+use knot_jobs::{Asked, Job, WordsFault, read_words};
 use std::test::Fail;
 
 fn asked(job: Job, workers: u32, budget: u32, spare: u8, seed: u64) -> Result<Asked, WordsFault> {
@@ -42,6 +42,8 @@ fn a_table_of_command_lines(rt: HostRuntime) -> Result<(), Fail> {
         ("knot linking", asked(Job::Linking, 1, 20_000, 1, 1)),
         ("knot braidcheck", asked(Job::Braidcheck, 1, 20_000, 1, 1)),
         ("knot weights", asked(Job::Weights, 1, 20_000, 1, 1)),
+        ("knot grid", asked(Job::Grid, 1, 20_000, 1, 1)),
+        ("knot numbers", asked(Job::Numbers, 1, 20_000, 1, 1)),
         ("knot simplify", asked(Job::Simplify, 1, 20_000, 1, 1)),
         ("knot simplify --budget 2", asked(Job::Simplify, 1, 2, 1, 1)),
         ("knot simplified", Err(WordsFault::Usage)),

@@ -1,7 +1,8 @@
 //! Steps between two braids, ruled on.
-use super::calls::{Row, compare};
+use super::compare;
 use decision_core::Status;
 use std::test::Fail;
+use trial_calls::Row;
 
 /// The figure eight knot, step by step to its mirror image.
 const MIRRORED: &[u8] =

@@ -1,22 +1,35 @@
-//! Whole calls over sources and sinks in memory, and command lines that are taken or not.
-mod calls;
-mod decisions;
-mod hostile;
-mod links;
-mod many;
-mod simplified;
-mod steps;
-mod weights;
-mod words;
+//! Whole calls over sources and sinks in memory: what the tests of the jobs are run with, and the tests of calls, words and bad inputs.
+#![tactic(auto)]
 
-use crate::call::run_alone;
+#[cfg(test)]
+mod tests;
+
 use decision_core::Status;
+use knot_jobs::run_alone;
 use knot_ports::{MemSink, MemSource};
+use memory_core::OutOfMemory;
 use std::alloc::{AllocError, Global};
-use std::test::Fail;
+
+/// A call, and what is expected of it: a command line, an input, the status and the written text.
+pub type Row = (&'static str, &'static [u8], Status, &'static [u8]);
+
+/// Which calls of a source and a sink fail, and how many bytes the sink has room for.
+#[derive(Clone, Copy)]
+pub struct Outside<'a> {
+    pub reading: &'a [u64],
+    pub writing: &'a [u64],
+    pub room: usize,
+}
+
+/// Nothing fails, and there is room for all.
+pub const CALM: Outside = Outside {
+    reading: &[],
+    writing: &[],
+    room: 1000,
+};
 
 /// The words of a line, parted by spaces.
-fn words_of(alloc: Global, line: &str) -> Result<Vec<String>, AllocError> {
+pub fn words_of(alloc: Global, line: &str) -> Result<Vec<String>, AllocError> {
     let mut all = Vec::new(alloc);
     for word in line.split(' ') {
         all.push(String::from_str(alloc, word)?)?;
@@ -24,21 +37,13 @@ fn words_of(alloc: Global, line: &str) -> Result<Vec<String>, AllocError> {
     Ok(all)
 }
 
-/// Which calls of a source and a sink fail, and how many bytes the sink has room for.
-#[derive(Clone, Copy)]
-struct Outside<'a> {
-    reading: &'a [u64],
-    writing: &'a [u64],
-    room: usize,
-}
-
 /// The status and the written bytes of a call that reads in pieces of 4 bytes and writes in pieces of 3.
-fn run_line(
+pub fn run_line(
     alloc: Global,
     line: &str,
     input: &[u8],
     outside: &Outside,
-) -> Result<(Status, Vec<u8>), Fail> {
+) -> Result<(Status, Vec<u8>), OutOfMemory> {
     let words = words_of(alloc, line)?;
     let reading = Vec::from_slice(alloc, outside.reading)?;
     let writing = Vec::from_slice(alloc, outside.writing)?;

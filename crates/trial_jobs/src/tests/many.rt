@@ -1,8 +1,7 @@
 //! Calls of `decide` with more workers than one, and calls alone that are asked for more.
 use super::decisions::TREFOILS;
-use super::words_of;
-use crate::call::{run, run_alone};
 use decision_core::Status;
+use knot_jobs::{run, run_alone};
 use knot_ports::{MemSink, MemSource};
 use search_book::{End, Event};
 use search_pool::{Finding, Gate};
@@ -12,6 +11,7 @@ use std::sync::atomic::{AtomicU64, Ordering};
 use std::test::Fail;
 use std::thread;
 use std::thread::Threads;
+use trial_calls::words_of;
 
 /// How many turns the first pass waits at most.
 const TURNS: u64 = 1_000_000_000;

@@ -1,36 +1,17 @@
 //! Whole calls: worked examples, faults at each call of the source and the sink, and inputs of the greatest length.
-use super::{Outside, run_line, words_of};
-use crate::call::run_alone;
+use super::compare;
+use crate::{CALM, Outside, Row, run_line, words_of};
 use decision_core::Status;
 use grid_core::MAX_SIZE;
+use knot_jobs::run_alone;
 use knot_ports::{QuietSink, QuietSource};
 use quandle_core::MAX_ORDER;
 use std::alloc::{AllocError, Global};
-use std::process::Abort;
 use std::test::Fail;
 use text_lines::push_number;
 
-/// A call, and what is expected of it: a command line, an input, the status and the written text.
-pub(super) type Row = (&'static str, &'static [u8], Status, &'static [u8]);
-
-/// Nothing fails, and there is room for all.
-pub(super) const CALM: Outside = Outside {
-    reading: &[],
-    writing: &[],
-    room: 1000,
-};
-
 /// The unknot, and the unknot with its rows shifted.
 const SHIFTED: &[u8] = b"x 0 1\no 1 0\nx 1 0\no 0 1\nequal 1\nshift rows 1\n";
-
-/// Whether a call has what is expected of it.
-pub(super) fn compare(rt: &impl Abort, alloc: Global, row: &Row) -> Result<(), Fail> {
-    let (line, input, status, text) = *row;
-    let (ended, written) = run_line(alloc, line, input, &CALM)?;
-    assert_eq!(rt; ended, status, "{line}");
-    assert_eq!(rt; written.as_slice(), text, "{line}");
-    Ok(())
-}
 
 /// One row more than the largest size has is over a limit.
 #[test]

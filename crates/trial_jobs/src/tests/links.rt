@@ -1,7 +1,8 @@
 //! Braid words of diagrams, and two diagrams compared by their linking numbers.
-use super::calls::{Row, compare};
+use super::compare;
 use decision_core::Status;
 use std::test::Fail;
+use trial_calls::Row;
 
 /// The word of each diagram, and the fixed points of its action in lexicographic order, which is not that of the colourings.
 #[test]

@@ -1,9 +1,9 @@
 //! Two diagrams compared by the weights of their colourings.
-use super::calls::{CALM, Row, compare};
-use super::run_line;
+use super::compare;
 use decision_core::Status;
 use std::alloc::Global;
 use std::test::Fail;
+use trial_calls::{CALM, Row, run_line};
 
 /// Diagrams of as many colourings whose weights differ, and such whose weights are alike; a table that fails the law of cocycles.
 #[test]

@@ -1,7 +1,6 @@
 //! Decisions: worked verdicts, the searches that are kept, and certificates that `check` accepts behind their problems.
-use super::{Outside, run_line, words_of};
-use crate::call::run;
 use decision_core::Status;
+use knot_jobs::run;
 use knot_ports::{MemSink, MemSource, QuietSink, QuietSource};
 use search_book::End;
 use search_pool::{Finding, OpenGate};
@@ -9,6 +8,7 @@ use std::alloc::Global;
 use std::sync::Wait;
 use std::test::Fail;
 use std::thread::Threads;
+use trial_calls::{Outside, run_line, words_of};
 
 /// The right trefoil and its reverse, and the left trefoil and the right one.
 const REVERSED: &[u8] = b"x 4 3 2 1 0\no 2 1 0 4 3\nx 4 3 2 1 0\no 1 0 4 3 2\n";

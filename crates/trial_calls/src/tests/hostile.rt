@@ -1,9 +1,9 @@
 //! Hostile use: certificates cut and altered at each byte, a read or a write that fails at each place, and both sides of each
 //! limit.
-use super::calls::{CALM, Row, compare};
-use super::{Outside, run_line, words_of};
-use crate::call::run;
+use super::compare;
+use crate::{CALM, Outside, Row, run_line, words_of};
 use decision_core::Status;
+use knot_jobs::run;
 use knot_ports::{QuietSink, QuietSource};
 use search_pool::OpenGate;
 use std::alloc::{AllocError, Global};

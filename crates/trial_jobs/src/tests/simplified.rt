@@ -1,8 +1,8 @@
 //! Diagrams that are simplified.
-use super::calls::{Row, compare};
-use super::{Outside, run_line};
+use super::compare;
 use decision_core::Status;
 use std::test::Fail;
+use trial_calls::{Outside, Row, run_line};
 
 #[test]
 fn diagrams_are_simplified(rt: HostRuntime) -> Result<(), Fail> {
