@@ -1,10 +1,10 @@
 //! What a side knows of where its excursions may start.
 
-use crate::draws::below;
 use crate::table::{Side, Table};
 use memory_core::OutOfMemory;
 use rand_pcg::Pcg32;
 use std::alloc::Global;
+use torus_grids::below;
 
 /// One excursion of so many starts anywhere among the least forms, the others where the last one ended.
 const FRESH: u32 = 24;

@@ -4,7 +4,6 @@
 //! least number of steps at which one has. So the answer is that of the fewest steps whatever the threads' order.
 
 use crate::finding::Bounds;
-use crate::form::Form;
 use crate::seeker::Seeker;
 use crate::watch::Watch;
 use grid_core::Grid;
@@ -12,6 +11,7 @@ use memory_core::OutOfMemory;
 use std::alloc::Global;
 use std::thread;
 use std::thread::Threads;
+use torus_grids::Form;
 
 /// A round has at least so many steps.
 const SHORT_ROUND: u64 = 2048;

@@ -7,7 +7,6 @@ ghost use Rattle.grid_canon.specs.Translation.{translate, translates};
 
 use crate::crew::{Crew, Found};
 use crate::shifts::shifts_to;
-use crate::shortening::shortened;
 use crate::spelling::spelled;
 use crate::watch::{Unwatched, Watch};
 use grid_canon::push_shifts;
@@ -16,6 +15,7 @@ use grid_moves::{Move, apply_all};
 use memory_core::OutOfMemory;
 use std::alloc::Global;
 use std::thread::Threads;
+use torus_grids::shortened;
 
 /// What bounds a search, and the seed of its random words. Where several workers search, the bounds are those of each.
 #[derive(Clone, Copy, Debug, PartialEq, Eq)]

@@ -2,15 +2,14 @@
 
 use crate::camp::Camp;
 use crate::excursion::{Excursion, LONG, Stepped};
-use crate::form::Form;
 use crate::path::{Meeting, path_through};
 use crate::table::{Side, Table};
-use crate::torus::Torus;
 use crate::watch::Progress;
 use grid_core::MAX_SIZE;
 use memory_core::OutOfMemory;
 use rand_pcg::Pcg32;
 use std::alloc::Global;
+use torus_grids::{Form, Torus};
 
 /// The steps of an excursion at most: the least size falls at each counting anew.
 const MOST_STEPS: u32 = LONG * MAX_SIZE as u32;
@@ -21,9 +20,15 @@ const STREAM: u64 = 54;
 /// The state of both walks.
 #[derive(Drop)]
 pub(crate) struct Walks {
-    table: Table,
+    common: Common,
     first: Camp,
     second: Camp,
+}
+
+/// What both walks share.
+#[derive(Drop)]
+struct Common {
+    table: Table,
     /// The diagrams above the least size since the last form of the table.
     trail: Vec<Torus>,
     generator: Pcg32,
@@ -41,21 +46,24 @@ impl Walks {
         let mut table = Table::new(alloc);
         let first = camp_at(alloc, &mut table, Side::First, first)?;
         let second = camp_at(alloc, &mut table, Side::Second, second)?;
-        Ok(Walks {
+        let common = Common {
             table,
-            first,
-            second,
             trail: Vec::new(alloc),
             generator: Pcg32::new(seed, STREAM),
             made: 0,
+        };
+        Ok(Walks {
+            common,
+            first,
+            second,
         })
     }
 
     /// How far they are.
     pub(crate) fn progress(&self) -> Progress {
         Progress {
-            steps: self.made,
-            forms: self.table.len(),
+            steps: self.common.made,
+            forms: self.common.table.len(),
             first_size: self.first.low,
             second_size: self.second.low,
         }
@@ -63,12 +71,16 @@ impl Walks {
 
     /// The forms from the first diagram's to the second's, each a move away from the one before, through where the walks meet.
     pub(crate) fn path(&self, alloc: Global, meeting: Meeting) -> Result<Vec<Form>, OutOfMemory> {
-        path_through(alloc, &self.table, meeting)
+        path_through(alloc, &self.common.table, meeting)
     }
 
     /// Whether the room might not do for one more excursion of each side.
     pub(crate) fn is_full(&self, room: usize) -> bool {
-        self.table.len().saturating_add(2 * MOST_STEPS as usize) > room
+        self.common
+            .table
+            .len()
+            .saturating_add(2 * MOST_STEPS as usize)
+            > room
     }
 
     /// Both walks at the forms of their diagrams again; the generator goes on.
@@ -78,26 +90,18 @@ impl Walks {
         first: Form,
         second: Form,
     ) -> Result<(), OutOfMemory> {
-        self.table.clear();
-        self.first = camp_at(alloc, &mut self.table, Side::First, first)?;
-        self.second = camp_at(alloc, &mut self.table, Side::Second, second)?;
+        self.common.table.clear();
+        self.first = camp_at(alloc, &mut self.common.table, Side::First, first)?;
+        self.second = camp_at(alloc, &mut self.common.table, Side::Second, second)?;
         Ok(())
     }
 
     /// An excursion of each side.
     pub(crate) fn both_sides(&mut self) -> Result<Option<Meeting>, OutOfMemory> {
-        let Walks {
-            table,
-            first,
-            second,
-            trail,
-            generator,
-            made,
-        } = self;
-        if let Some(meeting) = explore(table, first, trail, generator, made)? {
+        if let Some(meeting) = self.common.explore(&mut self.first)? {
             return Ok(Some(meeting));
         }
-        explore(table, second, trail, generator, made)
+        self.common.explore(&mut self.second)
     }
 }
 
@@ -107,86 +111,80 @@ fn camp_at(alloc: Global, table: &mut Table, side: Side, form: Form) -> Result<C
     Camp::new(alloc, side, root, form.size())
 }
 
-/// An excursion of a side.
-fn explore(
-    table: &mut Table,
-    camp: &mut Camp,
-    trail: &mut Vec<Torus>,
-    generator: &mut Pcg32,
-    made: &mut u64,
-) -> Result<Option<Meeting>, OutOfMemory> {
-    *made = made.saturating_add(1);
-    trail.clear();
-    let start = camp.start(table, generator);
-    let Some((form, _)) = table.get(start) else {
-        return Ok(None);
-    };
-    let mut trip = Excursion::new(form.torus(), start, generator);
-    for _step in 0..MOST_STEPS {
-        if trip.is_over() {
-            break;
-        }
-        match trip.step(generator) {
-            Stepped::Moved => {
-                *made = made.saturating_add(1);
-                if let Some(meeting) = arrive(table, camp, trail, &mut trip)? {
-                    return Ok(Some(meeting));
-                }
+impl Common {
+    /// An excursion from a side's camp.
+    fn explore(&mut self, camp: &mut Camp) -> Result<Option<Meeting>, OutOfMemory> {
+        self.made = self.made.saturating_add(1);
+        self.trail.clear();
+        let start = camp.start(&self.table, &mut self.generator);
+        let Some((form, _)) = self.table.get(start) else {
+            return Ok(None);
+        };
+        let mut trip = Excursion::new(form.torus(), start, &mut self.generator);
+        for _step in 0..MOST_STEPS {
+            if trip.is_over() {
+                break;
             }
-            Stepped::Nowhere => {}
-            Stepped::End => break,
+            match trip.step(&mut self.generator) {
+                Stepped::Moved => {
+                    self.made = self.made.saturating_add(1);
+                    if let Some(meeting) = self.arrive(camp, &mut trip)? {
+                        return Ok(Some(meeting));
+                    }
+                }
+                Stepped::Nowhere => {}
+                Stepped::End => break,
+            }
         }
+        camp.last = trip.here;
+        Ok(None)
     }
-    camp.last = trip.here;
-    Ok(None)
-}
 
-/// Takes note of where an excursion has come: above the least size by its trail, else by the table. Answers where the sides meet.
-fn arrive(
-    table: &mut Table,
-    camp: &mut Camp,
-    trail: &mut Vec<Torus>,
-    trip: &mut Excursion,
-) -> Result<Option<Meeting>, OutOfMemory> {
-    let size = trip.torus.size();
-    if size > camp.low {
-        trail.push(trip.torus)?;
-        return Ok(None);
-    }
-    trip.touch_down(size < camp.low);
-    if size < camp.low {
-        camp.lower(size);
-    }
-    let form = Form::of(&trip.torus);
-    let met = match table.find(&form) {
-        Some((number, side)) if side == camp.side => {
-            trip.here = number;
-            None
+    /// Takes note of where an excursion has come: above the least size by its trail, else by the table. Answers where the sides meet.
+    fn arrive(
+        &mut self,
+        camp: &mut Camp,
+        trip: &mut Excursion,
+    ) -> Result<Option<Meeting>, OutOfMemory> {
+        let size = trip.torus.size();
+        if size > camp.low {
+            self.trail.push(trip.torus)?;
+            return Ok(None);
         }
-        _ => settle(table, camp, trail.as_slice(), form, trip)?,
-    };
-    trail.clear();
-    Ok(met)
-}
+        trip.touch_down(size < camp.low);
+        if size < camp.low {
+            camp.lower(size);
+        }
+        let form = Form::of(&trip.torus);
+        let met = match self.table.find(&form) {
+            Some((number, side)) if side == camp.side => {
+                trip.here = number;
+                None
+            }
+            _ => self.settle(camp, form, trip)?,
+        };
+        self.trail.clear();
+        Ok(met)
+    }
 
-/// Keeps the forms of a trail and the one behind it, up to where the sides meet.
-fn settle(
-    table: &mut Table,
-    camp: &mut Camp,
-    trail: &[Torus],
-    last: Form,
-    trip: &mut Excursion,
-) -> Result<Option<Meeting>, OutOfMemory> {
-    for torus in trail {
-        if let Some(meeting) = go_to(table, camp, Form::of(torus), trip)? {
-            return Ok(Some(meeting));
+    /// Keeps the forms of the trail and the one behind it, up to where the sides meet.
+    fn settle(
+        &mut self,
+        camp: &mut Camp,
+        last: Form,
+        trip: &mut Excursion,
+    ) -> Result<Option<Meeting>, OutOfMemory> {
+        for torus in &self.trail {
+            if let Some(meeting) = go_to(&mut self.table, camp, Form::of(torus), trip)? {
+                return Ok(Some(meeting));
+            }
         }
+        let met = go_to(&mut self.table, camp, last, trip)?;
+        if met.is_none() {
+            camp.land(trip.here)?;
+        }
+        Ok(met)
     }
-    let met = go_to(table, camp, last, trip)?;
-    if met.is_none() {
-        camp.land(trip.here)?;
-    }
-    Ok(met)
 }
 
 /// Goes on to a form, which is kept where it is new, or answers that it is one of the other side.

@@ -2,7 +2,7 @@
 use Rattle.std.specs.Prelude.{◌≡◌, ◌<◌, ◌⊎◌, ℕ, List, Option, None, length, Ok, Err}
 use Rattle.std.specs.Io.KnownBytes.{Keeps, Appends}
 use Rattle.knot_ports.specs.Sink.{AppendsFront}
-use Rattle.knot_text.specs.declared.fault.TextFault.TheVariants as bad
+use Rattle.text_items.specs.declared.fault.TextFault.TheVariants as bad
 use Rattle.knot_text.specs.Shapes.{problem_of}
 use Rattle.decision_core.specs.declared.status.Status.{Status}
 use Rattle.decision_core.specs.declared.status.Status.TheVariants as status

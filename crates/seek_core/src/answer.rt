@@ -9,11 +9,12 @@ use crate::bounds::Bounds;
 use crate::finding::{Search, find};
 use decision_core::laws::a_verdict_that_holds_is_a_decision;
 use grid_core::Items;
-use knot_text::{TextFault, print_verdict, read_problem};
+use knot_text::{print_verdict, read_problem};
 use meeting_walks::Watch;
 use memory_core::OutOfMemory;
 use std::alloc::Global;
 use std::thread::Threads;
+use text_items::TextFault;
 use verdict_core::{Listed, ProblemText};
 
 /// What was tried of two diagrams without finding a verdict on them.

@@ -1,14 +1,10 @@
 //! What bounds a search.
 
-/// What bounds the search for moves, and the seed of its random words: the same problem with the same bounds has the same answer.
+/// What bounds the search for moves, and how many seek. No clause says that the same bounds have the same answer.
 #[derive(Clone, Copy, Debug, PartialEq, Eq)]
 pub struct Bounds {
-    /// The seed.
-    pub seed: u64,
-    /// How many steps the walks make before they stop, which one excursion of each side may pass.
-    pub steps: u64,
-    /// How many forms the table of a worker's walks holds at most.
-    pub room: usize,
+    /// The seed of the first worker, and what bounds the walks of each.
+    pub walks: meeting_walks::Bounds,
     /// How many workers seek, each in a thread and with a seed of its own; 0 counts as 1. The one with the fewest steps is heard.
     pub workers: u32,
 }

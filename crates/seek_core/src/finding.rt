@@ -86,12 +86,8 @@ fn equal<R: Threads + Sync, W: Watch>(
 ) -> Result<Option<Verdict>, OutOfMemory>
     ensures { IfOk result (λ o. IfSome o (λ v. IsEqualBy first.now second.now v)) }
 {
-    let of_each = meeting_walks::Bounds {
-        seed: bounds.seed,
-        steps: bounds.steps,
-        room: bounds.room,
-    };
-    match find_joining_by(rt, alloc, first, second, of_each, bounds.workers, watch)? {
+    let Bounds { walks, workers } = bounds;
+    match find_joining_by(rt, alloc, first, second, walks, workers, watch)? {
         Some(moves) => {
             let list = tidy(alloc, first, moves.as_slice())?;
             Ok(Some(Verdict::Equal(Items::from_vec(list))))

@@ -15,17 +15,21 @@ use std::thread::Threads;
 use verdict_core::{QuandleName, Verdict};
 
 const BOUNDS: Bounds = Bounds {
-    seed: 1,
-    steps: 200_000,
-    room: 40_000,
+    walks: meeting_walks::Bounds {
+        seed: 1,
+        steps: 200_000,
+        room: 40_000,
+    },
     workers: 1,
 };
 
 /// No moves are sought.
 const STILL: Bounds = Bounds {
-    seed: 1,
-    steps: 0,
-    room: 40_000,
+    walks: meeting_walks::Bounds {
+        seed: 1,
+        steps: 0,
+        room: 40_000,
+    },
     workers: 1,
 };
 

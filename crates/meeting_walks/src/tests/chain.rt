@@ -1,22 +1,20 @@
 //! The paths that the walks find, and the shorter ones: chains of forms, each a move away from the one before.
 
-use crate::form::Form;
 use crate::seeker::Seeker;
-use crate::shortening::shortened;
 use crate::tests::{BOUNDS, BRAID, FIGURE_EIGHT, grid_of};
-use crate::torus::Torus;
 use grid_core::Grid;
 use std::alloc::Global;
 use std::process::Abort;
 use std::test::Fail;
+use torus_grids::{Form, Torus, shortened};
 
 /// Whether an exchange or a destabilisation leads from a form to another.
 fn leads_to(near: Form, far: Form) -> bool {
     let torus = near.torus();
-    let steps = torus.steps();
-    for number in 0..steps.count() {
+    let moves = torus.moves();
+    for number in 0..moves.count() {
         let mut next = torus;
-        next.make(steps.at(number));
+        next.make(moves.at(number));
         if Form::of(&next) == far {
             return true;
         }

@@ -1,6 +1,6 @@
 //! The marks of all columns of a diagram, or of all its rows, and what is asked of neighbours among them: of sixteen at once.
 ghost use Rattle.std.specs.Prelude.{◌<◌};
-ghost use Rattle.meeting_walks.specs.declared.lines.TheConstants.{PLACES};
+ghost use Rattle.torus_grids.specs.declared.lines.TheConstants.{PLACES};
 
 use grid_canon::BASE;
 use grid_core::Kind;
@@ -40,18 +40,18 @@ impl Marks {
     }
 
     /// The marks where one more line across is put in at a place.
-    pub(crate) fn lifted(self, place: u8) -> Marks {
+    pub(crate) fn with_line(self, place: u8) -> Marks {
         Marks {
-            cross: lifted(self.cross, place),
-            ring: lifted(self.ring, place),
+            cross: with_line(self.cross, place),
+            ring: with_line(self.ring, place),
         }
     }
 
     /// The marks where the line across at a place, which has none of them, is taken out.
-    pub(crate) fn lowered(self, place: u8) -> Marks {
+    pub(crate) fn without_line(self, place: u8) -> Marks {
         Marks {
-            cross: lowered(self.cross, place),
-            ring: lowered(self.ring, place),
+            cross: without_line(self.cross, place),
+            ring: without_line(self.ring, place),
         }
     }
 }
@@ -162,7 +162,7 @@ fn first_bits(count: u8) -> u64 {
 }
 
 /// The number of a line where one more line is put in at a place.
-fn lifted(number: u8, place: u8) -> u8 {
+fn with_line(number: u8, place: u8) -> u8 {
     if number < place {
         number
     } else {
@@ -171,7 +171,7 @@ fn lifted(number: u8, place: u8) -> u8 {
 }
 
 /// The number of a line where the one at a place is taken out.
-fn lowered(number: u8, place: u8) -> u8 {
+fn without_line(number: u8, place: u8) -> u8 {
     if number > place { number - 1 } else { number }
 }
 

@@ -123,10 +123,10 @@ impl Graph {
             return Ok(());
         };
         let torus = form.torus();
-        let steps = torus.steps();
-        for place in 0..steps.count() {
+        let moves = torus.moves();
+        for place in 0..moves.count() {
             let mut next = torus;
-            next.make(steps.at(place));
+            next.make(moves.at(place));
             self.meet(number, Form::of(&next), next.size() < torus.size())?;
         }
         Ok(())

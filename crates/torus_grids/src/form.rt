@@ -13,14 +13,14 @@ const WORDS: usize = (MAX_SIZE + COLUMNS - 1) / COLUMNS;
 /// A diagram on the torus from one of its columns on, with the X of this column in the lowest row: the column is chosen so that all
 /// translates have one form. It is a name for the walks alone, and costs less than the canonical form, which grids are named by.
 #[derive(Clone, Copy, PartialEq, Eq, Hash)]
-pub(crate) struct Form {
+pub struct Form {
     /// The columns' marks, four columns in a word. The size stands in the place of the first X, which is in row 0.
     words: [u64; WORDS],
 }
 
 impl Form {
-    /// The form of a diagram.
-    pub(crate) fn of(torus: &Torus) -> Form {
+    /// The form of a diagram: equal for two diagrams exactly where one is a translate of the other.
+    pub fn of(torus: &Torus) -> Form {
         let size = torus.size();
         let mut column = least_column(torus);
         let low = torus.marks(column).cross;
@@ -35,12 +35,12 @@ impl Form {
     }
 
     /// How many columns the diagram has.
-    pub(crate) fn size(self) -> u8 {
+    pub fn size(self) -> u8 {
         (self.words[0] % 256) as u8
     }
 
-    /// The diagram.
-    pub(crate) fn torus(self) -> Torus {
+    /// The diagram of the form, one of the translates that it names.
+    pub fn torus(self) -> Torus {
         let size = self.size();
         let mut columns = Lines::none();
         for column in 0..size {
@@ -65,21 +65,21 @@ impl Form {
 fn least_column(torus: &Torus) -> u8 {
     let size = torus.size();
     let mut best = 0;
-    let mut best_step = step(torus, 0);
+    let mut best_rise = rise(torus, 0);
     for column in 1..size {
-        let next = step(torus, column);
-        if next < best_step || next == best_step && comes_before(torus, column, best) {
+        let next = rise(torus, column);
+        if next < best_rise || next == best_rise && comes_before(torus, column, best) {
             best = column;
-            best_step = next;
+            best_rise = next;
         }
     }
     best
 }
 
 /// How far above the X of a column that of the next one is, round the circle.
-fn step(torus: &Torus, column: u8) -> u8 {
+fn rise(torus: &Torus, column: u8) -> u8 {
     let size = torus.size();
-    lowered(
+    lowered_round(
         torus.marks(after(column, size)).cross,
         torus.marks(column).cross,
         size,
@@ -110,14 +110,14 @@ fn comes_before(torus: &Torus, near: u8, far: u8) -> bool {
 /// The marks of a column with each row lower by a number, round the circle of `size`.
 fn shifted(marks: Marks, by: u8, size: u8) -> Marks {
     Marks {
-        cross: lowered(marks.cross, by, size),
-        ring: lowered(marks.ring, by, size),
+        cross: lowered_round(marks.cross, by, size),
+        ring: lowered_round(marks.ring, by, size),
     }
 }
 
 /// A row lower by a number, round the circle of `size`: below 0 a number goes round to the greatest ones, so of the difference and the
 /// difference one size higher the right one is the less.
-fn lowered(row: u8, by: u8, size: u8) -> u8 {
+fn lowered_round(row: u8, by: u8, size: u8) -> u8 {
     let down = row.wrapping_sub(by);
     down.min(down.wrapping_add(size))
 }

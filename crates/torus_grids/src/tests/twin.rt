@@ -5,7 +5,7 @@ ghost use Rattle.grid_core.specs.Diagram.{size};
 use crate::draws::{below, mark_and_corner};
 use crate::form::Form;
 use crate::tests::plain::{columns_exchanged, destabilised, rows_exchanged, stabilised};
-use crate::torus::{Step, Steps, Torus};
+use crate::torus::{Torus, TorusMove, TorusMoves};
 use grid_canon::{canonical_key, translate};
 use grid_core::Grid;
 use rand_pcg::Pcg32;
@@ -47,9 +47,9 @@ fn is_translate(torus: &Torus, grid: &Grid) -> bool {
 }
 
 /// Whether a move is one of some.
-fn is_among(steps: &Steps, step: Step) -> bool {
-    for number in 0..steps.count() {
-        if steps.at(number) == step {
+fn is_among(moves: &TorusMoves, torus_move: TorusMove) -> bool {
+    for number in 0..moves.count() {
+        if moves.at(number) == torus_move {
             return true;
         }
     }
@@ -57,12 +57,12 @@ fn is_among(steps: &Steps, step: Step) -> bool {
 }
 
 /// Whether a move in place is legal where it is for grids, and leads to a translate.
-fn agrees(grid: &Grid, step: Step, next: &Option<Grid>) -> bool {
+fn agrees(grid: &Grid, torus_move: TorusMove, next: &Option<Grid>) -> bool {
     let mut torus = Torus::of(grid);
-    let is_legal = is_among(&torus.steps(), step);
+    let is_legal = is_among(&torus.moves(), torus_move);
     match next {
         Some(next) => {
-            torus.make(step);
+            torus.make(torus_move);
             is_legal && is_translate(&torus, next)
         }
         None => !is_legal,
@@ -73,9 +73,9 @@ fn agrees(grid: &Grid, step: Step, next: &Option<Grid>) -> bool {
 fn compare_exchanges(rt: &impl Abort, grid: &Grid) {
     for line in 0..grid.size() {
         let columns = columns_exchanged(grid, line);
-        assert!(rt; agrees(grid, Step::ExchangeColumns(line), &columns));
+        assert!(rt; agrees(grid, TorusMove::ExchangeColumns(line), &columns));
         let rows = rows_exchanged(grid, line);
-        assert!(rt; agrees(grid, Step::ExchangeRows(line), &rows));
+        assert!(rt; agrees(grid, TorusMove::ExchangeRows(line), &rows));
     }
 }
 
@@ -83,9 +83,9 @@ fn compare_exchanges(rt: &impl Abort, grid: &Grid) {
 fn compare_destabilisations(rt: &impl Abort, grid: &Grid) {
     for column in 0..grid.size() {
         let torus = Torus::of(grid);
-        let step = Step::Destabilise(column);
+        let torus_move = TorusMove::Destabilise(column);
         let count = count_of_blocks(rt, grid, column);
-        assert!(rt; is_among(&torus.steps(), step) == (count > 0));
+        assert!(rt; is_among(&torus.moves(), torus_move) == (count > 0));
     }
 }
 
@@ -98,7 +98,7 @@ fn count_of_blocks(rt: &impl Abort, grid: &Grid, column: u8) -> u32
         let next = destabilised(grid, column, row);
         if next.is_some() {
             count = count.saturating_add(1);
-            assert!(rt; agrees(grid, Step::Destabilise(column), &next));
+            assert!(rt; agrees(grid, TorusMove::Destabilise(column), &next));
         }
     }
     count

@@ -6,7 +6,7 @@ use grid_core::{Corner, Grid, Kind, MAX_SIZE};
 
 /// A diagram on the torus: the marks of its columns, and again those of its rows.
 #[derive(Clone, Copy, PartialEq, Eq)]
-pub(crate) struct Torus {
+pub struct Torus {
     size: u8,
     columns: Lines,
     rows: Lines,
@@ -14,7 +14,7 @@ pub(crate) struct Torus {
 
 /// A move that makes no diagram larger.
 #[derive(Clone, Copy, Debug, PartialEq, Eq)]
-pub(crate) enum Step {
+pub enum TorusMove {
     /// A column and the next one trade places.
     ExchangeColumns(u8),
     /// A row and the next one trade places.
@@ -23,17 +23,17 @@ pub(crate) enum Step {
     Destabilise(u8),
 }
 
-/// The legal ones of these moves, a bit for each.
+/// Some legal moves of a diagram, a bit for each: all of some kinds.
 #[derive(Clone, Copy, Debug)]
-pub(crate) struct Steps {
+pub struct TorusMoves {
     columns: u64,
     rows: u64,
     destabilisations: u64,
 }
 
-impl Steps {
+impl TorusMoves {
     /// How many there are.
-    pub(crate) fn count(&self) -> u32 {
+    pub fn count(&self) -> u32 {
         let exchanges = self
             .columns
             .count_ones()
@@ -41,18 +41,19 @@ impl Steps {
         exchanges.saturating_add(self.destabilisations.count_ones())
     }
 
-    /// The one of a number, from 0: the exchanges of columns first, then those of rows.
-    pub(crate) fn at(&self, number: u32) -> Step {
+    /// The one of a number below `count`: the exchanges of columns first, then those of rows, then the destabilisations. Another number
+    /// answers a move that need not be legal.
+    pub fn at(&self, number: u32) -> TorusMove {
         let columns = self.columns.count_ones();
         let rows = self.rows.count_ones();
         if number < columns {
-            return Step::ExchangeColumns(bit_at(self.columns, number));
+            return TorusMove::ExchangeColumns(bit_at(self.columns, number));
         }
         let number = number - columns;
         if number < rows {
-            return Step::ExchangeRows(bit_at(self.rows, number));
+            return TorusMove::ExchangeRows(bit_at(self.rows, number));
         }
-        Step::Destabilise(bit_at(self.destabilisations, number - rows))
+        TorusMove::Destabilise(bit_at(self.destabilisations, number - rows))
     }
 }
 
@@ -67,7 +68,7 @@ fn bit_at(bits: u64, number: u32) -> u8 {
 
 impl Torus {
     /// The diagram on the torus of a grid.
-    pub(crate) fn of(grid: &Grid) -> Torus {
+    pub fn of(grid: &Grid) -> Torus {
         let size = grid.size();
         let mut columns = Lines::none();
         for column in 0..size {
@@ -95,8 +96,8 @@ impl Torus {
         torus
     }
 
-    /// The grid with these columns, or None where they are those of none.
-    pub(crate) fn grid(&self) -> Option<Grid> {
+    /// The grid with these columns; or None where they are those of none, as an illegal move may leave them.
+    pub fn grid(&self) -> Option<Grid> {
         let size = self.size as usize;
         if size > MAX_SIZE {
             return None;
@@ -112,7 +113,7 @@ impl Torus {
     }
 
     /// The number of columns, which is that of the rows.
-    pub(crate) fn size(&self) -> u8 {
+    pub fn size(&self) -> u8 {
         self.size
     }
 
@@ -122,8 +123,8 @@ impl Torus {
     }
 
     /// The legal exchanges.
-    pub(crate) fn exchanges(&self) -> Steps {
-        Steps {
+    pub fn exchanges(&self) -> TorusMoves {
+        TorusMoves {
             columns: self.columns.exchanges(self.size),
             rows: self.rows.exchanges(self.size),
             destabilisations: 0,
@@ -131,8 +132,8 @@ impl Torus {
     }
 
     /// The legal destabilisations.
-    pub(crate) fn destabilisations(&self) -> Steps {
-        Steps {
+    pub fn destabilisations(&self) -> TorusMoves {
+        TorusMoves {
             columns: 0,
             rows: 0,
             destabilisations: self.columns.destabilisations(self.size),
@@ -140,25 +141,25 @@ impl Torus {
     }
 
     /// The legal exchanges and destabilisations.
-    pub(crate) fn steps(&self) -> Steps {
-        Steps {
+    pub fn moves(&self) -> TorusMoves {
+        TorusMoves {
             columns: self.columns.exchanges(self.size),
             rows: self.rows.exchanges(self.size),
             destabilisations: self.columns.destabilisations(self.size),
         }
     }
 
-    /// Makes a legal move. One that isn't may leave columns of no diagram.
-    pub(crate) fn make(&mut self, step: Step) {
+    /// Makes a legal move, one of those that `moves` answers. Another one may leave columns of no diagram.
+    pub fn make(&mut self, torus_move: TorusMove) {
         let size = self.size;
-        match step {
-            Step::ExchangeColumns(column) => {
+        match torus_move {
+            TorusMove::ExchangeColumns(column) => {
                 exchange(&mut self.columns, &mut self.rows, column, size);
             }
-            Step::ExchangeRows(row) => {
+            TorusMove::ExchangeRows(row) => {
                 exchange(&mut self.rows, &mut self.columns, row, size);
             }
-            Step::Destabilise(column) => self.destabilise(column),
+            TorusMove::Destabilise(column) => self.destabilise(column),
         }
     }
 
@@ -198,22 +199,22 @@ impl Torus {
                 from.saturating_sub(1)
             };
             if from != next {
-                columns.set(to, marks.lowered(row));
+                columns.set(to, marks.without_line(row));
             }
         }
         *self = Torus::by_columns(size.saturating_sub(1), columns);
     }
 
-    /// Puts a block of three marks, the one of the other kind at a corner, in place of the mark of a kind in a column; or answers false,
-    /// and changes nothing, where there is no room.
-    pub(crate) fn stabilise(&mut self, column: u8, kind: Kind, corner: Corner) -> bool {
+    /// Puts a block of three marks, the one of the other kind at a corner, in place of the mark of a kind in a column, one below `size`.
+    /// Where the diagram has `MAX_SIZE` columns already, it answers false, and changes nothing.
+    pub fn stabilise(&mut self, column: u8, kind: Kind, corner: Corner) -> bool {
         let size = self.size;
         if size as usize >= MAX_SIZE {
             return false;
         }
         let old = self.marks(column);
         let row = old.of(kind).wrapping_add(corner.row());
-        let old = old.lifted(row);
+        let old = old.with_line(row);
         let crossed = Marks {
             cross: old.cross,
             ring: row,
@@ -240,7 +241,7 @@ impl Torus {
         let mut columns = Lines::none();
         for from in 0..self.size {
             let to = if from <= column { from } else { from + 1 };
-            columns.set(to, self.marks(from).lifted(row));
+            columns.set(to, self.marks(from).with_line(row));
         }
         columns
     }
