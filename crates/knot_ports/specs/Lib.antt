@@ -2,3 +2,4 @@ pub mod Faults
 pub mod Source
 pub mod Sink
 pub mod Memory
+pub mod Standard

@@ -1,7 +1,8 @@
-//! The edge: std's readers and writers, of which no content is told. What they keep for messages no clause speaks of.
-ghost use Rattle.std.specs.Prelude.{◌≡◌, ◌<◌, ◌≤◌, None, length, take, IfOk, OnOk, OnErr};
+//! The edge: std's readers and writers, which tell what std tells of them. What they keep for messages no clause speaks of.
+ghost use Rattle.std.specs.Prelude.{◌≡◌, ◌<◌, ◌≤◌, length, take, IfOk, OnOk, OnErr};
 ghost use Rattle.std.specs.Io.KnownBytes.{Keeps, Appends, Consumes, IsAtEnd};
 ghost use Rattle.knot_ports.specs.Faults.{Rose, one_more};
+ghost use Rattle.knot_ports.specs.Standard.{uncounted};
 
 use crate::failure::Failed;
 use crate::sink::Sink;
@@ -15,8 +16,8 @@ use std::marker::Model;
 /// How many bytes of what is written a sink keeps: the line that names a bad line is no longer.
 const SHORT: usize = 40;
 
-/// A source over a reader. It counts the reader's errors, keeps the last one and a front of the bytes, so that they can be told of, and
-/// tells a contract nothing of its bytes: a contract sees it as its count.
+/// A source over a reader, whose bytes are those that remain in the reader, where std tells them. It counts the reader's errors, and keeps
+/// the last one and a front of the bytes, so that they can be told of. A contract sees it as the reader and the count.
 #[derive(Drop)]
 pub struct StdSource<R> {
     reader: R,
@@ -28,17 +29,17 @@ pub struct StdSource<R> {
 }
 
 impl<R> Model for StdSource<R> {
-    ghost use Rattle.std.specs.Prelude.{ℕ};
+    ghost use Rattle.knot_ports.specs.Standard.{Counted};
 
-    ghost Value = { ℕ };
+    ghost Value = { Counted R };
 
-    ghost view = { λ s. s.errors };
+    ghost view = { λ s. record { port = s.reader; errors = s.errors } };
 }
 
 impl<R: Read + Drop> StdSource<R> {
     /// A source over this reader, with no error counted, that keeps the first `most` bytes.
     pub fn new(alloc: Global, reader: R, most: usize) -> StdSource<R>
-        ensures { result ≡ 0 }
+        ensures { result ≡ uncounted reader }
     {
         StdSource {
             reader,
@@ -82,22 +83,22 @@ impl<R: Read + Drop> StdSource<R> {
 }
 
 impl<R: Read + Drop> Source for StdSource<R> {
-    ghost left = { λ s. None };
+    ghost left = { λ s. R.remaining s.port };
 
-    ghost faults = { λ s. s };
+    ghost faults = { λ s. s.errors };
 
     /// Reads once. An error is counted.
     fn take(&mut self, room: &mut [u8]) -> Result<usize, Failed>
         ensures within { IfOk result (λ n. n ≤ length room.old) }
-        ensures bytes { IfOk result (λ n. Consumes None None (take n room.new)) }
-        ensures end { IfOk result (λ n. n ≡ 0 → 0 < length room.old → IsAtEnd None) }
-        ensures failed { OnErr result (Rose self.old self.new) }
-        ensures kept { OnErr result (Keeps None None) }
-        ensures count { self.old ≤ self.new }
+        ensures bytes { IfOk result (λ n. Consumes (R.remaining self.old.port) (R.remaining self.new.port) (take n room.new)) }
+        ensures end { IfOk result (λ n. n ≡ 0 → 0 < length room.old → IsAtEnd (R.remaining self.new.port)) }
+        ensures failed { OnErr result (Rose self.old.errors self.new.errors) }
+        ensures kept { OnErr result (Keeps (R.remaining self.old.port) (R.remaining self.new.port)) }
+        ensures count { self.old.errors ≤ self.new.errors }
 
         // Beside what each source promises: the count rises by one at each error, and only there.
-        ensures ok { OnOk result (self.new ≡ self.old) }
-        ensures err { OnErr result (self.new ≡ one_more self.old) }
+        ensures ok { OnOk result (self.new.errors ≡ self.old.errors) }
+        ensures err { OnErr result (self.new.errors ≡ one_more self.old.errors) }
     {
         match self.reader.read(room) {
             Ok(count) => {
@@ -114,8 +115,8 @@ impl<R: Read + Drop> Source for StdSource<R> {
     }
 }
 
-/// A sink over a writer. It counts the writer's errors and its empty writes, keeps the last error and the first bytes, and tells a contract
-/// nothing of its bytes: a contract sees it as its count.
+/// A sink over a writer, whose bytes are the contents of the writer, where std tells them. It counts the writer's errors and its empty
+/// writes, and keeps the last error and the first bytes. A contract sees it as the writer and the count.
 #[derive(Drop)]
 pub struct StdSink<W> {
     writer: W,
@@ -125,17 +126,17 @@ pub struct StdSink<W> {
 }
 
 impl<W> Model for StdSink<W> {
-    ghost use Rattle.std.specs.Prelude.{ℕ};
+    ghost use Rattle.knot_ports.specs.Standard.{Counted};
 
-    ghost Value = { ℕ };
+    ghost Value = { Counted W };
 
-    ghost view = { λ s. s.errors };
+    ghost view = { λ s. record { port = s.writer; errors = s.errors } };
 }
 
 impl<W: Write + Drop> StdSink<W> {
     /// A sink over this writer, with no error counted.
     pub fn new(writer: W) -> StdSink<W>
-        ensures { result ≡ 0 }
+        ensures { result ≡ uncounted writer }
     {
         StdSink {
             writer,
@@ -150,9 +151,11 @@ impl<W: Write + Drop> StdSink<W> {
         self.error.as_ref()
     }
 
-    /// The same.
-    pub fn into_error(self) -> Option<io::Error> {
-        self.error
+    /// The same, which is kept no longer.
+    pub fn take_error(&mut self) -> Option<io::Error>
+        ensures { self.new ≡ self.old }
+    {
+        self.error.take()
     }
 
     /// The first bytes that were written, 40 at most.
@@ -171,23 +174,23 @@ impl<W: Write + Drop> StdSink<W> {
 }
 
 impl<W: Write + Drop> Sink for StdSink<W> {
-    ghost held = { λ s. None };
+    ghost held = { λ s. W.contents s.port };
 
-    ghost faults = { λ s. s };
+    ghost faults = { λ s. s.errors };
 
     /// Writes once. An error is counted and fails, and so does a write that took nothing of a piece that isn't empty.
     fn give(&mut self, piece: &[u8]) -> Result<usize, Failed>
         ensures within { IfOk result (λ n. n ≤ length piece.now) }
-        ensures bytes { IfOk result (λ n. Appends None None (take n piece.now)) }
-        ensures none { IfOk result (λ n. n ≡ 0 → 0 < length piece.now → Rose self.old self.new) }
-        ensures failed { OnErr result (Rose self.old self.new) }
-        ensures kept { OnErr result (Keeps None None) }
-        ensures count { self.old ≤ self.new }
+        ensures bytes { IfOk result (λ n. Appends (W.contents self.old.port) (W.contents self.new.port) (take n piece.now)) }
+        ensures none { IfOk result (λ n. n ≡ 0 → 0 < length piece.now → Rose self.old.errors self.new.errors) }
+        ensures failed { OnErr result (Rose self.old.errors self.new.errors) }
+        ensures kept { OnErr result (Keeps (W.contents self.old.port) (W.contents self.new.port)) }
+        ensures count { self.old.errors ≤ self.new.errors }
 
         // Beside what each sink promises: the count rises by one at each error, and only there. An empty write is one.
         ensures some { IfOk result (λ n. 0 < length piece.now → 0 < n) }
-        ensures ok { OnOk result (self.new ≡ self.old) }
-        ensures err { OnErr result (self.new ≡ one_more self.old) }
+        ensures ok { OnOk result (self.new.errors ≡ self.old.errors) }
+        ensures err { OnErr result (self.new.errors ≡ one_more self.old.errors) }
     {
         let written = self.writer.write(piece);
         match written {

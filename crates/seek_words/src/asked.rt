@@ -1,14 +1,23 @@
 //! What the words ask for.
+ghost use Rattle.std.specs.Prelude.{◌≡◌, [], map, unwrap_or, IfOk, IfSome, codes};
+ghost use Rattle.clap.specs.Matches.{found_of, one_text};
+ghost use Rattle.clap.specs.Simple.{matches_of};
+ghost use Rattle.clap.specs.Walk.{rows_of, all_of};
+ghost use Rattle.seek_words.specs.Matched.{AreNumbersOf};
+ghost use Rattle.seek_words.specs.Words.{texts_of, seek_app, IsTalkBy, AsksBy, Asks};
 
 use crate::command::{OUT, PROGRESS, QUANDLES, QUIET, ROOM, SEED, STEPS, WORKERS, command};
 use crate::given::{Diagrams, diagrams_of};
 use clap::error::ErrorKind;
 use clap::{ArgMatches, Error};
-use std::alloc::Global;
+use std::alloc::{AllocError, Global};
 
 /// What is said of words that name another number of diagrams.
 const TWO: &str =
-    "two diagrams are compared: two files, two braids or one of each, or one file with both";
+    "two diagrams are compared, each a file, a braid or a code, or one file with both";
+
+/// What is said of an option whose number can't be read.
+const NO_NUMBER: &str = "an option has a number that can't be read";
 
 /// What is told on standard error beside what is wrong.
 #[derive(Clone, Copy, Debug, PartialEq, Eq)]
@@ -37,29 +46,102 @@ pub struct Asked<'a> {
     pub talk: Talk,
 }
 
+/// The numbers of the options.
+#[derive(Clone, Copy, Debug)]
+struct Numbers {
+    seed: u64,
+    steps: u64,
+    room: u32,
+    workers: u32,
+}
+
 /// What the words ask for, or the text for whoever wrote them: what is wrong with them, the help, or the version. `words[0]` is the
 /// program's name.
-pub fn read_words<'a>(alloc: Global, words: &'a [String]) -> Result<Asked<'a>, Error> {
-    let matches = command(alloc)?.try_get_matches_from(words)?;
-    let Some(diagrams) = diagrams_of(alloc, &matches)? else {
-        let mut command = command(alloc)?;
-        return Err(command.error(ErrorKind::WrongNumberOfValues, TWO)?);
+pub fn read_words<'a>(alloc: Global, words: &'a [String]) -> Result<Asked<'a>, Error>
+    ensures { IfOk result (λ asked. Asks (texts_of words.entry.now) asked) }
+{
+    let matches = parse(alloc, words)?;
+    asked_by(alloc, &matches)
+}
+
+/// The matches of the words.
+fn parse<'a>(alloc: Global, words: &'a [String]) -> Result<ArgMatches<'a>, Error>
+    ensures { IfOk result (λ m. rows_of (found_of m) ≡ matches_of seek_app (texts_of words.entry.now)) }
+{
+    command(alloc)?.try_get_matches_from(words)
+}
+
+/// What matches ask for.
+fn asked_by<'a>(alloc: Global, matches: &ArgMatches<'a>) -> Result<Asked<'a>, Error>
+    ensures { IfOk result (λ asked. AsksBy (rows_of (found_of matches.now)) asked) }
+{
+    let Some(diagrams) = diagrams_of(alloc, matches)? else {
+        return Err(refusal(alloc, TWO)?);
     };
-    let quandles = matches.get_strs(QUANDLES).unwrap_or(&[]);
+    let Some(numbers) = numbers_of(matches) else {
+        return Err(refusal(alloc, NO_NUMBER)?);
+    };
+    Ok(asked_with(alloc, matches, diagrams, numbers)?)
+}
+
+/// The same with diagrams and numbers that were read.
+fn asked_with<'a>(
+    alloc: Global,
+    matches: &ArgMatches<'a>,
+    diagrams: Diagrams<'a>,
+    numbers: Numbers,
+) -> Result<Asked<'a>, AllocError>
+    requires { AreNumbersOf matches.now numbers }
+    ensures { IfOk result (λ asked. AsksBy (rows_of (found_of matches.now)) asked) }
+{
+    let quandles = quandles_of(alloc, matches)?;
     Ok(Asked {
         diagrams,
-        quandles: Vec::from_slice(alloc, quandles)?,
+        quandles,
         out: matches.get_str(OUT),
-        seed: matches.get_one::<u64>(SEED).unwrap_or(1),
-        steps: matches.get_one::<u64>(STEPS).unwrap_or(0),
-        room: matches.get_one::<u32>(ROOM).unwrap_or(0),
-        workers: matches.get_one::<u32>(WORKERS).unwrap_or(1),
-        talk: talk_of(&matches),
+        seed: numbers.seed,
+        steps: numbers.steps,
+        room: numbers.room,
+        workers: numbers.workers,
+        talk: talk_of(matches),
+    })
+}
+
+/// The files of quandles.
+fn quandles_of<'a>(alloc: Global, matches: &ArgMatches<'a>) -> Result<Vec<&'a str>, AllocError>
+    ensures { IfOk result (λ v. map (λ s. s.now) v.items ≡ unwrap_or (all_of (codes "quandles") (rows_of (found_of matches.now))) []) }
+{
+    match matches.get_strs(QUANDLES) {
+        None => Ok(Vec::new(alloc)),
+        Some(values) => {
+            let quandles = Vec::from_slice(alloc, values)?;
+            Ok(quandles)
+        }
+    }
+}
+
+/// The error of words that `clap` takes.
+fn refusal(alloc: Global, text: &str) -> Result<Error, AllocError> {
+    let mut command = command(alloc)?;
+    command.error(ErrorKind::WrongNumberOfValues, text)
+}
+
+/// The numbers of the options; None where one can't be read, which `clap` refuses before.
+fn numbers_of(matches: &ArgMatches) -> Option<Numbers>
+    ensures { IfSome result (λ n. AreNumbersOf matches.now n) }
+{
+    Some(Numbers {
+        seed: matches.get_one(SEED)?,
+        steps: matches.get_one(STEPS)?,
+        room: matches.get_one(ROOM)?,
+        workers: matches.get_one(WORKERS)?,
     })
 }
 
 /// What is told on standard error.
-fn talk_of(matches: &ArgMatches) -> Talk {
+fn talk_of(matches: &ArgMatches) -> Talk
+    ensures { IsTalkBy (one_text (found_of matches.now) (codes "quiet")) (one_text (found_of matches.now) (codes "progress")) result }
+{
     if matches.get_flag(QUIET) {
         Talk::Quiet
     } else if matches.get_flag(PROGRESS) {

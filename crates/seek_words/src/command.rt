@@ -1,4 +1,9 @@
 //! What the command line may have.
+ghost use Rattle.std.specs.Prelude.{◌≡◌, false, IfOk, codes};
+ghost use Rattle.clap.specs.Simple.{app_of, new_app};
+ghost use Rattle.clap.specs.Walk.{rule_of};
+ghost use Rattle.seek_words.specs.Words.{files_rule, list_rule, text_rule, number_rule, flag_rule, seed_rule, steps_rule, room_rule, workers_rule};
+ghost use Rattle.seek_words.specs.Words.{versioned, with_inputs, with_bounds, seek_app};
 
 use clap::builder::ValueParser;
 use clap::{Arg, ArgAction, Command};
@@ -21,6 +26,8 @@ the problem is read from standard input. A diagram is a grid, two lines like
     o 2 1 0 4 3
 or a braid, a line like
     braid 2 1 1 1
+A planar diagram code, as other programs print it, stands in a file behind --pd, like
+    X[1,5,2,4] X[3,1,4,6] X[5,3,6,2]
 
 Example: is the closure of a braid the diagram in a file?
     seek --braid \"2 1 1 1\" trefoil.txt
@@ -28,7 +35,7 @@ Example: is the closure of a braid the diagram in a file?
 What is written with status 0 is a verdict with its evidence: `equal` and moves that lead from the first diagram to the second, or
 `different`, a quandle, and all colourings of both diagrams by it. Behind the problem `knot check` accepts it, where both are within
 its limit of bytes. The other statuses:
-    1 nothing was found   2 the words are wrong   3 a line is wrong   4 a limit is passed
+    1 nothing was found   2 the words are wrong   3 a line or a code is wrong   4 a limit is passed
     5 reading failed      6 writing failed        7 memory was wanting
     10 the system gives the program no words that it can read
 ";
@@ -37,6 +44,8 @@ its limit of bytes. The other statuses:
 pub(crate) const FILES: &str = "FILE";
 
 pub(crate) const BRAID: &str = "braid";
+
+pub(crate) const CODE: &str = "pd";
 
 pub(crate) const QUANDLES: &str = "quandles";
 
@@ -55,7 +64,10 @@ pub(crate) const PROGRESS: &str = "progress";
 pub(crate) const QUIET: &str = "quiet";
 
 /// An option with a value, which may be given as often as is wanted.
-fn list_arg<'a>(alloc: Global, name: &'a str, value: &'a str, help: &'a str) -> Arg<'a> {
+fn list_arg<'a>(alloc: Global, name: &'a str, value: &'a str, help: &'a str) -> Arg<'a>
+    ensures rule { rule_of result ≡ list_rule name.entry.now }
+    ensures local { result.global ≡ false }
+{
     Arg::new(alloc, name)
         .long(name)
         .action(ArgAction::Append)
@@ -70,7 +82,10 @@ fn number_arg<'a>(
     parser: ValueParser<'a>,
     default: &'a str,
     help: &'a str,
-) -> Arg<'a> {
+) -> Arg<'a>
+    ensures rule { rule_of result ≡ number_rule name.entry.now parser.entry default.entry.now }
+    ensures local { result.global ≡ false }
+{
     Arg::new(alloc, name)
         .long(name)
         .action(ArgAction::Set)
@@ -81,7 +96,10 @@ fn number_arg<'a>(
 }
 
 /// An option without a value.
-fn flag_arg<'a>(alloc: Global, name: &'a str, help: &'a str) -> Arg<'a> {
+fn flag_arg<'a>(alloc: Global, name: &'a str, help: &'a str) -> Arg<'a>
+    ensures rule { rule_of result ≡ flag_rule name.entry.now }
+    ensures local { result.global ≡ false }
+{
     Arg::new(alloc, name)
         .long(name)
         .action(ArgAction::SetTrue)
@@ -89,88 +107,156 @@ fn flag_arg<'a>(alloc: Global, name: &'a str, help: &'a str) -> Arg<'a> {
 }
 
 /// The files of the diagrams.
-fn files_arg<'a>(alloc: Global) -> Arg<'a> {
+fn files_arg<'a>(alloc: Global) -> Arg<'a>
+    ensures rule { rule_of result ≡ files_rule }
+    ensures local { result.global ≡ false }
+{
     Arg::new(alloc, FILES)
         .action(ArgAction::Append)
         .num_args(0..=2)
         .help("A file with the whole problem, or a file for each diagram; `-` is standard input")
 }
 
+/// Braids as diagrams.
+fn braid_arg<'a>(alloc: Global) -> Arg<'a>
+    ensures rule { rule_of result ≡ list_rule (codes "braid") }
+    ensures local { result.global ≡ false }
+{
+    let help = "A braid as a diagram: its number of strands and its letters, as \"2 1 1 1\"";
+    list_arg(alloc, BRAID, "WORD", help)
+}
+
+/// Files of codes as diagrams.
+fn code_arg<'a>(alloc: Global) -> Arg<'a>
+    ensures rule { rule_of result ≡ list_rule (codes "pd") }
+    ensures local { result.global ≡ false }
+{
+    let help = "A file with a planar diagram code as a diagram";
+    list_arg(alloc, CODE, "FILE", help)
+}
+
+/// The files of quandles.
+fn quandles_arg<'a>(alloc: Global) -> Arg<'a>
+    ensures rule { rule_of result ≡ list_rule (codes "quandles") }
+    ensures local { result.global ≡ false }
+{
+    list_arg(
+        alloc,
+        QUANDLES,
+        "FILE",
+        "A file of quandles that are tried first",
+    )
+}
+
+/// The file that is written.
+fn out_arg<'a>(alloc: Global) -> Arg<'a>
+    ensures rule { rule_of result ≡ text_rule (codes "out") }
+    ensures local { result.global ≡ false }
+{
+    Arg::new(alloc, OUT)
+        .long(OUT)
+        .action(ArgAction::Set)
+        .value_name("FILE")
+        .help("Write the verdict to a file: whole, or not at all")
+}
+
+/// The seed.
+fn seed_arg<'a>(alloc: Global) -> Arg<'a>
+    ensures rule { rule_of result ≡ seed_rule }
+    ensures local { result.global ≡ false }
+{
+    let help = "The seed of the random walks, from 0 on";
+    number_arg(alloc, SEED, clap::value_parser!(u64), "1", help)
+}
+
+/// How many steps.
+fn steps_arg<'a>(alloc: Global) -> Arg<'a>
+    ensures rule { rule_of result ≡ steps_rule }
+    ensures local { result.global ≡ false }
+{
+    let help = "How many steps the walks of a worker may make, from 0 on";
+    number_arg(alloc, STEPS, clap::value_parser!(u64), "8000000", help)
+}
+
+/// How many forms.
+fn room_arg<'a>(alloc: Global) -> Arg<'a>
+    ensures rule { rule_of result ≡ room_rule }
+    ensures local { result.global ≡ false }
+{
+    let help = "How many forms a worker may remember, from 0 on";
+    number_arg(alloc, ROOM, clap::value_parser!(u32), "524288", help)
+}
+
+/// How many workers.
+fn workers_arg<'a>(alloc: Global) -> Arg<'a>
+    ensures rule { rule_of result ≡ workers_rule }
+    ensures local { result.global ≡ false }
+{
+    let help = "How many workers seek, 1 to 64, each with a seed of its own; the fewest steps win";
+    let parser = clap::value_parser!(u32).range(1..=64);
+    number_arg(alloc, WORKERS, parser, "1", help)
+}
+
+/// Whether it is told how far the search is.
+fn progress_arg<'a>(alloc: Global) -> Arg<'a>
+    ensures rule { rule_of result ≡ flag_rule (codes "progress") }
+    ensures local { result.global ≡ false }
+{
+    let help = "Tell on standard error how far the search is, even where that is no terminal";
+    flag_arg(alloc, PROGRESS, help)
+}
+
+/// Whether nothing is told but what is wrong.
+fn quiet_arg<'a>(alloc: Global) -> Arg<'a>
+    ensures rule { rule_of result ≡ flag_rule (codes "quiet") }
+    ensures local { result.global ≡ false }
+{
+    flag_arg(
+        alloc,
+        QUIET,
+        "Tell nothing on standard error but what is wrong",
+    )
+}
+
 /// The options that say what is asked.
-fn with_inputs<'a>(alloc: Global, command: Command<'a>) -> Result<Command<'a>, AllocError> {
+fn with_inputs<'a>(alloc: Global, command: Command<'a>) -> Result<Command<'a>, AllocError>
+    ensures { IfOk result (λ c. app_of c ≡ with_inputs (app_of command.entry)) }
+{
     command
         .arg(files_arg(alloc))?
-        .arg(list_arg(
-            alloc,
-            BRAID,
-            "WORD",
-            "A braid as a diagram: its number of strands and its letters, as \"2 1 1 1\"",
-        ))?
-        .arg(list_arg(
-            alloc,
-            QUANDLES,
-            "FILE",
-            "A file of quandles that are tried first",
-        ))?
-        .arg(
-            Arg::new(alloc, OUT)
-                .long(OUT)
-                .action(ArgAction::Set)
-                .value_name("FILE")
-                .help("Write the verdict to a file: whole, or not at all"),
-        )
+        .arg(braid_arg(alloc))?
+        .arg(code_arg(alloc))?
+        .arg(quandles_arg(alloc))?
+        .arg(out_arg(alloc))
 }
 
 /// The options that bound the search.
-fn with_bounds<'a>(alloc: Global, command: Command<'a>) -> Result<Command<'a>, AllocError> {
+fn with_bounds<'a>(alloc: Global, command: Command<'a>) -> Result<Command<'a>, AllocError>
+    ensures { IfOk result (λ c. app_of c ≡ with_bounds (app_of command.entry)) }
+{
     command
-        .arg(number_arg(
-            alloc,
-            SEED,
-            clap::value_parser!(u64),
-            "1",
-            "The seed of the random walks, from 0 on",
-        ))?
-        .arg(number_arg(
-            alloc,
-            STEPS,
-            clap::value_parser!(u64),
-            "8000000",
-            "How many steps the walks of a worker may make, from 0 on",
-        ))?
-        .arg(number_arg(
-            alloc,
-            ROOM,
-            clap::value_parser!(u32),
-            "524288",
-            "How many forms a worker may remember, from 0 on",
-        ))?
-        .arg(number_arg(
-            alloc,
-            WORKERS,
-            clap::value_parser!(u32).range(1..=64),
-            "1",
-            "How many workers seek, 1 to 64, each with a seed of its own; the fewest steps win",
-        ))
+        .arg(seed_arg(alloc))?
+        .arg(steps_arg(alloc))?
+        .arg(room_arg(alloc))?
+        .arg(workers_arg(alloc))
 }
 
-/// The whole command.
-pub(crate) fn command<'a>(alloc: Global) -> Result<Command<'a>, AllocError> {
-    let command = Command::new(alloc, "seek")
+/// The command without arguments.
+fn bare_command<'a>(alloc: Global) -> Command<'a>
+    ensures { app_of result ≡ versioned (new_app (codes "seek")) }
+{
+    Command::new(alloc, "seek")
         .version(VERSION)
         .about(ABOUT)
         .override_usage(USAGE)
-        .after_help(AFTER);
-    let command = with_bounds(alloc, with_inputs(alloc, command)?)?;
-    command
-        .arg(flag_arg(
-            alloc,
-            PROGRESS,
-            "Tell on standard error how far the search is, even where that is no terminal",
-        ))?
-        .arg(flag_arg(
-            alloc,
-            QUIET,
-            "Tell nothing on standard error but what is wrong",
-        ))
+        .after_help(AFTER)
+}
+
+/// The whole command.
+pub(crate) fn command<'a>(alloc: Global) -> Result<Command<'a>, AllocError>
+    ensures { IfOk result (λ c. app_of c ≡ seek_app) }
+{
+    let asking = with_inputs(alloc, bare_command(alloc))?;
+    let bounded = with_bounds(alloc, asking)?;
+    bounded.arg(progress_arg(alloc))?.arg(quiet_arg(alloc))
 }

@@ -17,7 +17,7 @@ fn words(alloc: Global, line: &[&str]) -> Result<Vec<String>, Fail> {
 
 #[test]
 fn diagrams_stand_in_the_order_of_the_words(rt: HostRuntime) -> Result<(), Fail> {
-    let rows: [(&[&str], Option<Diagrams>); 9] = [
+    let rows: [(&[&str], Option<Diagrams>); 11] = [
         (&[], Some(Diagrams::Problem(Given::File("-")))),
         (&["a"], Some(Diagrams::Problem(Given::File("a")))),
         (&["-"], Some(Diagrams::Problem(Given::File("-")))),
@@ -37,6 +37,11 @@ fn diagrams_stand_in_the_order_of_the_words(rt: HostRuntime) -> Result<(), Fail>
             &["--braid=3 1 -2", "--seed", "5", "--braid", "1"],
             Some(Diagrams::Pair(Given::Braid("3 1 -2"), Given::Braid("1"))),
         ),
+        (
+            &["--pd", "c", "a"],
+            Some(Diagrams::Pair(Given::Code("c"), Given::File("a"))),
+        ),
+        (&["--pd", "c"], None),
         (&["--braid", "2 1"], None),
         (&["a", "b", "--braid", "2 1"], None),
     ];

@@ -1,0 +1,52 @@
+-- Worked command lines, by computing.
+use Rattle.std.proofs.Common.{◌≡◌, refl, [], ◌∷◌, Some, None, codes}
+use Rattle.std.specs.Prelude.{option_map, List}
+use Rattle.clap.specs.Faults.{fault_of}
+use Rattle.clap.specs.Simple.{matches_of}
+use Rattle.clap.specs.Walk.{Text, first_of, one_of, all_of}
+use Rattle.clap.specs.declared.error.kind.ErrorKind.TheVariants as kind
+use Rattle.clap.proofs.OnLiterals.{clap_on_literals}
+use Rattle.seek_words.specs.Words.{seek_app, number_of}
+
+abbrev line : List Text
+line = codes "seek" ∷ codes "--seed" ∷ codes "7" ∷ codes "a" ∷ codes "--quiet" ∷ codes "--steps=90" ∷ codes "--quandles" ∷ codes "q" ∷ codes "b" ∷ []
+
+taken : fault_of seek_app line ≡ []
+unfolding clap_on_literals
+taken = refl
+
+seed : option_map number_of (one_of (codes "seed") (matches_of seek_app line)) ≡ Some 7
+unfolding clap_on_literals
+seed = refl
+
+steps : option_map number_of (one_of (codes "steps") (matches_of seek_app line)) ≡ Some 90
+unfolding clap_on_literals
+steps = refl
+
+room : option_map number_of (one_of (codes "room") (matches_of seek_app line)) ≡ Some 524288
+unfolding clap_on_literals
+room = refl
+
+quiet : one_of (codes "quiet") (matches_of seek_app line) ≡ Some (codes "true")
+unfolding clap_on_literals
+quiet = refl
+
+progress : one_of (codes "progress") (matches_of seek_app line) ≡ Some (codes "false")
+unfolding clap_on_literals
+progress = refl
+
+files : all_of (codes "FILE") (matches_of seek_app line) ≡ Some (codes "a" ∷ codes "b" ∷ [])
+unfolding clap_on_literals
+files = refl
+
+quandles : all_of (codes "quandles") (matches_of seek_app line) ≡ Some (codes "q" ∷ [])
+unfolding clap_on_literals
+quandles = refl
+
+no_file : first_of (codes "out") (matches_of seek_app line) ≡ None
+unfolding clap_on_literals
+no_file = refl
+
+no_workers : fault_of seek_app (codes "seek" ∷ codes "--workers" ∷ codes "0" ∷ []) ≡ kind.ValueValidation ∷ []
+unfolding clap_on_literals
+no_workers = refl

@@ -1,0 +1,100 @@
+-- What the words of a command line ask of the seeker, by `clap`'s meaning of one simple command: two lists, the files among them, and options.
+use Rattle.std.specs.Prelude.{◌≡◌, ◌^◌, ◌-◌, ℕ, List, [], ◌∷◌, Option, Some, true, codes, pos, map, option_map, unwrap_or, string_bytes, String}
+use Rattle.std.specs.Str.Parse.{digits_value, without_leading_plus}
+use Rattle.std.specs.declared.alloc.Global.{Global}
+use Rattle.clap.specs.Walk.{Row, Rule, Text, first_of, one_of, all_of}
+use Rattle.clap.specs.Simple.{App, new_app, new_rule, on_top, with_rule, matches_of}
+use Rattle.clap.specs.declared.builder.action.ArgAction.TheVariants.{Set, SetTrue, Append}
+use Rattle.clap.specs.declared.builder.value_parser.ValueParser.{ValueParser}
+use Rattle.clap.specs.declared.builder.value_parser.ValueParser.TheVariants as parser
+use Rattle.seek_words.specs.declared.asked.Asked.{Asked}
+use Rattle.seek_words.specs.declared.asked.Talk.{Talk}
+use Rattle.seek_words.specs.declared.asked.Talk.TheVariants.{Quiet, Terminal, Progress}
+
+-- ---- the command
+
+-- the files of the diagrams, at most two
+abbrev pub files_rule : Rule
+files_rule = record (new_rule (codes "FILE")) {
+  action = Some Append;
+  range = Some (record { start_inclusive = 0; end_inclusive = 2 });
+}
+
+-- an option with a text, which may be given as often as is wanted
+abbrev pub list_rule : Text → Rule
+list_rule name = record (new_rule name) { long = Some name; action = Some Append; value_names = 1 }
+
+-- an option with a text, which may be given once
+abbrev pub text_rule : Text → Rule
+text_rule name = record (new_rule name) { long = Some name; action = Some Set; value_names = 1 }
+
+-- an option with a whole number: its parser, and its default where it is not given
+abbrev pub number_rule : Text → ValueParser → Text → Rule
+number_rule name how default = record (new_rule name) {
+  long = Some name;
+  action = Some Set;
+  value_names = 1;
+  parser = Some how;
+  defaults = default ∷ [];
+}
+
+-- an option without a value
+abbrev pub flag_rule : Text → Rule
+flag_rule name = record (new_rule name) { long = Some name; action = Some SetTrue }
+
+-- the command has a version to tell
+abbrev pub versioned : App → App
+versioned a = on_top (λ s. record s { has_version = true }) a
+
+abbrev pub with_inputs : App → App
+with_inputs a =
+    with_rule (with_rule (with_rule (with_rule (with_rule a files_rule) (list_rule (codes "braid"))) (list_rule (codes "pd"))) (list_rule (codes "quandles")))
+    (text_rule (codes "out"))
+
+abbrev pub seed_rule : Rule
+seed_rule = number_rule (codes "seed") (parser.Unsigned 0 (2 ^ 64 - 1)) (codes "1")
+
+abbrev pub steps_rule : Rule
+steps_rule = number_rule (codes "steps") (parser.Unsigned 0 (2 ^ 64 - 1)) (codes "8000000")
+
+abbrev pub room_rule : Rule
+room_rule = number_rule (codes "room") (parser.Signed (pos 0) (pos 4294967295)) (codes "524288")
+
+abbrev pub workers_rule : Rule
+workers_rule = number_rule (codes "workers") (parser.Signed (pos 1) (pos 64)) (codes "1")
+
+abbrev pub with_bounds : App → App
+with_bounds a = with_rule (with_rule (with_rule (with_rule a seed_rule) steps_rule) room_rule) workers_rule
+
+abbrev pub seek_app : App
+seek_app = with_rule (with_rule (with_bounds (with_inputs (versioned (new_app (codes "seek"))))) (flag_rule (codes "progress"))) (flag_rule (codes "quiet"))
+
+-- ---- what words ask for
+
+-- the words as texts; the first is the program's name
+abbrev pub texts_of : List (String Global) → List Text
+texts_of words = map (λ w. string_bytes w) words
+
+-- the number that a text of digits spells, with a plus before them or without
+abbrev pub number_of : Text → ℕ
+number_of text = digits_value 10 (without_leading_plus text)
+
+-- what is told on standard error, by what the words give of `--quiet` and `--progress`, of which the first decides
+pub record IsTalkBy (quiet progress : Option Text) (talk : Talk) : Type 0 where
+  pub silent : quiet ≡ Some (codes "true") → talk ≡ Quiet
+  pub told : quiet ≡ Some (codes "false") → progress ≡ Some (codes "true") → talk ≡ Progress
+  pub plain : quiet ≡ Some (codes "false") → progress ≡ Some (codes "false") → talk ≡ Terminal
+
+-- these matches ask for this, but for the diagrams: what the words give of each option, and else its default
+pub record AsksBy (rows : List Row) (asked : Asked) : Type 0 where
+  pub quandles : map (λ s. s.now) asked.quandles.items ≡ unwrap_or (all_of (codes "quandles") rows) []
+  pub out : option_map (λ s. s.now) asked.out ≡ first_of (codes "out") rows
+  pub seed : option_map number_of (one_of (codes "seed") rows) ≡ Some asked.seed
+  pub steps : option_map number_of (one_of (codes "steps") rows) ≡ Some asked.steps
+  pub room : option_map number_of (one_of (codes "room") rows) ≡ Some asked.room
+  pub workers : option_map number_of (one_of (codes "workers") rows) ≡ Some asked.workers
+  pub talk : IsTalkBy (one_of (codes "quiet") rows) (one_of (codes "progress") rows) asked.talk
+
+-- the words ask for this
+abbrev pub Asks : List Text → Asked → Type 0
+Asks words asked = AsksBy (matches_of seek_app words) asked

@@ -1,0 +1,2 @@
+pub mod Place
+pub use Rattle.knot_ports.specs.Faults
