@@ -1,0 +1,5 @@
+mod RowsRead
+mod GaussRead
+mod SignsForced
+mod RowsRefused
+mod WorkedRows

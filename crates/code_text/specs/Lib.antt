@@ -1,0 +1,16 @@
+pub mod Blanks
+pub mod RowLines
+pub mod GaussLines
+pub mod GaussCheck
+pub mod Signs
+pub mod Whole
+pub mod TextGrid
+pub use Rattle.text_lines.specs.Lines
+pub use Rattle.text_lines.specs.Tokens
+pub use Rattle.text_lines.specs.Numbers
+pub use Rattle.text_items.specs.Reading
+pub use Rattle.crossing_codes.specs.Code
+pub use Rattle.code_rows.specs.Rows
+pub use Rattle.code_rows.specs.RowsFault
+pub use Rattle.code_faults.specs.Fault
+pub use Rattle.code_grids.specs.Renaming

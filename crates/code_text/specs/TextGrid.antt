@@ -1,0 +1,52 @@
+-- What is answered to the text of a code: a grid diagram of it, or why there is none.
+use Rattle.std.specs.Prelude.{◌≡◌, ◌<◌, ℕ, true, false, Some, None, Result, Ok, Err}
+use Rattle.grid_core.specs.Diagram.{Diagram}
+use Rattle.grid_core.specs.declared.grid.TheConstants.{MAX_SIZE}
+use Rattle.crossing_codes.specs.declared.crossing.Code.{Code}
+use Rattle.crossing_codes.specs.Code.{code}
+use Rattle.code_faults.specs.Fault.{first_fault}
+use Rattle.code_faults.specs.Map.{is_plane}
+use Rattle.code_rows.specs.declared.rows_fault.RowsFault.{RowsFault}
+use Rattle.code_faults.specs.declared.fault.CodeFault.TheVariants.{Edge}
+use Rattle.code_rows.specs.Rows.{all_names, name_of, IsCodeOf}
+use Rattle.code_rows.specs.RowsFault.{unpaired}
+use Rattle.code_grids.specs.Renaming.{IsRenamed}
+use Rattle.code_text.specs.declared.whole.CodeText.{CodeText}
+use Rattle.code_text.specs.declared.refusal.TextRefusal.{TextRefusal}
+use Rattle.code_text.specs.declared.refusal.TextRefusal.TheVariants.{Rows, Gauss, Columns, Lost}
+use Rattle.code_rows.specs.declared.rows_fault.RowsFault.TheVariants as rows
+use Rattle.code_text.specs.GaussCheck.{agrees}
+
+-- the code has the rows and the loops of the text, and no fault, and the Gauss lines are its own
+pub record Says (t : CodeText) (c : Code) : Type 0 where
+  pub rows : IsCodeOf t.rows t.loops c
+  pub faultless : first_fault c ≡ None
+  pub gauss : agrees c t.walks ≡ true
+
+-- the grid's own code is one that the text says, under other names of crossings and edges
+pub record IsDiagramOf (t : CodeText) (d : Diagram) : Type 0 where
+  pub said : Code
+  pub says : Says t said
+  pub renamed : IsRenamed said (code d)
+
+-- the text says no code
+abbrev pub SaysNone : CodeText → Type 0
+SaysNone t = (c : Code) → Says t c → ⊥
+
+-- a fault of the rows: of their names exactly the first; `Direction` by the signs that were tried, and `Plane` by any
+abbrev pub IsRowsFault : CodeText → RowsFault → Type 0
+IsRowsFault t rows.Empty = unpaired t.rows t.loops ≡ Some rows.Empty
+IsRowsFault t (rows.Edge name) = unpaired t.rows t.loops ≡ Some (rows.Edge name)
+IsRowsFault t (rows.Direction name) =
+    (c : Code) × IsCodeOf t.rows t.loops c × (e : ℕ) × (first_fault c ≡ Some (Edge e)) × (name ≡ name_of (all_names t.rows) e)
+IsRowsFault t rows.Plane = (c : Code) → IsCodeOf t.rows t.loops c → is_plane c.crossings ≡ false
+
+abbrev pub IsRefusal : CodeText → TextRefusal → Type 0
+IsRefusal t (Rows fault) = IsRowsFault t fault
+IsRefusal t Gauss = SaysNone t
+IsRefusal t (Columns columns) = (MAX_SIZE < columns) × ((c : Code) × Says t c)
+IsRefusal t Lost = (c : Code) × Says t c
+
+abbrev pub IsAnswer : CodeText → Result Diagram TextRefusal → Type 0
+IsAnswer t (Ok d) = IsDiagramOf t d
+IsAnswer t (Err refusal) = IsRefusal t refusal

@@ -1,0 +1,19 @@
+//! Texts of planar diagram codes: rows as other programs print them, loops, and signed Gauss lines; and grid diagrams of them.
+//! A text is read exactly as its definition says, and a grid's own code is the one that the text says, under other names.
+#![tactic(auto)]
+
+mod blanks;
+mod gauss_check;
+mod gauss_lines;
+mod refusal;
+mod row_lines;
+mod signs;
+#[cfg(test)]
+mod tests;
+mod text_grid;
+mod whole;
+
+pub use gauss_lines::GaussPassage;
+pub use refusal::TextRefusal;
+pub use text_grid::grid_of_text;
+pub use whole::{CodeText, MAX_LOOPS, read_code};

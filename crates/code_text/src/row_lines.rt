@@ -1,0 +1,115 @@
+//! Lines of rows.
+ghost use Rattle.std.specs.Prelude.{◌≡◌, ◌≤◌, ◌++◌, [], length, IfOk, OnOk};
+ghost use Rattle.std.specs.List.{list_any};
+ghost use Rattle.code_faults.specs.declared.fault.TheConstants.{MAX_CROSSINGS};
+ghost use Rattle.text_items.specs.Numbers.{is_long};
+ghost use Rattle.text_items.specs.Reading.{Gives};
+ghost use Rattle.code_text.specs.RowLines.{says_something, row_numbers, rows_of, ruled, with_rows, are_behind, rows_from};
+
+use code_faults::MAX_CROSSINGS;
+use code_rows::Row;
+use std::alloc::{AllocError, Global};
+use text_items::TextFault;
+use text_items::reading::MAX_NUMBER;
+use text_lines::{Line, Lines, number};
+
+/// Whether a token is none of the words that say nothing.
+fn says_something(token: &[u8]) -> bool
+    ensures { result ≡ says_something token.now }
+{
+    !(token == b"X".as_slice() || token == b"PD".as_slice())
+}
+
+/// All tokens that are left of a line and say something, as numbers.
+fn row_numbers(alloc: Global, line: &mut Line) -> Result<Vec<u32>, TextFault>
+    ensures { Gives (λ v. v.items) result (row_numbers line.old) }
+{
+    let at = line.number();
+    let mut names = Vec::new(alloc);
+    while let Some(token) = line.next_token() {
+        if says_something(token) {
+            let Some(name) = number(token) else {
+                return Err(TextFault::Malformed { line: at });
+            };
+            names.push(name)?;
+        }
+    }
+    Ok(names)
+}
+
+/// Appends the rows of these numbers, four to a row.
+fn push_rows(rows: &mut Vec<Row>, names: &[u32]) -> Result<(), AllocError>
+    ensures { OnOk result (rows.new.items ≡ rows.old.items ++ rows_of names.now) }
+{
+    let mut left = names;
+    while let [first, second, third, fourth, after @ ..] = left {
+        rows.push(Row {
+            first: *first,
+            second: *second,
+            third: *third,
+            fourth: *fourth,
+        })?;
+        left = after;
+    }
+    Ok(())
+}
+
+/// Whether one of these numbers has too many digits.
+fn any_long(names: &[u32]) -> bool
+    ensures { result ≡ list_any is_long names.now }
+{
+    names.iter().any(|name| *name > MAX_NUMBER)
+}
+
+/// Appends the rows of a line, of which there may be so many in all.
+#[tactic(auto, unfolding(crate::specs::RowLines::with_rows))]
+fn push_line(
+    alloc: Global,
+    most: usize,
+    rows: &mut Vec<Row>,
+    line: &mut Line,
+) -> Result<(), TextFault>
+    ensures rows { Gives (λ _. rows.new.items) result (with_rows most rows.old.items line.old) }
+    ensures few { OnOk result (length rows.new.items ≤ MAX_CROSSINGS) }
+{
+    let at = line.number();
+    let names = row_numbers(alloc, line)?;
+    if names.len() % 4 != 0 {
+        return Err(TextFault::Malformed { line: at });
+    }
+    push_rows(rows, names.as_slice())?;
+    if any_long(names.as_slice()) || rows.len() > MAX_CROSSINGS {
+        return Err(TextFault::Limit { line: at });
+    }
+    if rows.len() > most {
+        return Err(TextFault::Malformed { line: at });
+    }
+    Ok(())
+}
+
+/// Whether a line that stands behind the rows is next.
+fn are_behind(lines: &Lines) -> bool
+    ensures { result ≡ are_behind lines.now }
+{
+    lines.begins(b"loops") || lines.begins(b"gauss")
+}
+
+/// The rows of all lines up to the first that stands behind them, of which there may be so many.
+#[tactic(auto, unfolding(crate::specs::RowLines::rows_from))]
+pub(crate) fn rows_from(
+    alloc: Global,
+    most: usize,
+    lines: &mut Lines,
+) -> Result<Vec<Row>, TextFault>
+    ensures rows { Gives (λ v. (v.items, lines.new)) result (rows_from most [] lines.old) }
+    ensures few { IfOk result (λ v. length v.items ≤ MAX_CROSSINGS) }
+{
+    let mut rows = Vec::new(alloc);
+    while !are_behind(lines) {
+        let Some(mut line) = lines.next_line() else {
+            return Ok(rows);
+        };
+        push_line(alloc, most, &mut rows, &mut line)?;
+    }
+    Ok(rows)
+}

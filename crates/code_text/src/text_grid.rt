@@ -1,0 +1,72 @@
+//! Grid diagrams of texts of codes.
+ghost use Rattle.std.specs.Prelude.{◌≡◌, ◌≤◌, None, length, IfOk, IfSome, IfNone};
+ghost use Rattle.code_faults.specs.declared.fault.TheConstants.{MAX_CROSSINGS};
+ghost use Rattle.code_faults.specs.Fault.{first_fault};
+ghost use Rattle.code_rows.specs.Rows.{IsCodeOf};
+ghost use Rattle.code_text.specs.TextGrid.{Says, SaysNone, IsAnswer};
+
+use crate::gauss_check::{agrees, all_of};
+use crate::refusal::TextRefusal;
+use crate::signs::signed;
+use crate::whole::CodeText;
+use code_faults::first_fault;
+use code_grids::{Refusal, grid_of_code};
+use code_rows::code_of_rows;
+use crossing_codes::Code;
+use grid_core::{Grid, Items};
+use memory_core::OutOfMemory;
+use std::alloc::Global;
+
+/// A grid diagram of what the text of a code says, or why none is answered. There may be at most `MAX_CROSSINGS` rows.
+///
+/// The diagram's own code is one with these rows and loops, under other names of crossings and edges. Where there are signed Gauss
+/// lines, they are its own, so they decide every sign.
+pub fn grid_of_text(
+    alloc: Global,
+    text: &CodeText,
+) -> Result<Result<Grid, TextRefusal>, OutOfMemory>
+    requires { length text.now.rows ≤ MAX_CROSSINGS }
+    ensures { IfOk result (λ answer. IsAnswer text.now answer) }
+{
+    let code = match code_of_rows(alloc, text.rows.as_slice(), text.loops)? {
+        Ok(code) => code,
+        Err(fault) => return Ok(Err(TextRefusal::Rows(fault))),
+    };
+    let Some(said) = said_by(alloc, text, code)? else {
+        return Ok(Err(TextRefusal::Gauss));
+    };
+    match grid_of_code(alloc, &said)? {
+        Ok(drawing) => Ok(Ok(drawing.grid)),
+        Err(Refusal::Columns { columns }) => Ok(Err(TextRefusal::Columns { columns })),
+        Err(Refusal::Lost) => Ok(Err(TextRefusal::Lost)),
+        Err(Refusal::Fault(_)) => unreachable!(),
+    }
+}
+
+/// The code that a text says, from one of its rows and loops: with the signs of the Gauss lines, where there are some.
+fn said_by(alloc: Global, text: &CodeText, code: Code) -> Result<Option<Code>, OutOfMemory>
+    requires few { length text.now.rows ≤ MAX_CROSSINGS }
+    requires rows { IsCodeOf text.now.rows text.now.loops code }
+    requires faultless { first_fault code ≡ None }
+    ensures some { IfOk result (λ found. IfSome found (λ said. Says text.now said)) }
+    ensures none { IfOk result (λ found. IfNone found (SaysNone text.now)) }
+{
+    let walks = text.walks.as_slice();
+    if walks.is_empty() {
+        return Ok(Some(code));
+    }
+    let passages = all_of(alloc, walks)?;
+    let crossings = signed(alloc, passages.as_slice(), code.crossings.as_slice())?;
+    let said = Code {
+        crossings: Items::from_vec(crossings),
+        edges: code.edges,
+        loops: code.loops,
+    };
+    if !agrees(&said, walks, passages.as_slice()) {
+        return Ok(None);
+    }
+    match first_fault(alloc, &said)? {
+        None => Ok(Some(said)),
+        Some(_) => Ok(None),
+    }
+}
