@@ -1,0 +1,6 @@
+pub mod Numbers
+pub mod Lines
+pub use Rattle.colour_seeds.specs.Plan
+pub use Rattle.colour_seeds.specs.Fits
+pub use Rattle.colour_list.specs.Listing
+pub use Rattle.colour_weights.specs.Weights

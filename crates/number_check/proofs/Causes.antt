@@ -1,0 +1,125 @@
+-- What a cause of one diagram, or none, says.
+use Rattle.std.proofs.Common.{◌≡◌, ◌==◌, ◌<◌, ◌≤◌, ◌^◌, ◌∙◌, inl, inr, ℕ, ℤ, Bool, true, false, List, Option, Some, None, length, slice_index, IfSome, refl, sym, ap, cond, subst, arith}
+use Rattle.std.specs.Prelude.{nat_le, nat_eq}
+use Rattle.std.specs.Ordering.{int_eq}
+use Rattle.std.proofs.lemmas.Bool.{leb-true, le-leb, eqb-true, eq-eqb}
+use Rattle.std.proofs.Math.Nat.{pow-le-pow_right}
+use Rattle.quandle_core.specs.Quandle.{Table}
+use Rattle.colour_seeds.specs.declared.progress.Step.{Step}
+use Rattle.colour_seeds.specs.Plan.{seeds_in}
+use Rattle.colour_seeds.specs.Fits.{fits}
+use Rattle.std.proofs.lemmas.Bool.Decides.{Decides-eqb, Decides-int_eq}
+use Rattle.grid_core.specs.Diagram.{Diagram, size}
+use Rattle.quandle_core.specs.Fault.{or_else}
+use Rattle.linking_core.specs.Component.{components}
+use Rattle.linking_core.specs.Linking.{linking}
+use Rattle.colour_seeds.specs.Settled.{Determine}
+use Rattle.colour_seeds.specs.Seeded.{IsFault}
+use Rattle.colour_seeds.specs.declared.seeding.SeedFault.TheVariants as fault
+use Rattle.colour_seeds.specs.declared.counting.TheConstants.{MAX_CANDIDATES}
+use Rattle.number_text.specs.declared.blocks.Block.{Block}
+use Rattle.number_text.specs.declared.evidence.Counted.{Counted}
+use Rattle.number_text.specs.declared.evidence.Linked.{Linked}
+use Rattle.number_check.specs.declared.cause.Cause.{Cause}
+use Rattle.number_check.specs.declared.cause.Cause.TheVariants as cause
+use Rattle.number_check.specs.Unequal.{first_unequal}
+use Rattle.number_check.specs.Holds.{table_of, numbers_by, AreNumbersOf, AreLinkingOf}
+use Rattle.number_check.specs.Cause.{place_cause, IsSeedCause, counts_cause, IsCauseOf, linked_cause}
+use Rattle.number_check.proofs.FirstUnequal.{equal_of_none, none_of_equal}
+
+same_numbers : (a b : ℕ) → nat_eq a b ≡ true → a ≡ b
+same_numbers a b is = (Decides-eqb a b).0 is
+
+itself : (a : ℕ) → nat_eq a a ≡ true
+itself a = (Decides-eqb a a).1 refl
+
+same_letters : (a b : ℤ) → int_eq a b ≡ true → a ≡ b
+same_letters a b is = (Decides-int_eq a b).0 is
+
+itself_letter : (a : ℤ) → int_eq a a ≡ true
+itself_letter a = (Decides-int_eq a a).1 refl
+
+no_place : (which : ℕ) (o : Option ℕ) → place_cause which o ≡ None → o ≡ None
+no_place which None none = refl
+no_place which (Some k) none = absurd cc
+
+-- ---- numbers of colourings
+
+-- without a cause the numbers are the diagram's own
+pub numbers_hold : (b : Block) (which : ℕ) (d : Diagram) (c : Counted) → Determine c.seeds.items d → counts_cause b which d c ≡ None → AreNumbersOf b d c
+numbers_hold b which d c settled none = by (nat_le ((table_of b).order ^ length c.seeds.items) MAX_CANDIDATES) refl none
+  where
+    by : (t : Bool) → nat_le ((table_of b).order ^ length c.seeds.items) MAX_CANDIDATES ≡ t
+        → or_else (cond t None (Some (cause.Wide which (length c.seeds.items)))) (place_cause which (first_unequal nat_eq c.numbers (numbers_by b d))) ≡ None
+        → AreNumbersOf b d c
+    by true few none = record {
+      settled = settled;
+      few = leb-true ((table_of b).order ^ length c.seeds.items) MAX_CANDIDATES few;
+      own = equal_of_none nat_eq same_numbers c.numbers (numbers_by b d) (no_place which (first_unequal nat_eq c.numbers (numbers_by b d)) none);
+    }
+    by false many none = absurd cc
+
+-- and where they are, there is none
+numbers_faultless : (b : Block) (which : ℕ) (d : Diagram) (c : Counted) → AreNumbersOf b d c → counts_cause b which d c ≡ None
+numbers_faultless b which d c are =
+    let few : nat_le ((table_of b).order ^ length c.seeds.items) MAX_CANDIDATES ≡ true = le-leb ((table_of b).order ^ length c.seeds.items) MAX_CANDIDATES are.few in
+    let same : first_unequal nat_eq c.numbers (numbers_by b d) ≡ None =
+    ap (λ (xs : List ℕ). first_unequal nat_eq xs (numbers_by b d)) are.own ∙ none_of_equal nat_eq itself (numbers_by b d) in
+    rw (few, same) refl
+
+seeds_faultless : (which : ℕ) (d : Diagram) (seeds : List ℕ) (c : Cause) → IsSeedCause which d seeds c → Determine seeds d → ⊥
+seeds_faultless which d seeds (cause.Outside w column) is settled =
+    let at = is.1 in
+    let inside : slice_index seeds at.0 < size d = settled.columns at.0 0 at.1 in
+    omega (arith, inside, at.2, at.3)
+seeds_faultless which d seeds (cause.Unsettled w column) is settled = is.1.2 (settled.all column is.1.1)
+seeds_faultless which d seeds (cause.Wide w seeds') is settled = is
+seeds_faultless which d seeds (cause.Components w) is settled = is
+seeds_faultless which d seeds (cause.Number w place) is settled = is
+seeds_faultless which d seeds cause.Equal is settled = is
+
+pub numbers_have_no_cause : (b : Block) (which : ℕ) (d : Diagram) (c : Counted) (why : Cause) → IsCauseOf b which d c why → AreNumbersOf b d c → ⊥
+numbers_have_no_cause b which d c why is are = elim is [
+  | inl seeds ↦ seeds_faultless which d c.seeds.items why seeds are.settled
+  | inr counts ↦ let no : ◌≡◌ {A = Option Cause} None (Some why) = sym (numbers_faultless b which d c are) ∙ counts.1 in cc
+]
+
+-- ---- linking numbers
+
+pub linking_holds : (which : ℕ) (d : Diagram) (l : Linked) → linked_cause which d l ≡ None → AreLinkingOf d l
+linking_holds which d l none = by (l.components == length (components d)) refl none
+  where
+    by : (t : Bool) → (l.components == length (components d)) ≡ t
+        → cond t (place_cause which (first_unequal int_eq l.numbers (linking d))) (Some (cause.Components which)) ≡ None → AreLinkingOf d l
+    by true same none = record {
+      components = eqb-true l.components (length (components d)) same;
+      own = equal_of_none int_eq same_letters l.numbers (linking d) (no_place which (first_unequal int_eq l.numbers (linking d)) none);
+    }
+    by false other none = absurd cc
+
+pub linking_has_no_cause : (which : ℕ) (d : Diagram) (l : Linked) → AreLinkingOf d l → linked_cause which d l ≡ None
+linking_has_no_cause which d l are =
+    let count : (l.components == length (components d)) ≡ true = eq-eqb l.components (length (components d)) are.components in
+    let same : first_unequal int_eq l.numbers (linking d) ≡ None =
+    ap (λ (xs : List ℤ). first_unequal int_eq xs (linking d)) are.own ∙ none_of_equal int_eq itself_letter (linking d) in
+    rw (count, same) refl
+
+-- ---- as a call answers them
+
+pub some_cause : (b : Block) (which : ℕ) (d : Diagram) (c : Counted) (o : Option Cause) → Determine c.seeds.items d → o ≡ counts_cause b which d c
+    → IfSome o (λ why. IsCauseOf b which d c why)
+some_cause b which d c None settled is = tt
+some_cause b which d c (Some why) settled is = inr (settled, sym is)
+
+-- seeds that have few choices give a plan that fits
+pub fits_there : (t : Table) (plan : List Step) (seeds : ℕ) → 1 ≤ t.order → seeds_in plan ≤ seeds → nat_le (t.order ^ seeds) MAX_CANDIDATES ≡ true
+    → fits t plan ≡ true
+fits_there t plan seeds some few narrow =
+    let up : t.order ^ seeds_in plan ≤ t.order ^ seeds = pow-le-pow_right {n = t.order} some {i = seeds_in plan} {j = seeds} few in
+    let most : t.order ^ seeds ≤ MAX_CANDIDATES = leb-true (t.order ^ seeds) MAX_CANDIDATES narrow in
+    le-leb (t.order ^ seeds_in plan) MAX_CANDIDATES (omega (arith, up, most))
+
+-- a column that the seeds do not settle is a cause
+pub unsettled_cause : (b : Block) (which : ℕ) (d : Diagram) (c : Counted) (seeds : List ℕ) (column : ℕ) → seeds ≡ c.seeds.items
+    → IsFault seeds d (fault.Unsettled column) → IsCauseOf b which d c (cause.Unsettled which column)
+unsettled_cause b which d c seeds column same is = inl (refl, subst (λ (s : List ℕ). IsFault s d (fault.Unsettled column)) same is)

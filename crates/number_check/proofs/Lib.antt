@@ -1,0 +1,3 @@
+pub mod FirstUnequal
+pub mod Causes
+pub mod Rulings

@@ -1,0 +1,9 @@
+use Rattle.std.proofs.Common.{rules}
+use Rattle.number_check.specs.Holds.{NumbersDiffer}
+use Rattle.number_check.proofs.Rulings.{numbers_apart}
+use Rattle.number_check.proofs.ruling.rule_counts.Goals as goal
+
+pub returns-clause-apart : goal.returns-clause-apart
+returns-clause-apart c = λ accepted.
+    let holds : NumbersDiffer c.args.block.now c.args.first.now c.args.second.now c.args.one.now c.args.two.now = search rules in
+    numbers_apart c.args.first.now c.args.second.now c.args.block.now c.args.one.now c.args.two.now c.laws_of.ensures.quandle c.laws_of.ensures.cocycle holds

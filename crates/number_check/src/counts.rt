@@ -1,0 +1,128 @@
+//! The ruling on the numbers of colourings of one diagram.
+ghost use Rattle.std.specs.Prelude.{◌≡◌, ◌≤◌, ◌^◌, true, None, IfOk, IfSome, length, nat_le};
+ghost use Rattle.colour_seeds.specs.declared.counting.TheConstants.{MAX_CANDIDATES};
+ghost use Rattle.colour_seeds.specs.Fits.{fits};
+ghost use Rattle.colour_seeds.specs.Settled.{Determine};
+ghost use Rattle.colour_seeds.specs.Plan.{IsPlan, seeds_in};
+ghost use Rattle.number_check.specs.Holds.{AreNumbersOf, table_of, numbers_by};
+ghost use Rattle.number_check.specs.Cause.{IsCauseOf, counts_cause, place_cause};
+
+use crate::cause::Cause;
+use crate::unequal::first_unequal;
+use colour_numbers::numbers;
+use colour_seeds::{CountFault, MAX_CANDIDATES, SeedFault, Seeding};
+use grid_core::Grid;
+use memory_core::OutOfMemory;
+use number_text::{Block, Counted};
+use quandle_core::Quandle;
+use std::alloc::Global;
+
+/// Why what is said of the numbers of a diagram does not hold: the first cause, if there is one.
+pub(crate) fn cause_of_counts(
+    alloc: Global,
+    which: u8,
+    grid: &Grid,
+    block: &Block,
+    counted: &Counted,
+) -> Result<Option<Cause>, OutOfMemory>
+    ensures some { IfOk result (λ o. IfSome o (λ cause. IsCauseOf block.now which grid.now counted.now cause)) }
+    ensures none { IfOk result (λ o. o ≡ None → AreNumbersOf block.now grid.now counted.now) }
+{
+    match Seeding::new(alloc, grid, counted.seeds.as_slice()) {
+        Ok(seeding) => cause_by(alloc, which, grid, block, counted, &seeding),
+        Err(SeedFault::Outside { column }) => Ok(Some(Cause::Outside { which, column })),
+        Err(SeedFault::Unsettled { column }) => Ok(Some(Cause::Unsettled { which, column })),
+        Err(SeedFault::OutOfMemory) => Err(OutOfMemory),
+    }
+}
+
+/// The same by a plan of the seeds, which settle the diagram.
+fn cause_by(
+    alloc: Global,
+    which: u8,
+    grid: &Grid,
+    block: &Block,
+    counted: &Counted,
+    seeding: &Seeding,
+) -> Result<Option<Cause>, OutOfMemory>
+    requires settled { Determine counted.now.seeds.items grid.now }
+    requires plan { IsPlan grid.now seeding.now }
+    requires few { seeds_in seeding.now ≤ length counted.now.seeds.items }
+    ensures some { IfOk result (λ o. IfSome o (λ cause. IsCauseOf block.now which grid.now counted.now cause)) }
+    ensures none { IfOk result (λ o. o ≡ None → AreNumbersOf block.now grid.now counted.now) }
+{
+    let given = cause_settled(alloc, which, grid, block, counted, seeding)?;
+    Ok(given)
+}
+
+/// The same as a function of the definition.
+fn cause_settled(
+    alloc: Global,
+    which: u8,
+    grid: &Grid,
+    block: &Block,
+    counted: &Counted,
+    seeding: &Seeding,
+) -> Result<Option<Cause>, OutOfMemory>
+    requires plan { IsPlan grid.now seeding.now }
+    requires few { seeds_in seeding.now ≤ length counted.now.seeds.items }
+    ensures { IfOk result (λ o. o ≡ counts_cause block.now which grid.now counted.now) }
+{
+    let seeds = counted.seeds.len();
+    if !are_few(colouring_quandle(block), seeds) {
+        return Ok(Some(Cause::Wide { which, seeds }));
+    }
+    let own = own_numbers(alloc, grid, block, seeding)?;
+    Ok(place_cause(
+        which,
+        first_unequal(counted.numbers.as_slice(), own.as_slice()),
+    ))
+}
+
+/// The numbers of a grid by a block, whose quandle fits the plan.
+fn own_numbers(
+    alloc: Global,
+    grid: &Grid,
+    block: &Block,
+    seeding: &Seeding,
+) -> Result<Vec<u32>, OutOfMemory>
+    requires plan { IsPlan grid.now seeding.now }
+    requires fits { fits (table_of block.now) seeding.now ≡ true }
+    ensures { IfOk result (λ v. v.items ≡ numbers_by block.now grid.now) }
+{
+    match numbers(alloc, grid, block.listed.quandle(), &block.cocycle, seeding) {
+        Ok(own) => Ok(own),
+        Err(CountFault::OutOfMemory) => Err(OutOfMemory),
+        Err(CountFault::TooWide) => unreachable!(),
+    }
+}
+
+/// The quandle that gives the colours.
+fn colouring_quandle(block: &Block) -> &Quandle
+    ensures { result.now ≡ table_of block.now }
+{
+    match &block.cocycle {
+        None => block.listed.quandle(),
+        Some(cocycle) => cocycle.quandle(),
+    }
+}
+
+/// Whether so many seeds have at most `MAX_CANDIDATES` choices of colours.
+fn are_few(quandle: &Quandle, seeds: usize) -> bool
+    ensures few { result ≡ nat_le (quandle.now.order ^ seeds) MAX_CANDIDATES }
+    ensures least { 1 ≤ quandle.now.order }
+{
+    let _order = quandle.order();
+    let count = seeds.min(64) as u32;
+    u32::from(quandle.order()).saturating_pow(count) <= MAX_CANDIDATES
+}
+
+/// The cause of a place at which numbers differ.
+pub(crate) fn place_cause(which: u8, place: Option<usize>) -> Option<Cause>
+    ensures { result ≡ place_cause which place }
+{
+    match place {
+        Some(place) => Some(Cause::Number { which, place }),
+        None => None,
+    }
+}

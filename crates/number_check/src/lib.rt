@@ -1,0 +1,15 @@
+//! The checker of evidence by numbers: it rules on what is said to tell two diagrams apart by numbers of colourings, by their weights, or by
+//! linking numbers. It accepts exactly what holds, and otherwise names the first cause.
+#![tactic(auto)]
+
+mod cause;
+mod counts;
+pub mod laws;
+mod links;
+mod ruling;
+#[cfg(test)]
+mod tests;
+mod unequal;
+
+pub use cause::{Cause, Ruling};
+pub use ruling::rule;

@@ -1,0 +1,111 @@
+//! The ruling on evidence by numbers.
+ghost use Rattle.std.specs.Prelude.{◌≡◌, ◌↔◌, IfOk};
+ghost use Rattle.grid_moves.specs.Joining.{Equivalent};
+ghost use Rattle.quandle_core.specs.Quandle.{IsQuandle};
+ghost use Rattle.colour_numbers.specs.Numbers.{IsCocycleOrNone};
+ghost use Rattle.number_text.specs.declared.evidence.Evidence.TheVariants.{Numbers, Linking};
+ghost use Rattle.number_check.specs.Holds.{Holds};
+ghost use Rattle.number_check.specs.Ruling.{RulesOn};
+
+use crate::cause::{Cause, Ruling};
+use crate::counts::cause_of_counts;
+use crate::links::cause_of_links;
+use grid_core::Grid;
+use memory_core::OutOfMemory;
+use number_text::{Block, Counted, Evidence, Linked};
+use std::alloc::Global;
+
+/// Whether evidence by numbers tells two diagrams apart: accepted exactly where it holds, else rejected for the first cause.
+///
+/// `Numbers`: the seeds of each diagram settle it and have few choices of colours, the numbers are the diagram's own, and they differ.
+/// `Linking`: the numbers of components and the linking numbers are the links' own, and differ. Where it is accepted, no list of moves joins the two.
+pub fn rule(
+    alloc: Global,
+    first: &Grid,
+    second: &Grid,
+    evidence: &Evidence,
+) -> Result<Ruling, OutOfMemory>
+    ensures ruling { IfOk result (λ r. RulesOn first.now second.now evidence.now r) }
+    ensures accepted { IfOk result (λ r. (r ≡ Ruling.Accepted) ↔ Holds first.now second.now evidence.now) }
+    ensures apart { IfOk result (λ r. r ≡ Ruling.Accepted → Equivalent first.now second.now → ⊥) }
+{
+    let ruling = ruled(alloc, first, second, evidence)?;
+    Ok(ruling)
+}
+
+/// The ruling by the kind of evidence.
+fn ruled(
+    alloc: Global,
+    first: &Grid,
+    second: &Grid,
+    evidence: &Evidence,
+) -> Result<Ruling, OutOfMemory>
+    ensures ruling { IfOk result (λ r. RulesOn first.now second.now evidence.now r) }
+    ensures apart { IfOk result (λ r. r ≡ Ruling.Accepted → Equivalent first.now second.now → ⊥) }
+{
+    match evidence {
+        Evidence::Numbers {
+            block,
+            first: one,
+            second: two,
+        } => rule_counts(alloc, first, second, block, one, two),
+        Evidence::Linking {
+            first: one,
+            second: two,
+        } => rule_links(alloc, first, second, one, two),
+    }
+}
+
+/// The ruling on numbers of colourings.
+fn rule_counts(
+    alloc: Global,
+    first: &Grid,
+    second: &Grid,
+    block: &Block,
+    one: &Counted,
+    two: &Counted,
+) -> Result<Ruling, OutOfMemory>
+    ensures ruling { IfOk result (λ r. RulesOn first.now second.now (Numbers block.now one.now two.now) r) }
+    ensures apart { IfOk result (λ r. r ≡ Ruling.Accepted → Equivalent first.now second.now → ⊥) }
+{
+    laws_of(block);
+    if let Some(cause) = cause_of_counts(alloc, 1, first, block, one)? {
+        return Ok(Ruling::Rejected(cause));
+    }
+    if let Some(cause) = cause_of_counts(alloc, 2, second, block, two)? {
+        return Ok(Ruling::Rejected(cause));
+    }
+    if one.numbers.as_slice() == two.numbers.as_slice() {
+        return Ok(Ruling::Rejected(Cause::Equal));
+    }
+    Ok(Ruling::Accepted)
+}
+
+/// A block's quandle is one, and so is its cocycle, if there is one.
+fn laws_of(block: &Block)
+    ensures quandle { IsQuandle block.now.listed.table }
+    ensures cocycle { IsCocycleOrNone block.now.cocycle }
+{
+    let quandle = block.listed.quandle();
+    let _order = quandle.order();
+    if let Some(cocycle) = &block.cocycle {
+        let _modulus = cocycle.modulus();
+    }
+}
+
+/// The ruling on linking numbers.
+fn rule_links(
+    alloc: Global,
+    first: &Grid,
+    second: &Grid,
+    one: &Linked,
+    two: &Linked,
+) -> Result<Ruling, OutOfMemory>
+    ensures ruling { IfOk result (λ r. RulesOn first.now second.now (Linking one.now two.now) r) }
+    ensures apart { IfOk result (λ r. r ≡ Ruling.Accepted → Equivalent first.now second.now → ⊥) }
+{
+    match cause_of_links(alloc, first, second, one, two)? {
+        Some(cause) => Ok(Ruling::Rejected(cause)),
+        None => Ok(Ruling::Accepted),
+    }
+}

@@ -1,0 +1,98 @@
+-- Blocks as a text: a quandle item, and perhaps a cocycle of this quandle behind it.
+use Rattle.std.specs.Prelude.{ℕ, zero, suc, List, [], ◌∷◌, map, codes, Option, Some, None, Result, Ok, Err, if◌then◌else◌}
+use Rattle.std.specs.Str.{bytes_eq}
+use Rattle.quandle_core.specs.Quandle.{Table}
+use Rattle.cocycle_core.specs.Cocycle.{Cochain}
+use Rattle.text_lines.specs.Lines.{NumberedLine, Text, begins}
+use Rattle.verdict_core.specs.Names.{NamedQuandle}
+use Rattle.text_items.specs.declared.fault.TextFault.{TextFault}
+use Rattle.text_items.specs.declared.fault.TextFault.TheVariants.{Malformed, Limit}
+use Rattle.text_items.specs.declared.quandles.TheConstants.{MAX_QUANDLES}
+use Rattle.text_items.specs.Reading.{◌>>=◌, next_line, next_token, line_end, word, number, last_number}
+use Rattle.text_items.specs.Quandles.{written_at, quandle_item, built_in}
+use Rattle.text_items.specs.Cocycles.{cocycle_item}
+use Rattle.number_text.specs.declared.blocks.Block.{Block}
+
+abbrev pub some_cocycle : Table → Text → Result (Option Cochain × Text) TextFault
+some_cocycle quandle text = do
+  cocycle ← cocycle_item quandle text
+  Ok (Some cocycle.0, cocycle.1)
+
+-- a cocycle of the quandle where a line that begins with `weight` is next, else nothing
+unfoldable pub cocycle_or_none : Table → Text → Result (Option Cochain × Text) TextFault
+cocycle_or_none quandle text = if begins (codes "weight") text then some_cocycle quandle text else Ok (None, text)
+
+-- a quandle, and perhaps a cocycle of it
+unfoldable pub block_item : Text → Result (Block × Text) TextFault
+block_item text = do
+  quandle ← quandle_item text
+  cocycle ← cocycle_or_none quandle.0.table quandle.1
+  Ok (record { listed = quandle.0; cocycle = cocycle.0 }, cocycle.1)
+
+-- ---- the form of a name; only private clauses and proofs cite these
+
+unfoldable pub order_form : NumberedLine → Result (Unit {0}) TextFault
+order_form line = do
+  order ← last_number line
+  Ok tt
+
+unfoldable pub factor_form : NumberedLine → Result (Unit {0}) TextFault
+factor_form line = do
+  order ← number line
+  factor ← last_number order.1
+  Ok tt
+
+unfoldable pub end_form : NumberedLine → Result (Unit {0}) TextFault
+end_form line = do
+  end ← line_end line
+  Ok tt
+
+-- by the family that the first token names
+unfoldable pub spelled_form : NumberedLine → Result (Unit {0}) TextFault
+spelled_form line = do
+  family ← next_token line
+  if bytes_eq family.0 (codes "trivial") then order_form family.1
+      else if bytes_eq family.0 (codes "dihedral") then order_form family.1
+      else if bytes_eq family.0 (codes "tetrahedral") then end_form family.1
+      else if bytes_eq family.0 (codes "alexander") then factor_form family.1
+      else if bytes_eq family.0 (codes "table") then order_form family.1
+      else Err (Malformed family.1.number)
+
+-- the same, by the definition of a name
+unfoldable pub name_form : NumberedLine → Result (Unit {0}) TextFault
+name_form line = do
+  name ← written_at line
+  Ok tt
+
+-- ---- a list of blocks
+
+-- one block more than a text may have: the form of its first line is tried before the limit
+unfoldable pub surplus_block : Text → Result (List Block × Text) TextFault
+surplus_block text = do
+  line ← next_line text
+  rest ← word (codes "quandle") line.0
+  form ← name_form rest
+  Err (Limit line.0.number)
+
+-- all blocks up to the first line behind one that does not begin with `quandle`, of which there may be so many
+unfoldable pub blocks : ℕ → Text → Result (List Block × Text) TextFault
+blocks zero text = if begins (codes "quandle") text then surplus_block text else Ok ([], text)
+blocks (suc room) text = if begins (codes "quandle") text then (do
+  first ← block_item text
+  others ← blocks room first.1
+  Ok (first.0 ∷ others.0, others.1)) else Ok ([], text)
+
+-- a quandle without a cocycle
+abbrev pub alone : NamedQuandle → Block
+alone quandle = record { listed = quandle; cocycle = None }
+
+-- the blocks, or the built-in quandles, each alone, where there are none
+abbrev pub or_built_in : List Block → List Block
+or_built_in [] = map alone built_in
+or_built_in (block ∷ blocks) = block ∷ blocks
+
+-- the same of at most MAX_QUANDLES
+unfoldable pub block_list : Text → Result (List Block × Text) TextFault
+block_list text = do
+  listed ← blocks MAX_QUANDLES text
+  Ok (or_built_in listed.0, listed.1)

@@ -1,0 +1,171 @@
+//! Blocks: a quandle, and perhaps a cocycle of it.
+ghost use Rattle.std.specs.Prelude.{◌≡◌, map, IfOk, IfErr};
+ghost use Rattle.text_items.specs.Reading.{Gives};
+ghost use Rattle.text_items.specs.Quandles.{built_in};
+ghost use Rattle.text_items.specs.declared.fault.TextFault.TheVariants as fault;
+ghost use Rattle.number_text.specs.Blocks.{alone, cocycle_or_none, block_item, order_form, factor_form, end_form, spelled_form, name_form, surplus_block, blocks, block_list};
+
+use cocycle_core::Cocycle;
+use grid_core::Items;
+use quandle_core::Quandle;
+use std::alloc::Global;
+use text_items::reading::{last_number, line_end, next_line, next_token, number, word};
+use text_items::{MAX_QUANDLES, TextFault, cocycle_item, quandle_item, quandle_list};
+use text_lines::{Line, Lines};
+use verdict_core::Listed;
+
+/// A quandle by which colourings are to be counted, and perhaps a cocycle by which they are to be weighed.
+/// A cocycle that was read is one of this quandle.
+#[derive(Drop)]
+pub struct Block {
+    pub listed: Listed,
+    pub cocycle: Option<Cocycle>,
+}
+
+/// A cocycle of a quandle where a line that begins with `weight` is next, else nothing.
+#[tactic(auto, unfolding(crate::specs::Blocks::cocycle_or_none))]
+pub(crate) fn cocycle_or_none(
+    quandle: &Quandle,
+    lines: &mut Lines,
+) -> Result<Option<Cocycle>, TextFault>
+    ensures { Gives (λ c. (c, lines.new)) result (cocycle_or_none quandle.now lines.old) }
+{
+    if !lines.begins(b"weight") {
+        return Ok(None);
+    }
+    Ok(Some(cocycle_item(quandle, lines)?))
+}
+
+/// A quandle item, and behind it perhaps a cocycle of the quandle. Takes no memory.
+#[tactic(auto, unfolding(crate::specs::Blocks::block_item))]
+pub fn block_item(lines: &mut Lines) -> Result<Block, TextFault>
+    ensures { Gives (λ b. (b, lines.new)) result (block_item lines.old) }
+{
+    let listed = quandle_item(lines)?;
+    let cocycle = cocycle_or_none(listed.quandle(), lines)?;
+    Ok(Block { listed, cocycle })
+}
+
+/// A number, and the end of a line.
+#[tactic(auto, unfolding(crate::specs::Blocks::order_form))]
+fn order_form(line: &mut Line) -> Result<(), TextFault>
+    ensures { Gives (λ _. tt) result (order_form line.old) }
+{
+    let _order = last_number(line)?;
+    Ok(())
+}
+
+/// Two numbers, and the end of a line.
+#[tactic(auto, unfolding(crate::specs::Blocks::factor_form))]
+fn factor_form(line: &mut Line) -> Result<(), TextFault>
+    ensures { Gives (λ _. tt) result (factor_form line.old) }
+{
+    let _order = number(line)?;
+    let _factor = last_number(line)?;
+    Ok(())
+}
+
+/// The end of a line.
+#[tactic(auto, unfolding(crate::specs::Blocks::end_form))]
+fn end_form(line: &mut Line) -> Result<(), TextFault>
+    ensures { Gives (λ _. tt) result (end_form line.old) }
+{
+    line_end(line)?;
+    Ok(())
+}
+
+/// The form of the name of a quandle, at the end of a line.
+fn name_form(line: &mut Line) -> Result<(), TextFault>
+    ensures { Gives (λ _. tt) result (name_form line.old) }
+{
+    spelled_form(line)
+}
+
+/// The same, by the family that the first token names.
+#[tactic(auto, unfolding(crate::specs::Blocks::spelled_form))]
+fn spelled_form(line: &mut Line) -> Result<(), TextFault>
+    ensures { Gives (λ _. tt) result (spelled_form line.old) }
+{
+    let family = next_token(line)?;
+    if family == b"trivial".as_slice() {
+        order_form(line)
+    } else if family == b"dihedral".as_slice() {
+        order_form(line)
+    } else if family == b"tetrahedral".as_slice() {
+        end_form(line)
+    } else if family == b"alexander".as_slice() {
+        factor_form(line)
+    } else if family == b"table".as_slice() {
+        order_form(line)
+    } else {
+        Err(TextFault::Malformed {
+            line: line.number(),
+        })
+    }
+}
+
+/// The fault of one block more than a text may have.
+#[tactic(auto, unfolding(crate::specs::Blocks::surplus_block))]
+fn surplus_block(lines: &mut Lines) -> Result<Vec<Block>, TextFault>
+    ensures { Gives (λ v. (v.items, lines.new)) result (surplus_block lines.old) }
+{
+    let mut line = next_line(lines)?;
+    let at = line.number();
+    word(&mut line, b"quandle")?;
+    name_form(&mut line)?;
+    Err(TextFault::Limit { line: at })
+}
+
+/// All blocks up to the first line behind one that does not begin with `quandle`.
+fn blocks(alloc: Global, lines: &mut Lines) -> Result<Vec<Block>, TextFault>
+    ensures { Gives (λ v. (v.items, lines.new)) result (blocks MAX_QUANDLES lines.old) }
+{
+    let mut blocks = Vec::new(alloc);
+    for _ in 0..MAX_QUANDLES {
+        if !lines.begins(b"quandle") {
+            return Ok(blocks);
+        }
+        blocks.push(block_item(lines)?)?;
+    }
+    if lines.begins(b"quandle") {
+        return surplus_block(lines);
+    }
+    Ok(blocks)
+}
+
+/// The quandles that a text without quandles has.
+fn built_in(alloc: Global) -> Result<Items<Listed>, TextFault>
+    ensures ok { IfOk result (λ q. q ≡ built_in) }
+    ensures err { IfErr result (λ e. e ≡ fault.OutOfMemory) }
+{
+    let mut nothing = Lines::new(b"");
+    quandle_list(alloc, &mut nothing)
+}
+
+/// The blocks that stand for an empty list: the built-in quandles, each alone.
+fn built_in_blocks(alloc: Global) -> Result<Vec<Block>, TextFault>
+    ensures ok { IfOk result (λ v. v.items ≡ map alone built_in) }
+    ensures err { IfErr result (λ e. e ≡ fault.OutOfMemory) }
+{
+    let quandles = built_in(alloc)?;
+    let mut blocks = Vec::new(alloc);
+    for listed in quandles.as_slice() {
+        blocks.push(Block {
+            listed: listed.copy(),
+            cocycle: None,
+        })?;
+    }
+    Ok(blocks)
+}
+
+/// All blocks, or the built-in quandles where there are none.
+#[tactic(auto, unfolding(crate::specs::Blocks::block_list))]
+pub(crate) fn block_list(alloc: Global, lines: &mut Lines) -> Result<Items<Block>, TextFault>
+    ensures { Gives (λ b. (b, lines.new)) result (block_list lines.old) }
+{
+    let blocks = blocks(alloc, lines)?;
+    if blocks.is_empty() {
+        return Ok(Items::from_vec(built_in_blocks(alloc)?));
+    }
+    Ok(Items::from_vec(blocks))
+}

@@ -1,0 +1,16 @@
+//! Texts of numbers of colourings, read: a diagram and blocks, each a quandle and perhaps a cocycle of it; and evidence by numbers that two
+//! diagrams are not equivalent.
+#![tactic(auto)]
+
+mod blocks;
+mod evidence;
+mod evidence_items;
+mod number_lines;
+mod numbered;
+#[cfg(test)]
+mod tests;
+
+pub use blocks::{Block, block_item};
+pub use evidence::{Counted, Evidence, Linked};
+pub use evidence_items::{THIRD_VERSION, third_item};
+pub use numbered::{NumbersText, read_numbers};

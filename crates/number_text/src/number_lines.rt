@@ -1,0 +1,158 @@
+//! Lines of numbers of a diagram, as they are read.
+ghost use Rattle.std.specs.Prelude.{◌≡◌};
+ghost use Rattle.std.specs.List.{list_any};
+ghost use Rattle.text_items.specs.Reading.{Gives};
+ghost use Rattle.text_items.specs.Numbers.{is_long, numbers};
+ghost use Rattle.text_items.specs.Braids.{is_long_letter, letter_of, letters};
+ghost use Rattle.number_text.specs.Evidence.{seeds_at, numbers_at, counted_item, components_at, letters_at, linked_item};
+
+use crate::evidence::{Counted, Linked};
+use grid_core::{Items, Rows};
+use std::alloc::Global;
+use text_items::TextFault;
+use text_items::numbers::numbers_behind;
+use text_items::reading::{MAX_NUMBER, last_count, next_line, word};
+use text_lines::{Line, Lines};
+
+/// All tokens that are left of a line, as numbers of any size.
+fn number_list(alloc: Global, line: &mut Line) -> Result<Vec<u32>, TextFault>
+    ensures { Gives (λ v. v.items) result (numbers line.old) }
+{
+    let at = line.number();
+    let mut list = Vec::new(alloc);
+    while let Some(token) = line.next_token() {
+        let Some(value) = text_lines::number(token) else {
+            return Err(TextFault::Malformed { line: at });
+        };
+        list.push(value)?;
+    }
+    Ok(list)
+}
+
+/// Whether a number has too many digits.
+fn any_long(list: &[u32]) -> bool
+    ensures { result ≡ list_any is_long list.now }
+{
+    list.iter().any(|value| *value > MAX_NUMBER)
+}
+
+/// The word `numbers`, and so many numbers.
+#[tactic(auto, unfolding(crate::specs::Evidence::numbers_at))]
+fn numbers_at(alloc: Global, count: u8, line: &mut Line) -> Result<Vec<u32>, TextFault>
+    ensures { Gives (λ v. v.items) result (numbers_at count line.old) }
+{
+    word(line, b"numbers")?;
+    let at = line.number();
+    let list = number_list(alloc, line)?;
+    if any_long(list.as_slice()) {
+        return Err(TextFault::Limit { line: at });
+    }
+    if list.len() != count as usize {
+        return Err(TextFault::Malformed { line: at });
+    }
+    Ok(list)
+}
+
+/// The word `seeds`, and at most `MAX_SIZE` numbers; one above 254 is read as 255, which is no column.
+#[tactic(auto, unfolding(crate::specs::Evidence::seeds_at))]
+fn seeds_at(line: &mut Line) -> Result<Rows, TextFault>
+    ensures { Gives (λ r. r) result (seeds_at line.old) }
+{
+    numbers_behind(b"seeds", line)
+}
+
+/// The seeds of a diagram, and so many numbers of its colourings.
+#[tactic(auto, unfolding(crate::specs::Evidence::counted_item))]
+pub(crate) fn counted_item(
+    alloc: Global,
+    count: u8,
+    lines: &mut Lines,
+) -> Result<Counted, TextFault>
+    ensures { Gives (λ c. (c, lines.new)) result (counted_item count lines.old) }
+{
+    let mut first = next_line(lines)?;
+    let seeds = seeds_at(&mut first)?;
+    let mut second = next_line(lines)?;
+    let numbers = numbers_at(alloc, count, &mut second)?;
+    Ok(Counted {
+        seeds,
+        numbers: Items::from_vec(numbers),
+    })
+}
+
+/// The number that a token writes, perhaps with a `-` directly in front; `None` exactly where it has another form.
+fn letter(token: &[u8]) -> Option<i64>
+    ensures { result ≡ letter_of token.now }
+{
+    match token {
+        [b'-', rest @ ..] => match text_lines::number(rest) {
+            Some(value) => Some(-i64::from(value)),
+            None => None,
+        },
+        _ => match text_lines::number(token) {
+            Some(value) => Some(i64::from(value)),
+            None => None,
+        },
+    }
+}
+
+/// All tokens that are left of a line, as numbers of any size, negative or not.
+fn letter_list(alloc: Global, line: &mut Line) -> Result<Vec<i64>, TextFault>
+    ensures { Gives (λ v. v.items) result (letters line.old) }
+{
+    let at = line.number();
+    let mut list = Vec::new(alloc);
+    while let Some(token) = line.next_token() {
+        let Some(value) = letter(token) else {
+            return Err(TextFault::Malformed { line: at });
+        };
+        list.push(value)?;
+    }
+    Ok(list)
+}
+
+/// Whether a number, negative or not, has too many digits.
+fn any_long_letter(list: &[i64]) -> bool
+    ensures { result ≡ list_any is_long_letter list.now }
+{
+    list.iter()
+        .any(|value| value.unsigned_abs() > u64::from(MAX_NUMBER))
+}
+
+/// The word `numbers`, and any number of numbers, negative or not.
+#[tactic(auto, unfolding(crate::specs::Evidence::letters_at))]
+fn letters_at(alloc: Global, line: &mut Line) -> Result<Vec<i64>, TextFault>
+    ensures { Gives (λ v. v.items) result (letters_at line.old) }
+{
+    word(line, b"numbers")?;
+    let at = line.number();
+    let list = letter_list(alloc, line)?;
+    if any_long_letter(list.as_slice()) {
+        return Err(TextFault::Limit { line: at });
+    }
+    Ok(list)
+}
+
+/// The word `components`, and a number.
+#[tactic(auto, unfolding(crate::specs::Evidence::components_at))]
+fn components_at(line: &mut Line) -> Result<u32, TextFault>
+    ensures { Gives (λ n. n) result (components_at line.old) }
+{
+    word(line, b"components")?;
+    last_count(line)
+}
+
+/// How many components a link has, and its linking numbers.
+#[tactic(auto, unfolding(crate::specs::Evidence::linked_item))]
+pub(crate) fn linked_item(alloc: Global, lines: &mut Lines) -> Result<Linked, TextFault>
+    ensures { Gives (λ l. (l, lines.new)) result (linked_item lines.old) }
+{
+    let mut first = next_line(lines)?;
+    let components = components_at(&mut first)?;
+    let mut second = next_line(lines)?;
+    let numbers = letters_at(alloc, &mut second)?;
+    Ok(Linked {
+        components,
+        numbers: Items::from_vec(numbers),
+    })
+}
