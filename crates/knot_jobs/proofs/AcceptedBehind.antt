@@ -6,7 +6,7 @@ use Rattle.verdict_core.specs.declared.problem.ProblemText.{ProblemText}
 use Rattle.verdict_core.specs.declared.verdict.Verdict.{Verdict}
 use Rattle.verdict_core.specs.Names.{NamedQuandle}
 use Rattle.verdict_core.specs.Diagrams.{grid_of, columns}
-use Rattle.knot_text.specs.declared.fault.TextFault.{TextFault}
+use Rattle.text_items.specs.declared.fault.TextFault.{TextFault}
 use Rattle.knot_text.specs.declared.verdicts.Version.TheVariants.{Tidy}
 use Rattle.knot_text.specs.Printed.{HasQuandleText, HasVersionText}
 use Rattle.knot_text.specs.Shapes.{problem_of, check_of}

@@ -6,7 +6,7 @@ use Rattle.clap.specs.Walk.{Text}
 use Rattle.knot_jobs.specs.Words.{job_word, Asks, AsksNothing}
 use Rattle.knot_jobs.specs.declared.words.Asked.{Asked}
 use Rattle.knot_jobs.specs.declared.words.Job.{Job}
-use Rattle.knot_jobs.specs.declared.words.Job.TheVariants.{Decide, Check, Replay, Colour, Close, Code, Braid, Linking, Braidcheck, Weights, Simplify, Sample}
+use Rattle.knot_jobs.specs.declared.words.Job.TheVariants.{Decide, Check, Replay, Colour, Close, Code, Braid, Linking, Braidcheck, Weights, Numbers, Simplify, Grid, Sample}
 use Rattle.knot_jobs.proofs.KnotReads.{one_number}
 
 -- the job that is called so
@@ -20,7 +20,11 @@ job_of word = if bytes_eq word (job_word Check) then Check else (
     if bytes_eq word (job_word Linking) then Linking else (
     if bytes_eq word (job_word Braidcheck) then Braidcheck else (
     if bytes_eq word (job_word Weights) then Weights else (
-    if bytes_eq word (job_word Simplify) then Simplify else (if bytes_eq word (job_word Decide) then Decide else Sample)
+    if bytes_eq word (job_word Numbers) then Numbers else (
+    if bytes_eq word (job_word Simplify) then Simplify else (
+    if bytes_eq word (job_word Grid) then Grid else (if bytes_eq word (job_word Decide) then Decide else Sample)
+    )
+    )
     )
     )
     )
@@ -42,7 +46,9 @@ job_of_word Braid = refl
 job_of_word Linking = refl
 job_of_word Braidcheck = refl
 job_of_word Weights = refl
+job_of_word Numbers = refl
 job_of_word Simplify = refl
+job_of_word Grid = refl
 job_of_word Sample = refl
 
 one_job : (a b : Job) → job_word a ≡ job_word b → a ≡ b

@@ -5,12 +5,13 @@ use Rattle.text_lines.specs.Lines.{text_of}
 use Rattle.verdict_core.specs.declared.problem.ProblemText.{ProblemText}
 use Rattle.knot_text.specs.declared.shapes.ReplayText.{ReplayText}
 use Rattle.verdict_core.specs.declared.verdict.Verdict.{Verdict}
-use Rattle.knot_text.specs.Reading.{◌>>=◌, text_end}
-use Rattle.knot_text.specs.Moves.{moves_item}
+use Rattle.text_items.specs.Reading.{◌>>=◌, text_end}
+use Rattle.text_items.specs.Moves.{moves_item}
 use Rattle.knot_text.specs.Verdicts.{verdict_item}
-use Rattle.knot_text.specs.Colours.{coloured}
+use Rattle.text_items.specs.Colours.{coloured}
 use Rattle.verdict_core.specs.Diagrams.{grid_of, columns}
-use Rattle.knot_text.specs.Shapes.{diagram_item, problem_item, check_in, check_of, replay_in, replay_of}
+use Rattle.text_items.specs.Diagrams.{diagram_item}
+use Rattle.knot_text.specs.Shapes.{problem_item, check_in, check_of, replay_in, replay_of}
 use Rattle.knot_text.proofs.Steady.{bind_ok, ok_is}
 use Rattle.knot_text.proofs.GridsRead.{diagram_is, problem_grids}
 

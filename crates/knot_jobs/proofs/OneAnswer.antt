@@ -7,8 +7,8 @@ use Rattle.grid_moves.specs.declared.step.Move.{Move}
 use Rattle.grid_moves.proofs.Stopped.{joins_once, not_both, stops_once, joins_or_stops}
 use Rattle.colour_rows.specs.Colouring.{is_colouring}
 use Rattle.text_lines.specs.Lines.{Text, text_of}
-use Rattle.knot_text.specs.declared.fault.TextFault.{TextFault}
-use Rattle.knot_text.specs.declared.fault.TextFault.TheVariants as bad
+use Rattle.text_items.specs.declared.fault.TextFault.{TextFault}
+use Rattle.text_items.specs.declared.fault.TextFault.TheVariants as bad
 use Rattle.verdict_core.specs.declared.problem.ProblemText.{ProblemText}
 use Rattle.verdict_core.specs.declared.verdict.Verdict.{Verdict}
 use Rattle.verdict_core.specs.declared.verdict.Verdict.TheVariants.{Equal, Different, UnknownBudget, UnknownExhausted}
@@ -33,7 +33,7 @@ use Rattle.knot_jobs.specs.declared.reply.Reply.{Reply}
 use Rattle.decision_core.specs.declared.status.Status.{Status}
 use Rattle.decision_core.specs.declared.status.Status.TheVariants as status
 use Rattle.knot_jobs.specs.declared.words.Job.{Job}
-use Rattle.knot_jobs.specs.declared.words.Job.TheVariants.{Decide, Check, Replay, Colour, Close, Code, Braid, Linking, Braidcheck, Weights, Simplify, Sample}
+use Rattle.knot_jobs.specs.declared.words.Job.TheVariants.{Decide, Check, Replay, Colour, Close, Code, Braid, Linking, Braidcheck, Weights, Numbers, Simplify, Grid, Sample}
 use Rattle.knot_jobs.specs.declared.words.Asked.{Asked}
 use Rattle.decision_core.specs.Status.{IsOfDefinedAnswer, IsOfAnswer}
 use Rattle.knot_jobs.specs.Lines.{ruling_line, step_tokens, malformed_line, limit_line}
@@ -48,8 +48,13 @@ use Rattle.knot_jobs.specs.Jobs.Braid.{word_text}
 use Rattle.knot_jobs.specs.Jobs.Linking.{linking_text}
 use Rattle.knot_jobs.specs.Jobs.Braidcheck.{ruled_reply}
 use Rattle.knot_jobs.specs.Jobs.Weights.{weights_text}
+use Rattle.code_text.specs.declared.whole.CodeText.{CodeText}
+use Rattle.code_text.specs.declared.refusal.TextRefusal.{TextRefusal}
+use Rattle.code_text.specs.declared.refusal.TextRefusal.TheVariants.{Rows, Gauss, Columns, Lost}
+use Rattle.code_text.specs.TextGrid.{IsAnswer}
+use Rattle.knot_jobs.specs.Jobs.Grid.{drawn_reply}
 use Rattle.walk_samples.specs.Text.{sample_text}
-use Rattle.knot_jobs.specs.Answer.{limit_of, IsOver, IsWithin, task_of, leaves_no_choice, IsInShape, Answers}
+use Rattle.knot_jobs.specs.Answer.{limit_of, IsOver, IsWithin, task_of, leaves_no_choice, IsInShape, IsBeyondColumns, Answers}
 use Rattle.knot_jobs.proofs.Along.{carries_once, carried_along, joins_along}
 use Rattle.knot_jobs.proofs.Grids.{check_grids, replay_grid}
 
@@ -81,34 +86,51 @@ moves_defined d moves (Some (q, colours)) r a = elim a [
   | inr some ↦ elim some.answer [ inl last ↦ inl (ap status_of last.is) | inr stop ↦ inr (inr (ap status_of stop.is)) ]
 ]
 
--- what was read has a defined answer
-replies_defined : (job : Job) (asked : Asked) (i : (task_of job asked).Input) (r : Reply) → (task_of job asked).Replies i r → IsOfDefinedAnswer r.status
-replies_defined Decide asked i r a = rw a.status_is (verdict_defined a.verdict)
-replies_defined Check asked i r a = rw (ap status_of a.is) (ruling_defined a.ruling)
-replies_defined Replay asked i r a = moves_defined (grid_of i.diagram) i.moves i.colours r a
-replies_defined Colour asked i r a = inl (ap status_of a)
-replies_defined Close asked i r a = inl (ap status_of a)
-replies_defined Code asked i r a = inl (ap status_of a)
-replies_defined Braid asked i r a = inl (ap status_of a)
-replies_defined Linking asked i r a = inl (ap status_of a)
-replies_defined Braidcheck asked i r a = rw (ap status_of a) (ruled_defined (ruling i.first i.second i.steps))
-replies_defined Weights asked i r a = inl (ap status_of a)
-replies_defined Simplify asked i r a = inl (ap status_of a.is)
-replies_defined Sample asked i r a = inl (ap status_of a)
+-- what was read has one: a defined answer, or more columns than a diagram may have
+abbrev IsDefined : Job → Reply → Type 0
+IsDefined job r = IsOfDefinedAnswer r.status ⊎ IsBeyondColumns job r
 
-read_status : {A : Type 0} (answers : A → Reply → Type 0) (read : Result A TextFault) (r : Reply)
-    → ((i : A) → answers i r → IsOfDefinedAnswer r.status) → AnswersRead answers read r → IsOfAnswer r.status
-read_status answers (Ok i) r each a = inl (each i a)
-read_status answers (Err (bad.Malformed n)) r each a = inr (inl (ap status_of a))
-read_status answers (Err (bad.Limit n)) r each a = inr (inr (ap status_of a))
-read_status answers (Err bad.OutOfMemory) r each a = absurd a
+drawn_defined : (i : CodeText) (answer : Result Diagram TextRefusal) (r : Reply) → IsAnswer i answer → r ≡ drawn_reply answer → IsDefined Grid r
+drawn_defined i (Ok d) r is_true is = inl (inl (ap status_of is))
+drawn_defined i (Err (Rows fault)) r is_true is = inl (inr (inr (ap status_of is)))
+drawn_defined i (Err Gauss) r is_true is = inl (inr (inr (ap status_of is)))
+drawn_defined i (Err (Columns columns)) r is_true is = inr (columns, is_true.0, is)
+drawn_defined i (Err Lost) r is_true is = inl (inr (inr (ap status_of is)))
+
+replies_defined : (job : Job) (asked : Asked) (i : (task_of job asked).Input) (r : Reply) → (task_of job asked).Replies i r → IsDefined job r
+replies_defined Decide asked i r a = inl (rw a.status_is (verdict_defined a.verdict))
+replies_defined Check asked i r a = inl (rw (ap status_of a.is) (ruling_defined a.ruling))
+replies_defined Replay asked i r a = inl (moves_defined (grid_of i.diagram) i.moves i.colours r a)
+replies_defined Colour asked i r a = inl (inl (ap status_of a))
+replies_defined Close asked i r a = inl (inl (ap status_of a))
+replies_defined Code asked i r a = inl (inl (ap status_of a))
+replies_defined Braid asked i r a = inl (inl (ap status_of a))
+replies_defined Linking asked i r a = inl (inl (ap status_of a))
+replies_defined Braidcheck asked i r a = inl (rw (ap status_of a) (ruled_defined (ruling i.first i.second i.steps)))
+replies_defined Weights asked i r a = inl (inl (ap status_of a))
+replies_defined Numbers asked i r a = inl (inl (ap status_of a.is))
+replies_defined Simplify asked i r a = inl (inl (ap status_of a.is))
+replies_defined Grid asked i r a = drawn_defined i a.answer r a.is_true a.is
+replies_defined Sample asked i r a = inl (inl (ap status_of a))
+
+-- more columns than a diagram may have are a limit
+beyond_status : (job : Job) (r : Reply) → IsBeyondColumns job r → r.status ≡ status.Limit
+beyond_status Grid r a = ap status_of a.2
+beyond_status job r a = absurd a
+
+read_status : {A : Type 0} (job : Job) (answers : A → Reply → Type 0) (read : Result A TextFault) (r : Reply)
+    → ((i : A) → answers i r → IsDefined job r) → AnswersRead answers read r → IsOfAnswer r.status
+read_status job answers (Ok i) r each a = elim (each i a) [ inl defined ↦ inl defined | inr wide ↦ inr (inr (beyond_status job r wide)) ]
+read_status job answers (Err (bad.Malformed n)) r each a = inr (inl (ap status_of a))
+read_status job answers (Err (bad.Limit n)) r each a = inr (inr (ap status_of a))
+read_status job answers (Err bad.OutOfMemory) r each a = absurd a
 
 pub answer_status : (asked : Asked) (bytes : List ℕ) (r : Reply) → Answers asked bytes r → IsOfAnswer r.status
 answer_status asked bytes r a = elim a [
   | inl long ↦ inr (inr (ap status_of long.1))
   | inr text ↦
       let task = task_of asked.job asked in
-      read_status task.Replies (task.read bytes) r (λ i. replies_defined asked.job asked i r) text.1
+      read_status asked.job task.Replies (task.read bytes) r (λ i. replies_defined asked.job asked i r) text.1
 ]
 
 -- ---- one answer
@@ -173,7 +195,9 @@ replies_once Braid asked other i r r' one two = one ∙ sym two
 replies_once Linking asked other i r r' one two = one ∙ sym two
 replies_once Braidcheck asked other i r r' one two = one ∙ sym two
 replies_once Weights asked other i r r' one two = one ∙ sym two
+replies_once Numbers asked other i r r' one two = absurd (let wrong : false ≡ true = other in cc)
 replies_once Simplify asked other i r r' one two = absurd (let wrong : false ≡ true = other in cc)
+replies_once Grid asked other i r r' one two = absurd (let wrong : false ≡ true = other in cc)
 replies_once Sample asked other i r r' one two = one ∙ sym two
 
 read_once : {A : Type 0} (answers : A → Reply → Type 0) (read : Result A TextFault) (r r' : Reply)
@@ -221,7 +245,9 @@ read_by_so_many Braid searching asked bytes r other a = a
 read_by_so_many Linking searching asked bytes r other a = a
 read_by_so_many Braidcheck searching asked bytes r other a = a
 read_by_so_many Weights searching asked bytes r other a = a
+read_by_so_many Numbers searching asked bytes r other a = a
 read_by_so_many Simplify searching asked bytes r other a = a
+read_by_so_many Grid searching asked bytes r other a = a
 read_by_so_many Sample searching asked bytes r other a = a
 
 pub by_so_many : (searching : ℕ → ℕ) (asked : Asked) (bytes : List ℕ) (r : Reply) → (asked.job ≡ Decide → ⊥)
@@ -278,7 +304,9 @@ some_reply Braid asked other bytes i is = (done (word_text (grid_of i.diagram) i
 some_reply Linking asked other bytes i is = (done (linking_text (grid_of i.0) (grid_of i.1)), (refl, refl))
 some_reply Braidcheck asked other bytes i is = some_ruled (ruling i.first i.second i.steps)
 some_reply Weights asked other bytes i is = (done (weights_text i.cocycle (grid_of i.first) (grid_of i.second)), (refl, refl))
+some_reply Numbers asked other bytes i is = absurd (let wrong : false ≡ true = other in cc)
 some_reply Simplify asked other bytes i is = absurd (let wrong : false ≡ true = other in cc)
+some_reply Grid asked other bytes i is = absurd (let wrong : false ≡ true = other in cc)
 some_reply Sample asked other bytes i is = (done (sample_text i), (refl, refl))
 
 -- a reader answers no want of memory in its definition
@@ -288,19 +316,21 @@ first_fails read first text is = elim (first text bad.OutOfMemory is) [
   | inr end ↦ absurd (let wrong = end.names in cc)
 ]
 
-never_memory : (job : Job) (asked : Asked) (bytes : List ℕ) → (task_of job asked).read bytes ≡ Err bad.OutOfMemory → ⊥
-never_memory Decide asked bytes is = first_fails problem_in problem_fails (text_of bytes) is
-never_memory Check asked bytes is = first_fails check_in check_fails (text_of bytes) is
-never_memory Replay asked bytes is = first_fails replay_in replay_fails (text_of bytes) is
-never_memory Colour asked bytes is = first_fails colour_in colour_fails (text_of bytes) is
-never_memory Close asked bytes is = first_fails close_in close_fails (text_of bytes) is
-never_memory Code asked bytes is = first_fails lone_diagram_in lone_diagram_fails (text_of bytes) is
-never_memory Braid asked bytes is = first_fails colour_in colour_fails (text_of bytes) is
-never_memory Linking asked bytes is = first_fails pair_in pair_fails (text_of bytes) is
-never_memory Braidcheck asked bytes is = first_fails braidcheck_in braidcheck_fails (text_of bytes) is
-never_memory Weights asked bytes is = first_fails weight_in weight_fails (text_of bytes) is
-never_memory Simplify asked bytes is = first_fails lone_diagram_in lone_diagram_fails (text_of bytes) is
-never_memory Sample asked bytes is = let wrong = is in cc
+never_memory : (job : Job) (asked : Asked) → leaves_no_choice job ≡ true → (bytes : List ℕ) → (task_of job asked).read bytes ≡ Err bad.OutOfMemory → ⊥
+never_memory Decide asked other bytes is = first_fails problem_in problem_fails (text_of bytes) is
+never_memory Check asked other bytes is = first_fails check_in check_fails (text_of bytes) is
+never_memory Replay asked other bytes is = first_fails replay_in replay_fails (text_of bytes) is
+never_memory Colour asked other bytes is = first_fails colour_in colour_fails (text_of bytes) is
+never_memory Close asked other bytes is = first_fails close_in close_fails (text_of bytes) is
+never_memory Code asked other bytes is = first_fails lone_diagram_in lone_diagram_fails (text_of bytes) is
+never_memory Braid asked other bytes is = first_fails colour_in colour_fails (text_of bytes) is
+never_memory Linking asked other bytes is = first_fails pair_in pair_fails (text_of bytes) is
+never_memory Braidcheck asked other bytes is = first_fails braidcheck_in braidcheck_fails (text_of bytes) is
+never_memory Weights asked other bytes is = first_fails weight_in weight_fails (text_of bytes) is
+never_memory Simplify asked other bytes is = first_fails lone_diagram_in lone_diagram_fails (text_of bytes) is
+never_memory Grid asked other bytes is = absurd (let wrong : false ≡ true = other in cc)
+never_memory Numbers asked other bytes is = absurd (let wrong : false ≡ true = other in cc)
+never_memory Sample asked other bytes is = let wrong = is in cc
 
 some_read : {A : Type 0} (answers : A → Reply → Type 0) (read : Result A TextFault) → (read ≡ Err bad.OutOfMemory → ⊥)
     → ((i : A) → read ≡ Ok i → SomeReply (answers i)) → SomeReply (AnswersRead answers read)
@@ -314,22 +344,22 @@ some_answer asked bytes other = elim (over_or_within (limit_of asked.job) bytes)
   | inl over ↦ (too_long, (refl, inl (over, refl)))
   | inr within ↦
       let task = task_of asked.job asked in
-      let a = some_read task.Replies (task.read bytes) (never_memory asked.job asked bytes) (some_reply asked.job asked other bytes) in
+      let a = some_read task.Replies (task.read bytes) (never_memory asked.job asked other bytes) (some_reply asked.job asked other bytes) in
       (a.0, (a.1.0, inr (within, a.1.1)))
 ]
 
 -- ---- an input of the job's shape
 
-ok_defined : {A : Type 0} (answers : A → Reply → Type 0) (read : Result A TextFault) (r : Reply)
-    → ((i : A) → answers i r → IsOfDefinedAnswer r.status) → IsOk read → AnswersRead answers read r → IsOfDefinedAnswer r.status
-ok_defined answers (Ok i) r each ok a = each i a
-ok_defined answers (Err e) r each ok a = absurd (let wrong = ok in cc)
+ok_defined : {A : Type 0} (job : Job) (answers : A → Reply → Type 0) (read : Result A TextFault) (r : Reply)
+    → ((i : A) → answers i r → IsDefined job r) → IsOk read → AnswersRead answers read r → IsDefined job r
+ok_defined job answers (Ok i) r each ok a = each i a
+ok_defined job answers (Err e) r each ok a = absurd (let wrong = ok in cc)
 
 pub defined_answer : (asked : Asked) (bytes : List ℕ) (r : Reply) → IsWithin (limit_of asked.job) bytes → IsInShape asked bytes
-    → Answers asked bytes r → IsOfDefinedAnswer r.status
+    → Answers asked bytes r → IsDefined asked.job r
 defined_answer asked bytes r within shape answer = elim answer [
   | inl long ↦ absurd (not_over (limit_of asked.job) bytes long.0 within)
   | inr text ↦
       let task = task_of asked.job asked in
-      ok_defined task.Replies (task.read bytes) r (λ i. replies_defined asked.job asked i r) shape text.1
+      ok_defined asked.job task.Replies (task.read bytes) r (λ i. replies_defined asked.job asked i r) shape text.1
 ]

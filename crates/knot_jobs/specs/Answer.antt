@@ -1,7 +1,7 @@
 -- What is due to an input: how many bytes it may have, how each job reads it, and the replies to what was read.
 use Rattle.std.specs.Prelude.{◌≡◌, ◌<◌, ◌≤◌, ◌⊎◌, if◌then◌else◌, ℕ, List, [], Option, Some, None, Bool, true, false, is_some, length, Result, Ok, IsOk}
 use Rattle.verdict_core.specs.declared.diagrams.Diagram.{Diagram}
-use Rattle.knot_text.specs.declared.fault.TextFault.{TextFault}
+use Rattle.text_items.specs.declared.fault.TextFault.{TextFault}
 use Rattle.verdict_core.specs.declared.problem.ProblemText.{ProblemText}
 use Rattle.knot_text.specs.declared.shapes.ReplayText.{ReplayText}
 use Rattle.knot_text.specs.declared.shapes.ColourText.{ColourText}
@@ -13,10 +13,14 @@ use Rattle.knot_text.specs.Shapes.{problem_of, check_of, replay_of, colour_of, c
 use Rattle.knot_text.specs.Pairs.{pair_of}
 use Rattle.knot_text.specs.BraidChecks.{braidcheck_of}
 use Rattle.knot_text.specs.Weights.{weight_of}
+use Rattle.number_text.specs.declared.numbered.NumbersText.{NumbersText}
+use Rattle.number_text.specs.Numbered.{numbers_of}
+use Rattle.code_text.specs.declared.whole.CodeText.{CodeText}
+use Rattle.code_text.specs.Whole.{code_text_of}
 use Rattle.decision_core.specs.declared.limits.TheConstants.{MAX_INPUT, MAX_CERTIFICATE}
 use Rattle.knot_jobs.specs.declared.reply.Reply.{Reply}
 use Rattle.knot_jobs.specs.declared.words.Job.{Job}
-use Rattle.knot_jobs.specs.declared.words.Job.TheVariants.{Decide, Check, Replay, Colour, Close, Code, Braid, Linking, Braidcheck, Weights, Simplify, Sample}
+use Rattle.knot_jobs.specs.declared.words.Job.TheVariants.{Decide, Check, Replay, Colour, Close, Code, Braid, Linking, Braidcheck, Weights, Numbers, Simplify, Grid, Sample}
 use Rattle.knot_jobs.specs.declared.words.Asked.{Asked}
 use Rattle.knot_jobs.specs.Reply.{too_long, AnswersRead}
 use Rattle.knot_jobs.specs.Jobs.Decide.{AnswersDecide}
@@ -29,7 +33,9 @@ use Rattle.knot_jobs.specs.Jobs.Braid.{AnswersBraid}
 use Rattle.knot_jobs.specs.Jobs.Linking.{AnswersLinking}
 use Rattle.knot_jobs.specs.Jobs.Braidcheck.{AnswersBraidcheck}
 use Rattle.knot_jobs.specs.Jobs.Weights.{AnswersWeights}
+use Rattle.knot_jobs.specs.Jobs.Numbers.{AnswersNumbers}
 use Rattle.knot_jobs.specs.Jobs.Simplify.{AnswersSimplify}
+use Rattle.knot_jobs.specs.Jobs.Grid.{IsTooWide, AnswersGrid}
 use Rattle.knot_jobs.specs.Jobs.Sample.{AnswersSample}
 
 -- ---- the bytes of an input
@@ -77,19 +83,28 @@ task_of Braid asked = record { Input = ColourText; read = colour_of; Replies = A
 task_of Linking asked = record { Input = Diagram × Diagram; read = pair_of; Replies = AnswersLinking }
 task_of Braidcheck asked = record { Input = BraidCheckText; read = braidcheck_of; Replies = AnswersBraidcheck }
 task_of Weights asked = record { Input = WeightText; read = weight_of; Replies = AnswersWeights }
+task_of Numbers asked = record { Input = NumbersText; read = numbers_of; Replies = AnswersNumbers }
 task_of Simplify asked = record { Input = Diagram; read = lone_diagram_of; Replies = AnswersSimplify asked.budget }
+task_of Grid asked = record { Input = CodeText; read = code_text_of; Replies = AnswersGrid }
 task_of Sample asked = record { Input = ℕ; read = λ bytes. Ok asked.seed; Replies = AnswersSample }
 
--- the job leaves no choice of what to reply: the verdict of `decide` may rest on one search or another, and `simplify` may go by one list
--- of moves or another
+-- the job leaves no choice of what to reply: the verdict of `decide` may rest on one search or another, `simplify` may go by one list
+-- of moves or another, `numbers` may count by one plan or another, and `grid` may draw one diagram of a code or another
 abbrev pub leaves_no_choice : Job → Bool
 leaves_no_choice Decide = false
 leaves_no_choice Simplify = false
+leaves_no_choice Numbers = false
+leaves_no_choice Grid = false
 leaves_no_choice job = true
 
 -- the bytes are a text of the job's shape: no line of it is bad; of `sample`, which reads none, any bytes
 abbrev pub IsInShape : Asked → List ℕ → Type 0
 IsInShape asked bytes = IsOk ((task_of asked.job asked).read bytes)
+
+-- the reply says that a diagram of the input takes too many columns, which `grid` alone says
+abbrev pub IsBeyondColumns : Job → Reply → Type 0
+IsBeyondColumns Grid reply = IsTooWide reply
+IsBeyondColumns job reply = ⊥
 
 -- what the job that is asked for replies to bytes within its limit
 abbrev pub AnswersText : Asked → List ℕ → Reply → Type 0

@@ -9,5 +9,7 @@ pub mod Braid
 pub mod Linking
 pub mod Braidcheck
 pub mod Weights
+pub mod Numbers
 pub mod Simplify
+pub mod Grid
 pub mod Sample

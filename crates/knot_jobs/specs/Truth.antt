@@ -1,6 +1,7 @@
 -- What a verdict is worth that `decide` writes or `check` accepts.
 use Rattle.std.specs.Prelude.{◌≡◌, ℕ, List, Ok}
 use Rattle.std.specs.Io.KnownBytes.{Appends}
+use Rattle.grid_core.specs.Diagram.{Diagram as Marks, IsGrid}
 use Rattle.grid_moves.specs.Joining.{Equivalent}
 use Rattle.verdict_core.specs.declared.diagrams.Diagram.{Diagram}
 use Rattle.verdict_core.specs.declared.problem.ProblemText.{ProblemText}
@@ -12,10 +13,14 @@ use Rattle.knot_text.specs.declared.braid_checks.BraidCheckText.{BraidCheckText}
 use Rattle.knot_text.specs.BraidChecks.{braidcheck_of}
 use Rattle.knot_text.specs.declared.weights.WeightText.{WeightText}
 use Rattle.knot_text.specs.Weights.{weight_of}
+use Rattle.knot_text.specs.Printed.{grid_text}
+use Rattle.code_text.specs.declared.whole.CodeText.{CodeText}
+use Rattle.code_text.specs.Whole.{code_text_of}
+use Rattle.code_text.specs.TextGrid.{IsDiagramOf}
 use Rattle.cert_check.specs.declared.ruling.Ruling.TheVariants.{Accepted}
 use Rattle.knot_jobs.specs.declared.words.Asked.{Asked}
 use Rattle.knot_jobs.specs.declared.words.Job.{Job}
-use Rattle.knot_jobs.specs.declared.words.Job.TheVariants.{Decide, Check, Linking, Braidcheck, Weights}
+use Rattle.knot_jobs.specs.declared.words.Job.TheVariants.{Decide, Check, Linking, Braidcheck, Weights, Grid}
 use Rattle.decision_core.specs.declared.status.Status.{Status}
 use Rattle.decision_core.specs.declared.status.Status.TheVariants as status
 use Rattle.decision_core.specs.Decision.{IsTrueVerdict, put_behind, IsDecision}
@@ -73,16 +78,28 @@ pub record IsBraidCertificate (bytes : List ℕ) : Type 0 where
   pub read : braidcheck_of bytes ≡ Ok input
   pub alike : HaveEquallyMany input.first input.second
 
+-- ---- a code that was drawn
+
+-- the bytes are the text of a code, and the text is a grid whose own code is that one, under other names of crossings and edges
+pub record IsTrueDrawing (bytes text : List ℕ) : Type 0 where
+  pub input : CodeText
+  pub read : code_text_of bytes ≡ Ok input
+  pub grid : Marks
+  pub is_grid : IsGrid grid
+  pub drawn : IsDiagramOf input grid
+  pub is : text ≡ grid_text grid
+
 -- ---- a call
 
 -- what a job's text with Done says of its input is true, for `decide`, which writes a verdict, `check`, which accepts one,
--- `linking` and `weights`, which compare two diagrams, and `braidcheck`, which accepts steps between two braids
+-- `linking` and `weights`, which compare two diagrams, `braidcheck`, which accepts steps between two braids, and `grid`, which draws a code
 pub record IsTrueReply (job : Job) (bytes text : List ℕ) : Type 0 where
   pub decided : job ≡ Decide → IsCheckedDecision bytes text
   pub accepted : job ≡ Check → IsCertificate bytes
   pub linked : job ≡ Linking → IsTrueLinking bytes text
   pub weighed : job ≡ Weights → IsTrueWeighing bytes text
   pub stepped : job ≡ Braidcheck → IsBraidCertificate bytes
+  pub drawn : job ≡ Grid → IsTrueDrawing bytes text
 
 -- where a call ended with Done, its text was written, and what it says of the whole input is true
 abbrev pub TellsOnlyTruth : Call → Status → Type 0

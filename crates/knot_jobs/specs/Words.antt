@@ -11,7 +11,7 @@ use Rattle.clap.specs.declared.builder.value_parser.ValueParser.{ValueParser}
 use Rattle.clap.specs.declared.builder.value_parser.ValueParser.TheVariants as parser
 use Rattle.knot_jobs.specs.declared.words.Asked.{Asked}
 use Rattle.knot_jobs.specs.declared.words.Job.{Job}
-use Rattle.knot_jobs.specs.declared.words.Job.TheVariants.{Decide, Check, Replay, Colour, Close, Code, Braid, Linking, Braidcheck, Weights, Simplify, Sample}
+use Rattle.knot_jobs.specs.declared.words.Job.TheVariants.{Decide, Check, Replay, Colour, Close, Code, Braid, Linking, Braidcheck, Weights, Numbers, Simplify, Grid, Sample}
 
 -- ---- the command
 
@@ -80,7 +80,9 @@ job_word Braid = codes "braid"
 job_word Linking = codes "linking"
 job_word Braidcheck = codes "braidcheck"
 job_word Weights = codes "weights"
+job_word Numbers = codes "numbers"
 job_word Simplify = codes "simplify"
+job_word Grid = codes "grid"
 job_word Sample = codes "sample"
 
 -- the words are taken, and ask for this job with these numbers

@@ -6,8 +6,8 @@ ghost use Rattle.knot_jobs.specs.Answer.{limit_of, AnswersText};
 ghost use Rattle.knot_jobs.specs.Truth.{IsTrueReply};
 
 use crate::jobs::{
-    braid, braidcheck, check, close, code, colour, decide, linking, replay, sample, simplify,
-    weights,
+    braid, braidcheck, check, close, code, colour, decide, grid, linking, numbers, replay, sample,
+    simplify, weights,
 };
 use crate::reply::Reply;
 use crate::words::{Asked, Job};
@@ -67,7 +67,9 @@ pub(crate) fn answer_alone(alloc: Global, asked: &Asked, bytes: &[u8]) -> Result
         Job::Linking => linking::answer(alloc, bytes),
         Job::Braidcheck => braidcheck::answer(alloc, bytes),
         Job::Weights => weights::answer(alloc, bytes),
+        Job::Numbers => numbers::answer(alloc, bytes),
         Job::Simplify => simplify::answer(alloc, asked, bytes),
+        Job::Grid => grid::answer(alloc, bytes),
         Job::Sample => sample::answer(alloc, asked.seed),
     }
 }

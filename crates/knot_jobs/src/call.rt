@@ -24,7 +24,7 @@ const USAGE: &[u8] = b"usage: knot JOB [--workers W] [--budget B] [--spare S] [-
 /// Does what the words ask for: reads the whole input from the source, answers it, and writes the answer to the sink.
 ///
 /// The words are the program's name, which isn't looked at, a job (`decide`, `check`, `replay`, `colour`, `close`, `code`,
-/// `braid`, `linking`, `braidcheck`, `weights`, `simplify` or `sample`) and options; other words end in `Usage`, and the source
+/// `braid`, `linking`, `braidcheck`, `weights`, `numbers`, `simplify` or `sample`) and options; other words end in `Usage`, and the source
 /// is not called, as it is not for `sample`. An input of more bytes than the job's limit (33,554,432 for `check`, else 1,048,576)
 /// ends in `Limit`, one with a bad line in `Malformed` or `Limit` by its first bad line, and every other in the job's answer: `Done`, `Unknown` where `decide` finds no evidence, or
 /// `Rejected`. The whole answer is made before the first write, so `ReadFault` and `OutOfMemory` write nothing; `WriteFault`

@@ -1,8 +1,9 @@
 //! Laws of words, answers and endings, over the definitions alone.
-ghost use Rattle.std.specs.Prelude.{◌≡◌, ◌⊎◌, ℕ, List, Option, Some, None, true};
+ghost use Rattle.std.specs.Prelude.{◌≡◌, ◌⊎◌, ◌+◌, ℕ, List, [], ◌∷◌, Option, Some, None, true, min, max};
 ghost use Rattle.clap.specs.Walk.{Text};
 ghost use Rattle.std.specs.List.{AllByRecursion};
 ghost use Rattle.grid_core.specs.Diagram.{Diagram, IsGrid, size};
+ghost use Rattle.grid_core.specs.declared.grid.TheConstants.{MAX_SIZE};
 ghost use Rattle.grid_moves.specs.Joining.{Joins};
 ghost use Rattle.quandle_core.specs.Quandle.{Table, IsQuandle};
 ghost use Rattle.colour_rows.specs.Colouring.{IsColouring};
@@ -18,16 +19,16 @@ ghost use Rattle.pair_verdict.specs.Decided.{Decides};
 ghost use Rattle.knot_jobs.specs.Words.{Asks, AsksNothing};
 ghost use Rattle.decision_core.specs.Status.{IsOfDefinedAnswer, IsOfAnswer};
 ghost use Rattle.decision_core.specs.Decision.{IsDecision, IsShort};
-ghost use Rattle.knot_jobs.specs.Answer.{limit_of, part_for, leaves_no_choice, IsWithin, IsInShape, Answers};
+ghost use Rattle.knot_jobs.specs.Answer.{limit_of, part_for, leaves_no_choice, IsWithin, IsInShape, IsBeyondColumns, Answers};
 ghost use Rattle.knot_jobs.specs.Call.{Call, Failed};
 ghost use Rattle.knot_jobs.specs.Ending.{IsDue, Ends};
-ghost use Rattle.knot_jobs.specs.Jobs.Decide.{with_workers};
+ghost use Rattle.knot_jobs.specs.Jobs.Decide.{with_workers, problem_for};
 ghost use Rattle.knot_jobs.specs.Jobs.Replay.{Carries};
 ghost use Rattle.knot_jobs.specs.EquallyMany.{HaveEquallyMany};
 ghost use Rattle.knot_jobs.specs.Truth.{IsAcceptedByCheck};
 
 use crate::reply::Reply;
-use crate::words::Asked;
+use crate::words::{Asked, Job};
 use braid_moves::BraidMove;
 use colour_list::laws::no_more_colourings_than_choices;
 use decision_core::Status;
@@ -40,8 +41,8 @@ pub fn words_ask_for_one_thing()
     ensures never_both { (words : List Text) (a : Asked) → Asks words a → AsksNothing words → ⊥ }
 {}
 
-/// A job that leaves no choice, which is every one but `decide` and `simplify`, has one answer to each input: there is one, which keeps
-/// no search, and no other. `decide` and `simplify` may have several.
+/// A job that leaves no choice, which is every one but `decide`, `simplify`, `numbers` and `grid`, has one answer to each input: there is
+/// one, which keeps no search, and no other. Those four may have several.
 pub fn an_input_has_one_answer()
     ensures some { (asked : Asked) (bytes : List ℕ) → leaves_no_choice asked.job ≡ true
         → (reply : Reply) × ((reply.kept ≡ None) × Answers asked bytes reply) }
@@ -56,8 +57,8 @@ pub fn an_answer_has_its_own_status()
     ensures { (asked : Asked) (bytes : List ℕ) (reply : Reply) → Answers asked bytes reply → IsOfAnswer reply.status }
 {}
 
-/// Where the source tells its bytes, the words and these bytes decide the reply of a call of a job other than `decide` and `simplify`,
-/// but for a counted fault and want of memory, however many workers search in it.
+/// Where the source tells its bytes, the words and these bytes decide the reply of a call of a job other than `decide`, `simplify`,
+/// `numbers` and `grid`, but for a counted fault and want of memory, however many workers search in it.
 pub fn the_words_and_the_input_decide()
     ensures { (input : List ℕ) (call again : Call) (asked : Asked) (reply other : Reply)
         → call.words ≡ again.words
@@ -86,13 +87,31 @@ pub fn a_call_without_faults_ends_with_what_is_due()
         → (s ≡ Status.Usage) ⊎ (s ≡ Status.OutOfMemory) }
 {}
 
-/// An input of the job's shape within its limit has the job's defined answer: `Done`, `Unknown` or `Rejected`.
+/// The most bytes that an input may have: 33,554,432 of `check`, which reads evidence, and 1,048,576 of the others, `braidcheck` and
+/// `weights` among them. `sample` has no input.
+pub fn each_job_has_its_limit()
+    ensures check { limit_of Job.Check ≡ Some 33554432 }
+    ensures others { AllByRecursion (λ (job : Job). limit_of job ≡ Some 1048576) (Job.Decide ∷ Job.Replay ∷ Job.Colour ∷ Job.Close ∷ Job.Code
+        ∷ Job.Braid ∷ Job.Linking ∷ Job.Braidcheck ∷ Job.Weights ∷ Job.Numbers ∷ Job.Simplify ∷ Job.Grid ∷ []) }
+    ensures sample { limit_of Job.Sample ≡ None }
+{}
+
+/// Without a spare, a search is capped at the size of the larger diagram. Each further one raises the cap by one, up to `MAX_SIZE`.
+pub fn each_spare_raises_the_cap()
+    ensures none { (asked : Asked) (d e : Diagram) → IsGrid d → IsGrid e → asked.spare ≡ 0
+        → (problem_for asked d e).cap ≡ max (size d) (size e) }
+    ensures more { (asked more : Asked) (d e : Diagram) → more.spare ≡ asked.spare + 1
+        → (problem_for more d e).cap ≡ min MAX_SIZE ((problem_for asked d e).cap + 1) }
+{}
+
+/// An input of the job's shape within its limit has the job's defined answer: `Done`, `Unknown` or `Rejected`; but `grid` may tell that
+/// a diagram of the code takes too many columns.
 pub fn an_input_in_shape_has_a_defined_answer()
     ensures { (asked : Asked) (bytes : List ℕ) (reply : Reply)
         → IsWithin (limit_of asked.job) bytes
         → IsInShape asked bytes
         → Answers asked bytes reply
-        → IsOfDefinedAnswer reply.status }
+        → IsOfDefinedAnswer reply.status ⊎ IsBeyondColumns asked.job reply }
 {}
 
 /// Moves that carry colours join the diagrams, and carry each colouring of the first to one of the last.

@@ -9,8 +9,6 @@ mod jobs;
 pub mod laws;
 mod lines;
 mod reply;
-#[cfg(test)]
-mod tests;
 mod words;
 
 pub use call::{run, run_alone};

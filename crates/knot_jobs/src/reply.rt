@@ -5,9 +5,9 @@ ghost use Rattle.knot_jobs.specs.Reply.{without_search, too_long, IsFaultReply};
 use crate::lines::{limit_bytes, limit_line, malformed_line};
 use decision_core::Status;
 use grid_core::Items;
-use knot_text::TextFault;
 use search_pool::Finding;
 use std::alloc::{AllocError, Global};
+use text_items::TextFault;
 
 /// A status, the text that is written with it, and the search that is kept.
 #[derive(Drop)]

@@ -36,8 +36,12 @@ pub enum Job {
     Braidcheck,
     /// Compares the weights of the colourings of two diagrams by a cocycle.
     Weights,
+    /// Counts the colourings of a diagram, by cocycles those of each weight.
+    Numbers,
     /// Simplifies a diagram by moves that never make it larger.
     Simplify,
+    /// Draws a grid diagram of a code.
+    Grid,
     /// Makes a list of moves from a seed, has it checked, and counts colourings at both ends. It reads nothing.
     Sample,
 }
@@ -191,7 +195,9 @@ fn job_named(word: &str) -> Option<Job>
         "linking" => Some(Job::Linking),
         "braidcheck" => Some(Job::Braidcheck),
         "weights" => Some(Job::Weights),
+        "numbers" => Some(Job::Numbers),
         "simplify" => Some(Job::Simplify),
+        "grid" => Some(Job::Grid),
         "sample" => Some(Job::Sample),
         _ => None,
     }

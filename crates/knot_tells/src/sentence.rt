@@ -78,7 +78,9 @@ fn line_sentence<'a, R: Read + Drop, W: Write + Drop>(
         Named::Bytes => return Some(Sentence::Long),
         Named::Line(line) => line,
     };
-    let shape = shape_of(job)?;
+    let Some(shape) = shape_of(job) else {
+        return Some(Sentence::LineAlone { line, is_limit });
+    };
     let front = source.front();
     if source.is_whole() || has_line(front, line) {
         let reason = reason_in(shape, front, line, is_limit);

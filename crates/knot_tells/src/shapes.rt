@@ -3,7 +3,7 @@
 use knot_jobs::Job;
 use seek_faults::{PROBLEM, Part, Shape, Then};
 
-/// What the input of a job is made of; None where it has none.
+/// What the input of a job is made of; None where it has none, and for a code.
 pub(crate) fn shape_of(job: Job) -> Option<Shape> {
     let (are_two, are_braids, then) = match job {
         Job::Decide => return Some(PROBLEM),
@@ -15,7 +15,8 @@ pub(crate) fn shape_of(job: Job) -> Option<Shape> {
         Job::Linking => (true, false, Then::Nothing),
         Job::Braidcheck => (true, true, Then::Only(Part::Steps)),
         Job::Weights => (true, false, Then::QuandleAnd(Part::Cocycle)),
-        Job::Sample => return None,
+        Job::Numbers => (false, false, Then::QuandlesAnd(Part::Cocycle)),
+        Job::Grid | Job::Sample => return None,
     };
     Some(Shape {
         are_two,

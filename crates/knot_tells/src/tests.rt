@@ -83,7 +83,7 @@ fn told(
 #[test]
 fn bad_words_have_their_sentence(rt: HostRuntime) -> Result<(), Fail> {
     let jobs =
-        "the jobs are decide, check, replay, colour, close, code, braid, linking, braidcheck, weights, simplify and sample";
+        "the jobs are decide, check, replay, colour, close, code, braid, linking, braidcheck, weights, numbers, simplify, grid and sample";
     let rows: [(&[&str], &str); 17] = [
         (&[], "a job is due; "),
         (&["--budget", "7"], "a job is due; "),

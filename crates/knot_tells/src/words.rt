@@ -7,7 +7,7 @@ use std::{fmt, fs};
 
 /// The jobs, as they are told.
 pub(crate) const JOBS: &str =
-    "decide, check, replay, colour, close, code, braid, linking, braidcheck, weights, simplify and sample";
+    "decide, check, replay, colour, close, code, braid, linking, braidcheck, weights, numbers, simplify, grid and sample";
 
 /// An option, and which whole numbers it takes.
 #[derive(Clone, Copy, Debug, PartialEq, Eq)]

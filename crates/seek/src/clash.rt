@@ -11,8 +11,10 @@ pub(crate) fn read_and_written<'a>(rt: &HostRuntime, asked: &Asked<'a>) -> Optio
     let is_it = |path: &str| file_at(rt, path) == Some((device, number));
     for given in diagrams_of(asked) {
         match given {
-            Given::File(path) if path != "-" && is_it(path) => return Some(path),
-            Given::File(_) | Given::Braid(_) => {}
+            Given::File(path) | Given::Code(path) if path != "-" && is_it(path) => {
+                return Some(path);
+            }
+            Given::File(_) | Given::Code(_) | Given::Braid(_) => {}
         }
     }
     for path in &asked.quandles {
@@ -26,8 +28,15 @@ pub(crate) fn read_and_written<'a>(rt: &HostRuntime, asked: &Asked<'a>) -> Optio
 /// Whether standard input is read.
 pub(crate) fn reads_input(asked: &Asked) -> bool {
     let [first, second] = diagrams_of(asked);
-    let input = Given::File("-");
-    first == input || second == input || asked.quandles.contains(&"-")
+    is_input(first) || is_input(second) || asked.quandles.contains(&"-")
+}
+
+/// Whether a diagram is read from standard input.
+fn is_input(given: Given) -> bool {
+    match given {
+        Given::File(path) | Given::Code(path) => path == "-",
+        Given::Braid(_) => false,
+    }
 }
 
 /// The diagrams that are given, twice where they are one problem.

@@ -2,9 +2,13 @@
 ghost use Rattle.std.specs.Prelude.{◌≢◌};
 ghost use Rattle.decision_core.specs.declared.status.Status.TheVariants as status;
 
+use code_rows::RowsFault;
+use code_text::TextRefusal;
 use decision_core::{MAX_INPUT, Status};
+use grid_core::MAX_SIZE;
 use seek_faults::NotOne;
 use std::{fmt, io};
+use text_items::TextFault;
 
 /// What standard output is called in messages.
 pub(crate) const OUTPUT: &str = "standard output";
@@ -26,6 +30,17 @@ pub(crate) enum Failure<'a> {
         name: &'a str,
         why: NotOne,
     },
+    /// A line of a code is not what is due there, or exceeds a limit.
+    Code {
+        name: &'a str,
+        line: usize,
+        is_limit: bool,
+    },
+    /// A code gives no diagram.
+    NoDiagram {
+        name: &'a str,
+        refusal: TextRefusal,
+    },
     /// The file that the verdict would be written to is one of those that are read.
     ReadAndWritten {
         name: &'a str,
@@ -40,6 +55,23 @@ pub(crate) enum Failure<'a> {
 }
 
 impl<'a> Failure<'a> {
+    /// A code can't be read.
+    pub(crate) fn of_code(name: &'a str, fault: TextFault) -> Failure<'a> {
+        match fault {
+            TextFault::Malformed { line } => Failure::Code {
+                name,
+                line,
+                is_limit: false,
+            },
+            TextFault::Limit { line } => Failure::Code {
+                name,
+                line,
+                is_limit: true,
+            },
+            TextFault::OutOfMemory => Failure::OutOfMemory,
+        }
+    }
+
     /// The exit status of the program.
     pub(crate) fn status(&self) -> Status
         ensures { result ≢ status.Done }
@@ -48,6 +80,13 @@ impl<'a> Failure<'a> {
             Failure::Read { .. } => Status::ReadFault,
             Failure::Long { .. } => Status::Limit,
             Failure::NotOne { .. } => Status::Malformed,
+            Failure::Code { is_limit: true, .. } => Status::Limit,
+            Failure::Code { .. } => Status::Malformed,
+            Failure::NoDiagram {
+                refusal: TextRefusal::Columns { .. },
+                ..
+            } => Status::Limit,
+            Failure::NoDiagram { .. } => Status::Malformed,
             Failure::ReadAndWritten { .. } => Status::Usage,
             Failure::Write { .. } => Status::WriteFault,
             Failure::OutOfMemory => Status::OutOfMemory,
@@ -79,6 +118,33 @@ fn write_job<W: fmt::Write>(f: &mut fmt::Formatter<W>, name: &str) -> fmt::Resul
     }
 }
 
+/// Writes why a code gives no diagram.
+fn write_refusal<W: fmt::Write>(
+    f: &mut fmt::Formatter<W>,
+    name: &str,
+    refusal: TextRefusal,
+) -> fmt::Result {
+    match refusal {
+        TextRefusal::Rows(RowsFault::Empty) => { write!(f, "{name} has no crossing and no loop") }
+        TextRefusal::Rows(RowsFault::Edge { edge }) => {
+            write!(f, "{name}: edge {edge} does not stand exactly twice")
+        }
+        TextRefusal::Rows(RowsFault::Direction { edge }) => write!(
+            f,
+            "{name}: strands run against each other on edge {edge}"
+        ),
+        TextRefusal::Rows(RowsFault::Plane) => {
+            write!(f, "{name} is the code of no diagram in the plane")
+        }
+        TextRefusal::Gauss => write!(f, "{name}: the lines `gauss` are not those of the rows"),
+        TextRefusal::Columns { columns } => write!(
+            f,
+            "{name} takes a diagram of {columns} columns, and one may have {MAX_SIZE}"
+        ),
+        TextRefusal::Lost => write!(f, "{name}: no diagram was found"),
+    }
+}
+
 impl<'a> fmt::Display for Failure<'a> {
     fn fmt<W: fmt::Write>(&self, f: &mut fmt::Formatter<W>) -> fmt::Result {
         match self {
@@ -93,6 +159,16 @@ impl<'a> fmt::Display for Failure<'a> {
                 Some(line) => write!(f, "{name}, line {line}: {why}"),
                 None => write!(f, "{name}: {why}"),
             },
+            Failure::Code {
+                name,
+                line,
+                is_limit: true,
+            } => write!(f, "{name}, line {line} exceeds a limit"),
+            Failure::Code { name, line, .. } => write!(
+                f,
+                "{name}, line {line} is not what is due in a planar diagram code"
+            ),
+            Failure::NoDiagram { name, refusal } => write_refusal(f, name, *refusal),
             Failure::ReadAndWritten { name } => write!(
                 f,
                 "{name} is one of the files that are read, and the verdict would take its place: name another one behind `--out`"

@@ -127,9 +127,11 @@ fn run_told<R: Threads + Sync, K: Sink>(
 /// What bounds the search.
 fn bounds_of(asked: &Asked) -> Bounds {
     Bounds {
-        seed: asked.seed,
-        steps: asked.steps,
-        room: asked.room as usize,
+        walks: meeting_walks::Bounds {
+            seed: asked.seed,
+            steps: asked.steps,
+            room: asked.room as usize,
+        },
         workers: asked.workers,
     }
 }
@@ -146,7 +148,7 @@ fn to_output<'a, R: Threads + Sync>(
     match run_told(rt, threads, parts, asked, &mut sink, teller) {
         Ending::WriteFault => Err(Failure::Write {
             name: OUTPUT,
-            error: sink.into_error(),
+            error: sink.take_error(),
         }),
         ending => Ok(ending),
     }

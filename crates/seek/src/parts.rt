@@ -2,9 +2,11 @@
 ghost use Rattle.std.specs.Prelude.{◌≡◌, ◌++◌, codes, IfOk};
 
 use crate::failure::Failure;
+use code_text::{grid_of_text, read_code};
 use decision_core::MAX_INPUT;
 use grid_core::Items;
 use knot_ports::{ReadEnd, StdSource, read_all};
+use knot_text::print_grid;
 use seek_faults::one_diagram;
 use seek_words::{Asked, Diagrams, Given};
 use std::alloc::{AllocError, Global};
@@ -93,6 +95,11 @@ impl<'a> Parts<'a> {
         given: Given<'a>,
         name: &'a str,
     ) -> Result<(), Failure<'a>> {
+        if let Given::Code(path) = given {
+            let bytes = read_file(rt, path, name)?;
+            let grid = code_grid(rt.alloc(), name, bytes.as_slice())?;
+            return self.push(name, grid);
+        }
         let bytes = read_bytes(rt, given, name)?;
         match one_diagram(bytes.as_slice()) {
             Ok(()) => self.push(name, bytes),
@@ -120,8 +127,8 @@ impl<'a> Parts<'a> {
 /// What a part is called in messages.
 fn name_of<'a>(given: Given<'a>) -> &'a str {
     match given {
-        Given::File(path) if path == "-" => "standard input",
-        Given::File(path) => path,
+        Given::File(path) | Given::Code(path) if path == "-" => "standard input",
+        Given::File(path) | Given::Code(path) => path,
         Given::Braid(_) => "--braid",
     }
 }
@@ -142,14 +149,37 @@ fn read_bytes<'a>(
 ) -> Result<Vec<u8>, Failure<'a>> {
     match given {
         Given::Braid(word) => braid_bytes(rt.alloc(), word),
-        Given::File(path) if path == "-" => read_source(rt.alloc(), name, rt.stdin()),
-        Given::File(path) => match fs::open(rt, path) {
-            Ok(file) => read_source(rt.alloc(), name, file),
-            Err(error) => Err(Failure::Read {
-                name,
-                error: Some(error),
-            }),
+        Given::File(path) | Given::Code(path) => read_file(rt, path, name),
+    }
+}
+
+/// The bytes of a file, or of standard input where it is called `-`.
+fn read_file<'a>(rt: &HostRuntime, path: &str, name: &'a str) -> Result<Vec<u8>, Failure<'a>> {
+    if path == "-" {
+        return read_source(rt.alloc(), name, rt.stdin());
+    }
+    match fs::open(rt, path) {
+        Ok(file) => read_source(rt.alloc(), name, file),
+        Err(error) => Err(Failure::Read {
+            name,
+            error: Some(error),
+        }),
+    }
+}
+
+/// The text of a grid diagram of a planar diagram code.
+fn code_grid<'a>(alloc: Global, name: &'a str, bytes: &[u8]) -> Result<Vec<u8>, Failure<'a>> {
+    let text = match read_code(alloc, bytes) {
+        Ok(text) => text,
+        Err(fault) => return Err(Failure::of_code(name, fault)),
+    };
+    match grid_of_text(alloc, &text) {
+        Ok(Ok(grid)) => match print_grid(alloc, &grid) {
+            Ok(printed) => Ok(printed),
+            Err(_) => Err(Failure::OutOfMemory),
         },
+        Ok(Err(refusal)) => Err(Failure::NoDiagram { name, refusal }),
+        Err(_) => Err(Failure::OutOfMemory),
     }
 }
 

@@ -1,8 +1,5 @@
 //! The job `weights`: the weights of the colourings of two diagrams by a cocycle, and whether they differ.
-ghost use Rattle.std.specs.Prelude.{◌≡◌, ◌≢◌, ◌++◌, ◌∷◌, true, map, codes, IfOk, OnOk};
-ghost use Rattle.std.specs.Fmt.{decimal};
-ghost use Rattle.std.specs.List.{flat_map};
-ghost use Rattle.text_lines.specs.Spelled.{spaced, line_text};
+ghost use Rattle.std.specs.Prelude.{◌≡◌, ◌≢◌, true, IfOk};
 ghost use Rattle.grid_moves.specs.Joining.{Equivalent};
 ghost use Rattle.colour_list.specs.Fits.{fits};
 ghost use Rattle.colour_weights.specs.Weights.{weights};
@@ -17,13 +14,14 @@ use crate::comparison::push_comparison;
 use crate::reply::Reply;
 use cocycle_core::Cocycle;
 use colour_list::{ListFault, fits};
+use colour_numbers::push_number_line;
 use colour_weights::laws::equivalent_diagrams_have_equal_weights;
 use colour_weights::weights;
 use decision_core::Status;
 use grid_core::Grid;
 use knot_text::{WeightText, read_weights};
 use std::alloc::{AllocError, Global};
-use text_lines::{push_number, push_paired};
+use text_lines::push_paired;
 
 /// The answer to the bytes of two diagrams, a quandle and a cocycle.
 pub(crate) fn answer(alloc: Global, bytes: &[u8]) -> Result<Reply, AllocError>
@@ -94,8 +92,8 @@ fn weighed_text(
     let one = counts(alloc, first, cocycle)?;
     let two = counts(alloc, second, cocycle)?;
     let mut out = Vec::new(alloc);
-    push_counts(&mut out, one.as_slice())?;
-    push_counts(&mut out, two.as_slice())?;
+    push_number_line(&mut out, b"weights", one.as_slice())?;
+    push_number_line(&mut out, b"weights", two.as_slice())?;
     push_comparison(&mut out, one.as_slice() == two.as_slice())?;
     Ok(out)
 }
@@ -110,24 +108,4 @@ fn counts(alloc: Global, grid: &Grid, cocycle: &Cocycle) -> Result<Vec<u32>, All
         Err(ListFault::OutOfMemory) => Err(AllocError),
         Err(ListFault::TooWide { .. }) => unreachable!(),
     }
-}
-
-/// Appends a line of how many colourings have each weight.
-fn push_counts(out: &mut Vec<u8>, counts: &[u32]) -> Result<(), AllocError>
-    ensures { OnOk result (out.new.items ≡ out.old.items ++ line_text (codes "weights" ∷ map decimal counts.now)) }
-{
-    out.extend_from_slice(b"weights")?;
-    push_spaced(out, counts)?;
-    out.extend_from_slice(b"\n")
-}
-
-/// Appends numbers, each behind a space.
-fn push_spaced(out: &mut Vec<u8>, numbers: &[u32]) -> Result<(), AllocError>
-    ensures { OnOk result (out.new.items ≡ out.old.items ++ flat_map (λ n. spaced (decimal n)) numbers.now) }
-{
-    for number in numbers {
-        out.extend_from_slice(b" ")?;
-        push_number(out, u64::from(*number))?;
-    }
-    Ok(())
 }
