@@ -59,17 +59,17 @@ class Caller:
             if before:
                 before()
 
-        with open(self.paths[0], "rb") as given, open(self.paths[1], "wb") as taken, open(self.paths[2], "wb") as errors:
+        # (standard error is a pipe, so that a limit of files doesn't cut what is told there)
+        with open(self.paths[0], "rb") as given, open(self.paths[1], "wb") as taken:
             child = subprocess.Popen([b"knot", *words], executable=self.program, stdin=given if stdin is None else stdin,
-                                     stdout=taken if stdout is None else stdout, stderr=errors, preexec_fn=prepare, restore_signals=False)
+                                     stdout=taken if stdout is None else stdout, stderr=subprocess.PIPE, preexec_fn=prepare, restore_signals=False)
             try:
-                status = child.wait(PATIENCE)
+                told, status = child.communicate(timeout=PATIENCE)[1], child.returncode
             except subprocess.TimeoutExpired:
                 child.kill()
-                child.wait()
-                status = None
-        with open(self.paths[1], "rb") as out, open(self.paths[2], "rb") as err:
-            return Ended(status, out.read(), err.read())
+                told, status = child.communicate()[1], None
+        with open(self.paths[1], "rb") as out:
+            return Ended(status, out.read(), told)
 
     def call_slowly(self, words, data, piece, pause):
         """Through a pipe, in pieces with pauses."""

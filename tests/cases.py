@@ -23,6 +23,8 @@ GOOD = {
     b"linking": b"braid 2 1 1\nbraid 2 -1 -1\n",
     b"braidcheck": b"braid 3 2 1 2 1\nbraid 2 1 1 1\nsteps 5\ntriple 0\nturn 2\ninsert 1 -2\ncancel 1\nshrink\n",
     b"simplify": b"x 1 0 2\no 0 2 1\n",
+    b"grid": b"crossings 2\nX[4,1,3,2]\nX[2,3,1,4]\nloops 1\ngauss O1- U2-\ngauss O2- U1-\n",
+    b"numbers": TREFOIL + b"quandle tetrahedral\nweight 2\n0 1 1 0\n1 0 1 0\n1 1 0 0\n0 0 0 0\nquandle dihedral 3\n",
     b"weights": TREFOIL + b"braid 2\nquandle tetrahedral\nweight 2\n0 1 1 0\n1 0 1 0\n1 1 0 0\n0 0 0 0\n",
 }
 
@@ -326,7 +328,8 @@ def numbers_in_places():
         (b"check", SHIFTED + b"certificate 2\nequal 2\nshift columns 2\nshift rows 1\n"),
         (b"close", b"braid 3 1 -2 1\nquandle dihedral 3\nquandle tetrahedral\n"),
         (b"braid", TREFOIL + b"quandle dihedral 3\n"), (b"linking", GOOD[b"linking"]),
-        (b"braidcheck", GOOD[b"braidcheck"]), (b"weights", GOOD[b"weights"]),
+        (b"braidcheck", GOOD[b"braidcheck"]), (b"weights", GOOD[b"weights"]), (b"numbers", GOOD[b"numbers"]),
+        (b"grid", GOOD[b"grid"]),
     ]
     values = [b"0", b"-0", b"1", b"-1", b"7", b"15", b"16", b"17", b"23", b"24", b"25", b"31", b"32", b"33", b"47", b"48", b"49", b"254", b"255", b"256", b"65535", b"65536", b"65537", b"999999999",
               b"1000000000", b"-999999999", b"-1000000000", b"4294967295", b"4294967296", b"18446744073709551616", b"00", b"+1", b"1.", b"a", b""]
