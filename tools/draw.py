@@ -7,7 +7,8 @@ INPUT is a file, or standard input where none is given. It holds one of these, a
   a diagram                               one picture
   a diagram and moves                     a frame for the diagram and one behind each move
   two diagrams, quandles, `equal N`       the same, for a certificate; the line `certificate 2` may stand before `equal`
-  two diagrams, quandles, `different ..`  both diagrams, each in one of its colourings, and how many are listed
+  two diagrams, quandles, `different ..`  both diagrams, each in one of its colourings, and how many are listed; of a certificate of
+                                          version 3 both diagrams and their numbers
   any of the first two, then a quandle and colours: each strand in its colour, carried along the moves
 A long list of moves makes a long picture: --frames and --no-shifts leave frames out. The picture goes to standard output where no FILE
 is given; it has a title and a text for those who don't see it. Verticals pass over horizontals, and a horizontal has a gap where it
@@ -17,9 +18,11 @@ import argparse
 from xml.sax.saxutils import escape
 
 from lib import calls
-from lib.diagrams import (BadText, Lines, covers, ends, grid_of, is_colouring, move_text, number_of, read_diagram, read_moves, read_quandle, read_quandles,
-                          walk)
-from lib.moves import Illegal, carried, made
+
+from knot_workbench import certificates
+from knot_workbench.diagrams import (BadText, Lines, covers, ends, grid_of, is_colouring, move_text, number_of, read_diagram, read_moves, read_quandle,
+                                     read_quandles, walk)
+from knot_workbench.moves import Illegal, carried, made
 
 # Sixteen colours that stay apart on white. Of more colours the next sixteen have them again; the numbers below the columns tell which.
 PALETTE = ("#1f5fbf", "#d62728", "#1a8a34", "#e08a00", "#7b3fb0", "#00949e", "#c2388f", "#6b4a2b",
@@ -43,9 +46,11 @@ def read_frames(text):
         second = grid_of(read_diagram(lines))
         read_quandles(lines)
         if lines.peek() == "certificate":
-            line, tokens = lines.take("the line 'certificate 2'")
+            line, tokens = lines.take("the line 'certificate'")
+            if tokens[1:] == ["3"]:
+                return read_third(lines, grid, second), True
             if tokens[1:] != ["2"]:
-                raise BadText("the line 'certificate 2' is due", line)
+                raise BadText("the line 'certificate 2' or 'certificate 3' is due", line)
         if lines.peek() == "different":
             return read_different(lines, grid, second), True
         if lines.peek() != "equal":
@@ -91,6 +96,19 @@ def read_different(lines, first, second):
         frames.append(Frame(grid, shown, quandle if listed else None, f"{len(listed)} colourings"))
     lines.done()
     return frames
+
+
+def read_third(lines, first, second):
+    """Both diagrams of a verdict of version 3, with their numbers of colourings, weights or linking numbers."""
+    verdict = certificates.read_third(lines)
+    lines.done()
+    captions = []
+    for part in (verdict.first, verdict.second):
+        if isinstance(verdict, certificates.DifferentLinking):
+            captions.append(f"linking numbers {' '.join(map(str, part.numbers)) or 'none'}")
+        else:
+            captions.append(f"weights {' '.join(map(str, part.numbers))}" if verdict.cocycle else f"{part.numbers[0]} colourings")
+    return [Frame(grid, caption=caption) for grid, caption in zip((first, second), captions)]
 
 
 def read_colours(lines, grid, quandle, head=True):

@@ -127,6 +127,14 @@ class Pictures(unittest.TestCase):
         words = [word.text for word in drawn("x 0 1\no 1 0\nx 0 1\no 1 0\ncertificate 2\ndifferent trivial 2\nlist 0\nlist 1\n1 1\n").iter(f"{SVG}text")]
         self.assertEqual(words, ["0 colourings", "1 colourings", "1", "1"])
 
+    def test_numbers_of_the_third_version_stand_above_both_diagrams(self):
+        begin = TREFOIL + "x 0 1\no 1 0\ncertificate 3\n"
+        weight = "weight 2\n0 1 1 0\n1 0 1 0\n1 1 0 0\n0 0 0 0\n"
+        for said, captions in (("different numbers dihedral 3\nseeds 0 1\nnumbers 9\nseeds 0\nnumbers 3\n", ["9 colourings", "3 colourings"]),
+                               (f"different numbers tetrahedral\n{weight}seeds 0 1\nnumbers 4 12\nseeds 0\nnumbers 4 0\n", ["weights 4 12", "weights 4 0"]),
+                               ("different linking\ncomponents 1\nnumbers\ncomponents 2\nnumbers 1 1\n", ["linking numbers none", "linking numbers 1 1"])):
+            self.assertEqual(self.captions(begin + said), captions)
+
     def test_more_than_sixteen_colours_can_be_drawn(self):
         picture = drawn("x 0 1\no 1 0\nquandle trivial 32\ncolours 31 31\n")
         self.assertEqual([word.text for word in picture.iter(f"{SVG}text")], ["31", "31"])
@@ -142,6 +150,8 @@ class Pictures(unittest.TestCase):
 
     def test_a_picture_stands_alone(self):
         for name in os.listdir(os.path.join(common.ROOT, "docs", "pictures")):
+            if not name.endswith(".svg"):
+                continue
             text = common.read("docs", "pictures", name)
             self.assertNotIn("href", text)
             self.assertNotIn("url(", text)

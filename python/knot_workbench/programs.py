@@ -1,0 +1,98 @@
+"""The built programs knot and seek: where they are, and how they are called."""
+import os
+import re
+import shutil
+import subprocess
+from typing import Dict, List, NamedTuple, Optional, Sequence
+
+from .faults import Failed, Fault, Malformed, NoJob, NoProgram, OverLimit, Rejected, TimedOut
+
+NAMES = ("knot", "seek")
+
+# The folder of this module, in a tree python/knot_workbench, and installed below PREFIX/lib.
+HERE = os.path.dirname(os.path.realpath(__file__))
+
+_given: Dict[str, str] = {}
+
+
+class Ran(NamedTuple):
+    """How a call ended: its status, standard output, and standard error."""
+
+    status: int
+    text: str
+    told: str
+
+
+def use(knot: Optional[str] = None, seek: Optional[str] = None) -> None:
+    """Names the programs that are called from now on, each by its path or by its name on PATH; None leaves one as it is."""
+    for name, path in (("knot", knot), ("seek", seek)):
+        if path is not None:
+            _given[name] = path
+
+
+def candidates(name: str) -> List[str]:
+    """Where a program may be, first the place that counts most: what `use` named; the variable KNOT or SEEK; the tree that this module is in,
+    or the folder bin of the prefix that it is installed in; and PATH."""
+    if name in _given:
+        return [_given[name]]
+    if os.environ.get(name.upper()):
+        return [os.environ[name.upper()]]
+    found = [os.path.join(os.path.dirname(os.path.dirname(HERE)), "crates", name, "out", name)]
+    above = HERE
+    while os.path.dirname(above) != above:
+        above, folder = os.path.split(above)
+        if folder == "lib":
+            found.append(os.path.join(above, "bin", name))
+    return [*found, name]
+
+
+def path_of(name: str) -> str:
+    """The path of a built program. Raises NoProgram where there is none."""
+    places = candidates(name)
+    for place in places:
+        found = shutil.which(place)
+        if found:
+            return os.path.abspath(found)
+    if len(places) == 1:
+        raise NoProgram(f"{places[0]}: no program of this name")
+    raise NoProgram(f"there is no built program {name}: build it with tools/build.py, or name it by the variable {name.upper()}")
+
+
+def run(name: str, words: Sequence[str], text: str, timeout: Optional[float] = None) -> Ran:
+    """Runs a program on a text, and waits so many seconds at most. Raises NoProgram, TimedOut."""
+    path = path_of(name)
+    try:
+        done = subprocess.run([path, *words], input=text.encode(), stdout=subprocess.PIPE, stderr=subprocess.PIPE, timeout=timeout, check=False)
+    except subprocess.TimeoutExpired:
+        raise TimedOut(f"{name} {' '.join(words)}: ended after {timeout:g} seconds") from None
+    except OSError as error:
+        raise NoProgram(f"{path}: {error.strerror}") from None
+    return Ran(done.returncode, done.stdout.decode("utf-8", "replace"), done.stderr.decode("utf-8", "replace"))
+
+
+def answered(name: str, words: Sequence[str], text: str, also: Sequence[int] = (), timeout: Optional[float] = None) -> Ran:
+    """A call that ends with status 0 or one of those in `also`. Raises a named error for each other status."""
+    ran = run(name, words, text, timeout)
+    if ran.status == 0 or ran.status in also:
+        return ran
+    raise fault_of(name, words, ran)
+
+
+def fault_of(name: str, words: Sequence[str], ran: Ran) -> Fault:
+    """The named error of a call that gave no answer."""
+    said = ran.text.strip()
+    told = ran.told.strip().splitlines()
+    reason = re.sub(rf"^{name}: ", "", told[-1]) if told else said
+    if ran.status == 2:
+        return NoJob(f"{name} doesn't take the words '{' '.join(words)}'" + (f": {reason}" if told else ""))
+    if ran.status == 3:
+        line = re.search(r"line (\d+)", said) or re.search(r"line (\d+)", reason)
+        return Malformed(reason or "the text can't be read", int(line[1]) if line else None)
+    if ran.status == 4:
+        line = re.search(r"line \d+", reason)
+        return OverLimit(reason or "a limit is exceeded", re.sub("^limit ", "", said) or (line[0] if line else ""))
+    if ran.status == 8:
+        return Rejected(re.sub("^rejected ", "", said))
+    why = {5: "reading failed", 6: "writing failed", 7: "memory was wanting", 10: "it got no words that can be read", 127: "it could not be built"}
+    ended = f"ended by signal {-ran.status}" if ran.status < 0 else f"ended with status {ran.status}, {why.get(ran.status, 'which is none of its own')}"
+    return Failed(f"{name} {' '.join(words)}: {ended}" + (f": {reason}" if reason else ""), ran.status)

@@ -1,0 +1,127 @@
+"""A table of knots in a file: its rows, its columns by their titles, and what a title says that its column holds."""
+import csv
+import io
+import re
+
+from .faults import Fault
+from .table_entries import INSTEAD, EntryError
+
+# Words of titles that say what a column holds. One that names a braid or arcs is believed, whatever else it has.
+TITLE_OF_DIAGRAMS = re.compile("braid|arc", re.I)
+TITLES_OF_CODES = (("Gauss", re.compile("gauss", re.I)), ("DT", re.compile(r"dowker|thistlethwaite|\bdt(?:code|notation)?s?\b", re.I)),
+                   ("PD", re.compile(r"planar|\bpd(?:code|notation)?s?\b", re.I)))
+
+
+class TableError(Fault):
+    """The table as a whole can't be read."""
+
+
+def delimiter_of(path, header):
+    """Tabs for a file that says so or has them; else the first of | and ; that the header has, else commas."""
+    if path.endswith((".tsv", ".tab")) or "\t" in header:
+        return "\t"
+    for mark in "|;":
+        if mark in header:
+            return mark
+    return ","
+
+
+def decoded(path, data):
+    """The text of a file in UTF-8, without a byte order mark."""
+    try:
+        return data.decode("utf-8-sig")
+    except UnicodeDecodeError as error:
+        line = data.count(b"\n", 0, error.start) + 1
+        raise TableError(f"{path}:{line}: the table is not UTF-8") from None
+
+
+def rows_of(path, data, delimiter):
+    """The rows that aren't empty, each with the number of its first line and its fields."""
+    text = decoded(path, data)
+    delimiter = delimiter or delimiter_of(path, text.split("\n", 1)[0])
+    reader = csv.reader(io.StringIO(text, newline=""), delimiter=delimiter, strict=True)
+    line = 1
+    try:
+        for fields in reader:
+            if any(field.strip() for field in fields):
+                yield line, fields
+            line = reader.line_num + 1
+    except csv.Error as error:
+        raise TableError(f"{path}:{line}: {error}") from None
+
+
+def folded(title):
+    """A title without its blanks and marks, in small letters: `Braid Notation` and `braid_notation` are one."""
+    return re.sub(r"[\s_-]+", "", title).casefold()
+
+
+def column_of(path, header, name):
+    """The place of a column by its title, else by its title but for blanks, marks and capitals, else by its number from 1."""
+    for same in (lambda title: title.strip() == name, lambda title: folded(title) == folded(name)):
+        places = [place for place, title in enumerate(header) if same(title)]
+        if len(places) > 1:
+            raise TableError(f"{path}: {len(places)} columns are called '{name}'; give the number of one")
+        if places:
+            return places[0]
+    if name.isdecimal() and 1 <= int(name) <= len(header):
+        return int(name) - 1
+    titles = ", ".join(f"'{title.strip()}'" for title in header)
+    raise TableError(f"{path}: no column is called '{name}'; there are {titles}")
+
+
+def code_of_title(title):
+    """The code of crossings that a title says its column has, "PD", "DT" or "Gauss", or None."""
+    if TITLE_OF_DIAGRAMS.search(title):
+        return None
+    # A capital behind a small letter begins a word, as in GaussCode, and marks part words.
+    words = re.sub(r"(?<=[a-z])(?=[A-Z])|(?<=[A-Z])(?=[A-Z][a-z])|[_\W]+", " ", title)
+    return next((code for code, known in TITLES_OF_CODES if known.search(words)), None)
+
+
+class Table:
+    """The rows of a table, each with its line, by the columns that the options name."""
+
+    def __init__(self, path, data, options):
+        rows = list(rows_of(path, data, options.delimiter))
+        if not rows:
+            raise TableError(f"{path}: the table is empty")
+        self.path = path
+        header = rows[0][1]
+        if options.no_header:
+            header = [str(place) for place in range(1, len(header) + 1)]
+        else:
+            rows = rows[1:]
+        self.rows = rows[options.skip_rows:]
+        self.width = len(header)
+        self.name = column_of(path, header, options.name)
+        self.diagram = column_of(path, header, options.diagram)
+        self.second = column_of(path, header, options.second) if options.second else None
+        self.strands = column_of(path, header, options.strands) if options.strands else None
+        self.reads = {column: options.as_kind or self.reads_of(header[column]) for column in (self.diagram, self.second) if column is not None}
+
+    def reads_of(self, title):
+        """What the title of a column of diagrams says that its entries are, "PD", "DT" or None; one of Gauss codes is refused."""
+        code = code_of_title(title)
+        if code == "Gauss":
+            raise TableError(f"{self.path}: the column '{title.strip()}' has Gauss codes by its title, which are not read; "
+                             f"{INSTEAD}; --as braid takes its lists for words")
+        return code
+
+    def name_of(self, fields):
+        """The name of a row, which may be empty."""
+        return fields[self.name].strip() if self.name < len(fields) else ""
+
+    def check_width(self, fields):
+        """Refuses a row that has more fields or fewer than the header."""
+        if len(fields) != self.width:
+            hint = "; a field with commas stands in quotes" if len(fields) > self.width else ""
+            raise EntryError(f"the row has {len(fields)} fields, and the header {self.width}{hint}")
+
+    def strands_of(self, fields):
+        """The number of strands of a row, or None where its table doesn't say it."""
+        text = fields[self.strands].strip() if self.strands is not None else ""
+        if not text:
+            return None
+        if not re.fullmatch("[0-9]{1,9}", text):
+            raise EntryError(f"the number of strands is '{text[:20]}'")
+        return int(text)

@@ -1,0 +1,80 @@
+#!/bin/sh
+# Makes a Debian package of both built programs, their manual pages and completions, the quandle lists and the Python module.
+#
+#     tools/package.sh [FOLDER]     writes FOLDER/knot-workbench_VERSION_ARCHITECTURE.deb; FOLDER is the current one where none is given
+#
+# It needs dpkg-deb, gzip and python3, and both programs built (tools/build.py). What goes in is what ./install puts below /usr; the
+# package wants the C library that the programs were linked with or a newer one, and suggests python3 for the module.
+# Status 0 where the package is there, 1 where it can't be made, 2 where the words are wrong.
+set -u
+
+say() {
+    printf 'package.sh: %s\n' "$1" >&2
+}
+
+if [ "${1-}" = --help ] || [ "${1-}" = -h ]; then
+    sed -n 's/^# \{0,1\}//; 2,/^set/ { /^set/d; p; }' "$0"
+    exit 0
+fi
+if [ $# -gt 1 ]; then
+    say "at most one word is taken, a folder; --help says more"
+    exit 2
+fi
+folder=${1-.}
+if [ ! -d "$folder" ]; then
+    say "there is no folder $folder"
+    exit 2
+fi
+for command in dpkg-deb gzip python3; do
+    if ! command -v "$command" >/dev/null 2>&1; then
+        say "$command is not on PATH"
+        exit 1
+    fi
+done
+here=$(dirname -- "$(readlink -f -- "$0")") && top=$(dirname -- "$here") || exit 1
+staged=$(mktemp -d) || exit 1
+trap 'rm -rf "$staged"' EXIT
+trap 'exit 130' INT
+trap 'exit 143' TERM
+
+# Everything in the package belongs to root, and all may read it.
+umask 022
+root=$staged/root
+mkdir "$root" || exit 1
+python3 -B "$top/install" --prefix /usr --destdir "$root" --python-folder /usr/lib/python3/dist-packages >/dev/null || exit 1
+gzip -9n "$root"/usr/share/man/man?/* || exit 1
+
+version=$("$top/knot" --version | cut -d ' ' -f 2)
+architecture=$(dpkg --print-architecture)
+# The newest version of the C library that a symbol of a program asks for.
+library=$(cat "$root/usr/lib/knot-workbench/knot" "$root/usr/bin/seek" | grep -ao 'GLIBC_[0-9][0-9.]*' | sort -u -t _ -k 2 -V | tail -n 1 | cut -d _ -f 2)
+kilobytes=$(du -sk "$root" | cut -f 1)
+mkdir "$root/DEBIAN" || exit 1
+cat >"$root/DEBIAN/control" <<END || exit 1
+Package: knot-workbench
+Version: $version
+Architecture: $architecture
+Maintainer: the makers of knot <knot@localhost>
+Installed-Size: $kilobytes
+Depends: libc6${library:+ (>= $library)}
+Suggests: python3 (>= 3.9)
+Section: math
+Priority: optional
+Description: decides whether knots and links are the same, with evidence
+ Diagrams are grids or braid words. The program seek looks for evidence by
+ quandles and random walks; knot rules on evidence, searches exactly, and
+ does other work on diagrams. Both are proved against their contracts.
+ .
+ With tables of connected quandles, and a module for Python.
+END
+# What Python made of the module's files goes with them.
+cat >"$root/DEBIAN/prerm" <<'END' || exit 1
+#!/bin/sh
+set -e
+rm -rf /usr/lib/python3/dist-packages/knot_workbench/__pycache__
+END
+chmod 755 "$root/DEBIAN/prerm" || exit 1
+(cd "$root" && find usr -type f -print0 | sort -z | xargs -0 md5sum) >"$root/DEBIAN/md5sums" || exit 1
+package=$folder/knot-workbench_${version}_$architecture.deb
+dpkg-deb --root-owner-group --build "$root" "$package" >"$staged/said" 2>&1 || { cat "$staged/said" >&2; exit 1; }
+echo "$package"

@@ -1,0 +1,385 @@
+#!/usr/bin/env python3
+"""Makes a page of a certificate: one HTML file that stands alone, to be opened in any browser.
+
+    tools/show.py [CERTIFICATE] > page.html
+
+CERTIFICATE is a file, or standard input where none is given. It holds one of these, as ./knot reads them:
+  two diagrams, quandles, `equal ..`      the diagrams, and a slider through the moves, with each move's words
+  two diagrams, quandles, `different ..`  the diagrams, both lists of colourings, and a slider through each list; of a certificate of
+                                          version 3 the numbers of both
+  two diagrams, a quandle, a cocycle      the same for `weights`: each colouring with its weight, and how many have each
+  a diagram, `moves ..`                   a slider through the moves, with a quandle and colours behind them if there are any
+Colours are carried along the moves: those that are given, else a colouring of the first diagram by --quandle, or by the first quandle of
+the certificate or of the built-in list that has one with two colours. Arrow keys, Home and End move through the frames, and the space bar
+plays them; page.html#frame-4 opens at frame 4. The page has a text for readers who don't see its pictures, and needs no network; without
+scripts it shows diagrams and lists.
+
+Each move is made and each listed colouring is tried here, but only ./knot check rules on a certificate. With --check it is asked first.
+"""
+import argparse
+import json
+import os
+from html import escape
+
+import draw
+from knot_workbench import certificates, cocycles, jobs
+from knot_workbench.diagrams import (MAX_COLOURINGS, BadText, Lines, bottoms, built_in_list, diagram_text, fits, grid_of, is_colouring, read_diagram,
+                                     read_moves, read_quandle, read_quandles)
+from lib import calls, weighing
+
+HERE = os.path.dirname(os.path.realpath(__file__))
+
+# A page of so many frames has some megabytes, which browsers still take.
+MOST_FRAMES = 20_000
+# So many lines of a list of colourings stand in the page at most.
+MOST_LINES = 65_536
+
+
+class Page:
+    """What a page shows.
+
+    `kind` is `equal`, `different`, `numbers`, `linking`, `weights` or `moves`; `diagrams` has for each diagram given its name, the diagram and
+    its grid; `frames` those of draw.py with their places; `quandle` and `lists` the colourings of each diagram, each with its weight or None;
+    `verdict` that of version 3.
+    """
+
+    def __init__(self, kind, diagrams, frames=(), quandle=None, lists=(), cocycle=None, verdict=None):
+        self.kind, self.diagrams, self.frames, self.quandle, self.lists = kind, diagrams, frames, quandle, lists
+        self.cocycle, self.verdict = cocycle, verdict
+
+    def colours_of(self, number, grid):
+        """A colouring that a diagram is drawn in where no list is there, or None."""
+        if self.frames:
+            return self.frames[-1 if number else 0][1].colours
+        return some_colouring(grid, [self.quandle])[1] if self.verdict and self.quandle else None
+
+
+# Reading
+
+def read_page(text, words):
+    """The page of a text."""
+    lines = Lines(text)
+    first = read_diagram(lines)
+    if lines.peek() not in ("x", "braid"):
+        return walk_of(lines, first, words)
+    second, quandles = read_diagram(lines), read_quandles(lines)
+    named = [("the first diagram", first, grid_of(first)), ("the second diagram", second, grid_of(second))]
+    if lines.peek() == "weight":
+        return weighed(lines, named, quandles)
+    verdict, _ = certificates.read_verdict(lines, named[0][2], named[1][2])
+    if isinstance(verdict, certificates.Unknown):
+        raise BadText("the verdict is 'unknown', which has no evidence to be shown")
+    refuse_alike(verdict)
+    if isinstance(verdict, certificates.DifferentLinking):
+        return Page("linking", named, verdict=verdict)
+    if isinstance(verdict, certificates.DifferentNumbers):
+        return Page("numbers", named, quandle=verdict.quandle, cocycle=verdict.cocycle, verdict=verdict)
+    if isinstance(verdict, certificates.Different):
+        for (name, _, grid), listed in zip(named, verdict[1:]):
+            for place, colours in enumerate(listed):
+                if not is_colouring(grid, verdict.quandle, colours):
+                    raise BadText(f"line {place} of the list of {name}, counted from 0, is no colouring")
+        return Page("different", named, quandle=verdict.quandle, lists=[[(colours, None) for colours in listed] for listed in verdict[1:]])
+    quandle, colours = (None, None) if words.plain else some_colouring(named[0][2], [jobs.quandle(words.quandle)] if words.quandle else quandles + built_in_list())
+    frames = draw.along(named[0][2], list(verdict.moves), quandle, colours)
+    if frames[-1].grid != named[1][2]:
+        raise BadText("the moves don't lead to the second diagram")
+    return Page("equal", named, draw.chosen(limited(frames, words), words.frames, words.no_shifts), quandle)
+
+
+def refuse_alike(verdict):
+    """Refuses a verdict `different` whose own numbers are alike."""
+    if isinstance(verdict, certificates.Different) and len(verdict.first) == len(verdict.second):
+        raise BadText(f"both lists have {len(verdict.first)} colourings, which shows nothing")
+    if isinstance(verdict, certificates.DifferentNumbers) and verdict.first.numbers == verdict.second.numbers:
+        raise BadText("the numbers of both diagrams agree, which shows nothing")
+    if isinstance(verdict, certificates.DifferentLinking) and verdict.first.numbers == verdict.second.numbers:
+        raise BadText("the linking numbers of both diagrams agree, which shows nothing")
+
+
+def walk_of(lines, diagram, words):
+    """The page of a diagram and moves, perhaps with a quandle and colours."""
+    if lines.peek() != "moves":
+        raise BadText("behind a diagram moves or a second diagram are due", lines.take("a second diagram")[0])
+    moves, grid = read_moves(lines), grid_of(diagram)
+    quandle = colours = None
+    if lines.peek() == "quandle":
+        quandle = read_quandle(lines)
+        colours = draw.read_colours(lines, grid, quandle)
+    lines.done()
+    if not quandle and not words.plain:
+        quandle, colours = some_colouring(grid, [jobs.quandle(words.quandle)] if words.quandle else built_in_list())
+    frames = draw.along(grid, moves, quandle, colours)
+    return Page("moves", [("the diagram", diagram, grid)], draw.chosen(limited(frames, words), words.frames, words.no_shifts), quandle)
+
+
+def weighed(lines, named, quandles):
+    """The page of an input of `weights`."""
+    if len(quandles) != 1:
+        raise BadText("before a cocycle one quandle is due")
+    modulus, values = cocycles.read_cocycle(lines, quandles[0])
+    lines.done()
+    lists = []
+    for name, _, grid in named:
+        if not fits(quandles[0], grid):
+            raise BadText(f"the quandle is too large for {name}")
+        found = sorted(weighing.colourings(grid, quandles[0]))
+        lists.append([(colours, sum(times * values[x][y] for (x, y), times in weighing.pairs_met(grid, quandles[0], colours).items()) % modulus)
+                      for colours in found])
+    return Page("weights", named, quandle=quandles[0], lists=lists, cocycle=cocycles.Cocycle(modulus, values))
+
+
+def some_colouring(grid, quandles):
+    """The first quandle that colours a grid by two colours or more, and such a colouring; else none. `trivial` ones colour components.
+
+    So that it doesn't take long, no more colours of bottoms are tried in all than `check` tries of one quandle."""
+    left = MAX_COLOURINGS
+    for quandle in quandles:
+        tries = quandle.order ** bottoms(grid)
+        if tries <= left:
+            left -= tries
+            for colours in weighing.colourings(grid, quandle):
+                if len(set(colours)) > 1:
+                    return quandle, colours
+    return None, None
+
+
+def limited(frames, words):
+    """The frames, where a page takes so many."""
+    if len(frames) > MOST_FRAMES and not words.frames:
+        raise calls.Fault(f"there are {len(frames) - 1} moves, and a page takes {MOST_FRAMES:,} frames: choose some by --frames, as 0,{len(frames) // 1000},..")
+    return frames
+
+
+# Writing
+
+def still(grid, colours, quandle, name, number, room):
+    """A picture of a grid that needs no script, at the scale of one of `room` columns, but no smaller than half as wide as it may be."""
+    text = draw.picture([(0, draw.Frame(grid, colours, quandle))], False, 24, 1, False, f"{name}, of {len(grid.xs)} columns")
+    wide = f"{max(100 * (len(grid.xs) + 1) / (room + 1), 50):.0f}%"
+    return text.replace('role="img"', f'role="img" id="picture-{number}" style="width:{wide};margin:0 auto"')
+
+
+def band_of(move, before, after):
+    """Which columns and rows of the grid a move led to it changed: first column, how many, first row, how many; or None."""
+    size = len(after.xs)
+    word = move[0]
+    if word in ("shift", "exchange", "slide"):
+        first, count = (size - move[2], move[2]) if word == "shift" else (move[2], 2)
+        return [first, count, 0, size] if move[1] == "columns" else [0, size, first, count]
+    if word == "stabilise":
+        return [move[1], 2, (before.xs if move[2] == "x" else before.os)[move[1]], 2]
+    return [move[1], 1, move[2], 1]
+
+
+def move_in(caption):
+    """The move that a frame's caption names, or None."""
+    tokens = caption.removeprefix("... ").split()
+    return tuple(int(token) if token.isdigit() else token for token in tokens) if tokens else None
+
+
+def frames_data(page):
+    """The frames for the script: place, words, Xs, Os, colours, and what the move changed."""
+    found, before = [], None
+    for place, frame in page.frames:
+        move = move_in(frame.caption)
+        has_neighbour = before is not None and not frame.caption.startswith("... ")
+        band = band_of(move, before, frame.grid) if move and has_neighbour else None
+        found.append([place, frame.caption, frame.grid.xs, frame.grid.os, frame.colours, band])
+        before = frame.grid
+    return found
+
+
+def data_of(page):
+    """All that the script needs."""
+    lists = [[[*colours, *([] if weight is None else [weight])] for colours, weight in listed] for listed in page.lists]
+    over, back = (page.quandle.over, page.quandle.back) if page.quandle else (None, None)
+    return {"kind": page.kind, "palette": draw.PALETTE, "over": over, "back": back,
+            "frames": frames_data(page), "grids": [[grid.xs, grid.os] for _, _, grid in page.diagrams], "lists": lists, "weighs": page.kind == "weights"}
+
+
+def sentence_of(page, checked):
+    """What the page says in words."""
+    if page.kind == "equal":
+        return f"<p>These two are the same: {count_of_moves(page)} from the first diagram to the second.</p>" + ruled(checked, None)
+    if page.kind == "different":
+        return counted_apart(page, *map(len, page.lists)) + ruled(checked, "Whether both lists are complete")
+    if page.kind == "weights":
+        rows = [counts_of(listed, page.cocycle.modulus) for listed in page.lists]
+        said = "These two differ: moves keep these numbers, so no moves join them." if rows[0] != rows[1] else "The numbers agree, which says nothing of the two."
+        return f"<p>{said}</p>" + weights_table(page, rows)
+    if page.kind == "numbers":
+        return numbers_sentence(page, checked)
+    if page.kind == "linking":
+        return "<p>These two differ: moves keep linking numbers, so no moves join them.</p>" + linking_table(page) + ruled(checked, "Whether these numbers are right")
+    return f"<p>A walk of {page.frames[-1][0]} moves.</p>"
+
+
+def ruled(checked, unless):
+    """That the program has ruled, or what it hasn't ruled on."""
+    if checked:
+        return "<p class=\"ruled\"><code>knot check</code> accepted this certificate.</p>"
+    return f"<p>{unless}, <code>knot check</code> says.</p>" if unless else ""
+
+
+def count_of_moves(page):
+    count = page.frames[-1][0]
+    return "one move leads" if count == 1 else f"{count} moves lead"
+
+
+def counted_apart(page, first, second):
+    """That the diagrams have so many colourings."""
+    return (f"<p>These two differ: by the quandle <strong>{escape(page.quandle.name)}</strong> the first diagram has <strong>{first}</strong> colourings, and the "
+            f"second <strong>{second}</strong>. Moves keep this number, so no moves join them.</p>")
+
+
+def numbers_sentence(page, checked):
+    """The numbers of colourings of version 3, and their seeds."""
+    both = (page.verdict.first, page.verdict.second)
+    if page.cocycle:
+        said = "<p>These two differ: moves keep these numbers, so no moves join them.</p>" + weights_table(page, [counted.numbers for counted in both])
+    else:
+        said = counted_apart(page, *(counted.numbers[0] for counted in both))
+    for (name, _, _), counted in zip(page.diagrams, both):
+        said += f"<p>The colours of the columns {' '.join(map(str, counted.seeds))} decide a colouring of {name}.</p>"
+    return said + ruled(checked, "Whether these numbers are right")
+
+
+def linking_table(page):
+    """The linking numbers of both diagrams."""
+    cells = "".join(f"<tr><th scope=\"row\">{name}</th><td>{linked.components}</td><td>{' '.join(map(str, linked.numbers)) or 'none'}</td></tr>"
+                    for (name, _, _), linked in zip(page.diagrams, (page.verdict.first, page.verdict.second)))
+    return ("<div class=\"wide\"><table><caption>Linking numbers of all ordered pairs of components</caption>"
+            f"<tr><td></td><th scope=\"col\">components</th><th scope=\"col\">numbers</th></tr>{cells}</table></div>")
+
+
+def weights_table(page, rows):
+    """How many colourings of each diagram have each weight."""
+    heads = "".join(f"<th scope=\"col\">{weight}</th>" for weight in range(page.cocycle.modulus))
+    cells = "".join(f"<tr><th scope=\"row\">{name}</th>{''.join(f'<td>{count}</td>' for count in row)}</tr>" for (name, _, _), row in zip(page.diagrams, rows))
+    return (f"<div class=\"wide\"><table><caption>How many colourings by the quandle {escape(page.quandle.name)} have each weight mod {page.cocycle.modulus}"
+            f"</caption><tr><th scope=\"col\">weight</th>{heads}</tr>{cells}</table></div>")
+
+
+def counts_of(listed, modulus):
+    """How many colourings have each weight."""
+    return [sum(weight == wanted for _, weight in listed) for wanted in range(modulus)]
+
+
+def table_of(square, caption, corner):
+    """A square of numbers as a table."""
+    heads = "".join(f"<th scope=\"col\">{place}</th>" for place in range(len(square)))
+    rows = "".join(f"<tr><th scope=\"row\">{place}</th>{''.join(f'<td>{value}</td>' for value in row)}</tr>" for place, row in enumerate(square))
+    return (f"<details><summary>{caption}</summary><div class=\"wide\"><table><tr><th scope=\"col\">{corner}</th>{heads}</tr>{rows}</table></div></details>")
+
+
+def figures_of(page):
+    """Each diagram given: its picture, its text, and its list of colourings."""
+    found = []
+    room = max(len(grid.xs) for _, _, grid in page.diagrams)
+    for number, (name, diagram, grid) in enumerate(page.diagrams):
+        listed = page.lists[number] if page.lists else []
+        shown = max(range(len(listed)), key=lambda place: len(set(listed[place][0])), default=None)
+        colours = listed[shown][0] if listed else page.colours_of(number, grid)
+        count = f": {len(listed)} colourings" if page.lists else ""
+        below = f"<pre>{escape(diagram_text(diagram))}</pre>"
+        if listed:
+            lines = "\n".join(" ".join(map(str, colours)) + ("" if weight is None else f"   weight {weight}") for colours, weight in listed[:MOST_LINES])
+            below += (f'<label class="needs">Colouring <output id="which-{number}">{shown + 1}</output> of {len(listed)}'
+                      f'<input type="range" id="list-{number}" min="1" max="{len(listed)}" value="{shown + 1}"></label>'
+                      f'<p id="said-{number}" class="said" aria-live="polite"></p>'
+                      f'<details><summary>All {len(listed)} colourings, by column</summary><pre class="list">{lines}</pre></details>')
+        picture = still(grid, colours, page.quandle if colours else None, name.capitalize(), number, room)
+        found.append(f"<figure><figcaption>{name.capitalize()}{count}</figcaption>{picture}{below}</figure>")
+    return f'<div class="figures">{"".join(found)}</div>'
+
+
+def walk_section(page):
+    """The slider through the moves, and all moves in words."""
+    last = len(page.frames) - 1
+    items = "".join(f'<li value="{place}"><button type="button" data-place="{number}">{escape(frame.caption)}</button></li>'
+                    for number, (place, frame) in enumerate(page.frames) if frame.caption)
+    buttons = "".join(f'<button type="button" id="{name}" title="{title}" aria-label="{title}">{sign}</button>' for name, title, sign in (
+        ("first", "First frame (Home)", "|&lt;"), ("back", "One back (left arrow)", "&lt;"), ("play", "Play or pause (space bar)", "Play"),
+        ("on", "One on (right arrow)", "&gt;"), ("last", "Last frame (End)", "&gt;|")))
+    return (f'<section aria-labelledby="moves-head"><h2 id="moves-head">The moves</h2><noscript><p>The slider needs scripts; all moves stand below.</p></noscript>'
+            f'<div class="needs"><div class="walk"><svg id="walk" role="img" aria-labelledby="now"></svg></div>'
+            f'<p id="now" class="said" aria-live="polite"></p><label>Frame<input type="range" id="frame" min="0" max="{last}" value="0"></label>'
+            f'<div class="buttons">{buttons}</div></div>'
+            f'<details{" open" if last <= 30 else ""}><summary>All moves in words</summary><ol>{items}</ol></details></section>')
+
+
+def page_text(page, title, checked):
+    """The whole file."""
+    parts = [sentence_of(page, checked), figures_of(page)]
+    if page.frames:
+        parts.append(walk_section(page))
+        if page.quandle:
+            parts.append(f"<p>The colours are a colouring by the quandle {escape(page.quandle.name)}, carried along the moves; their numbers stand below "
+                         "the columns.</p>")
+    if page.quandle:
+        parts.append(table_of(page.quandle.over, f"The quandle {escape(page.quandle.name)}: x ▷ y, line x and column y", "▷"))
+    if page.cocycle:
+        parts.append(table_of(page.cocycle.values, f"The cocycle mod {page.cocycle.modulus}: φ(x, y), line x and column y", "φ"))
+    ruler = {"weights": "knot weights", "moves": "knot replay"}.get(page.kind, "knot check")
+    data = json.dumps(data_of(page), separators=(",", ":")).replace("<", "\\u003c")
+    style, script = (calls.text_of(os.path.join(HERE, "lib", f"page.{kind}")) for kind in ("css", "js"))
+    return f"""<!DOCTYPE html>
+<html lang="en">
+<head>
+<meta charset="utf-8">
+<meta name="viewport" content="width=device-width, initial-scale=1">
+<title>{escape(title)}</title>
+<style>
+{style}</style>
+</head>
+<body>
+<main>
+<h1>{escape(title)}</h1>
+{"".join(parts)}
+<p class="foot">Verticals pass over horizontals. Whoever has the certificate can have it ruled on: <code>{ruler} &lt; certificate.txt</code>.</p>
+</main>
+<script type="application/json" id="data">{data}</script>
+<script>
+{script}</script>
+</body>
+</html>
+"""
+
+
+def title_of(page):
+    """A title where none is given."""
+    titles = {"equal": "Two diagrams that are the same", "weights": "Two diagrams and their weights", "moves": "A walk of moves"}
+    return titles.get(page.kind, "Two diagrams that differ")
+
+
+def main():
+    parser = argparse.ArgumentParser(description=__doc__, formatter_class=argparse.RawDescriptionHelpFormatter)
+    parser.add_argument("certificate", nargs="?", help="a file; standard input where none is given")
+    parser.add_argument("--out", metavar="FILE", help="where the page goes; standard output where none is given")
+    parser.add_argument("--title", help="the page's title")
+    parser.add_argument("--quandle", metavar="NAME", help="which quandle colours the diagrams of moves, as \"dihedral 5\"")
+    parser.add_argument("--plain", action="store_true", help="no colours along the moves")
+    parser.add_argument("--frames", metavar="PLACES", help="only these frames, counted from 0: as 0,5,9 or 3..7 or 0,10,.. for each tenth and the last")
+    parser.add_argument("--no-shifts", action="store_true", help="leave out the frames behind shifts, but for the last frame")
+    parser.add_argument("--check", action="store_true", help="ask knot check first; the page says so, and there is none where it rejects")
+    words = parser.parse_args()
+    with calls.naming(words.certificate):
+        text = calls.text_of(words.certificate)
+        try:
+            page = read_page(text, words)
+        except ValueError as fault:
+            if isinstance(fault, calls.Fault):
+                raise
+            parser.error(f"--frames {words.frames} names no places")
+        if words.check and page.kind in ("weights", "moves"):
+            parser.error("--check is for certificates 'equal' and 'different'")
+        if words.check:
+            certificates.check(text)
+    if page.kind in ("equal", "moves") and not page.frames:
+        parser.error(f"--frames {words.frames} names none of the frames")
+    calls.put(words.out, page_text(page, words.title or title_of(page), words.check))
+
+
+if __name__ == "__main__":
+    calls.run("show.py", main)
