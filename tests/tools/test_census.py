@@ -1,0 +1,358 @@
+"""Tests of tools/census.py: with a slow stand-in for both programs, which the independent reader answers for, and with the programs themselves
+where they are built."""
+import csv
+import html.parser
+import os
+import shutil
+import signal
+import subprocess
+import sys
+import tempfile
+import time
+import unittest
+
+import browser
+import common
+import reader
+from lib.census_plan import blocks_of
+from lib.diagrams import Braid, Grid, diagram_text, grid_text, mirror_image, reverse
+from lib.moves import made
+
+SCRIPT = os.path.join(common.TOOLS, "census.py")
+STAND_IN = os.path.join(common.ROOT, "tests", "tools", "small_knot.py")
+BUILT = common.built_program()
+BUILT_SEEK = os.environ.get("SEEK") or os.path.join(common.ROOT, "crates", "seek", "out", "seek")
+
+TREFOIL = Grid((4, 3, 2, 1, 0), (2, 1, 0, 4, 3))
+UNKNOT = Grid((0, 1), (1, 0))
+HOPF = Grid((0, 1, 2, 3), (2, 3, 0, 1))
+PLAN = """\
+# small quandles, since the stand-in is slow
+linking  linking
+small    numbers +small.txt
+mirrors  numbers +{weights}
+quick    decide --spare 0
+few      seek --steps 5
+"""
+
+
+# A folder with diagrams and their census, and how its making ended; made by the first test that needs it.
+BASE = []
+
+
+class CensusTest(unittest.TestCase):
+    def setUp(self):
+        self.folder = common.scratch(self)
+        self.diagrams = os.path.join(self.folder, "diagrams")
+        self.census = os.path.join(self.folder, "census")
+        self.log = os.path.join(self.folder, "log")
+        os.mkdir(self.diagrams)
+        self.seek = os.path.join(self.folder, "seek")
+        os.symlink(STAND_IN, self.seek)
+        self.put("small.txt", "quandle dihedral 3\nquandle tetrahedral\n")
+        self.plan = self.put("plan.txt", PLAN.format(weights=os.path.join(common.LISTS, "weights", "3_1-mirror-3_1.txt")))
+
+    def put(self, name, text):
+        path = os.path.join(self.folder, name)
+        with open(path, "w", encoding="utf-8") as out:
+            out.write(text)
+        return path
+
+    def diagram(self, name, diagram):
+        self.put(os.path.join("diagrams", name + ".txt"), diagram_text(diagram))
+
+    def environment(self, **more):
+        return {**os.environ, "KNOT": STAND_IN, "SEEK": self.seek, "LOG": self.log, **more}
+
+    def words(self, *words):
+        return [sys.executable, "-B", SCRIPT, *words]
+
+    def call(self, *words, **more):
+        done = subprocess.run(self.words(*words), env=self.environment(**more), capture_output=True, text=True, check=False)
+        return done.returncode, done.stdout, done.stderr
+
+    def sort(self, *words, **more):
+        return self.call("sort", "--plan", self.plan, "--processes", "4", *words, self.diagrams, self.census, **more)
+
+    def rows(self, name="classes.csv"):
+        with open(os.path.join(self.census, name), encoding="utf-8", newline="") as file:
+            return list(csv.DictReader(file))
+
+    def classes(self):
+        return {row["name"]: (row["class"], row["as"], row["check"]) for row in self.rows()}
+
+    def calls_made(self):
+        """The calls since the last look, but for those before the first input is run."""
+        if not os.path.exists(self.log):
+            return []
+        with open(self.log, encoding="utf-8") as file:
+            found = file.read().splitlines()
+        os.unlink(self.log)
+        return found
+
+    def put_sorted(self):
+        """The trefoils and a census of them, which is made once for all tests and copied."""
+        if not BASE:
+            BASE.append(tempfile.TemporaryDirectory())
+            self.put_trefoils()
+            BASE.append(self.sort())
+            shutil.copytree(self.folder, os.path.join(BASE[0].name, "copy"), symlinks=True)
+        else:
+            os.unlink(self.seek)
+            shutil.copytree(os.path.join(BASE[0].name, "copy"), self.folder, symlinks=True, dirs_exist_ok=True)
+        self.calls_made()
+        return BASE[1]
+
+    def put_trefoils(self):
+        self.diagram("a", TREFOIL)
+        self.diagram("b", made(made(TREFOIL, ("stabilise", 1, "o", "highleft")), ("shift", "rows", 1)))
+        self.diagram("c", mirror_image(TREFOIL))
+        self.diagram("d", made(mirror_image(TREFOIL), ("shift", "columns", 2)))
+        self.diagram("e", UNKNOT)
+        self.diagram("f", Braid(2, ()))
+
+
+class SortTest(CensusTest):
+    def test_a_table_is_sorted_with_a_certificate_for_all_that_is_said(self):
+        status, out, errors = self.put_sorted()
+        self.assertEqual((status, out), (0, "6 diagrams: 4 classes, 0 pairs of classes undecided; 12 of 12 certificates accepted\n"), errors)
+        self.assertEqual(self.classes(), {"a": ("a", "", ""), "b": ("a", "", "accepted"), "c": ("c", "", ""), "d": ("c", "", "accepted"),
+                                          "e": ("e", "", ""), "f": ("f", "", "")})
+        apart = {(row["first"], row["second"]): (row["by"], row["check"]) for row in self.rows("apart.csv")}
+        self.assertEqual(apart, {("a", "c"): ("weights by table 6 of 3_1-mirror-3_1.txt", "different"), ("a", "e"): ("dihedral 3", "accepted"),
+                                 ("a", "f"): ("linking", "different"), ("c", "e"): ("dihedral 3", "accepted"), ("c", "f"): ("linking", "different"),
+                                 ("e", "f"): ("linking", "different")})
+        self.assertEqual(self.rows("undecided.csv"), [])
+        # All evidence, by the independent reader, as somebody else would check it.
+        for folder in ("certificates", "smallest"):
+            for name in os.listdir(os.path.join(self.census, folder)):
+                with open(os.path.join(self.census, folder, name), "rb") as file:
+                    self.assertEqual(reader.answer([b"check"], file.read()).text, b"accepted\n")
+        for row in self.rows("apart.csv"):
+            with open(os.path.join(self.census, row["evidence"]), "rb") as file:
+                job = {"linking": b"linking", "weights": b"weights"}.get(row["by"].split()[0], b"check")
+                self.assertTrue(reader.answer([job], file.read()).text.endswith(b"accepted\n" if job == b"check" else b"different\n"))
+
+    def test_again_nothing_is_run_and_a_new_diagram_joins_what_stands(self):
+        self.put_sorted()
+        before = self.classes()
+        self.assertEqual(self.sort()[0], 0)
+        # The programs were only tried before the first input.
+        self.assertEqual(self.calls_made(), ["decide --spare 0", "seek --steps 5", "numbers"])
+        self.assertEqual(self.classes(), before)
+        # One that comes before all others by its name doesn't become the first of the class.
+        self.diagram("0", made(TREFOIL, ("shift", "rows", 3)))
+        self.assertEqual(self.sort()[0], 0)
+        self.assertEqual(self.classes(), {**before, "0": ("a", "", "accepted")})
+        made_now = self.calls_made()
+        self.assertEqual((made_now.count("simplify"), made_now.count("decide --spare 0 --budget 2")), (1, 0))
+
+    def test_mirror_images_and_reverses_by_option(self):
+        self.put_trefoils()
+        self.diagram("g", reverse(made(TREFOIL, ("shift", "rows", 1))))
+        status, out, errors = self.sort("--mirror", "--reverse")
+        self.assertEqual(status, 0, errors)
+        found = self.classes()
+        self.assertEqual({name: row[0] for name, row in found.items()}, {"a": "a", "b": "a", "c": "a", "d": "a", "e": "e", "f": "f", "g": "a"})
+        self.assertIn("mirror image", found["c"][1])
+        self.assertEqual({row[2] for row in found.values()}, {"", "accepted"})
+        with open(os.path.join(self.census, "certificates", "c.txt"), encoding="utf-8") as file:
+            self.assertIn(f"# first: c, {found['c'][1]}\n", file.read())
+        # Two classes are apart where each turn is told apart.
+        self.assertEqual([row["as"] for row in self.rows("apart.csv") if (row["first"], row["second"]) == ("a", "e")],
+                         ["", "mirror image", "reverse", "reversed mirror image"])
+
+    def test_what_nothing_joins_is_undecided_with_what_was_tried(self):
+        self.diagram("a", TREFOIL)
+        self.diagram("b", made(TREFOIL, ("shift", "rows", 1)))
+        status, out, _ = self.sort(LONELY="1")
+        self.assertEqual((status, out), (1, "2 diagrams: 2 classes, 1 pairs of classes undecided; 2 of 2 certificates accepted\n"))
+        row, = self.rows("undecided.csv")
+        self.assertEqual((row["first"], row["second"]), ("a", "b"))
+        self.assertEqual(row["tried"], "4 numbers alike; quick: decide --spare 0: unknown budget 2; few: seek --steps 5: nothing found")
+
+    def test_evidence_on_demand(self):
+        self.put_sorted()
+        for name in os.listdir(os.path.join(self.census, "rounds")):
+            if name.startswith("apart"):
+                shutil.rmtree(os.path.join(self.census, "rounds", name))
+        status, out, errors = self.sort("--no-apart")
+        self.assertEqual((status, out), (0, "6 diagrams: 4 classes, 0 pairs of classes undecided, 6 not asked for; 6 of 6 certificates accepted\n"), errors)
+        self.assertEqual(self.rows("apart.csv"), [])
+        status, out, errors = self.call("apart", self.census, "d", "b")
+        self.assertEqual((status, errors.splitlines()[-1]), (0, "census.py: a and c: weights by table 6 of 3_1-mirror-3_1.txt: different"))
+        self.assertTrue(reader.answer([b"weights"], out.encode()).text.endswith(b"different\n"))
+        status, out, errors = self.call("apart", self.census, "b", "e")
+        self.assertEqual(status, 0, errors)
+        self.assertEqual(reader.answer([b"check"], out.encode()).text, b"accepted\n")
+        self.assertEqual(self.call("apart", self.census, "c", "d")[::2], (1, "census.py: c and d are in one class, that of c\n"))
+        self.assertEqual(self.call("apart", self.census, "c", "nobody")[0], 2)
+        self.assertEqual(self.call("apart", self.census, "c")[0], 2)
+        status, out, errors = self.call("apart", self.census)
+        self.assertEqual((status, out), (0, "6 diagrams: 4 classes, 0 pairs of classes undecided; 12 of 12 certificates accepted\n"), errors)
+        self.assertEqual(len(self.rows("apart.csv")), 6)
+
+    def test_a_diagram_that_is_none_is_named_and_the_others_are_sorted(self):
+        self.diagram("a", TREFOIL)
+        self.put(os.path.join("diagrams", "b.txt"), "x 0 0\no 1 1\n")
+        self.diagram("c", made(TREFOIL, ("shift", "rows", 1)))
+        os.mkdir(os.path.join(self.diagrams, "d.txt"))
+        status, out, errors = self.sort()
+        self.assertEqual((status, out), (3, "2 diagrams: 1 classes, 0 pairs of classes undecided; 2 of 2 certificates accepted\n"))
+        self.assertIn("b.txt: line 1: the Xs don't have each row", errors)
+        self.assertIn("d.txt: it is a folder", errors)
+
+    def test_calls_that_cannot_be_done(self):
+        self.assertIn("no file NAME.txt", self.sort()[2])
+        self.diagram("a", TREFOIL)
+        self.assertEqual(self.call("apart", self.census)[0], 2)
+        self.assertEqual(self.call("sort", self.diagrams)[0], 2)
+        self.assertEqual(self.sort("--part", "3/2")[0], 2)
+        self.assertEqual(self.sort("--processes", "0")[0], 2)
+        self.assertFalse(os.path.exists(self.census))
+
+
+class SpreadTest(CensusTest):
+    def test_parts_take_turns_until_all_is_sorted(self):
+        self.put_trefoils()
+        ended = []
+        while len(ended) < 24 and not (ended and ended[-1][1]):
+            ended.append(self.sort("--part", f"{len(ended) % 2 + 1}/2"))
+        self.assertEqual(ended[0][:2], (1, ""))
+        self.assertIn("part 1/2: round simplify: 3 of 6 inputs have no answer yet; call again when all parts have ended\n", ended[0][2])
+        self.assertEqual(ended[-1][:2], (0, "6 diagrams: 4 classes, 0 pairs of classes undecided; 12 of 12 certificates accepted\n"))
+
+    @unittest.skipUnless(shutil.which("parallel"), "GNU parallel is not installed")
+    def test_with_gnu_parallel_the_same_is_found(self):
+        self.put_trefoils()
+        status, out, errors = self.sort("--with", "parallel")
+        self.assertEqual((status, out), (0, "6 diagrams: 4 classes, 0 pairs of classes undecided; 12 of 12 certificates accepted\n"), errors)
+        self.assertTrue(os.path.exists(os.path.join(self.census, "rounds", "simplify", "jobs.log")))
+
+    def test_stopped_at_any_point_it_goes_on(self):
+        self.put_trefoils()
+        words = self.words("sort", "--plan", self.plan, "--processes", "2", self.diagrams, self.census)
+        for calls in (4, 12, 20):
+            with subprocess.Popen(words, env=self.environment(), stdout=subprocess.PIPE, stderr=subprocess.PIPE, text=True) as process:
+                while process.poll() is None and (not os.path.exists(self.log) or len(self.logged()) < calls):
+                    time.sleep(0.02)
+                process.send_signal(signal.SIGTERM)
+                out, errors = process.communicate()
+            self.assertEqual((process.returncode, out), (128 + signal.SIGTERM, ""), errors)
+            self.assertIn("stopped by signal 15; called again, it goes on", errors)
+        parts = [name for _, _, names in os.walk(self.census) for name in names if name.endswith(".part")]
+        self.assertEqual(parts, [])
+        self.assertEqual(self.sort()[:2], (0, "6 diagrams: 4 classes, 0 pairs of classes undecided; 12 of 12 certificates accepted\n"))
+
+    def logged(self):
+        with open(self.log, encoding="utf-8") as file:
+            return file.read().splitlines()
+
+
+class Counting(CensusTest):
+    def test_numbers_of_colourings_and_of_weights(self):
+        with open(os.path.join(common.LISTS, "weights", "3_1-mirror-3_1.txt"), encoding="utf-8") as file:
+            block = blocks_of(file.read())[1][0]
+        text = grid_text(TREFOIL) + "quandle dihedral 3\n# a cocycle\n" + block.text + "quandle table 1\n0\n"
+        done = subprocess.run([sys.executable, "-B", os.path.join(common.TOOLS, "colour_numbers.py"), "numbers"], input=text, env=self.environment(),
+                              capture_output=True, text=True, check=False)
+        self.assertEqual((done.returncode, done.stderr), (0, ""))
+        self.assertEqual(done.stdout, f"quandle dihedral 3\nnumbers 9\n{block.quandle}numbers 6 24 0 0\nquandle table 1\n0\nnumbers 1\n")
+
+    def test_too_wide_and_faults(self):
+        five = "braid 5\n"
+        for text, status, said in ((five + "quandle dihedral 13\n", 0, "quandle dihedral 13\nwide 5\n"), ("", 3, "malformed line 1\n"),
+                                   (five + "quandle dihedral 33\n", 4, "limit line 2\n")):
+            done = subprocess.run([sys.executable, "-B", os.path.join(common.TOOLS, "colour_numbers.py")], input=text, env=self.environment(),
+                                  capture_output=True, text=True, check=False)
+            self.assertEqual((done.returncode, done.stdout), (status, said))
+
+
+class Elements(html.parser.HTMLParser):
+    """The elements of a page, and those that are open at its end."""
+
+    EMPTY = ("meta", "input", "br")
+
+    def __init__(self):
+        super().__init__()
+        self.open, self.seen, self.values = [], [], []
+
+    def handle_starttag(self, tag, attrs):
+        self.seen.append(tag)
+        self.values += [value for name, value in attrs if name in ("href", "src")]
+        if tag not in self.EMPTY:
+            self.open.append(tag)
+
+    def handle_endtag(self, tag):
+        if self.open.pop() != tag:
+            raise AssertionError(tag)
+
+
+# The classes as they stand on the page, by the names that are shown.
+SHOWN = '[...document.querySelectorAll("tbody tr")].filter(row => !row.hidden).map(row => row.querySelector("summary").textContent).join(" ")'
+FOCUSED = "document.activeElement.textContent"
+STATUS = 'document.getElementById("status").textContent'
+SORTED_BY = '[...document.querySelectorAll("th")].map(one => one.getAttribute("aria-sort")).join(" ").trim()'
+ALL_DRAWN = '[...document.querySelectorAll("td svg")].every(one => one.getBoundingClientRect().height > 20)'
+
+
+class Page(CensusTest):
+    def setUp(self):
+        super().setUp()
+        self.put_sorted()
+        with open(os.path.join(self.census, "classes.html"), encoding="utf-8") as file:
+            self.text = file.read()
+
+    def test_the_page_stands_alone(self):
+        page = Elements()
+        page.feed(self.text)
+        page.close()
+        self.assertEqual(page.open, [])
+        self.assertEqual((page.seen.count("svg"), page.seen.count("tr")), (4, 5))
+        # Its only links lead to certificates beside it.
+        self.assertEqual(page.values, ["certificates/b.txt", "certificates/d.txt"])
+
+    @unittest.skipUnless(browser.PROGRAM, "no browser is installed")
+    def test_it_is_sorted_and_searched_by_keys_in_a_browser(self):
+        with browser.Browser() as page:
+            page.open(os.path.join(self.census, "classes.html"))
+            self.assertEqual((page.value(SHOWN), page.value(ALL_DRAWN)), ("a c e f", True))
+            page.press("Tab", "Tab", "Tab", "Tab")
+            self.assertEqual(page.value(FOCUSED), "columns")
+            page.press("Enter")
+            self.assertEqual((page.value(SHOWN), page.value(STATUS)), ("e f a c", "sorted by columns, ascending"))
+            page.press(" ")
+            self.assertEqual((page.value(SHOWN), page.value(SORTED_BY)), ("a c f e", "descending"))
+            page.press("Tab", "Tab", "Tab", "Enter")
+            self.assertEqual((page.value(FOCUSED), page.value("document.activeElement.parentElement.open")), ("a", True))
+            page.value('document.getElementById("find").focus()')
+            page.press("b")
+            self.assertEqual((page.value(SHOWN), page.value(STATUS)), ("a", "1 of 4 classes shown"))
+
+
+@unittest.skipUnless(BUILT and os.access(BUILT_SEEK, os.X_OK), "knot and seek are not built here; KNOT and SEEK may name built ones")
+class BuiltTest(CensusTest):
+    """With the programs themselves."""
+
+    def environment(self, **more):
+        return {**os.environ, "KNOT": BUILT, "SEEK": BUILT_SEEK, **more}
+
+    def test_words_and_grids_of_four_knots(self):
+        self.put_trefoils()
+        self.diagram("g", Braid(3, (1, -2, 1, -2)))
+        self.diagram("h", Braid(3, (-1, 2, -1, 2)))
+        self.diagram("i", Braid(4, (1, 1, -1, -2, 1, -2, 3)))
+        self.diagram("j", HOPF)
+        status, out, errors = self.call("sort", "--plan", self.plan_of_built(), self.diagrams, self.census)
+        self.assertEqual(status, 0, errors)
+        self.assertEqual({row["name"]: row["class"] for row in self.rows()},
+                         {"a": "a", "b": "a", "c": "c", "d": "c", "e": "e", "f": "f", "g": "g", "h": "g", "i": "g", "j": "j"})
+        self.assertEqual({row["check"] for row in self.rows()}, {"", "accepted"})
+
+    def plan_of_built(self):
+        plan = PLAN.format(weights=os.path.join(common.LISTS, "weights", "T5.txt"))
+        return self.put("built.txt", plan.replace("--spare 0", "").replace("--steps 5", "--steps 100000"))
+
+
+if __name__ == "__main__":
+    unittest.main()
