@@ -1,11 +1,11 @@
-"""Grids for the benches, and lists and walks of moves from them; diagrams and moves are those of tools/lib/, whose place is known here."""
+"""Grids for the benches, and lists and walks of moves from them; diagrams and moves are those of python/knot_workbench/, whose place is known here."""
 import os
 import random
 import sys
 
-sys.path.insert(0, os.path.join(os.path.dirname(os.path.abspath(__file__)), "..", "tools"))
-from lib.diagrams import CORNERS, Grid, crossings, grid_text
-from lib.moves import Illegal, made
+sys.path.insert(0, os.path.join(os.path.dirname(os.path.abspath(__file__)), "..", "python"))
+from knot_workbench.diagrams import CORNERS, Grid, crossings, grid_text
+from knot_workbench.moves import Illegal, made
 
 UNKNOT = Grid((0, 1), (1, 0))
 RIGHT_TREFOIL = Grid((4, 3, 2, 1, 0), (2, 1, 0, 4, 3))

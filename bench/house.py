@@ -1,10 +1,15 @@
 #!/usr/bin/env python3
-"""What the tree shows of its own order: statements that stand twice, wide proof lines, long files and functions.
+"""What the tree shows of its own order: statements that stand twice, wide proof lines, long files and functions, long sentences.
 
     python3 bench/house.py          all of it
-    python3 bench/house.py twice    one part: twice, library, wide, long, names
+    python3 bench/house.py twice    one part: twice, library, wide, long, names, pages, sentences, stated
 
 A finding is a place to look. Statements are compared by their text, with the names that they bind told apart by place alone.
+
+`pages` counts the words of every page `*.md` of the tree between white space, as `wc -w` does, and beside them the words of prose: those
+with a letter or a digit that stand in no block of commands or texts, where all between two backticks is one word. `sentences` reads the
+prose by the same rule. A sentence ends at a full stop or at the end of its paragraph, list item or cell of a table. `stated` finds the
+links of pages that lead nowhere, and the names that docs/DEFINITIONS.md says are stated in a file, or are laws of its crate, and aren't.
 """
 import os
 import re
@@ -12,10 +17,14 @@ import shutil
 import subprocess
 import sys
 
+import house_crates
+
 TOP = os.path.dirname(os.path.dirname(os.path.abspath(__file__)))
 WIDE = 160
 LONG_FILE = 500
 LONG_FUNCTION = 40
+LONG_SENTENCE = 25
+HARD_SENTENCE = 30
 
 
 def files(kind, ending):
@@ -158,26 +167,19 @@ def wide():
 
 
 def long():
-    """Files and functions that are too long."""
+    """Files and functions that are too long; long tests, which are mostly tables, are only counted."""
+    tests = 0
     for kind, ending in (("src", ".rt"), ("specs", ".antt"), ("proofs", ".antt")):
         for _, path in files(kind, ending):
             rows = lines_of(path)
             if len(rows) > LONG_FILE:
                 print(f"{os.path.relpath(path, TOP)}: {len(rows)} lines")
-            if ending == ".rt":
-                start = None
-                for number, line in enumerate(rows, 1):
-                    indent = len(line) - len(line.lstrip())
-                    if re.match(r"\s*(?:pub(?:\([a-z]+\))? )?(?:const )?fn \w+", line):
-                        start, depth = None, indent
-                        pending = True
-                        name = line
-                    if line.rstrip() == " " * indent + "{" and "name" in locals() and start is None:
-                        start = number
-                    if start and line.rstrip() == " " * depth + "}" and number - start > LONG_FUNCTION:
-                        print(f"{place(path, start)}: {number - start} lines, {name.strip()}")
-                    if start and line.rstrip() == " " * depth + "}":
-                        start = None
+            for name, number, length in house_crates.functions_of(rows) if ending == ".rt" else ():
+                if length > LONG_FUNCTION and re.search(r"tests(?:/\w+)?\.rt$", path):
+                    tests += 1
+                elif length > LONG_FUNCTION:
+                    print(f"{place(path, number)}: {length} lines, {name}")
+    print(f"{tests} tests are over {LONG_FUNCTION} lines")
 
 
 def names():
@@ -193,12 +195,130 @@ def names():
             print(f"{crate}: {', '.join(left)}; code: {', '.join(sorted(code.get(crate, set()) - {'lib', 'tests', 'laws'}))}")
 
 
-PARTS = {"twice": (twice, defined_twice), "library": (library,), "wide": (wide,), "long": (long,), "names": (names,)}
+def pages_of_prose():
+    """The pages of the tree, as paths from its top, in order."""
+    for folder, folders, names_of in sorted(os.walk(TOP)):
+        folders[:] = [name for name in folders if name not in (".git", "out")]
+        for name in sorted(names_of):
+            if name.endswith(".md"):
+                yield os.path.relpath(os.path.join(folder, name), TOP)
+
+
+def prose_lines(path):
+    """The lines of a page that stand in no block of commands or texts, with their numbers; a code in backticks is made one word."""
+    fenced = indented = False
+    before = ""
+    for number, line in enumerate(lines_of(os.path.join(TOP, path)), 1):
+        if line.lstrip().startswith("```"):
+            fenced = not fenced
+        elif not fenced:
+            if line.startswith("    ") and (indented or not before.strip()):
+                indented = True
+            elif line.strip():
+                indented = False
+            if not indented:
+                yield number, re.sub(r"`[^`]*`", lambda code: re.sub(r"[ .|]", "_", code.group(0)), line)
+        before = line
+
+
+def words_of(text):
+    """The words of a line of prose: what has a letter or a digit."""
+    return [word for word in text.split() if re.search(r"\w", word)]
+
+
+def pages():
+    """The pages by their words, the longest first, and the words of all."""
+    rows = []
+    for path in pages_of_prose():
+        whole = sum(len(line.split()) for line in lines_of(os.path.join(TOP, path)))
+        rows.append((whole, sum(len(words_of(line)) for _, line in prose_lines(path)), path))
+    for whole, prose, path in sorted(rows, key=lambda row: (-row[0], row[2])):
+        print(f"{whole} words, {prose} of prose: {path}")
+    print(f"{len(rows)} pages have {sum(row[0] for row in rows)} words, {sum(row[1] for row in rows)} of prose")
+
+
+def sentences_of(path):
+    """The sentences of a page, each with the number of its first line and as a list of words."""
+    for number, line in prose_lines(path):
+        text = re.sub(r"!?\[([^\]]*)\]\([^)]*\)", r"\1", line)
+        text = re.sub(r"^\s*(?:[-*>] |#+ |\d+\. )", "", text)
+        for piece in text.split("|") if text.startswith("|") else [text]:
+            for sentence in re.split(r"(?<=[.?!])[*)]*\s+(?=\S)", piece):
+                words = words_of(sentence)
+                if words:
+                    yield number, words
+
+
+def sentences():
+    """Long sentences, and those that begin with *That*."""
+    count = long_ones = hard = that = 0
+    for path in pages_of_prose():
+        for number, words in sentences_of(path):
+            count += 1
+            long_ones += len(words) > LONG_SENTENCE
+            hard += len(words) > HARD_SENTENCE
+            begins = words[0].strip("*(") == "That"
+            that += begins
+            if len(words) > LONG_SENTENCE or begins:
+                print(f"{path}:{number}: {len(words)} words: {' '.join(words)[:100]}")
+    print(f"of {count} sentences {long_ones} have over {LONG_SENTENCE} words, {hard} over {HARD_SENTENCE}; {that} begin with That")
+
+
+def headings(path):
+    """The names by which links find the headings of a page."""
+    with open(path, encoding="utf-8") as file:
+        found = re.findall(r"^#+ (.*)$", file.read(), re.M)
+    return {re.sub(r"[^\w\- ]", "", heading.lower()).replace(" ", "-") for heading in found}
+
+
+def links():
+    """Links from page to page whose file or heading isn't there."""
+    count = 0
+    for path in pages_of_prose():
+        for number, line in prose_lines(path):
+            for target in re.findall(r"\]\(([^)]+)\)", line):
+                name, _, heading = target.partition("#")
+                if "://" in target:
+                    continue
+                file = os.path.normpath(os.path.join(TOP, os.path.dirname(path), name)) if name else os.path.join(TOP, path)
+                if not os.path.exists(file) or heading and heading not in headings(file):
+                    count += 1
+                    print(f"{path}:{number}: {target}")
+    print(f"{count} links lead nowhere")
+
+
+def code_of(crate):
+    """The text of all code of a crate."""
+    return "".join("\n".join(lines_of(path)) for name, path in files("src", ".rt") if name == crate)
+
+
+def stated():
+    """Names that stand in no file where docs/DEFINITIONS.md says that they do, and are no laws of its crate."""
+    count = names_of = 0
+    for number, line in enumerate(lines_of(os.path.join(TOP, "docs", "DEFINITIONS.md")), 1):
+        crate = folder = text = ""
+        for code in re.findall(r"`([^`]+)`", line.partition("*Stated in*")[2].partition("Source")[0]):
+            if code.endswith((".antt", ".rt")):
+                if code.startswith("crates/"):
+                    crate, folder = code.split("/")[1:3]
+                file = os.path.join(TOP, "crates", crate, folder, code.split(f"{folder}/", 1)[-1])
+                text = "\n".join(lines_of(file)) if os.path.exists(file) else ""
+            elif re.fullmatch(r"[^\W\d][\w']*", code):
+                names_of += 1
+                name = rf"(?<![\w']){re.escape(code)}(?![\w'])"
+                if not re.search(name, text) and not re.search(name, code_of(crate)):
+                    count += 1
+                    print(f"docs/DEFINITIONS.md:{number}: {code}")
+    print(f"{count} of {names_of} names are stated elsewhere")
+
+
+PARTS = {"twice": (twice, defined_twice), "library": (library,), "wide": (wide,), "long": (long,), "names": (names,),
+         "pages": (pages,), "sentences": (sentences,), "stated": (links, stated)}
 
 if __name__ == "__main__":
-    wanted = sys.argv[1:] or list(PARTS)
-    for part in wanted:
-        if part not in PARTS:
-            sys.exit(f"house.py: no part {part}; there are {', '.join(PARTS)}")
-        for run in PARTS[part]:
+    parts = {**PARTS, **house_crates.PARTS}
+    for part in sys.argv[1:] or list(parts):
+        if part not in parts:
+            sys.exit(f"house.py: no part {part}; there are {', '.join(parts)}")
+        for run in parts[part]:
             run()

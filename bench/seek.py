@@ -29,8 +29,8 @@ from typing import NamedTuple
 
 # grids knows where the modules of tools/ are.
 from grids import UNKNOT
-from lib.diagrams import CORNERS, MAX_SIZE, Braid, Grid, grid_of, grid_text
-from lib.moves import Illegal, made
+from knot_workbench.diagrams import CORNERS, MAX_SIZE, Braid, Grid, grid_of, grid_text
+from knot_workbench.moves import Illegal, made
 from measure import CRATES, PROGRAM, built, counted
 
 TOP = os.path.join(CRATES, "..")

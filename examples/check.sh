@@ -19,7 +19,7 @@ is_accepted() {
 for input in "$here"/*/*.txt; do
     job=$(basename -- "$(dirname -- "$input")")
     case $job in
-        decide | check | replay | colour | close | code | braid | linking | braidcheck | weights | simplify | sample) ;;
+        decide | check | replay | colour | close | code | braid | linking | braidcheck | weights | numbers | simplify | grid | sample) ;;
         *) continue ;;
     esac
     stem=${input%.txt}

@@ -6,14 +6,18 @@
 
 A document's commands run one behind the other in one shell, in a copy of the tree without the crates, where ./knot and ./seek
 are the programs of this tree; so a file that one command makes is there for the next. A block begins at the top of the copy. A line
-`...` stands for lines that are left out, and where nothing is shown below a command, what it gives isn't compared. Status 0
-where all is as shown."""
+`...` stands for lines that are left out, and where nothing is shown below a command, what it gives isn't compared. A command that needs
+Regina or Sage isn't tried where they aren't installed, and is named. Status 0 where all that was tried is as shown."""
 
 import os
+import re
 import shutil
 import subprocess
 import sys
 import tempfile
+
+# How it is seen whether another project's program is here, by a word of the commands that need it.
+OTHERS = {"regina": ["/usr/bin/python3", "-c", "import regina"], "sage": ["sage", "--version"]}
 
 TOP = os.path.dirname(os.path.dirname(os.path.abspath(__file__)))
 
@@ -79,9 +83,18 @@ def is_as_shown(shown, found):
     return any(is_as_shown(rest, found[k:]) for k in range(at, len(found) + 1))
 
 
+def is_here(call):
+    """Whether a call of another project's program succeeds."""
+    try:
+        return subprocess.run(call, stdout=subprocess.DEVNULL, stderr=subprocess.DEVNULL, check=False).returncode == 0
+    except OSError:
+        return False
+
+
 def main():
+    absent = [name for name, call in OTHERS.items() if not is_here(call)]
     paths = sys.argv[1:] or [f"{TOP}/README.md", f"{TOP}/docs/GUIDE.md"]
-    passed = failed = 0
+    passed = failed = untried = 0
     for path in paths:
         with tempfile.TemporaryDirectory() as folder:
             for name in os.listdir(TOP):
@@ -89,7 +102,8 @@ def main():
                     shutil.copytree(f"{TOP}/{name}", f"{folder}/{name}")
             for program in ("knot", "seek"):
                 os.symlink(f"{TOP}/{program}", f"{folder}/{program}")
-            shell = subprocess.Popen(["sh"], cwd=folder, stdin=subprocess.PIPE, stdout=subprocess.PIPE,
+            named = {"KNOT": f"{TOP}/knot", "SEEK": f"{TOP}/seek", **os.environ}
+            shell = subprocess.Popen(["sh"], cwd=folder, env=named, stdin=subprocess.PIPE, stdout=subprocess.PIPE,
                                      stderr=subprocess.STDOUT, text=True)
             for block in blocks(path):
                 if commands(block):
@@ -97,6 +111,11 @@ def main():
                 for number, command, shown in commands(block):
                     while shown and shown[-1] == "":
                         shown.pop()
+                    missing = [name for name in absent if re.search(rf"(\| *{name} |/{name}|_{name}\b)", command)]
+                    if missing:
+                        untried += 1
+                        print(f"{path}:{number}: not tried without {' and '.join(missing)}: {command}")
+                        continue
                     found = given(shell, command)
                     if not shown or is_as_shown(shown, found):
                         passed += 1
@@ -105,7 +124,7 @@ def main():
                         print(f"{path}:{number}: {command}\n  shown {shown}\n  given {found}")
             shell.stdin.close()
             shell.wait()
-    print(f"{passed} as shown, {failed} different")
+    print(f"{passed} as shown, {failed} different, {untried} not tried")
     sys.exit(0 if passed and not failed else 1)
 
 

@@ -14,44 +14,21 @@ ends with 1 where there is a difference. Run with Regina 7.3 (Debian's package r
 import argparse
 import os
 import random
-import subprocess
 import sys
 
 from lib import calls, crossing_codes
 
+import knot_workbench as workbench
+from knot_workbench.diagrams import Lines, grid_of, read_diagram
+
 TOP = os.path.dirname(os.path.dirname(os.path.abspath(__file__)))
-KNOT = os.environ.get("KNOT", f"{TOP}/knot")
-
-
-def written(job, text):
-    """What a job writes of a text that it takes."""
-    run = subprocess.run([KNOT, job], input=text.encode(), stdout=subprocess.PIPE, check=False)
-    if run.returncode:
-        raise calls.Fault(f"{KNOT} {job}: status {run.returncode}, {run.stdout.decode(errors='replace').strip() or 'nothing written'}, of {text!r}")
-    return run.stdout.decode()
-
-
-def knot(job, text):
-    """What a job writes, in lines of tokens."""
-    return [line.split() for line in written(job, text).splitlines()]
 
 
 # ---- diagrams
 
-def text_of(xs, os_):
-    return "x " + " ".join(map(str, xs)) + "\no " + " ".join(map(str, os_)) + "\n"
-
-
-def grid_of(text):
-    """The rows of the Xs and the Os, by column, of a diagram."""
-    lines = [line.split() for line in text.splitlines() if line.split() and not line.lstrip().startswith("#")]
-    if lines[0][0] == "braid":
-        lines = knot("close", "\n".join(" ".join(line) for line in lines[:1]) + "\nquandle trivial 1\n")
-    return [int(number) for number in lines[0][1:]], [int(number) for number in lines[1][1:]]
-
-
-def components_of(xs, os_):
+def components_of(grid):
     """The columns of each component, in ascending order, by their least one."""
+    xs, os_ = grid
     left, found = set(range(len(xs))), []
     while left:
         here = min(left)
@@ -64,17 +41,13 @@ def components_of(xs, os_):
     return found
 
 
-def alone(xs, os_, columns):
+def alone(grid, columns):
     """The grid of these columns, whose rows are numbered anew."""
-    rows = {row: place for place, row in enumerate(sorted(xs[column] for column in columns))}
-    return text_of([rows[xs[column]] for column in columns], [rows[os_[column]] for column in columns])
+    rows = {row: place for place, row in enumerate(sorted(grid.xs[column] for column in columns))}
+    return workbench.Grid([rows[grid.xs[column]] for column in columns], [rows[grid.os[column]] for column in columns])
 
 
 # ---- links of Regina
-
-def code_of(text):
-    return crossing_codes.kinked(crossing_codes.read_code(written("code", text)))
-
 
 def closure_code(strands, letters):
     """The code of the closure of a word: strands run upward, and in letter k the one that goes to the right lies on top."""
@@ -126,19 +99,19 @@ def polynomial(code):
 
 # ---- what is compared
 
-def linking_differs(xs, os_):
-    ours = [int(token) for token in knot("linking", 2 * text_of(xs, os_))[0][1:]]
-    parts = components_of(xs, os_)
+def linking_differs(grid):
+    ours = list(workbench.linking(grid, grid).first)
+    parts = components_of(grid)
     theirs = []
     for place, one in enumerate(parts):
         for two in parts[:place]:
-            theirs += 2 * [link_of(code_of(alone(xs, os_, sorted(one + two)))).linking()]
+            theirs += 2 * [link_of(workbench.code(alone(grid, sorted(one + two))).kinked()).linking()]
     return None if ours == sorted(theirs) else f"linking writes {ours}, Regina {sorted(theirs)}"
 
 
-def word_differs(xs, os_):
-    strands, *letters = map(int, knot("braid", text_of(xs, os_) + "quandle trivial 1\n")[0][1:])
-    word, diagram = polynomial(closure_code(strands, letters)), polynomial(code_of(text_of(xs, os_)))
+def word_differs(grid):
+    strands, letters = workbench.braid_word(grid)
+    word, diagram = polynomial(closure_code(strands, letters)), polynomial(workbench.code(grid).kinked())
     return None if word == diagram else f"braid {strands} {letters} has {word}, the diagram {diagram}"
 
 
@@ -147,20 +120,20 @@ def examples():
         for name in sorted(os.listdir(f"{TOP}/examples/{folder}")):
             if name.endswith(".txt"):
                 with open(f"{TOP}/examples/{folder}/{name}", encoding="utf-8") as file:
-                    yield f"{folder}/{name}", file.read()
+                    yield f"{folder}/{name}", read_diagram(Lines(file.read()))
 
 
 def random_grid(dice, size):
     while True:
         xs, os_ = dice.sample(range(size), size), dice.sample(range(size), size)
         if all(x != o for x, o in zip(xs, os_)):
-            return xs, os_
+            return workbench.Grid(xs, os_)
 
 
 def random_word(dice):
     strands = dice.randint(2, 5)
     letters = [dice.choice((1, -1)) * dice.randint(1, strands - 1) for _ in range(dice.randint(1, 48 - 2 * strands))]
-    return f"braid {strands} " + " ".join(map(str, letters)) + "\n"
+    return workbench.Braid(strands, letters)
 
 
 def main():
@@ -175,21 +148,21 @@ def main():
     except ImportError as fault:
         sys.exit(f"against_regina.py: {fault}; run it by the Python that Regina is installed for")
     dice = random.Random(words.seed)
-    texts = list(examples())
-    texts += [(f"word {number}", random_word(dice)) for number in range(words.words)]
-    texts += [(f"grid {number}", text_of(*random_grid(dice, dice.randint(2, words.size)))) for number in range(words.grids)]
+    diagrams = list(examples())
+    diagrams += [(f"word {number}", random_word(dice)) for number in range(words.words)]
+    diagrams += [(f"grid {number}", random_grid(dice, dice.randint(2, words.size))) for number in range(words.grids)]
     links = pairs = differences = 0
-    for name, text in texts:
-        grid = grid_of(text)
-        parts = len(components_of(*grid))
+    for name, diagram in diagrams:
+        grid = grid_of(diagram)
+        parts = len(components_of(grid))
         links += parts > 1
         pairs += parts * (parts - 1) // 2
         for differs in (linking_differs, word_differs):
-            what = differs(*grid)
+            what = differs(grid)
             if what:
                 differences += 1
-                print(f"{name}: {text!r}: {what}")
-    print(f"Regina {regina.versionString()}: {len(texts)} diagrams, {links} of them of two or more components, with {pairs} pairs of components; {differences} differences")
+                print(f"{name}: {diagram.text!r}: {what}")
+    print(f"Regina {regina.versionString()}: {len(diagrams)} diagrams, {links} of them of two or more components, with {pairs} pairs of components; {differences} differences")
     sys.exit(1 if differences else 0)
 
 

@@ -12,7 +12,7 @@ if sys.version_info < (3, 9):
 sys.path.insert(0, os.path.dirname(os.path.realpath(__file__)))
 
 from lib.batch_call import main
-from lib.script_streams import ended
+from lib.calls import ended
 
 if __name__ == "__main__":
     sys.exit(ended("batch.py", main, sys.argv[1:], failed=3))

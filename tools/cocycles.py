@@ -30,7 +30,7 @@ import quandles
 from lib import calls, linear, weighing
 from lib.cohomology import classes_of_cocycles
 from lib.connected import is_connected
-from lib.diagrams import Lines, bottoms, diagram_text, fits, fixed_points, grid_of, mirror_braid, quandle_text, read_diagram, read_quandles
+from knot_workbench.diagrams import Lines, bottoms, diagram_text, fits, fixed_points, grid_of, mirror_braid, quandle_text, read_diagram, read_quandles
 from lib.weighing import cocycle_text
 
 MODULI = (2, 3, 4, 5)

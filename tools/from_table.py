@@ -11,7 +11,7 @@ if sys.version_info < (3, 9):
 # The script may be called by a symbolic link.
 sys.path.insert(0, os.path.dirname(os.path.realpath(__file__)))
 
-from lib.script_streams import ended
+from lib.calls import ended
 from lib.table_call import main
 
 if __name__ == "__main__":

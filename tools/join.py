@@ -18,8 +18,8 @@ All moves are made here before anything is written: a list that isn't legal, or 
 import argparse
 
 from lib import calls
-from lib.diagrams import BadText, Lines, diagram_text, grid_of, move_text, quandle_text, read_diagram, read_moves, read_quandles
-from lib.moves import Illegal, made, tidied, undone
+from knot_workbench.diagrams import BadText, Lines, diagram_text, grid_of, move_text, quandle_text, read_diagram, read_moves, read_quandles
+from knot_workbench.moves import Illegal, made, tidied, undone
 
 
 def walked(grid, moves, name):

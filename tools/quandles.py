@@ -18,7 +18,7 @@ import re
 
 from lib import calls
 from lib.connected import Collection, KNOWN, is_connected
-from lib.diagrams import (BadText, Braid, Lines, MAX_COLOURINGS, MAX_QUANDLES, braid_fault, built_in_list, fixed_points, quandle_of, quandle_text,
+from knot_workbench.diagrams import (BadText, Braid, Lines, MAX_COLOURINGS, MAX_QUANDLES, braid_fault, built_in_list, fixed_points, quandle_of, quandle_text,
                       read_quandles)
 
 # The largest orders of the ready lists: of the short one, and of the others.
@@ -124,10 +124,11 @@ def braid_of(name, word, line):
     if not re.fullmatch(r"\s*[{\[]\s*-?\d+(\s*,\s*-?\d+)*\s*[}\]]\s*", word):
         raise BadText(f"'{word}' is no braid word as {{1,-2,1}}", line)
     letters = tuple(int(letter) for letter in re.findall(r"-?\d+", word))
-    braid = Braid(max(map(abs, letters)) + 1, letters)
-    if braid_fault(braid):
-        raise BadText(f"{name}: {braid_fault(braid)}", line)
-    return braid
+    strands = max(map(abs, letters)) + 1
+    fault = braid_fault((strands, letters))
+    if fault:
+        raise BadText(f"{name}: {fault}", line)
+    return Braid(strands, letters)
 
 
 def read_list(path):

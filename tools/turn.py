@@ -17,7 +17,7 @@ the Xs and the Os have changed places; of a braid the word is read from its end.
 import argparse
 
 from lib import calls
-from lib.diagrams import Lines, diagram_text, mirror_image, read_diagram, reverse
+from knot_workbench.diagrams import Lines, diagram_text, mirror_image, read_diagram, reverse
 
 
 def main():

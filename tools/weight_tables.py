@@ -24,7 +24,7 @@ import os
 from collections import namedtuple
 
 from lib import calls
-from lib.diagrams import quandle_of, quandle_text
+from knot_workbench.diagrams import quandle_of, quandle_text
 from lib.fields import Field
 
 IDENTITY = ((1, 0), (0, 1))

@@ -9,8 +9,8 @@ TOOLS = os.path.join(ROOT, "tools")
 LISTS = os.path.join(ROOT, "quandles")
 KNOTS = os.path.join(LISTS, "knots-to-8.csv")
 
-# The programs, lib with what they share, and the independent reader of the formats.
-sys.path[:0] = [TOOLS, os.path.join(ROOT, "tests")]
+# The programs, lib with what they share, the module, and the independent reader of the formats.
+sys.path[:0] = [TOOLS, os.path.join(ROOT, "python"), os.path.join(ROOT, "tests")]
 
 
 def run(script, *words, text=""):

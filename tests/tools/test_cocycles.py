@@ -12,7 +12,7 @@ import quandles
 import reader
 import weight_tables
 from lib import cohomology, connected, crossing_codes, diagrams, linear, weighing
-from lib.moves import carried, made
+from knot_workbench.moves import carried, made
 
 TETRAHEDRAL = diagrams.tetrahedral()
 # The cocycle mod 2 of Carter, Jelsovsky, Kamada, Langford and Saito (2003) for the tetrahedral quandle, up to a coboundary.

@@ -5,7 +5,7 @@ import unittest
 
 import common
 from lib import diagrams
-from lib.moves import Illegal, carried, made
+from knot_workbench.moves import Illegal, carried, made
 
 
 def replayed(text):

@@ -125,7 +125,7 @@ class BraidTest(TableTest):
                 ("{1.5}", "'.5}' is neither a number, a comma nor a bracket"),
                 ("{1234567890}", "the number 123456789... has too many digits"),
                 ("{" * 5000, "the entry has too many brackets within brackets"),
-                ("{1,{2,{3}}}", "the entry is neither a braid word nor a list of pairs")):
+                ("{1,{2,{3}}}", "the entry is neither a braid word, a list of pairs, a PD code nor a DT code")):
             with self.subTest(entry[:40]):
                 self.assertEqual(self.reason(entry), reason)
 
@@ -202,7 +202,7 @@ class ArcsTest(TableTest):
                 ("{{1,2},{1,3},{1,2}}", "the number 1 stands 3 times, and not twice"),
                 ("{{1,2},{2,4},{4,1}}", "the number 4 stands in a pair, and 3 pairs have the numbers 1 to 3"),
                 ("{{1,2},{2,-1}}", "the number -1 stands in a pair, and 2 pairs have the numbers 1 to 2"),
-                ("{{1,2},{1,2,3}}", "the entry is neither a braid word nor a list of pairs")):
+                ("{{1,2},{1,2,3}}", "the entry is neither a braid word, a list of pairs, a PD code nor a DT code")):
             with self.subTest(entry[:40]):
                 self.assertEqual(self.reason(entry), reason)
 

@@ -5,8 +5,8 @@ import unittest
 
 import common
 import reader
-from lib.diagrams import CORNERS, Braid, Grid, closure, diagram_text, grid_text, move_text
-from lib.moves import Illegal, made, tidied, undone
+from knot_workbench.diagrams import CORNERS, Braid, Grid, closure, diagram_text, grid_text, move_text
+from knot_workbench.moves import Illegal, made, tidied, undone
 
 TREFOIL = Grid((4, 3, 2, 1, 0), (2, 1, 0, 4, 3))
 

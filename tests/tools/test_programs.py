@@ -13,12 +13,12 @@ SMALL = os.path.join(common.LISTS, "connected-04.txt")
 FULL = os.strerror(errno.ENOSPC)
 
 # Calls that read standard input, and what they read.
-READERS = (("draw.py", [], TREFOIL), ("turn.py", ["--mirror"], TREFOIL), ("to_regina.py", ["--print"], CODE), ("to_sage.py", ["--print"], CODE),
+READERS = (("draw.py", [], TREFOIL), ("show.py", [], TREFOIL + TREFOIL + "equal 0\n"), ("turn.py", ["--mirror"], TREFOIL), ("to_regina.py", ["--print"], CODE), ("to_sage.py", ["--print"], CODE),
            ("to_snappy.py", ["--print"], CODE), ("cocycles.py", ["weights", SMALL, "--moduli", "2"], TREFOIL + TREFOIL),
            ("cocycles.py", ["find", os.path.join(common.LISTS, "weights", "T5.txt")], TREFOIL + "braid 2 -1 -1 -1\n"))
 # Calls that write to standard output, and what they read.
 WRITERS = READERS + (("cocycles.py", ["classes", SMALL, "--moduli", "2"], ""), ("quandles.py", ["pairs", common.KNOTS], ""), ("against_regina.py", ["--help"], ""),
-                     ("draw.py", ["--help"], ""))
+                     ("draw.py", ["--help"], ""), ("man.py", ["--print", "knot.1"], ""), ("completions.py", ["--print", "_knot"], ""))
 
 PROGRAMS = sorted(name for name in os.listdir(common.TOOLS) if name.endswith(".py"))
 
@@ -38,7 +38,7 @@ class Programs(unittest.TestCase):
     def test_the_library_has_no_program(self):
         folder = os.path.join(common.TOOLS, "lib")
         modules = [name for name in os.listdir(folder) if name.endswith(".py")]
-        self.assertIn("diagrams.py", modules)
+        self.assertIn("weighing.py", modules)
         for name in modules:
             self.assertFalse(os.stat(os.path.join(folder, name)).st_mode & stat.S_IXUSR, name)
             self.assertNotIn("__main__", common.read("tools", "lib", name))
@@ -105,7 +105,8 @@ class Streams(unittest.TestCase):
 class OldPython(unittest.TestCase):
     def test_an_older_python_is_named(self):
         script = "import runpy, sys; sys.version_info = (3, 8, 18); sys.argv = sys.argv[1:]; runpy.run_path(sys.argv[0], run_name='__main__')"
-        for name in ("draw.py", "turn.py", "join.py", "cocycles.py", "quandles.py", "weight_tables.py", "to_regina.py", "to_sage.py", "to_snappy.py", "against_regina.py"):
+        for name in ("draw.py", "turn.py", "join.py", "cocycles.py", "quandles.py", "weight_tables.py", "to_regina.py", "to_sage.py", "to_snappy.py", "against_regina.py",
+                     "show.py", "man.py", "completions.py"):
             path = os.path.join(common.TOOLS, name)
             done = common.call([sys.executable, "-c", script, path, "--help"], env={**os.environ, "PYTHONPATH": common.TOOLS})
             self.assertEqual((done.returncode, done.stdout, done.stderr), (1, "", f"{name}: Python 3.9 or newer is needed, and this is Python 3.8\n"))

@@ -27,14 +27,14 @@ class StreamsTest(TableTest):
 class TableStreamsTest(StreamsTest):
     def test_closed_input(self):
         found = self.shell([FROM_TABLE, "-", self.out, "--diagram", "word"], "<&-")
-        self.assertEqual(found, (2, "", "from_table.py: standard input: it is closed\n"))
+        self.assertEqual(found, (2, "", "from_table.py: standard input is closed\n"))
 
     def test_closed_and_full_output(self):
         path = self.table("name,word\na,{1}\n")
-        for streams, why in ((">&-", "it is closed"), (">/dev/full", "No space left on device")):
+        for streams, why in ((">&-", " is closed"), (">/dev/full", ": No space left on device")):
             with self.subTest(streams):
                 found = self.shell([FROM_TABLE, path, self.out, "--diagram", "word"], streams)
-                self.assertEqual(found, (3, "", f"from_table.py: standard output: {why}\n"))
+                self.assertEqual(found, (3, "", f"from_table.py: standard output{why}\n"))
                 self.assertEqual(self.made("a"), "# name: a\nbraid 2 1\n")
 
     def test_help_to_a_full_output(self):
@@ -74,10 +74,10 @@ class BatchStreamsTest(StreamsTest, BatchTest):
         return self.shell(self.words(self.problems, self.answers)[2:], streams)
 
     def test_closed_and_full_output(self):
-        for streams, why in ((">&-", "it is closed"), (">/dev/full", "No space left on device")):
+        for streams, why in ((">&-", " is closed"), (">/dev/full", ": No space left on device")):
             with self.subTest(streams):
                 status, _, errors = self.call(streams)
-                self.assertEqual((status, errors.splitlines()[-1]), (3, f"batch.py: standard output: {why}"))
+                self.assertEqual((status, errors.splitlines()[-1]), (3, f"batch.py: standard output{why}"))
                 self.assertEqual(self.rows()["a"]["check"], "accepted")
 
     def test_closed_input_and_errors(self):

@@ -1,41 +1,155 @@
-"""Tests that tools/from_table.py reads no Gauss, DT or PD code as a braid word, and refuses no braid word for one."""
+"""Tests of codes in tables: PD and DT codes are drawn by `knot grid`, and no code is read as a braid word, nor a braid word as a code."""
 import csv
 import os
+import subprocess
 import unittest
 
+import common
+import knot_invariants
+from lib import crossing_codes, diagrams, pd_codes, table_entries
 from test_from_table import TREE, TableTest
+from test_pd_codes import signs_of
+
+STAND_IN = os.path.join(TREE, "tests", "tools", "stand_in_grid.py")
+TREFOIL = "x 4 3 2 1 0\no 2 1 0 4 3\n"
 
 # Codes as tables print them: of the trefoil, the figure eight and 5_2, and of the Hopf link.
 GAUSS = ("{-1,2,-3,1,-2,3}", "[-1, 2, -3, 1, -4, 3, -2, 4]", "{{1,-2},{2,-1}}", "[[[-1, 2], [-2, 1]], [-1, -1]]")
-DT = ("{4,6,2}", "[4, 6, 8, 2]", "{4,8,10,2,6}", "[4, 8, -12, 2, -14, -6, -10]", "{{4},{2}}", "[(6, 8), (2, 4)]")
-PD = ("[[1,5,2,4],[3,1,4,6],[5,3,6,2]]", "{{4,2,5,1},{8,6,1,5},{6,3,7,4},{2,7,3,8}}", "[(4, 1, 3, 2), (2, 3, 1, 4)]")
+DT_LISTS = ("{4,6,2}", "[4, 6, 8, 2]", "{4,8,10,2,6}", "[4, 8, -12, 2, -14, -6, -10]")
+PD = ("[[1,5,2,4],[3,1,4,6],[5,3,6,2]]", "{{1,5,2,4};{3,1,4,6};{5,3,6,2}}", "PD[X[1,5,2,4],X[3,1,4,6],X[5,3,6,2]]", "X[1,5,2,4], X[3,1,4,6], X[5,3,6,2]",
+      "PD[Xp[1,5,2,4], Xp[3,1,4,6], Xp[5,3,6,2]]", "[(1, 5, 2, 4), (3, 1, 4, 6), (5, 3, 6, 2)]")
+PD_TEXT = "crossings 3\nX[1,5,2,4]\nX[3,1,4,6]\nX[5,3,6,2]\nloops 0\n"
 
 
-class CodesTest(TableTest):
-    def test_codes_by_their_numbers(self):
-        for code, entries in (("Gauss", GAUSS), ("DT", DT), ("PD", PD)):
-            for entry in entries:
-                with self.subTest(entry):
-                    reason = self.reason(entry)
-                    self.assertIn(f"a {code} code, which is not read; give braid words or arc presentations", reason)
-                    self.assertIn("`braid_word()`", reason)
+class DrawnTest(TableTest):
+    """With a stand-in for the program."""
 
-    def test_codes_by_their_first_word(self):
-        for entry, code in (("PD[X[1,4,2,5],X[3,6,4,1],X[5,2,6,3]]", "PD"), ("X[1,4,2,5]", "PD"), ("GaussCode[-1,2,-3,1,-2,3]", "Gauss"),
-                            ("DTCode[4,6,2]", "DT"), ("DT: [(4,6,2)]", "DT"), ("DT[cacbca]", "DT")):
+    def setUp(self):
+        super().setUp()
+        self.calls = os.path.join(self.folder, "calls")
+        os.environ["CALLS"], os.environ["KNOT"] = self.calls, STAND_IN
+        self.addCleanup(self.restore)
+
+    def restore(self):
+        os.environ.pop("CALLS", None)
+        os.environ.pop("KNOT", None)
+        if KNOT_BEFORE is not None:
+            os.environ["KNOT"] = KNOT_BEFORE
+
+    def noted(self):
+        with open(self.calls, encoding="utf-8") as file:
+            return file.read()
+
+    def of(self, title, entry, *words):
+        """The whole file that one entry gives under a title."""
+        path = self.table(f'name;{title}\nk;"{entry}"\n')
+        status, _, errors = self.call(path, self.out, "--diagram", "2", "--replace", *words)
+        self.assertEqual((status, errors), (0, ""))
+        return self.made("k")
+
+    def test_pd_codes_are_drawn(self):
+        for entry in PD:
             with self.subTest(entry):
-                self.assertIn(f"the entry begins as a {code} code, which is not read", self.reason(entry))
+                self.assertEqual(self.of("entry", entry), f"# name: k\n# by `knot grid`, of a PD code\n{TREFOIL}")
+        self.assertEqual(self.noted(), PD_TEXT * len(PD))
 
-    def test_codes_by_the_title_of_their_column(self):
-        for title, code in (("gauss_notation", "Gauss"), ("Gauss Code", "Gauss"), ("GaussCode", "Gauss"), ("dt_notation", "DT"),
-                            ("DT Notation", "DT"), ("DTCode", "DT"), ("dtcode", "DT"), ("Dowker-Thistlethwaite", "DT"), ("dowker_code", "DT"),
-                            ("pd_notation", "PD"), ("PD Notation", "PD"), ("PDCode", "PD"), ("pd", "PD"), ("Planar Diagram", "PD")):
+    def test_one_crossing_is_a_pd_code_too(self):
+        for entry in ("X[1,1,2,2]", "PD[X[1,1,2,2]]", "[[1,1,2,2]]"):
+            with self.subTest(entry):
+                self.assertIn("x 0 1 2\n", self.of("entry", entry))
+
+    def test_dt_codes_are_drawn_by_way_of_a_pd_code(self):
+        for title, entry, *words in (("dt_notation", "{4,6,2}"), ("entry", "DT: [(4,6,2)]"), ("entry", "DTCode[4,6,2]"), ("entry", "{{4,6,2}}"),
+                                     ("entry", "{4,6,2}", "--as", "dt")):
+            with self.subTest(title=title, entry=entry):
+                self.assertEqual(self.of(title, entry, *words), "# name: k\n# by `knot grid`, of a PD code made of a DT code, which the mirror image has too\n"
+                                                                + TREFOIL)
+        self.assertEqual(self.noted().count("crossings 3\nX[4,1,5,2]\nX[6,3,1,4]\nX[2,5,3,6]\nloops 0\n"), 5)
+        self.assertIn("x 0 1 2 3\n", self.of("dt_notation", "{{4},{2}}"))
+        self.assertIn("in which each of 2 parts may be mirrored", self.of("dt_notation", "{4,6,2,10,12,14,8}"))
+
+    def test_mirror_images_and_reverses_of_codes(self):
+        grids = {words: self.of("pd", PD[0], *words).split("PD code\n")[1] for words in ((), ("--mirror",), ("--reverse",), ("--mirror", "--reverse"))}
+        self.assertEqual(grids["--mirror",], "x 0 1 2 3 4\no 2 3 4 0 1\n")
+        self.assertEqual(grids["--reverse",], "x 2 1 0 4 3\no 4 3 2 1 0\n")
+        self.assertEqual(grids["--mirror", "--reverse"], "x 2 3 4 0 1\no 0 1 2 3 4\n")
+
+    def test_titles_say_what_the_entries_are(self):
+        for title in ("dt_notation", "DT Notation", "DTCode", "dtcode", "Dowker-Thistlethwaite", "dowker_code"):
+            with self.subTest(title):
+                self.assertIn("made of a DT code", self.of(title, "{4,6,2}"))
+        for title in ("pd_notation", "PD Notation", "PDCode", "pd", "Planar Diagram"):
+            with self.subTest(title):
+                self.assertIn("of a PD code\n", self.of(title, PD[0]))
+
+    def test_codes_that_cannot_be_drawn(self):
+        for entry, reason in (("[[1,5,2,4],[3,1,4,6]]", "the edge 2 doesn't stand exactly twice"),
+                              ("[[1,1,2,2],[3,3,4,4],[5,5,6,6],[7,7,8,8],[9,9,10,10],[11,11,12,12]]", "its drawing takes 50 columns, and a grid has at most 48"),
+                              ("[[1,1,2,2],[3,3,4,4],[5,5,6,6],[7,7,8,8],[9,9,10,10]]", "no diagram in the plane has this code"),
+                              ("PD[X[1,2,3]]", "row 1 of a PD code has four numbers, and not [1, 2, 3]"), ("X[-1,5,2,4]", "row 1 has the edge -1"),
+                              ("PD[]", "row 1 of a PD code has four numbers"), ("DT[cacbca]", "'cacbca]]' is neither a number"),
+                              ("DT[4,6]", "has each even number from 2 to 4 once"), ("DT[4,6,8,10,2]", "no diagram in the plane has this code"),
+                              ("DT: [(4,6,2),()]", "a DT code has a list of even numbers for each component")):
+            with self.subTest(entry):
+                self.assertIn(reason, self.reason(entry))
+
+    def test_a_bad_code_is_one_bad_row(self):
+        path = self.table("name|pd_notation\na|{{1,5,2,4},{3,1,4,6},{5,3,6,2}}\nb|{{1,2,3,4}}\nc|{1,1,1}\n")
+        status, out, errors = self.call(path, self.out, "--diagram", "pd_notation")
+        self.assertEqual((status, out, self.files()), (1, f"3 rows: 1 diagrams in {self.out}, 2 not to be had\n", ["a.txt"]))
+        self.assertEqual(errors.splitlines(), [f"{path}:3: b: the edge 1 doesn't stand exactly twice", f"{path}:4: c: row 1 of a PD code has four numbers, and not 1"])
+
+    def test_a_program_that_cannot_be_run_ends_it(self):
+        path = self.table(f'name,pd\nk,"{PD[0]}"\n')
+        for program, reason in (("/no/such/knot", "/no/such/knot: No such file or directory"), ("/bin/false", "/bin/false grid ended with status 1")):
+            status, out, errors = self.call(path, self.out, "--diagram", "pd", "--knot", program)
+            self.assertEqual((status, out, self.files()), (2, "", []))
+            self.assertEqual(errors, f"from_table.py: {reason}\n")
+
+
+KNOT_BEFORE = os.environ.get("KNOT")
+
+
+def has_grid(program):
+    """Whether a program has the job `grid`."""
+    if program is None:
+        return False
+    return subprocess.run([program, "grid"], input=b"loops 1\n", capture_output=True, check=False).returncode == 0
+
+
+@unittest.skipUnless(has_grid(common.built_program()), "no built program with the job grid")
+class ProgramTest(TableTest):
+    def test_codes_come_back_as_the_knots_that_they_are_of(self):
+        for entry, words, braid in (("[[1,5,2,4],[3,1,4,6],[5,3,6,2]]", (), (2, (1, 1, 1))), ("DT[4,6,8,2]", (), (3, (1, -2, 1, -2))),
+                                    ("[[1,5,2,4],[3,1,4,6],[5,3,6,2]]", ("--mirror",), (2, (-1, -1, -1)))):
+            with self.subTest(entry):
+                grid = diagrams.grid_of(diagrams.read_diagram(diagrams.Lines(self.one(entry, "--knot", common.built_program(), *words))))
+                code = crossing_codes.read_code(knot_invariants.code_of_grid(*map(list, grid)))
+                self.assertEqual(knot_invariants.jones_of_rows(code.rows, crossing_codes.signs(code)), knot_invariants.jones_polynomial(*braid))
+
+
+class RefusedTest(TableTest):
+    def test_gauss_codes_are_refused(self):
+        for entry in GAUSS:
+            with self.subTest(entry):
+                reason = self.reason(entry)
+                self.assertIn("a Gauss code, which is not read; give braid words, arc presentations, PD or DT codes", reason)
+                self.assertIn("`braid_word()`", reason)
+        self.assertIn("the entry begins as a Gauss code, which is not read", self.reason("GaussCode[-1,2,-3,1,-2,3]"))
+
+    def test_lists_of_a_dt_code_are_refused_where_nothing_says_what_they_are(self):
+        for entry in DT_LISTS:
+            with self.subTest(entry):
+                self.assertIn("a DT code, and not a braid word; --as dt takes it for one; --as braid takes it for a word", self.reason(entry))
+
+    def test_gauss_codes_by_the_title_of_their_column(self):
+        for title in ("gauss_notation", "Gauss Code", "GaussCode"):
             with self.subTest(title):
                 path = self.table(f"name|{title}|word\na|{{1,1,1}}|{{1}}\n")
                 for words in (("--diagram", title), ("--diagram", "2"), ("--diagram", "word", "--second", title)):
                     status, out, errors = self.call(path, self.out, *words)
                     self.assertEqual((status, out, self.files()), (2, "", []))
-                    self.assertIn(f"the column '{title}' has {code} codes by its title, which are not read; give braid words", errors)
+                    self.assertIn(f"the column '{title}' has Gauss codes by its title, which are not read; give braid words", errors)
 
     def test_titles_that_tell_of_no_code(self):
         for title in ("word", "braid_notation", "Arc Notation", "Braid (from the PD code)", "updated", "width", "padded", "dtx"):
@@ -44,8 +158,9 @@ class CodesTest(TableTest):
                 self.assertEqual(self.call(path, self.out, "--diagram", title)[::2], (0, ""))
 
     def test_words_all_the_same_where_the_option_says_so(self):
-        self.assertIn("--as braid takes it for a word", self.reason("{4,6,2}"))
-        self.assertNotIn("--as braid", self.reason(PD[0], "--as", "braid"))
+        path = self.table('name,entry\nk,"{4,6,2}"\n')
+        self.assertEqual(self.call(path, self.out, "--diagram", "entry", "--as", "braid")[0], 0)
+        self.assertTrue(self.made("k").endswith("\nbraid 7 4 6 2\n"))
         self.assertEqual(self.one("{-1,2,-3,1,-2,3}", "--as", "braid"), "braid 4 -1 2 -3 1 -2 3\n")
         path = self.table('name,gauss\na,"{-1,2,-3,1,-2,3}"\n')
         self.assertEqual(self.call(path, os.path.join(self.folder, "other"), "--diagram", "gauss", "--as", "braid")[::2], (0, ""))
@@ -77,6 +192,22 @@ class NoFalseAlarmTest(TableTest):
                     self.assertNotIn("warning", errors)
                     can_not = 1 if len(rows) == 9 else 0
                     self.assertTrue(out.startswith(f"{len(rows)} rows: {len(rows) - can_not} diagrams"), out)
+
+
+class ExampleTest(unittest.TestCase):
+    def test_the_codes_of_the_example_are_those_of_its_words(self):
+        with open(os.path.join(TREE, "examples", "table", "codes.csv"), encoding="utf-8", newline="") as file:
+            rows = list(csv.DictReader(file))
+        self.assertEqual(len(rows), 3)
+        for row in rows:
+            with self.subTest(row["name"]):
+                letters = table_entries.nested(row["braid_notation"])
+                wanted = knot_invariants.jones_polynomial(max(map(abs, letters)) + 1, letters)
+                pd = table_entries.nested(row["pd_notation"])
+                self.assertEqual(knot_invariants.jones_of_rows(pd, signs_of(pd)), wanted)
+                dt = table_entries.nested(row["dt_notation"])
+                made = pd_codes.rows_of_dt(dt if isinstance(dt[0], list) else [dt]).rows
+                self.assertIn(knot_invariants.jones_of_rows(made, signs_of(made)), (wanted, {-power: count for power, count in wanted.items()}))
 
 
 class MissingLettersTest(TableTest):

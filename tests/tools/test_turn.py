@@ -7,7 +7,7 @@ import common
 import cocycles
 import knot_invariants
 from lib import crossing_codes
-from lib.diagrams import Braid, Grid, Lines, closure, crossings, diagram_text, dihedral, grid_of, mirror_image, quandle_of, read_diagram, read_quandle, reverse
+from knot_workbench.diagrams import Braid, Grid, Lines, closure, crossings, diagram_text, dihedral, grid_of, mirror_image, quandle_of, read_diagram, read_quandle, reverse
 
 RIGHT_TREFOIL = Grid((4, 3, 2, 1, 0), (2, 1, 0, 4, 3))
 LEFT_TREFOIL = Grid((0, 1, 2, 3, 4), (2, 3, 4, 0, 1))

@@ -8,7 +8,7 @@ from lib.batch_programs import Programs, Runner, Stopped, on_signals
 from lib.batch_runs import Batch, tell
 from lib.batch_stages import BatchError, Stage, read_stages
 from lib.batch_summary import names_in, natural, report
-from lib.script_streams import WordsParser, reason_of
+from lib.calls import WordsParser, reason_of
 
 TOP = os.path.dirname(os.path.dirname(os.path.dirname(os.path.realpath(__file__))))
 SCRIPT = os.path.join(TOP, "tools", "batch.py")

@@ -11,7 +11,7 @@ from lib.batch_answers import (ANSWERED, LIMIT, MALFORMED, REJECTED, WRITES_ANSW
                            next_stage, read_answer, says, without_head_line)
 from lib.batch_programs import Runner, why_none
 from lib.batch_stages import digest, stage_key, stage_text
-from lib.script_streams import complain, reason_of
+from lib.calls import note, reason_of
 from lib.whole_files import sweep_parts, write_whole
 
 # What is kept of a problem, one file in each.
@@ -22,8 +22,11 @@ WITH_VERDICT = ("decide", "seek", "")
 
 
 def tell(text):
-    """Says something on standard error."""
-    complain(f"batch.py: {text}")
+    """Says something on standard error, by the name of the script."""
+    note(f"{tell.script}: {text}")
+
+
+tell.script = "batch.py"
 
 
 class Batch:
@@ -36,6 +39,8 @@ class Batch:
         self.stages = stages
         self.programs = programs
         self.runner = programs.runner if programs else Runner()
+        # What is called with the number of problems that a stage has been through, as it grows.
+        self.progress = None
 
     def problem_path(self, name):
         """The file of a problem."""
@@ -140,8 +145,10 @@ class Batch:
         with concurrent.futures.ThreadPoolExecutor(processes) as pool:
             futures = [pool.submit(self.guarded, act, name) for name in names]
             try:
-                for future in concurrent.futures.as_completed(futures):
+                for done, future in enumerate(concurrent.futures.as_completed(futures), 1):
                     future.result()
+                    if self.progress:
+                        self.progress(done)
             except BaseException:
                 self.runner.stop()
                 for future in futures:
@@ -165,7 +172,8 @@ class Batch:
 
     def run_parallel(self, names, stage, options):
         """The same by GNU parallel: one process of the script for a problem."""
-        call = ["parallel", "-q", "-0", "--no-run-if-empty", "--joblog", "+" + os.path.join(self.answers, "jobs.log")]
+        log = os.path.join(self.answers, "jobs.log")
+        call = ["parallel", "-q", "-0", "--no-run-if-empty", "--joblog", "+" + log]
         if options.hosts:
             call += ["--sshloginfile", options.hosts, options.script]
         else:
@@ -179,8 +187,13 @@ class Batch:
         with tempfile.TemporaryFile() as source:
             source.write(given)
             source.seek(0)
+            before = (read_bytes(log) or b"").count(b"\n")
             process = subprocess.Popen(call, stdin=source, start_new_session=True)
             try:
+                while self.progress and process.poll() is None:
+                    time.sleep(0.5)
+                    # A log that is new has a line of titles first.
+                    self.progress(min(len(names), max(0, (read_bytes(log) or b"").count(b"\n") - (before or 1))))
                 process.wait()
             except BaseException:
                 end_parallel(process)

@@ -7,7 +7,7 @@ import re
 
 from lib.batch_answers import REFUSED, UNKNOWN, deciding, in_one_line
 from lib.batch_runs import FOLDERS, ruling_of, tell, write_named
-from lib.script_streams import reason_of, say
+from lib.calls import reason_of, say
 
 # name: that of the problem's file. first, second: what the problem's comments call its diagrams.
 Row = collections.namedtuple("Row", "name first second verdict evidence stage seconds check")

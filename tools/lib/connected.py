@@ -6,7 +6,7 @@ from collections import namedtuple
 
 from . import linear
 from .cohomology import classes_of_cocycles, covering
-from .diagrams import alexander, quandle_fault, quandle_of, tetrahedral
+from knot_workbench.diagrams import alexander, quandle_fault, quandle_of, tetrahedral
 from .extensions import classes_of_twisted_cocycles, extension, twisted_sums
 from .fields import fields, is_irreducible, polynomial_name, times_t
 from .groups import conjugacy_class, cycle_lengths, element_name, group_of, groups, inverse, larger_groups, permutation_of, reflection_groups, times

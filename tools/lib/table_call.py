@@ -2,7 +2,8 @@
 import argparse
 import os
 
-from lib.script_streams import StreamError, WordsParser, complain, input_bytes, reason_of, say
+from lib.calls import StreamError, WordsParser, input_bytes, note, reason_of, say
+from lib.code_grids import Grids, NoProgram
 from lib.table_inputs import Faults, absent_names, items_of, lost_inputs, outputs_of, write_all
 from lib.table_rows import Table, TableError, decoded
 
@@ -11,11 +12,13 @@ ABOUT = "Makes inputs for knot and seek from a table of knots: one diagram a row
 EPILOG = """\
 The table has a row for each knot: a name, and a braid word as {1,1,-2,1,-2} or [1, 1, -2, 1, -2], with its strands in front
 as {3,{1,1,-2,1,-2}}, in a column of their own, or as few as the letters need; or an arc presentation as {{5,2},{1,3},...} or
-[[5,2],[1,3],...]. Which of both an entry is, is seen by its brackets.
+[[5,2],[1,3],...]; or a PD code as PD[X[1,5,2,4],...] or [[1,5,2,4],...]; or a DT code as {4,6,2} or {{4},{2}}. Which of these an
+entry is, is seen by the title of its column, by its first word, or by its brackets.
 
-PD, DT and Gauss codes aren't read. A column is refused whose title says that it has them, and so is an entry that looks like
-one: lists of four; 2, 4 and so on, each once; or each number once with either sign, from three crossings on. SnapPy's
-braid_word() and Sage's Link(pd).braid() make braid words. A word that leaves letters out has a split closure, and a warning.
+`knot grid` draws a PD code; its rows are counterclockwise, from the edge on which the strand below comes. Of a DT code a PD code is
+made, and drawn; the mirror image has the same DT code. Each file tells how its diagram was had. Gauss codes aren't read: a column is
+refused whose title says that it has them. Refused are also lists that are hardly words: each number once with either sign, or 2, 4
+and so on, each once, where nothing says what they are. A word that leaves letters out has a split closure, and a warning.
 
 Letter k of a braid is the positive crossing of strands k and k + 1, and -k the negative one, as in Sage. Pair k of an arc
 presentation is column k from the left, with the two rows of its ends counted from below, from 1; columns pass over rows, and
@@ -29,11 +32,12 @@ examples:
   tools/from_table.py examples/table/knots.csv problems --diagram braid_notation --second arc_notation
   tools/from_table.py examples/table/knots.csv problems --diagram braid_notation --neighbours
   tools/from_table.py examples/table/knots.csv diagrams --diagram braid_notation --only "3_1 mirrored" --only "4_1 5_1"
+  tools/from_table.py examples/table/codes.csv diagrams --diagram pd_notation
 
 exit status:
   0  all that was asked for is written
   1  some entries can't be had, or some files are there already with another content; each is named on standard error
-  2  the words are no call, or the table can't be read, or its column has codes by its title; nothing is written
+  2  the words are no call, or the table or its column can't be read, or `knot grid` can't be run; nothing is written
   3  a file or standard output can't be written; the files before it are
 """
 
@@ -55,8 +59,9 @@ def parser():
                        help="only the rows of these names: one whole name, blanks and all, or names parted by blanks, or @FILE with one name "
                             "a line; it may be given again")
     words.add_argument("--quandles", metavar="FILE", help="put this file's lines behind each input")
-    words.add_argument("--as", dest="as_kind", choices=("braid",),
-                       help="take each list of numbers for a braid word, also where it looks like a DT code or a Gauss code")
+    words.add_argument("--as", dest="as_kind", choices=("braid", "dt", "pd"),
+                       help="take each list of numbers for a braid word, also where it looks like a code; or each entry for a DT or PD code")
+    words.add_argument("--knot", metavar="PROGRAM", help="the program whose job `grid` draws codes (default: KNOT, or knot of this tree)")
     words.add_argument("--arcs", choices=("columns", "rows"), default="columns", help="what a pair of an arc presentation is (default: columns)")
     words.add_argument("--mirror", nargs="?", const="both", choices=("diagram", "second", "both"),
                        help="take the mirror images, of the entries of one column or of both")
@@ -116,6 +121,8 @@ def main(words):
     """Does what the words ask for: the exit status."""
     options = parser().parse_args(words)
     options.delimiter = "\t" if options.delimiter == "\\t" else options.delimiter
+    options.as_kind = {"dt": "DT", "pd": "PD"}.get(options.as_kind, options.as_kind)
+    options.grids = Grids(options.knot)
     if options.delimiter is not None and len(options.delimiter) != 1:
         parser().error("--delimiter takes one character")
     if options.skip_rows < 0:
@@ -126,16 +133,16 @@ def main(words):
         table = Table(path if path != "-" else "(standard input)", read_bytes(path), options)
         wanted = wanted_names(options.only, {table.name_of(fields) for _, fields in table.rows})
         quandles = quandle_lines(options.quandles)
-    except TableError as error:
-        complain(f"from_table.py: {error}")
+        items = items_of(table, wanted, options, faults)
+    except (TableError, NoProgram) as error:
+        note(f"from_table.py: {error}")
         return 2
-    items = items_of(table, wanted, options, faults)
     absent = absent_names(table, wanted, faults)
     try:
         os.makedirs(options.folder, exist_ok=True)
         made, left = write_all(outputs_of(items, options, quandles), table, options.folder, options.replace, faults)
     except OSError as error:
-        complain(f"from_table.py: {reason_of(error)}")
+        note(f"from_table.py: {reason_of(error)}")
         return 3
     lost = lost_inputs(items, options)
     say(count_line(len(items), made, left, lost, absent, options))

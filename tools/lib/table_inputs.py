@@ -3,7 +3,7 @@ import errno
 import os
 import re
 
-from lib.script_streams import complain
+from lib.calls import note
 from lib.table_entries import Conventions, EntryError, diagram_of
 from lib.whole_files import write_whole
 
@@ -31,7 +31,7 @@ class Faults:
         """Names a row and says what is to be known of it."""
         name = name if len(name) <= 60 else name[:40] + "... (" + str(len(name)) + " letters)"
         name = name if name.isprintable() else repr(name)
-        complain(f"{path}:{line}: {name or '(no name)'}: {why}")
+        note(f"{path}:{line}: {name or '(no name)'}: {why}")
 
     def add(self, path, line, name, why):
         """As `say`, and counts it."""
@@ -42,9 +42,10 @@ class Faults:
 # --- rows
 
 
-def conventions_of(options, which):
+def conventions_of(table, options, which):
     """How the entries of the column `diagram` or `second` are read."""
-    return Conventions(options.arcs, options.mirror in (which, "both"), options.reverse in (which, "both"), options.as_kind == "braid")
+    column = table.diagram if which == "diagram" else table.second
+    return Conventions(options.arcs, options.mirror in (which, "both"), options.reverse in (which, "both"), table.reads[column], options.grids)
 
 
 def diagram_text(table, fields, column, conventions):
@@ -69,10 +70,10 @@ def in_column(table, fields, column, conventions):
 def item_of(table, fields, line, options, faults):
     """The item of a row; its warnings are said."""
     name = table.name_of(fields)
-    first, warnings = in_column(table, fields, table.diagram, conventions_of(options, "diagram"))
+    first, warnings = in_column(table, fields, table.diagram, conventions_of(table, options, "diagram"))
     second = None
     if table.second is not None:
-        second, more = in_column(table, fields, table.second, conventions_of(options, "second"))
+        second, more = in_column(table, fields, table.second, conventions_of(table, options, "second"))
         warnings = warnings + more
     for warning in warnings:
         faults.say(table.path, line, name, f"warning: {warning}")

@@ -2,61 +2,13 @@
 
 A cocycle φ mod k is a square of numbers: line x has φ(x, 0), φ(x, 1), and so on.
 """
-import itertools
 from collections import Counter
 
-from .diagrams import BadText, covers, ends, is_up, number_of, read_quandle, walk
+from knot_workbench.cocycles import MAX_MODULUS, cocycle_fault, cocycle_text, read_cocycle, read_weighed_quandles
+from knot_workbench.diagrams import covers, ends, is_up, walk
 
-MAX_MODULUS = 255
-
-
-# Cocycles
-
-def cocycle_fault(table, cocycle, modulus):
-    """The first law that a square of numbers fails as a cocycle, or None."""
-    order = len(table)
-    for x in range(order):
-        if cocycle[x][x] % modulus:
-            return f"φ({x}, {x}) is not 0"
-    for x, y, z in itertools.product(range(order), repeat=3):
-        if (cocycle[x][y] + cocycle[table[x][y]][z] - cocycle[x][z] - cocycle[table[x][z]][table[y][z]]) % modulus:
-            return f"the law fails at {x}, {y}, {z}"
-    return None
-
-
-def cocycle_text(cocycle, modulus):
-    return f"weight {modulus}\n" + "".join(" ".join(map(str, row)) + "\n" for row in cocycle)
-
-
-def read_cocycle(lines, quandle):
-    """The modulus and the square of an item `weight` behind its quandle."""
-    line, tokens = lines.take("the line 'weight'")
-    if tokens[0] != "weight" or len(tokens) != 2:
-        raise BadText("a line 'weight' with a modulus is due", line)
-    modulus = number_of(tokens[1], line)
-    if not 2 <= modulus <= MAX_MODULUS:
-        raise BadText(f"a modulus is 2 to {MAX_MODULUS}", line)
-    order = len(quandle.over)
-    square = []
-    for _ in range(order):
-        line, tokens = lines.take("a line of the cocycle")
-        square.append([number_of(token, line) for token in tokens])
-        if len(square[-1]) != order or any(value >= modulus for value in square[-1]):
-            raise BadText(f"the line has not {order} numbers below {modulus}", line)
-    fault = cocycle_fault(quandle.over, square, modulus)
-    if fault:
-        raise BadText(f"no cocycle: {fault}", line)
-    return modulus, square
-
-
-def read_weighed_quandles(lines):
-    """Quandles to the end of the text, each with the modulus and the cocycle that stand behind it, or None."""
-    found = []
-    while lines.peek() == "quandle":
-        quandle = read_quandle(lines)
-        found.append((quandle, read_cocycle(lines, quandle) if lines.peek() == "weight" else None))
-    lines.done()
-    return found
+__all__ = ("MAX_MODULUS", "all_met", "cocycle_fault", "cocycle_text", "colourings", "pairs_met", "read_cocycle", "read_weighed_quandles", "rows_from_below",
+           "weights")
 
 
 # Colourings and weights

@@ -1,0 +1,111 @@
+"""Tests of bench/house_crates.py: functions, floors and sizes, on small texts and trees."""
+import contextlib
+import io
+import os
+import sys
+import unittest
+
+from common import ROOT, scratch
+
+sys.path.insert(0, os.path.join(ROOT, "bench"))
+import house_crates  # noqa: E402
+
+CODE = """use std::io;
+
+/// With a contract.
+pub fn first(n: u8) -> u8
+    ensures { result ≡ n }
+{
+    if n == 0 {
+        return 0;
+    }
+    n
+}
+
+/// Without one.
+pub(crate) fn second(n: u8) -> u8 {
+    n
+}
+
+impl Third for Fourth {
+    fn third(
+        &self,
+        n: u8,
+    ) -> u8 {
+        n
+    }
+
+    pub const fn fourth() -> u8
+    where
+        Fourth: Fifth,
+    {
+        4
+    }
+}
+
+trait Sixth {
+    fn sixth(&self) -> u8
+        ensures small { result ≤ 3 }
+        ensures { result ≡ 3 };
+}
+
+/// A law.
+pub fn seventh()
+    ensures { (n : ℕ)
+        → n ≡ n }
+{}
+
+fn eighth() {}
+"""
+
+
+class Functions(unittest.TestCase):
+    def test_a_body_is_found_with_and_without_a_contract(self):
+        self.assertEqual(list(house_crates.functions_of(CODE.splitlines())), [
+            ("first", 4, 5), ("second", 14, 2), ("third", 19, 2), ("fourth", 26, 2), ("sixth", 35, 0), ("seventh", 41, 0), ("eighth", 46, 0)])
+
+
+class Crates(unittest.TestCase):
+    def setUp(self):
+        self.top = scratch(self)
+        self.write("crates.txt", "# --- floor 0: low\nlow: arrayvec memchr\n# --- floor 1: above\nmiddle: low\n# --- floor 3: top\nhigh: middle low arrayvec\n")
+        self.write("crates/low/src/lib.rt", "use arrayvec::ArrayVec;\n// memchr::memchr\n")
+        self.write("crates/middle/specs/Size.antt", "use Rattle.low.specs.Size.{size}\n")
+        self.write("crates/high/src/main.rt", "#[cfg(test)]\nmod tests;\n\nfn main() {\n    middle::run();\n}\n")
+        self.write("crates/high/src/tests.rt", "fn it_works() {}\n" * 5)
+
+    def write(self, path, text):
+        path = os.path.join(self.top, path)
+        os.makedirs(os.path.dirname(path), exist_ok=True)
+        with open(path, "w", encoding="utf-8") as file:
+            file.write(text)
+
+    def said(self, part):
+        said = io.StringIO()
+        with contextlib.redirect_stdout(said):
+            part(self.top)
+        return said.getvalue().splitlines()
+
+    def test_floors_are_chains_of_names(self):
+        self.assertEqual(self.said(house_crates.floors), [
+            "floor 0: low", "floor 1: middle", "floor 2: high",
+            "high is on floor 3 in crates.txt, and on 2 by the names in its files",
+            "low: crates.txt lists what no file names: memchr",
+            "high: crates.txt lists what no file names: low arrayvec",
+            "1 crates stand on another floor than crates.txt says; it lists 3 libraries that no file of their crate names"])
+
+    def test_crates_that_name_one_another_are_an_error(self):
+        self.write("crates/low/specs/Size.antt", "use Rattle.high.specs.Size.{size}\n")
+        self.assertRaises(ValueError, self.said, house_crates.floors)
+
+    def test_sizes_leave_tests_out(self):
+        self.assertEqual(house_crates.size_of("high", self.top), (1, 6))
+        self.write("crates/middle/src/lib.rt", "fn one() {}\n" * 101)
+        self.write("crates/low/src/more.rt", "\n" * 1500)
+        self.assertEqual(self.said(house_crates.sizes), [
+            "middle: 101 functions, 101 lines of code", "low: 0 functions, 1502 lines of code",
+            "2 of 3 crates have over 100 functions or 1500 lines of code; the largest others: high 1 / 6"])
+
+
+if __name__ == "__main__":
+    unittest.main()

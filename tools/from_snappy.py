@@ -1,0 +1,15 @@
+#!/usr/bin/env python3
+"""Takes links from SnapPy to knot and seek.
+
+    tools/from_snappy.py 'Link("4_1")' | ./knot grid
+    tools/from_snappy.py 'Link("8_17")' 'Link("DT: [(6,8,12,14,4,16,2,10)]")'          both to ./seek
+    tools/from_snappy.py 'Link("K8a1")' 'Link("8_18")' -- --seed 2
+
+By its documentation SnapPy lists the rows as they stand, with edges from 0. This was not run with SnapPy, which wasn't to be had.
+"""
+from lib import codes_in
+
+from knot_workbench.sources import code_of_snappy
+
+if __name__ == "__main__":
+    codes_in.program("from_snappy.py", __doc__, "snappy", code_of_snappy)

@@ -1,0 +1,79 @@
+"""Takes links of other programs, as planar diagram codes, to knot and seek: for from_regina.py, from_sage.py and from_snappy.py."""
+import argparse
+import importlib
+import os
+import subprocess
+import sys
+import tempfile
+
+from . import calls, pd_codes
+
+TREE = os.path.dirname(os.path.dirname(os.path.dirname(os.path.realpath(__file__))))
+
+ABOUT = """One expression: its code is written as `./knot grid` reads it. Two: `./seek` gets both, with the words behind `--`, and its exit status
+is the script's. An expression is Python, with all names of the module, and stands for a link. Status 1 where it can't be had, 3 where the
+module can't."""
+
+
+def values_of(module, expressions):
+    """The links that the expressions stand for."""
+    names = dict(vars(module))
+    for expression in expressions:
+        try:
+            yield eval(expression, names)  # (it is the user's own)
+        except Exception as error:  # (whatever the other program raises)
+            raise calls.Fault(f"{expression}: {type(error).__name__}: {error}") from None
+
+
+def code_text(expression, link, code_of):
+    """The text of a link's code."""
+    try:
+        rows, loops = code_of(link)
+        rows = [[int(edge) for edge in row] for row in rows]
+        if any(len(row) != 4 for row in rows):
+            raise ValueError("a row hasn't four edges")
+    except Exception as error:  # (what stands for no link has no code)
+        raise calls.Fault(f"{expression}: it has no planar diagram code: {type(error).__name__}: {error}") from None
+    if not rows and not loops:
+        raise calls.Fault(f"{expression}: the link has no component")
+    return pd_codes.text_of(rows, loops)
+
+
+def seek(program, texts, words):
+    """Has seek look at two codes, and answers its exit status."""
+    with tempfile.TemporaryDirectory(prefix="knot-codes-") as folder:
+        given = []
+        for name, text in zip(("first", "second"), texts):
+            path = os.path.join(folder, name)
+            calls.put(path, text)
+            given += ["--pd", path]
+        sys.stdout.flush()
+        try:
+            return subprocess.run([program, *given, *words], check=False).returncode
+        except OSError as error:
+            raise calls.Fault(f"{program}: {error.strerror}") from None
+
+
+def program(name, doc, module, code_of):
+    """Runs one of the three scripts: `module` is what it imports, and `code_of(link)` answers rows and the number of loops."""
+    def main():
+        words = sys.argv[1:]
+        further = words[words.index("--") + 1:] if "--" in words else []
+        parser = argparse.ArgumentParser(description=f"{doc}\n{ABOUT}", formatter_class=argparse.RawDescriptionHelpFormatter)
+        parser.add_argument("link", nargs="+", metavar="LINK", help="one expression or two")
+        parser.add_argument("--seek", default=os.environ.get("SEEK") or os.path.join(TREE, "seek"), metavar="PROGRAM", help="in place of ./seek")
+        asked = parser.parse_args(words[: len(words) - len(further) - ("--" in words)])
+        if len(asked.link) > 2 or further and len(asked.link) == 1:
+            parser.error("one link is written, and two go to seek, with words behind --")
+        try:
+            loaded = importlib.import_module(module)
+        except ImportError as error:
+            calls.note(f"{name}: {error}; install it, or run the script by the Python that has it")
+            raise SystemExit(3) from None
+        texts = [code_text(expression, link, code_of) for expression, link in zip(asked.link, values_of(loaded, asked.link))]
+        if len(texts) == 1:
+            calls.put(None, texts[0])
+        else:
+            raise SystemExit(seek(asked.seek, texts, further))
+
+    calls.run(name, main)
