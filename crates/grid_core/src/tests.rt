@@ -1,5 +1,5 @@
 //! Grids and their readers on worked examples.
-use crate::{Corner, Grid, GridFault, Items, MAX_SIZE, Span};
+use crate::{Corner, Grid, GridFault, MAX_SIZE, Span};
 use std::alloc::Global;
 use std::process::Abort;
 use std::test::Fail;
@@ -175,14 +175,5 @@ fn each_corner_has_its_place_in_the_list(rt: HostRuntime) -> Result<(), Fail> {
         let read = 2 * usize::from(corner.row()) + usize::from(corner.column());
         assert_eq!(rt; read, place);
     }
-    Ok(())
-}
-
-#[test]
-fn a_list_goes_in_and_comes_out(rt: HostRuntime) -> Result<(), Fail> {
-    let items: Items<u8> = Items::from_vec(vec![in rt.alloc(); 3, 1, 2]?);
-    assert_eq!(rt; items.as_slice(), [3, 1, 2].as_slice());
-    let back = items.into_vec();
-    assert_eq!(rt; back.as_slice(), [3, 1, 2].as_slice());
     Ok(())
 }

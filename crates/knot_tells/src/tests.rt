@@ -1,7 +1,7 @@
 //! The sentence for each way in which a call can end without an answer.
 use crate::lines::{Named, has_line, named_in};
 use crate::sentence::{reading, sentence_of};
-use knot_jobs::{Job, Status, run_alone};
+use knot_jobs::{Job, PlainJob, Status, run_alone};
 use knot_ports::{StdSink, StdSource};
 use std::alloc::Global;
 use std::io;
@@ -331,7 +331,7 @@ fn answers_name_lines(rt: HostRuntime) -> Result<(), Fail> {
 fn a_job_that_reads_is_known_by_its_words(rt: HostRuntime) -> Result<(), Fail> {
     let rows: [(&[&str], Option<Job>); 5] = [
         (&["decide"], Some(Job::Decide)),
-        (&["--spare", "0", "code"], Some(Job::Code)),
+        (&["--spare", "0", "code"], Some(Job::Plain(PlainJob::Code))),
         (&["sample"], None),
         (&["decide", "--spare", "5"], None),
         (&[], None),

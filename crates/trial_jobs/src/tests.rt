@@ -1,11 +1,7 @@
 //! What the jobs answer to worked inputs.
-mod codes;
 mod decisions;
-mod links;
 mod many;
 mod simplified;
-mod steps;
-mod weights;
 
 use std::alloc::Global;
 use std::process::Abort;

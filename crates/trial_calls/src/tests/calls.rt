@@ -1,286 +1,13 @@
-//! Whole calls: worked examples, faults at each call of the source and the sink, and inputs of the greatest length.
-use super::compare;
-use crate::{CALM, Outside, Row, run_line, words_of};
+//! Whole calls: faults at each call of the source and the sink, and inputs of the greatest length.
+use crate::{CALM, Outside, run_line, words_of};
 use decision_core::Status;
-use grid_core::MAX_SIZE;
 use knot_jobs::run_alone;
 use knot_ports::{QuietSink, QuietSource};
-use quandle_core::MAX_ORDER;
 use std::alloc::{AllocError, Global};
 use std::test::Fail;
-use text_lines::push_number;
 
 /// The unknot, and the unknot with its rows shifted.
 const SHIFTED: &[u8] = b"x 0 1\no 1 0\nx 1 0\no 0 1\nequal 1\nshift rows 1\n";
-
-/// One row more than the largest size has is over a limit.
-#[test]
-fn a_row_too_many_is_over_a_limit(rt: HostRuntime) -> Result<(), Fail> {
-    let mut input = Vec::from_slice(rt.alloc(), b"x")?;
-    for row in 0..MAX_SIZE as u64 + 1 {
-        input.push(b' ')?;
-        push_number(&mut input, row)?;
-    }
-    let (status, written) = run_line(rt.alloc(), "knot check", &input, &CALM)?;
-    let text: &[u8] = b"limit line 1\n";
-    assert_eq!(rt; status, Status::Limit);
-    assert_eq!(rt; written.as_slice(), text);
-    Ok(())
-}
-
-/// A row for each column of the largest size, from this one on and round.
-fn push_rows(input: &mut Vec<u8>, kind: u8, first: u8) -> Result<(), AllocError> {
-    input.push(kind)?;
-    for column in 0..MAX_SIZE {
-        input.push(b' ')?;
-        push_number(input, ((usize::from(first) + column) % MAX_SIZE) as u64)?;
-    }
-    input.push(b'\n')?;
-    Ok(())
-}
-
-/// A grid of the largest size has no room for a stabilisation.
-#[test]
-fn the_largest_grid_is_full(rt: HostRuntime) -> Result<(), Fail> {
-    let mut input = Vec::new(rt.alloc());
-    push_rows(&mut input, b'x', 0)?;
-    push_rows(&mut input, b'o', 1)?;
-    input.extend_from_slice(b"moves 1\nstabilise 0 x lowleft\n")?;
-    let (status, written) = run_line(rt.alloc(), "knot replay", &input, &CALM)?;
-    let text: &[u8] = b"rejected step 0 full\n";
-    assert_eq!(rt; status, Status::Rejected);
-    assert_eq!(rt; written.as_slice(), text);
-    Ok(())
-}
-
-/// One order more than the largest is over a limit.
-#[test]
-fn an_order_too_large_is_over_a_limit(rt: HostRuntime) -> Result<(), Fail> {
-    let mut input = Vec::from_slice(rt.alloc(), b"x 0 1\no 1 0\nquandle dihedral ")?;
-    push_number(&mut input, MAX_ORDER as u64 + 1)?;
-    input.push(b'\n')?;
-    let (status, written) = run_line(rt.alloc(), "knot colour", &input, &CALM)?;
-    let text: &[u8] = b"limit line 3\n";
-    assert_eq!(rt; status, Status::Limit);
-    assert_eq!(rt; written.as_slice(), text);
-    Ok(())
-}
-
-/// Evidence that two diagrams are equal or different, and its first cause where it does not hold.
-#[test]
-fn certificates_are_ruled_on(rt: HostRuntime) -> Result<(), Fail> {
-    let rows: [Row; 17] = [
-        ("knot check", SHIFTED, Status::Done, b"accepted\n"),
-        (
-            "knot check",
-            b"x 0 1\no 1 0\nx 0 1\no 1 0\n",
-            Status::Malformed,
-            b"malformed line 5\n",
-        ),
-        (
-            "knot check",
-            b"x 0 1\no 1 0\nx 1 0\no 0 1\nequal 3\nshift rows 1\nshift rows 1\nshift rows 1\n",
-            Status::Done,
-            b"accepted\n",
-        ),
-        (
-            "knot check",
-            b"x 0 1\no 1 0\nx 1 0\no 0 1\ncertificate 2\nequal 3\nshift rows 1\nshift rows 1\nshift rows 1\n",
-            Status::Malformed,
-            b"malformed line 8\n",
-        ),
-        (
-            "knot check",
-            b"x 0 1\no 1 0\nx 1 0\no 0 1\nequal 0\n",
-            Status::Rejected,
-            b"rejected otherend\n",
-        ),
-        (
-            "knot check",
-            b"x 0 1\no 1 0\nx 1 0\no 0 1\nequal 1\nshift rows 2\n",
-            Status::Rejected,
-            b"rejected step 0 range\n",
-        ),
-        (
-            "knot check",
-            b"x 1 0 2\no 0 2 1\nx 1 0 2\no 0 2 1\nequal 1\nexchange columns 0\n",
-            Status::Rejected,
-            b"rejected step 0 touching\n",
-        ),
-        (
-            "knot check",
-            b"x 4 3 2 1 0\no 2 1 0 4 3\nx 0 1\no 1 0\nequal 1\ndestabilise 0 1\n",
-            Status::Rejected,
-            b"rejected step 0 block 2\n",
-        ),
-        (
-            "knot check",
-            b"x 4 3 2 1 0\no 2 1 0 4 3\nx 4 3 2 1 0\no 1 0 4 3 2\nequal 9\nstabilise 3 o lowleft\nexchange columns 2\nexchange columns 1\nshift rows 1\nexchange rows 4\nexchange columns 1\nexchange rows 2\nexchange columns 4\ndestabilise 3 3\n",
-            Status::Done,
-            b"accepted\n",
-        ),
-        (
-            "knot check",
-            b"braid 2 -1\nx 0 1\no 1 0\nequal 3\ndestabilise 2 2\ndestabilise 1 1\ndestabilise 0 0\n",
-            Status::Done,
-            b"accepted\n",
-        ),
-        (
-            "knot check",
-            b"braid 2 -1\nx 0 1\no 1 0\nequal 2\ndestabilise 2 2\ndestabilise 1 1\n",
-            Status::Rejected,
-            b"rejected otherend\n",
-        ),
-        (
-            "knot check",
-            b"x 4 3 2 1 0\no 2 1 0 4 3\nx 0 1\no 1 0\ndifferent dihedral 3\nlist 9\n0 0 0 0 0\n0 1 2 0 2\n0 2 1 0 1\n1 0 2 1 2\n1 1 1 1 1\n1 2 0 1 0\n2 0 1 2 1\n2 1 0 2 0\n2 2 2 2 2\nlist 3\n0 0\n1 1\n2 2\n",
-            Status::Done,
-            b"accepted\n",
-        ),
-        (
-            "knot check",
-            b"x 4 3 2 1 0\no 2 1 0 4 3\nx 0 1\no 1 0\ndifferent dihedral 3\nlist 9\n0 0 0 0 0\n0 1 2 0 2\n0 2 1 0 1\n1 0 2 1 2\n1 1 1 1 1\n1 2 0 1 0\n2 0 1 2 1\n2 1 0 2 0\n2 2 2 2 2\nlist 2\n0 0\n1 1\n",
-            Status::Rejected,
-            b"rejected list 2 2\n",
-        ),
-        (
-            "knot check",
-            b"x 0 1\no 1 0\nx 0 1\no 1 0\ndifferent trivial 2\nlist 2\n0 0\n1 1\nlist 2\n0 0\n1 1\n",
-            Status::Rejected,
-            b"rejected samelength\n",
-        ),
-        (
-            "knot check",
-            b"x 0 1 2 3 4 5 6 7 8 9\no 1 0 3 2 5 4 7 6 9 8\nx 0 1\no 1 0\ndifferent trivial 10\nlist 0\nlist 0\n",
-            Status::Rejected,
-            b"rejected wide 1 5\n",
-        ),
-        (
-            "knot check",
-            b"x 0 1\no 1 0\nx 0 1\no 1 0\nunknown budget 2\n",
-            Status::Rejected,
-            b"rejected noevidence\n",
-        ),
-        (
-            "knot check",
-            b"x 0 1\no 1 0\nx 0 1\no 1 0\nquandle table 3\n0 2 0\n2 1 1\n1 0 2\n",
-            Status::Malformed,
-            b"malformed line 8\n",
-        ),
-    ];
-    for row in &rows {
-        compare(&rt, rt.alloc(), row)?;
-    }
-    Ok(())
-}
-
-/// Moves made and colours carried, colourings and fixed points listed.
-#[test]
-fn other_jobs_give_the_worked_answers(rt: HostRuntime) -> Result<(), Fail> {
-    let rows: [Row; 17] = [
-        (
-            "knot code",
-            b"x 4 3 2 1 0\no 2 1 0 4 3\n",
-            Status::Done,
-            b"crossings 3\nX[5,3,6,2]\nX[1,5,2,4]\nX[3,1,4,6]\nloops 0\ngauss U2+ O1+ U3+ O2+ U1+ O3+\n",
-        ),
-        (
-            "knot code",
-            b"braid 1\n",
-            Status::Done,
-            b"crossings 0\nloops 1\n",
-        ),
-        (
-            "knot close",
-            b"braid 1\nquandle trivial 1\n",
-            Status::Done,
-            b"x 0 1\no 1 0\nfeet 0\nquandle trivial 1\nlist 1\n0\n",
-        ),
-        (
-            "knot replay",
-            b"x 4 3 2 1 0\no 2 1 0 4 3\nmoves 1\nexchange columns 0\n",
-            Status::Rejected,
-            b"rejected step 0 interleaved\n",
-        ),
-        (
-            "knot replay",
-            b"x 4 3 2 1 0\no 2 1 0 4 3\nmoves 1\nslide rows 0\n",
-            Status::Rejected,
-            b"rejected step 0 apart\n",
-        ),
-        (
-            "knot replay",
-            b"x 1 0 2\no 0 2 1\nmoves 1\nslide columns 0\n",
-            Status::Done,
-            b"x 0 1 2\no 2 0 1\n",
-        ),
-        (
-            "knot replay",
-            b"x 0 1 2 3 4\no 2 4 3 1 0\nmoves 2\ndestabilise 2 2\ndestabilise 1 1\n",
-            Status::Done,
-            b"x 0 1 2\no 1 2 0\n",
-        ),
-        (
-            "knot replay",
-            b"x 4 3 2 1 0\no 2 1 0 4 3\nmoves 1\nshift rows 1\nquandle tetrahedral\ncolours 0 1 3 0 3\n",
-            Status::Done,
-            b"x 3 2 1 0 4\no 1 0 4 3 2\ncolours 0 1 3 1 3\n",
-        ),
-        (
-            "knot replay",
-            b"x 4 3 2 1 0\no 2 1 0 4 3\nmoves 1\nexchange columns 0\nquandle tetrahedral\ncolours 0 1 3 0 2\n",
-            Status::Rejected,
-            b"rejected colours\n",
-        ),
-        (
-            "knot colour",
-            b"x 4 3 2 1 0\no 2 1 0 4 3\nquandle dihedral 3\n",
-            Status::Done,
-            b"quandle dihedral 3\nlist 9\n0 0 0 0 0\n0 1 2 0 2\n0 2 1 0 1\n1 0 2 1 2\n1 1 1 1 1\n1 2 0 1 0\n2 0 1 2 1\n2 1 0 2 0\n2 2 2 2 2\n",
-        ),
-        (
-            "knot colour",
-            b"x 0 1 2 3 4 5 6 7 8 9\no 1 0 3 2 5 4 7 6 9 8\nquandle trivial 10\n",
-            Status::Done,
-            b"quandle trivial 10\nwide 5\n",
-        ),
-        (
-            "knot colour",
-            b"# the unknot\n\nbraid 1\r\nquandle table 1\n0",
-            Status::Done,
-            b"quandle table 1\n0\nlist 1\n0 0\n",
-        ),
-        (
-            "knot close",
-            b"braid 2 1 1 1\nquandle dihedral 3\n",
-            Status::Done,
-            b"x 4 3 2 0 1 5 6\no 6 5 4 3 2 1 0\nfeet 3 4\nquandle dihedral 3\nlist 9\n0 0\n0 1\n0 2\n1 0\n1 1\n1 2\n2 0\n2 1\n2 2\n",
-        ),
-        (
-            "knot close",
-            b"braid 2 -1\nquandle trivial 2\n",
-            Status::Done,
-            b"x 0 1 2 3 4\no 2 4 3 1 0\nfeet 0 1\nquandle trivial 2\nlist 2\n0 0\n1 1\n",
-        ),
-        (
-            "knot close",
-            b"braid 5\nquandle trivial 10\n",
-            Status::Done,
-            b"x 0 1 2 3 4 5 6 7 8 9\no 9 8 7 6 5 4 3 2 1 0\nfeet 0 1 2 3 4\nquandle trivial 10\nwide 5\n",
-        ),
-        (
-            "knot close",
-            b"x 0 1\no 1 0\n",
-            Status::Malformed,
-            b"malformed line 1\n",
-        ),
-        ("knot colour", b"", Status::Malformed, b"malformed line 1\n"),
-    ];
-    for row in &rows {
-        compare(&rt, rt.alloc(), row)?;
-    }
-    Ok(())
-}
 
 /// Each call of the source failing in turn, of the sink failing in turn, or a sink that is full. On refused words the
 /// source, the first call of which would fail, isn't called; nor is it after its end, or after one byte over the limit.
@@ -400,6 +127,71 @@ fn inputs_are_read_up_to_the_limit(rt: HostRuntime) -> Result<(), Fail> {
     for (line, head, size, status) in rows {
         let ended = status_at(rt.alloc(), line, head, size)?;
         assert_eq!(rt; ended, status, "{line} on {size} bytes");
+    }
+    Ok(())
+}
+
+/// Evidence by numbers that two diagrams are not equivalent, behind the right trefoil and the unknot, and its first cause where it does not hold.
+#[test]
+fn certificates_by_numbers_are_ruled_on(rt: HostRuntime) -> Result<(), Fail> {
+    let rows: [(&[u8], Status, &[u8]); 10] = [
+        (
+            b"certificate 3\ndifferent numbers dihedral 3\nseeds 0 1\nnumbers 9\nseeds 0\nnumbers 3\n",
+            Status::Done,
+            b"accepted\n",
+        ),
+        (
+            b"certificate 3\ndifferent numbers dihedral 3\nseeds 0 5\nnumbers 9\nseeds 0\nnumbers 3\n",
+            Status::Rejected,
+            b"rejected outside 1 5\n",
+        ),
+        (
+            b"certificate 3\ndifferent numbers dihedral 3\nseeds 0\nnumbers 9\nseeds 0\nnumbers 3\n",
+            Status::Rejected,
+            b"rejected unsettled 1 1\n",
+        ),
+        (
+            b"certificate 3\ndifferent numbers trivial 32\nseeds 0 1 0 1 0\nnumbers 32\nseeds 0\nnumbers 32\n",
+            Status::Rejected,
+            b"rejected wide 1 5\n",
+        ),
+        (
+            b"certificate 3\ndifferent numbers dihedral 3\nseeds 0 1\nnumbers 9\nseeds 0\nnumbers 9\n",
+            Status::Rejected,
+            b"rejected number 2 0\n",
+        ),
+        (
+            b"certificate 3\ndifferent numbers trivial 2\nseeds 0 1\nnumbers 2\nseeds 0\nnumbers 2\n",
+            Status::Rejected,
+            b"rejected samenumbers\n",
+        ),
+        (
+            b"certificate 3\ndifferent linking\ncomponents 2\nnumbers 1 1\ncomponents 1\nnumbers\n",
+            Status::Rejected,
+            b"rejected components 1\n",
+        ),
+        (
+            b"certificate 3\ndifferent linking\ncomponents 1\nnumbers\ncomponents 1\nnumbers\n",
+            Status::Rejected,
+            b"rejected samenumbers\n",
+        ),
+        (
+            b"certificate 3\nequal 0\n",
+            Status::Malformed,
+            b"malformed line 6\n",
+        ),
+        (
+            b"different numbers dihedral 3\nseeds 0 1\nnumbers 9\nseeds 0\nnumbers 3\n",
+            Status::Malformed,
+            b"malformed line 5\n",
+        ),
+    ];
+    for (evidence, status, text) in rows {
+        let mut input = Vec::from_slice(rt.alloc(), b"x 4 3 2 1 0\no 2 1 0 4 3\nx 0 1\no 1 0\n")?;
+        input.extend_from_slice(evidence)?;
+        let (ended, written) = run_line(rt.alloc(), "knot check", &input, &CALM)?;
+        assert_eq!(rt; ended, status);
+        assert_eq!(rt; written.as_slice(), text);
     }
     Ok(())
 }

@@ -1,7 +1,12 @@
 //! Command lines that are taken, and such that are not.
 use crate::words_of;
-use knot_jobs::{Asked, Job, WordsFault, read_words};
+use knot_jobs::{Asked, Job, PlainJob, WordsFault, read_words};
 use std::test::Fail;
+
+/// A plain job, and no option.
+fn plain(job: PlainJob) -> Result<Asked, WordsFault> {
+    asked(Job::Plain(job), 1, 20_000, 1, 1)
+}
 
 fn asked(job: Job, workers: u32, budget: u32, spare: u8, seed: u64) -> Result<Asked, WordsFault> {
     Ok(Asked {
@@ -18,32 +23,32 @@ fn a_table_of_command_lines(rt: HostRuntime) -> Result<(), Fail> {
     let none: Vec<String> = Vec::new(rt.alloc());
     assert_eq!(rt; read_words(rt.alloc(), &none), Err(WordsFault::Usage));
     let rows = [
-        ("knot check", asked(Job::Check, 1, 20_000, 1, 1)),
-        ("anything colour", asked(Job::Colour, 1, 20_000, 1, 1)),
+        ("knot check", plain(PlainJob::Check)),
+        ("anything colour", plain(PlainJob::Colour)),
         (
             "knot --workers 64 replay --spare=4",
-            asked(Job::Replay, 64, 20_000, 4, 1),
+            asked(Job::Plain(PlainJob::Replay), 64, 20_000, 4, 1),
         ),
         (
             "knot check --budget 2 --seed 0",
-            asked(Job::Check, 1, 2, 1, 0),
+            asked(Job::Plain(PlainJob::Check), 1, 2, 1, 0),
         ),
         (
             "knot replay --budget 500000 --seed=18446744073709551615",
-            asked(Job::Replay, 1, 500_000, 1, u64::MAX),
+            asked(Job::Plain(PlainJob::Replay), 1, 500_000, 1, u64::MAX),
         ),
         (
             "knot check --workers +08 --spare=-0",
-            asked(Job::Check, 8, 20_000, 0, 1),
+            asked(Job::Plain(PlainJob::Check), 8, 20_000, 0, 1),
         ),
-        ("knot close", asked(Job::Close, 1, 20_000, 1, 1)),
-        ("knot code", asked(Job::Code, 1, 20_000, 1, 1)),
-        ("knot braid", asked(Job::Braid, 1, 20_000, 1, 1)),
-        ("knot linking", asked(Job::Linking, 1, 20_000, 1, 1)),
-        ("knot braidcheck", asked(Job::Braidcheck, 1, 20_000, 1, 1)),
-        ("knot weights", asked(Job::Weights, 1, 20_000, 1, 1)),
-        ("knot grid", asked(Job::Grid, 1, 20_000, 1, 1)),
-        ("knot numbers", asked(Job::Numbers, 1, 20_000, 1, 1)),
+        ("knot close", plain(PlainJob::Close)),
+        ("knot code", plain(PlainJob::Code)),
+        ("knot braid", plain(PlainJob::Braid)),
+        ("knot linking", plain(PlainJob::Linking)),
+        ("knot braidcheck", plain(PlainJob::Braidcheck)),
+        ("knot weights", plain(PlainJob::Weights)),
+        ("knot grid", plain(PlainJob::Grid)),
+        ("knot numbers", plain(PlainJob::Numbers)),
         ("knot simplify", asked(Job::Simplify, 1, 20_000, 1, 1)),
         ("knot simplify --budget 2", asked(Job::Simplify, 1, 2, 1, 1)),
         ("knot simplified", Err(WordsFault::Usage)),

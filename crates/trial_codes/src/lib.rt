@@ -1,0 +1,5 @@
+//! Tests of code_drawing, code_faults, code_grids, code_rows, code_text and crossing_codes.
+#![tactic(auto)]
+
+#[cfg(test)]
+mod tests;

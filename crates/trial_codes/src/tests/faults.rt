@@ -1,0 +1,99 @@
+//! Faults of small codes.
+use code_faults::{CodeFault, first_fault};
+use crossing_codes::{Code, Crossing};
+use memory_core::Items;
+use std::alloc::Global;
+use std::process::Abort;
+use std::test::Fail;
+
+/// Holds where this is the first fault of a code of these rows.
+fn has_fault(
+    rt: &impl Abort,
+    alloc: Global,
+    rows: &[(u32, u32, u32, u32, bool)],
+    edges: u32,
+    loops: u32,
+    fault: Option<CodeFault>,
+) -> Result<(), Fail> {
+    let mut crossings = Vec::new(alloc);
+    for (first, second, third, fourth, positive) in rows {
+        crossings.push(Crossing {
+            first: *first,
+            second: *second,
+            third: *third,
+            fourth: *fourth,
+            positive: *positive,
+        })?;
+    }
+    let code = Code {
+        crossings: Items::from_vec(crossings),
+        edges,
+        loops,
+    };
+    assert!(rt; first_fault(alloc, &code)? == fault);
+    Ok(())
+}
+
+#[test]
+fn faults_of_small_codes(rt: HostRuntime) -> Result<(), Fail> {
+    let alloc = rt.alloc();
+    has_fault(&rt, alloc, &[], 0, 0, Some(CodeFault::Empty))?;
+    has_fault(&rt, alloc, &[], 0, 1, None)?;
+    has_fault(&rt, alloc, &[(1, 1, 2, 2, true)], 2, 0, None)?;
+    has_fault(
+        &rt,
+        alloc,
+        &[(1, 1, 2, 2, true)],
+        4,
+        0,
+        Some(CodeFault::Count),
+    )?;
+    has_fault(
+        &rt,
+        alloc,
+        &[(1, 1, 2, 3, true)],
+        2,
+        0,
+        Some(CodeFault::Range { crossing: 0 }),
+    )?;
+    has_fault(
+        &rt,
+        alloc,
+        &[(1, 2, 2, 2, true)],
+        2,
+        0,
+        Some(CodeFault::Edge { edge: 1 }),
+    )?;
+    has_fault(
+        &rt,
+        alloc,
+        &[(1, 1, 1, 2, true)],
+        2,
+        0,
+        Some(CodeFault::Edge { edge: 1 }),
+    )?;
+    has_fault(
+        &rt,
+        alloc,
+        &[(1, 1, 2, 2, false)],
+        2,
+        0,
+        Some(CodeFault::Edge { edge: 1 }),
+    )?;
+    has_fault(
+        &rt,
+        alloc,
+        &[(1, 5, 2, 4, true), (3, 1, 4, 6, true), (5, 3, 6, 2, true)],
+        6,
+        0,
+        None,
+    )?;
+    has_fault(
+        &rt,
+        alloc,
+        &[(3, 2, 4, 1, true), (2, 1, 3, 4, true)],
+        4,
+        0,
+        Some(CodeFault::Plane),
+    )
+}

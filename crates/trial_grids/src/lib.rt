@@ -1,0 +1,5 @@
+//! Tests of grid_canon, grid_keys, next_moves, short_grids and torus_grids.
+#![tactic(auto)]
+
+#[cfg(test)]
+mod tests;

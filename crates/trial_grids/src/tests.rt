@@ -1,0 +1,6 @@
+//! A file a crate.
+mod canonical;
+mod keys;
+mod offers;
+mod short;
+mod torus;

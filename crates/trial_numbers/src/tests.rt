@@ -1,0 +1,7 @@
+//! A file a crate.
+mod certificates;
+mod evidence;
+mod found;
+mod numbers;
+mod seeds;
+mod worth;

@@ -1,0 +1,4 @@
+//! A file a crate.
+mod files;
+mod sought;
+mod words;

@@ -1,0 +1,178 @@
+//! Words, and what they ask for.
+use seek_words::{Diagrams, Given, Talk, option_bounds, read_words};
+use std::alloc::Global;
+use std::test::Fail;
+
+/// The words of a line, behind the program's name.
+fn words(alloc: Global, line: &[&str]) -> Result<Vec<String>, Fail> {
+    let mut list = Vec::new(alloc);
+    list.push(String::from_str(alloc, "seek")?)?;
+    for word in line {
+        list.push(String::from_str(alloc, word)?)?;
+    }
+    Ok(list)
+}
+
+#[test]
+fn diagrams_stand_in_the_order_of_the_words(rt: HostRuntime) -> Result<(), Fail> {
+    let rows: [(&[&str], Option<Diagrams>); 11] = [
+        (&[], Some(Diagrams::Problem(Given::File("-")))),
+        (&["a"], Some(Diagrams::Problem(Given::File("a")))),
+        (&["-"], Some(Diagrams::Problem(Given::File("-")))),
+        (
+            &["a", "b"],
+            Some(Diagrams::Pair(Given::File("a"), Given::File("b"))),
+        ),
+        (
+            &["--braid", "2 1", "b"],
+            Some(Diagrams::Pair(Given::Braid("2 1"), Given::File("b"))),
+        ),
+        (
+            &["a", "--braid", "2 1"],
+            Some(Diagrams::Pair(Given::File("a"), Given::Braid("2 1"))),
+        ),
+        (
+            &["--braid=3 1 -2", "--seed", "5", "--braid", "1"],
+            Some(Diagrams::Pair(Given::Braid("3 1 -2"), Given::Braid("1"))),
+        ),
+        (
+            &["--pd", "c", "a"],
+            Some(Diagrams::Pair(Given::Code("c"), Given::File("a"))),
+        ),
+        (&["--pd", "c"], None),
+        (&["--braid", "2 1"], None),
+        (&["a", "b", "--braid", "2 1"], None),
+    ];
+    for (line, expected) in rows {
+        let list = words(rt.alloc(), line)?;
+        let found = match read_words(rt.alloc(), list.as_slice()) {
+            Ok(asked) => Some(asked.diagrams),
+            Err(_) => None,
+        };
+        assert_eq!(rt; found, expected);
+    }
+    Ok(())
+}
+
+#[test]
+fn bounds_have_defaults(rt: HostRuntime) -> Result<(), Fail> {
+    let list = words(rt.alloc(), &["a"])?;
+    let Ok(asked) = read_words(rt.alloc(), list.as_slice()) else {
+        return Err(Fail::from("refused"));
+    };
+    assert_eq!(rt;
+        (asked.seed, asked.steps, asked.room, asked.workers),
+        (1, 8_000_000, 524_288, 1)
+    );
+    assert!(rt; asked.out.is_none() && asked.quandles.is_empty());
+    assert!(rt; asked.weights.is_empty());
+    assert_eq!(rt; asked.talk, Talk::Terminal);
+    Ok(())
+}
+
+#[test]
+fn each_option_is_read(rt: HostRuntime) -> Result<(), Fail> {
+    let line = [
+        "--quandles",
+        "q",
+        "--out",
+        "o",
+        "--seed",
+        "2",
+        "--steps",
+        "3",
+        "--room",
+        "4",
+        "--workers",
+        "5",
+        "--progress",
+        "--quandles",
+        "r",
+        "--weights",
+        "w",
+        "--weights=v",
+        "a",
+    ];
+    let list = words(rt.alloc(), &line)?;
+    let Ok(asked) = read_words(rt.alloc(), list.as_slice()) else {
+        return Err(Fail::from("refused"));
+    };
+    assert_eq!(rt;
+        (asked.seed, asked.steps, asked.room, asked.workers),
+        (2, 3, 4, 5)
+    );
+    assert_eq!(rt; asked.quandles.as_slice(), ["q", "r"].as_slice());
+    assert_eq!(rt; asked.weights.as_slice(), ["w", "v"].as_slice());
+    assert_eq!(rt; asked.out, Some("o"));
+    assert_eq!(rt; asked.talk, Talk::Progress);
+    Ok(())
+}
+
+#[test]
+fn no_weights_are_tried_where_none_are_wanted(rt: HostRuntime) -> Result<(), Fail> {
+    let line = ["--weights", "w", "--no-weights", "a"];
+    let list = words(rt.alloc(), &line)?;
+    let Ok(asked) = read_words(rt.alloc(), list.as_slice()) else {
+        return Err(Fail::from("refused"));
+    };
+    assert!(rt; asked.weights.is_empty());
+    Ok(())
+}
+
+#[test]
+fn other_words_are_refused_in_words(rt: HostRuntime) -> Result<(), Fail> {
+    let rows: [(&[&str], i32, &str); 6] = [
+        (&["--help"], 0, "seek --braid"),
+        (&["--version"], 0, "seek 1.0"),
+        (&["--braid", "1"], 2, "two diagrams are compared"),
+        (&["--workers", "65"], 2, "65 is not in 1..=64"),
+        (&["--seed", "x"], 2, "invalid digit"),
+        (&["--colour"], 2, "unexpected argument '--colour'"),
+    ];
+    for (line, code, part) in rows {
+        let list = words(rt.alloc(), line)?;
+        let Err(error) = read_words(rt.alloc(), list.as_slice()) else {
+            return Err(Fail::from("taken"));
+        };
+        assert_eq!(rt; error.exit_code(), code);
+        let text = format!(in rt.alloc(); "{error}")?;
+        assert!(rt; text.as_str().contains(part), "{text}");
+    }
+    Ok(())
+}
+
+#[test]
+fn refused_numbers_have_their_bounds_told(rt: HostRuntime) -> Result<(), Fail> {
+    let rows: [(&[&str], Option<&str>); 7] = [
+        (
+            &["--steps", "1e6"],
+            Some("--steps is a whole number from 0 to"),
+        ),
+        (
+            &["--seed=-1"],
+            Some("--seed is a whole number from 0 to 18446744073709551615"),
+        ),
+        (
+            &["--room", "4294967296"],
+            Some("--room is a whole number from 0 to 4294967295"),
+        ),
+        (
+            &["--workers", "0"],
+            Some("--workers is a whole number from 1 to 64"),
+        ),
+        (&["--colour"], None),
+        (&["--help"], None),
+        (&["--braid", "1"], None),
+    ];
+    for (line, expected) in rows {
+        let list = words(rt.alloc(), line)?;
+        let Err(error) = read_words(rt.alloc(), list.as_slice()) else {
+            return Err(Fail::from("taken"));
+        };
+        match (option_bounds(rt.alloc(), &error)?, expected) {
+            (Some(told), Some(begins)) => assert!(rt; told.starts_with(begins), "{told}"),
+            (told, expected) => assert_eq!(rt; told, expected),
+        }
+    }
+    Ok(())
+}

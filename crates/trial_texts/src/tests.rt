@@ -1,0 +1,4 @@
+//! A file a crate.
+mod bad_lines;
+mod numbered;
+mod texts;
