@@ -6,8 +6,6 @@ pub mod laws;
 mod lists;
 mod moves;
 mod ruling;
-#[cfg(test)]
-mod tests;
 mod verdict;
 
 pub use moves::check_moves;

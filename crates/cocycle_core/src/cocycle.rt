@@ -4,7 +4,8 @@ ghost use Rattle.std.specs.Result.{result_err};
 ghost use Rattle.cocycle_core.specs.Cocycle.{IsCocycle, value};
 ghost use Rattle.cocycle_core.specs.Fault.{first_fault};
 
-use crate::fault::{CocycleFault, diagonal_fault, law_fault, range_fault, shape_fault};
+use crate::draft::Draft;
+use crate::fault::CocycleFault;
 use arrayvec::ArrayVec;
 use quandle_core::{MAX_TABLE, Quandle};
 use std::marker::Model;
@@ -36,19 +37,11 @@ impl Cocycle {
         ensures cocycle { IfOk result (λ c. c ≡ record { quandle = quandle.now; modulus = modulus; entries = table.now }) }
     {
         let _order = quandle.order();
-        if let Some(fault) = shape_fault(quandle, modulus, table) {
-            return Err(fault);
+        let draft = Draft::new(quandle, modulus, table);
+        match draft.first_fault() {
+            Some(fault) => Err(fault),
+            None => Ok(of_table(quandle, modulus, table)),
         }
-        if let Some(fault) = range_fault(quandle, modulus, table) {
-            return Err(fault);
-        }
-        if let Some(fault) = diagonal_fault(quandle, modulus, table) {
-            return Err(fault);
-        }
-        if let Some(fault) = law_fault(quandle, modulus, table) {
-            return Err(fault);
-        }
-        Ok(of_table(quandle, modulus, table))
     }
 
     /// The same cocycle again. Takes no memory.

@@ -3,6 +3,7 @@
 #![tactic(auto)]
 
 mod cocycle;
+mod draft;
 mod fault;
 pub mod laws;
 #[cfg(test)]

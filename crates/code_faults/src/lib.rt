@@ -5,7 +5,5 @@ mod fault;
 mod joined;
 pub mod laws;
 mod map;
-#[cfg(test)]
-mod tests;
 
 pub use fault::{CodeFault, MAX_CROSSINGS, first_fault};

@@ -7,8 +7,6 @@ pub mod laws;
 mod refusal;
 mod renaming;
 mod same_code;
-#[cfg(test)]
-mod tests;
 
 pub use drawing::{Drawing, grid_of_code};
 pub use refusal::Refusal;

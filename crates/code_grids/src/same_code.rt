@@ -9,8 +9,7 @@ ghost use Rattle.code_grids.specs.Correspond.{Correspond};
 use crate::edge_names::edge_names;
 use crate::renaming::Renaming;
 use crossing_codes::{Code, Crossing, names_edges};
-use grid_core::Items;
-use memory_core::OutOfMemory;
+use memory_core::{Items, OutOfMemory};
 use std::alloc::{AllocError, Global};
 
 /// A renaming by which the one code becomes the other, and crossing k, counted from 0, becomes crossing `crossings[k]`.

@@ -12,8 +12,7 @@ use crate::rows_fault::{RowsFault, unpaired};
 use crate::signs::signs_of;
 use code_faults::{CodeFault, first_fault};
 use crossing_codes::{Code, Crossing};
-use grid_core::Items;
-use memory_core::OutOfMemory;
+use memory_core::{Items, OutOfMemory};
 use std::alloc::{AllocError, Global};
 
 /// The signed code of these rows with so many loops and without a fault, or a fault: the first of the rows themselves, else one of the

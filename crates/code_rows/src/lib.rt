@@ -7,8 +7,6 @@ mod numbers;
 mod row;
 mod rows_fault;
 mod signs;
-#[cfg(test)]
-mod tests;
 
 pub use code_from::code_of_rows;
 pub use row::Row;

@@ -8,8 +8,6 @@ mod progress;
 mod seeding;
 mod seeking;
 mod settling;
-#[cfg(test)]
-mod tests;
 mod weighing;
 
 pub use connected::is_connected;

@@ -19,8 +19,8 @@ use crate::crossing::{Code, Crossing};
 use crate::edges::{MAX_SLOTS, Route, numbers_of, slot};
 use crate::layout::Layout;
 use crate::passages::Passage;
-use grid_core::{Grid, Items};
-use memory_core::OutOfMemory;
+use grid_core::Grid;
+use memory_core::{Items, OutOfMemory};
 use std::alloc::{AllocError, Global};
 
 /// The code of a grid: its crossings by row from the lowest, and in a row by column from the left, and how many edges and

@@ -1,6 +1,6 @@
 //! The types of planar diagram codes.
 
-use grid_core::Items;
+use memory_core::Items;
 
 /// The four edges at a crossing, counterclockwise from the one on which the strand under comes, in the order of the KnotTheory package.
 /// Edges are numbered from 1.

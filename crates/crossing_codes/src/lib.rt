@@ -12,8 +12,6 @@ pub mod laws;
 mod layout;
 mod passages;
 mod printed;
-#[cfg(test)]
-mod tests;
 
 pub use code::code_of;
 pub use code_colouring::{is_code_colouring, is_edge, names_edges};

@@ -11,15 +11,16 @@ use Rattle.grid_moves.specs.declared.step.Move.TheVariants.{ShiftColumns, ShiftR
 use Rattle.grid_moves.specs.Joining.{Joins, JoinsWithin}
 use Rattle.grid_moves.specs.SizeAfter.{size_after}
 use Rattle.grid_moves.specs.Step.{Step}
-use Rattle.grid_moves.specs.Tidy.{is_shift, is_column_shift, is_row_shift, may_follow, are_tidy_behind, is_tidy}
+use Rattle.grid_moves.specs.Kinds.{is_shift, is_column_shift, is_row_shift}
+use Rattle.grid_moves.specs.Tidy.{may_follow, are_tidy_behind, is_tidy}
 use Rattle.grid_moves.proofs.OneResult.{step_once}
 use Rattle.grid_moves.proofs.Sizes.{step_size}
 use Rattle.grid_moves.proofs.Within.{within_append, within_joins, within_larger, joins_within_most}
-use Rattle.grid_canon.specs.Shifts.{shift_moves}
+use Rattle.grid_keys.specs.Shifts.{shift_moves}
 use Rattle.grid_canon.specs.Tidied.{tidied}
-use Rattle.grid_canon.specs.Translation.{translate}
-use Rattle.grid_canon.proofs.Translated.{origin-below, size-translate, translate-grid, translate-translate}
-use Rattle.grid_canon.proofs.Joined.{translate_none, at_origin, column_shift_step, row_shift_step, shifts_joined_within}
+use Rattle.grid_keys.specs.Translation.{translate}
+use Rattle.grid_keys.proofs.Translated.{origin-below, size-translate, translate-grid, translate-translate}
+use Rattle.grid_keys.proofs.Joined.{translate_none, at_origin, column_shift_step, row_shift_step, shifts_joined_within}
 
 -- ---- tidy
 

@@ -5,8 +5,8 @@ use Rattle.std.proofs.Math.Nat.{mod-add-mod, zero-mod}
 use Rattle.grid_moves.specs.declared.step.Move.{Move}
 use Rattle.grid_moves.specs.declared.step.Move.TheVariants.{ShiftColumns, ShiftRows, ExchangeColumns, ExchangeRows, SlideColumns, SlideRows, Stabilise, Destabilise}
 use Rattle.grid_moves.specs.SizeAfter.{size_after}
-use Rattle.grid_moves.specs.Tidy.{is_shift}
-use Rattle.grid_canon.specs.Shifts.{shift_moves}
+use Rattle.grid_moves.specs.Kinds.{is_shift}
+use Rattle.grid_keys.specs.Shifts.{shift_moves}
 use Rattle.grid_canon.specs.Tidied.{tidied, column_sum, row_sum}
 
 no : {A : Type 0} → false ≡ true → A

@@ -11,14 +11,14 @@ use Rattle.grid_core.specs.declared.mark.Kind.TheVariants.{Cross}
 use Rattle.grid_core.specs.declared.mark.Corner.TheVariants.{LowLeft}
 use Rattle.grid_moves.specs.declared.step.Move.TheVariants.{ShiftColumns, ShiftRows, ExchangeColumns, ExchangeRows, SlideColumns, SlideRows, Stabilise, Destabilise}
 use Rattle.grid_canon.specs.Tidied.{tidied}
-use Rattle.grid_canon.specs.declared.canonical_form.LeastForm.{LeastForm}
-use Rattle.grid_canon.specs.Translation.{translate, translates}
-use Rattle.grid_canon.specs.Order.{compare}
-use Rattle.grid_canon.specs.CanonicalForm.{IsLeastForm}
-use Rattle.grid_canon.specs.declared.key.TheConstants.{WORDS}
-use Rattle.grid_canon.specs.Key.{key_of}
-use Rattle.grid_canon.proofs.Ordered.{compare_self}
-use Rattle.grid_canon.proofs.LeastTranslates.{translates_contains}
+use Rattle.grid_keys.specs.declared.least_form.LeastForm.{LeastForm}
+use Rattle.grid_keys.specs.Translation.{translate, translates}
+use Rattle.grid_keys.specs.Order.{compare}
+use Rattle.grid_keys.specs.CanonicalForm.{IsLeastForm}
+use Rattle.grid_keys.specs.declared.key.TheConstants.{WORDS}
+use Rattle.grid_keys.specs.Key.{key_of}
+use Rattle.grid_keys.proofs.Ordered.{compare_self}
+use Rattle.grid_keys.proofs.LeastTranslates.{translates_contains}
 
 -- a test that passes on a list passes at each place
 passes : {X : Type 0} (test : X → Bool) (xs : List X) → list_all test xs ≡ true → (k : ℕ) (d : X) → k < length xs → test (get_or xs k d) ≡ true

@@ -1,15 +1,6 @@
-pub mod Translation
-pub mod Shifts
 pub mod Tidied
-pub mod Order
-pub mod CanonicalForm
-pub mod Cornered
-pub mod Digits
-pub mod ShortGrid
-pub mod ShortTrades
-pub mod Key
-pub mod Brief
 pub use Rattle.grid_core.specs.Diagram
-pub use Rattle.grid_moves.specs.Shift
 pub use Rattle.grid_moves.specs.Joining
+pub use Rattle.grid_moves.specs.Kinds
 pub use Rattle.grid_moves.specs.Tidy
+pub use Rattle.grid_keys.specs.CanonicalForm

@@ -2,7 +2,7 @@
 use Rattle.std.specs.Prelude.{◌+◌, ◌-◌, ◌%◌, ◌++◌, ℕ, List, [], ◌∷◌}
 use Rattle.grid_moves.specs.declared.step.Move.{Move}
 use Rattle.grid_moves.specs.declared.step.Move.TheVariants.{ShiftColumns, ShiftRows, ExchangeColumns, ExchangeRows, SlideColumns, SlideRows, Stabilise, Destabilise}
-use Rattle.grid_canon.specs.Shifts.{shift_moves}
+use Rattle.grid_keys.specs.Shifts.{shift_moves}
 
 -- from n columns on, behind shifts of columns by a and of rows by b that are not written yet: in each run of shifts those of columns
 -- are added, and those of rows, round the circle; a shift by 0 is left out

@@ -5,58 +5,17 @@ ghost use Rattle.std.specs.Ordering.{nat_cmp};
 ghost use Rattle.std.specs.Cmp.Lexicographic.{slice_cmp};
 ghost use Rattle.grid_core.specs.declared.mark.Kind.TheVariants.{Cross};
 ghost use Rattle.grid_core.specs.declared.grid.TheConstants.{MAX_SIZE};
-ghost use Rattle.grid_core.specs.Diagram.{Diagram, IsGrid, row_of};
+ghost use Rattle.grid_core.specs.Diagram.{IsGrid, row_of};
 ghost use Rattle.grid_moves.specs.Shift.{shifted};
-ghost use Rattle.grid_canon.specs.Translation.{translated_rows};
-ghost use Rattle.grid_canon.specs.Order.{compare};
-ghost use Rattle.grid_canon.specs.CanonicalForm.{IsCanonical, IsLeastForm, IsLeastKey};
-ghost use Rattle.grid_canon.specs.Key.{IsKeyOf};
-ghost use Rattle.grid_canon.specs.Cornered.{cornered, IsFirstLeast};
+ghost use Rattle.grid_keys.specs.Translation.{translated_rows};
+ghost use Rattle.grid_keys.specs.Order.{compare};
+ghost use Rattle.grid_keys.specs.CanonicalForm.{IsCanonical, IsLeastForm, IsLeastKey};
+ghost use Rattle.grid_keys.specs.Cornered.{cornered, IsFirstLeast};
 
-use crate::digits::MAX_SHORT_SIZE;
-use crate::key::{Packed, grid_of, translated_key};
-use crate::short_grid::ShortGrid;
-use crate::translation::{lowered_wide, pushed_rows};
 use grid_core::{Grid, Kind};
+use grid_keys::{LeastForm, LeastKey, translate, translated_key};
+use short_grids::{MAX_SHORT_SIZE, ShortGrid};
 use std::cmp::Ordering;
-
-/// The canonical form of a grid, and the shifts that reach it.
-#[derive(Drop)]
-pub struct LeastForm {
-    /// The least of all translates, by the rows of the Xs and then by those of the Os.
-    pub grid: Grid,
-    /// The shift of columns, from 0 to n - 1: the least that reaches the form.
-    pub columns: u8,
-    /// The shift of rows, from 0 to n - 1: the least that reaches the form with this shift of columns.
-    pub rows: u8,
-}
-
-impl LeastForm {
-    /// The same form again. Takes no memory.
-    pub fn copy(&self) -> Self
-        ensures { result ≡ self.now }
-    {
-        LeastForm {
-            grid: self.grid.copy(),
-            columns: self.columns,
-            rows: self.rows,
-        }
-    }
-
-    /// The grid that a key names, by no shifts: the form of a canonical grid, found by its key. Some grid must have the key. Takes no memory.
-    pub fn named_by(key: Packed) -> LeastForm
-        requires { (d : Diagram) × IsKeyOf key d }
-        ensures grid { (d : Diagram) → IsKeyOf key d → result.grid ≡ d }
-        ensures columns { result.columns ≡ 0 }
-        ensures rows { result.rows ≡ 0 }
-    {
-        LeastForm {
-            grid: grid_of(key),
-            columns: 0,
-            rows: 0,
-        }
-    }
-}
 
 /// The canonical form of a grid: the least of its n² translates, with the least pair of shifts that reaches it.
 ///
@@ -66,28 +25,14 @@ pub fn canonical(grid: &Grid) -> LeastForm
     ensures form { IsLeastForm grid.now result }
     ensures own { IsCanonical result.grid }
 {
-    let size = grid.size();
+    let _size = grid.size();
     let columns = least_column(grid.rows(Kind::Cross), grid.rows(Kind::Ring)) as u8;
     let rows = grid.row_of(Kind::Cross, columns);
     LeastForm {
-        grid: Grid::of_rows(
-            pushed_rows(grid.rows(Kind::Cross), columns, rows, size),
-            pushed_rows(grid.rows(Kind::Ring), columns, rows, size),
-        ),
+        grid: translate(grid, columns, rows),
         columns,
         rows,
     }
-}
-
-/// The key of the canonical form of a grid, and the shifts that reach it.
-#[derive(Clone, Copy, Debug, PartialEq, Eq)]
-pub struct LeastKey {
-    /// The key of the canonical form.
-    pub key: Packed,
-    /// The shift of columns, as in `LeastForm`.
-    pub columns: u8,
-    /// The shift of rows, as in `LeastForm`.
-    pub rows: u8,
 }
 
 /// The key of the canonical form of a grid with its least shifts, without building the form. Takes no memory.
@@ -234,4 +179,16 @@ fn translated_row(rows: &[u8], columns: usize, by: u64, c: usize) -> u64
     let place = columns + c;
     let place = if place < size { place } else { place - size };
     lowered_wide(u64::from(rows[place]), by, size as u64)
+}
+
+/// `number_after_shift` of grid_moves for wide numbers, in a form of which the compiler makes short code with no branch: below 0 a number goes round to the
+/// greatest ones, so of the difference and the difference one size higher the right one is the less.
+fn lowered_wide(row: u64, by: u64, size: u64) -> u64
+    requires size { size ≤ MAX_SIZE }
+    requires by { by < size }
+    requires inside { row < size }
+    ensures { result ≡ shifted size by row }
+{
+    let down = row.wrapping_sub(by);
+    down.min(down.wrapping_add(size))
 }

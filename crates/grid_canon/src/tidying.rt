@@ -5,11 +5,12 @@ ghost use Rattle.grid_core.specs.Diagram.{Diagram, size};
 ghost use Rattle.grid_moves.specs.Joining.{Joins, JoinsWithin};
 ghost use Rattle.grid_moves.specs.SizeAfter.{size_after};
 ghost use Rattle.grid_moves.specs.Step.{Step};
-ghost use Rattle.grid_moves.specs.Tidy.{is_shift, is_tidy};
+ghost use Rattle.grid_moves.specs.Kinds.{is_shift};
+ghost use Rattle.grid_moves.specs.Tidy.{is_tidy};
 ghost use Rattle.grid_canon.specs.Tidied.{tidied};
 
-use crate::shifts::push_shifts;
 use grid_core::Grid;
+use grid_keys::push_shifts;
 use grid_moves::Move;
 use memory_core::OutOfMemory;
 use std::alloc::Global;

@@ -5,7 +5,6 @@
 mod crossing;
 mod fault;
 mod grid;
-mod items;
 pub mod laws;
 mod mark;
 mod parts;
@@ -15,6 +14,5 @@ mod tests;
 
 pub use fault::{GridFault, is_repeated};
 pub use grid::{Grid, MAX_SIZE, Rows};
-pub use items::Items;
 pub use mark::{Corner, Kind};
 pub use span::Span;

@@ -16,6 +16,7 @@ pub mod MoveFault
 pub mod Joining
 pub mod Undoing
 pub mod MoveLists
+pub mod Kinds
 pub mod Tidy
 pub mod SizeAfter
 pub use Rattle.grid_core.specs.Diagram

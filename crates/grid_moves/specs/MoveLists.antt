@@ -1,22 +1,12 @@
 -- The moves of each kind on a diagram of n columns and rows, in order, as many as have numbers in range.
-use Rattle.std.specs.Prelude.{◌-◌, ◌++◌, ℕ, Bool, true, false, List, map}
+use Rattle.std.specs.Prelude.{◌-◌, ◌++◌, ℕ, List, map}
 use Rattle.std.specs.List.{range_with_len, flat_map}
 use Rattle.grid_core.specs.declared.mark.Kind.{Kind}
 use Rattle.grid_core.specs.declared.mark.Kind.TheVariants.{Cross, Ring}
 use Rattle.grid_core.specs.declared.mark.Corner.{Corner}
 use Rattle.grid_core.specs.Corners.{corners}
 use Rattle.grid_moves.specs.declared.step.Move.{Move}
-use Rattle.grid_moves.specs.declared.step.Move.TheVariants.{ShiftColumns, ShiftRows, ExchangeColumns, ExchangeRows, SlideColumns, SlideRows, Stabilise, Destabilise}
-
-abbrev pub is_slide : Move → Bool
-is_slide (ShiftColumns k) = false
-is_slide (ShiftRows k) = false
-is_slide (ExchangeColumns c) = false
-is_slide (ExchangeRows r) = false
-is_slide (SlideColumns c) = true
-is_slide (SlideRows r) = true
-is_slide (Stabilise c kind corner) = false
-is_slide (Destabilise c r) = false
+use Rattle.grid_moves.specs.declared.step.Move.TheVariants.{ShiftColumns, ShiftRows, ExchangeColumns, ExchangeRows, Stabilise, Destabilise}
 
 abbrev pub column_shift : ℕ → Move
 column_shift k = ShiftColumns k

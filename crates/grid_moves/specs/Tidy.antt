@@ -1,37 +1,7 @@
 -- Tidy lists of moves: of shifts that stand side by side there are two at most, the one of columns before the one of rows.
-use Rattle.std.specs.Prelude.{◌&&◌, ◌||◌, not, Bool, true, false, List, [], ◌∷◌, Option, Some, None}
+use Rattle.std.specs.Prelude.{◌&&◌, ◌||◌, not, Bool, true, List, [], ◌∷◌, Option, Some, None}
 use Rattle.grid_moves.specs.declared.step.Move.{Move}
-use Rattle.grid_moves.specs.declared.step.Move.TheVariants.{ShiftColumns, ShiftRows, ExchangeColumns, ExchangeRows, SlideColumns, SlideRows, Stabilise, Destabilise}
-
-abbrev pub is_shift : Move → Bool
-is_shift (ShiftColumns k) = true
-is_shift (ShiftRows k) = true
-is_shift (ExchangeColumns c) = false
-is_shift (ExchangeRows r) = false
-is_shift (SlideColumns c) = false
-is_shift (SlideRows r) = false
-is_shift (Stabilise c kind corner) = false
-is_shift (Destabilise c r) = false
-
-abbrev pub is_column_shift : Move → Bool
-is_column_shift (ShiftColumns k) = true
-is_column_shift (ShiftRows k) = false
-is_column_shift (ExchangeColumns c) = false
-is_column_shift (ExchangeRows r) = false
-is_column_shift (SlideColumns c) = false
-is_column_shift (SlideRows r) = false
-is_column_shift (Stabilise c kind corner) = false
-is_column_shift (Destabilise c r) = false
-
-abbrev pub is_row_shift : Move → Bool
-is_row_shift (ShiftColumns k) = false
-is_row_shift (ShiftRows k) = true
-is_row_shift (ExchangeColumns c) = false
-is_row_shift (ExchangeRows r) = false
-is_row_shift (SlideColumns c) = false
-is_row_shift (SlideRows r) = false
-is_row_shift (Stabilise c kind corner) = false
-is_row_shift (Destabilise c r) = false
+use Rattle.grid_moves.specs.Kinds.{is_shift, is_column_shift, is_row_shift}
 
 -- a shift of columns may not follow directly on a shift, and a shift of rows not directly on one of rows; the first move may be any
 abbrev pub may_follow : Option Move → Move → Bool

@@ -1,6 +1,7 @@
 //! Tidy lists of moves.
 ghost use Rattle.std.specs.Prelude.{◌≡◌};
-ghost use Rattle.grid_moves.specs.Tidy.{is_shift, is_column_shift, is_row_shift, may_follow, is_tidy};
+ghost use Rattle.grid_moves.specs.Kinds.{is_shift, is_column_shift, is_row_shift};
+ghost use Rattle.grid_moves.specs.Tidy.{may_follow, is_tidy};
 
 use crate::step::Move;
 
@@ -35,43 +36,17 @@ pub fn may_follow(before: Option<Move>, step: Move) -> bool
 fn is_shift(step: Move) -> bool
     ensures { result ≡ is_shift step }
 {
-    match step {
-        Move::ShiftColumns(_) | Move::ShiftRows(_) => true,
-        Move::ExchangeColumns(_)
-        | Move::ExchangeRows(_)
-        | Move::SlideColumns(_)
-        | Move::SlideRows(_)
-        | Move::Stabilise { .. }
-        | Move::Destabilise { .. } => false,
-    }
+    matches!(step, Move::ShiftColumns(_) | Move::ShiftRows(_))
 }
 
 fn is_column_shift(step: Move) -> bool
     ensures { result ≡ is_column_shift step }
 {
-    match step {
-        Move::ShiftColumns(_) => true,
-        Move::ShiftRows(_)
-        | Move::ExchangeColumns(_)
-        | Move::ExchangeRows(_)
-        | Move::SlideColumns(_)
-        | Move::SlideRows(_)
-        | Move::Stabilise { .. }
-        | Move::Destabilise { .. } => false,
-    }
+    matches!(step, Move::ShiftColumns(_))
 }
 
 fn is_row_shift(step: Move) -> bool
     ensures { result ≡ is_row_shift step }
 {
-    match step {
-        Move::ShiftRows(_) => true,
-        Move::ShiftColumns(_)
-        | Move::ExchangeColumns(_)
-        | Move::ExchangeRows(_)
-        | Move::SlideColumns(_)
-        | Move::SlideRows(_)
-        | Move::Stabilise { .. }
-        | Move::Destabilise { .. } => false,
-    }
+    matches!(step, Move::ShiftRows(_))
 }

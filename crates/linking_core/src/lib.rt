@@ -5,8 +5,6 @@
 mod components;
 pub mod laws;
 mod linking_numbers;
-#[cfg(test)]
-mod tests;
 
 pub use components::component;
 pub use linking_numbers::linking;

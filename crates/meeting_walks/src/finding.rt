@@ -3,14 +3,14 @@ ghost use Rattle.std.specs.Prelude.{◌≡◌, ◌<◌, IfOk, IfSome, IfNone, Is
 ghost use Rattle.std.specs.List.{Contains};
 ghost use Rattle.grid_core.specs.Diagram.{size};
 ghost use Rattle.grid_moves.specs.Joining.{Joins};
-ghost use Rattle.grid_canon.specs.Translation.{translate, translates};
+ghost use Rattle.grid_keys.specs.Translation.{translate, translates};
 
 use crate::crew::{Crew, Found};
 use crate::shifts::shifts_to;
 use crate::spelling::spelled;
 use crate::watch::{Unwatched, Watch};
-use grid_canon::push_shifts;
 use grid_core::Grid;
+use grid_keys::push_shifts;
 use grid_moves::{Move, apply_all};
 use memory_core::OutOfMemory;
 use std::alloc::Global;

@@ -1,20 +1,10 @@
-//! Want of memory, as one type for all crates.
+//! Want of memory, as one type for all crates, and a list that a public field holds.
 #![tactic(auto)]
 
-use std::alloc::{AllocError, AllocFailed};
+mod items;
+mod out_of_memory;
+#[cfg(test)]
+mod tests;
 
-/// There was no memory left for what a call keeps.
-#[derive(Clone, Copy, Debug, PartialEq, Eq)]
-pub struct OutOfMemory;
-
-impl From<AllocError> for OutOfMemory {
-    fn from(_: AllocError) -> OutOfMemory {
-        OutOfMemory
-    }
-}
-
-impl<T: Drop> From<AllocFailed<T>> for OutOfMemory {
-    fn from(_: AllocFailed<T>) -> OutOfMemory {
-        OutOfMemory
-    }
-}
+pub use items::Items;
+pub use out_of_memory::OutOfMemory;

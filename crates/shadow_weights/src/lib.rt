@@ -7,8 +7,6 @@ pub mod counts;
 mod fault;
 pub mod laws;
 pub mod sums;
-#[cfg(test)]
-mod tests;
 mod walker;
 mod weighing;
 

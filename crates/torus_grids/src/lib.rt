@@ -7,8 +7,6 @@ mod form;
 mod graph;
 mod lines;
 mod shortening;
-#[cfg(test)]
-mod tests;
 mod torus;
 
 pub use draws::{

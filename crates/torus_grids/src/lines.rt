@@ -2,8 +2,8 @@
 ghost use Rattle.std.specs.Prelude.{◌<◌};
 ghost use Rattle.torus_grids.specs.declared.lines.TheConstants.{PLACES};
 
-use grid_canon::BASE;
 use grid_core::Kind;
+use grid_keys::BASE;
 use std::simd::prelude::*;
 
 /// More than there are columns or rows. Before a number is an index it is taken modulo this power of two: so no list is read or written

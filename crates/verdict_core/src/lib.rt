@@ -6,8 +6,6 @@ mod diagrams;
 pub mod laws;
 mod names;
 mod problem;
-#[cfg(test)]
-mod tests;
 mod verdict;
 
 pub use diagrams::Diagram;

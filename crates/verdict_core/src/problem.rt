@@ -2,7 +2,7 @@
 
 use crate::diagrams::Diagram;
 use crate::names::Listed;
-use grid_core::Items;
+use memory_core::Items;
 
 /// Two diagrams, and the quandles by which they are to be compared, in the listed order.
 #[derive(Drop)]

@@ -2,8 +2,8 @@
 
 use crate::names::Listed;
 use colour_rows::Colouring;
-use grid_core::Items;
 use grid_moves::Move;
+use memory_core::Items;
 
 /// What is said of two diagrams, with the evidence.
 #[derive(Drop)]

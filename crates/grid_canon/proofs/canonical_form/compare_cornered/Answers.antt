@@ -1,9 +1,9 @@
 use Rattle.std.proofs.Common.{◌∙◌, ℕ, arith, length, ap, sym}
 use Rattle.grid_core.specs.declared.mark.Kind.TheVariants.{Cross}
 use Rattle.grid_core.proofs.Marks.{row_below}
-use Rattle.grid_canon.specs.Translation.{translated_rows}
+use Rattle.grid_keys.specs.Translation.{translated_rows}
 use Rattle.std.specs.List.{slice_index}
-use Rattle.grid_canon.proofs.LeastTranslates.{rows_inside, rings_inside, first_two_agree}
+use Rattle.grid_keys.proofs.LeastTranslates.{rows_inside, rings_inside, first_two_agree}
 use Rattle.grid_canon.proofs.canonical_form.compare_cornered.Goals as goal
 
 pub compare_translated-requires-clause-inside : goal.compare_translated-requires-clause-inside

@@ -1,8 +1,8 @@
 use Rattle.std.proofs.Common.{◌∙◌, arith, ap₂, sym, length}
 use Rattle.std.specs.Ordering.{nat_cmp}
-use Rattle.grid_canon.specs.Translation.{translated_rows}
-use Rattle.grid_canon.proofs.Translated.{length-translated_rows}
-use Rattle.grid_canon.proofs.Ordered.{slice_cmp_at, slice_cmp_same}
+use Rattle.grid_keys.specs.Translation.{translated_rows}
+use Rattle.grid_keys.proofs.Translated.{length-translated_rows}
+use Rattle.grid_keys.proofs.Ordered.{slice_cmp_at, slice_cmp_same}
 use Rattle.grid_canon.proofs.canonical_form.compare_translated.Goals as goal
 
 pub returns-in_default : goal.returns-in_default

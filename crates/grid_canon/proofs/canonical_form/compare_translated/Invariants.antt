@@ -1,5 +1,5 @@
 use Rattle.std.proofs.Common.{◌≡◌, ◌<◌, ℕ, slice_index, length}
-use Rattle.grid_canon.specs.Translation.{translated_rows}
+use Rattle.grid_keys.specs.Translation.{translated_rows}
 use Rattle.grid_canon.proofs.canonical_form.compare_translated.Given as goal
 
 abbrev pub invariant-loop-c : goal.invariant-loop-c

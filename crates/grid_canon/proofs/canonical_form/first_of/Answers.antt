@@ -1,5 +1,5 @@
 use Rattle.std.proofs.Common.{arith, rules}
-use Rattle.grid_canon.proofs.LeastTranslates.{first_least_lower, first_least_takes, first_least_keeps}
+use Rattle.grid_keys.proofs.LeastTranslates.{first_least_lower, first_least_takes, first_least_keeps}
 use Rattle.grid_canon.proofs.canonical_form.first_of.Goals as goal
 
 pub returns-then-near_step-far_step-clause-first : goal.returns-then-near_step-far_step-clause-first

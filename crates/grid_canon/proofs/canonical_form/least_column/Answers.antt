@@ -1,8 +1,8 @@
 use Rattle.std.proofs.Common.{◌∙◌, ◌+◌, ◌-◌, ◌≡◌, ℕ, arith, length, sym, subst, ap}
 use Rattle.grid_core.specs.declared.mark.Kind.TheVariants.{Cross}
 use Rattle.grid_core.specs.Diagram.{Diagram, row_of}
-use Rattle.grid_canon.specs.Cornered.{cornered, IsFirstLeast}
-use Rattle.grid_canon.proofs.LeastTranslates.{rows_inside, first_least_one, first_least_higher, next_inside, next_of_last}
+use Rattle.grid_keys.specs.Cornered.{cornered, IsFirstLeast}
+use Rattle.grid_keys.proofs.LeastTranslates.{rows_inside, first_least_one, first_least_higher, next_inside, next_of_last}
 use Rattle.grid_canon.proofs.canonical_form.least_column.Goals.{then-step-best_step, else-step-best_step}
 use Rattle.grid_canon.proofs.canonical_form.least_column.Goals as goal
 

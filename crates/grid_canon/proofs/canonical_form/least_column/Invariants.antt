@@ -1,7 +1,7 @@
 use Rattle.std.proofs.Common.{◌≡◌}
 use Rattle.grid_core.specs.declared.mark.Kind.TheVariants.{Cross}
 use Rattle.grid_core.specs.Diagram.{row_of}
-use Rattle.grid_canon.specs.Cornered.{cornered, IsFirstLeast}
+use Rattle.grid_keys.specs.Cornered.{cornered, IsFirstLeast}
 use Rattle.grid_canon.proofs.canonical_form.least_column.Given as goal
 
 abbrev pub invariant-loop-column : goal.invariant-loop-column

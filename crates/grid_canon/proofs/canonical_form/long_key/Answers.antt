@@ -2,8 +2,8 @@ use Rattle.std.proofs.Common.{ℕ, refl, get_or, sym}
 use Rattle.grid_core.specs.declared.mark.Kind.TheVariants.{Cross}
 use Rattle.grid_core.specs.Diagram.{Diagram}
 use Rattle.grid_core.proofs.Marks.{row_below}
-use Rattle.grid_canon.specs.Translation.{translate}
-use Rattle.grid_canon.proofs.LeastTranslates.{least_form_at}
+use Rattle.grid_keys.specs.Translation.{translate}
+use Rattle.grid_keys.proofs.LeastTranslates.{least_form_at}
 use Rattle.grid_canon.proofs.canonical_form.long_key.Goals as goal
 
 pub translated_key-requires-clause-by : goal.translated_key-requires-clause-by

@@ -1,6 +1,6 @@
 use Rattle.std.proofs.Common.{◌∙◌, ℕ, arith, sym, refl, ap, ap₂, get_or, length}
 use Rattle.grid_moves.specs.Shift.{shifted}
-use Rattle.grid_canon.proofs.Translated.{translated_rows_at}
+use Rattle.grid_keys.proofs.Translated.{translated_rows_at}
 use Rattle.grid_canon.proofs.canonical_form.second_row.Goals as goal
 
 pub returns : goal.returns

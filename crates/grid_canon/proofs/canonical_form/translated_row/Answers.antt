@@ -1,6 +1,6 @@
 use Rattle.std.proofs.Common.{◌≡◌, ◌∙◌, ℕ, inl, inr, arith, sym, refl, ap, length, get_or}
 use Rattle.grid_moves.specs.Shift.{shifted}
-use Rattle.grid_canon.proofs.Translated.{origin, origin_cases, translated_rows_at}
+use Rattle.grid_keys.proofs.Translated.{origin, origin_cases, translated_rows_at}
 use Rattle.grid_canon.proofs.canonical_form.translated_row.Goals.{then-place-size, else-place-size}
 use Rattle.grid_canon.proofs.canonical_form.translated_row.Goals as goal
 

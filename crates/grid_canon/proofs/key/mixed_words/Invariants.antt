@@ -1,6 +1,0 @@
-use Rattle.std.proofs.Common.{◌≡◌, fold, take}
-use Rattle.grid_canon.specs.Key.{mixed}
-use Rattle.grid_canon.proofs.key.mixed_words.Given as goal
-
-abbrev pub invariant-loop-word : goal.invariant-loop-word
-invariant-loop-word l = l.sum ≡ fold mixed 0 (take l.word-index l.words)

@@ -1,6 +1,0 @@
-use Rattle.std.proofs.Common.{◌≡◌, take}
-use Rattle.grid_canon.specs.Key.{number}
-use Rattle.grid_canon.proofs.key.number.Given as goal
-
-abbrev pub invariant-loop-row : goal.invariant-loop-row
-invariant-loop-row l = l.value ≡ number (take l.row-index l.rows)

@@ -1,5 +1,0 @@
-use Rattle.grid_canon.proofs.Keys.{key_order}
-use Rattle.grid_canon.proofs.laws.keys_are_ordered_by_size_and_then_as_the_diagrams.Goals as goal
-
-pub returns : goal.returns
-returns c = key_order

@@ -1,0 +1,11 @@
+pub mod Translation
+pub mod Shifts
+pub mod Order
+pub mod Numbers
+pub mod Key
+pub mod Brief
+pub mod CanonicalForm
+pub mod Cornered
+pub use Rattle.grid_core.specs.Diagram
+pub use Rattle.grid_moves.specs.Shift
+pub use Rattle.grid_moves.specs.Joining

@@ -1,0 +1,14 @@
+mod ShortNumbers
+mod NumbersOfDigits
+mod DigitLists
+mod Guards
+mod CutNumbers
+mod ShortGrids
+mod LowColumns
+mod ShortKeys
+mod SpreadHalves
+mod SwappedDigits
+mod Placed
+mod CountedEnds
+mod MarkedTrades
+mod ShortPairs
