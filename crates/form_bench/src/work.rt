@@ -4,8 +4,9 @@ ghost use Rattle.grid_core.specs.declared.grid.TheConstants.{MAX_SIZE};
 ghost use Rattle.grid_core.specs.Diagram.{size};
 
 use crate::task::{Task, Work};
-use grid_canon::{LeastForm, Packed, canonical, canonical_key, translate};
+use grid_canon::{canonical, canonical_key};
 use grid_core::{Grid, Kind, MAX_SIZE};
+use grid_keys::{LeastForm, Packed, translate};
 use next_moves::Offers;
 
 /// What the turns made: a number that depends on each result, and how many offers there were.

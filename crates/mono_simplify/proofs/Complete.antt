@@ -10,14 +10,13 @@ use Rattle.grid_moves.specs.declared.step.Move.TheVariants.{ShiftColumns, ShiftR
 use Rattle.grid_moves.specs.Step.{Step}
 use Rattle.grid_moves.specs.Joining.{Joins}
 use Rattle.grid_moves.proofs.Within.{joins_grid}
-use Rattle.grid_canon.specs.declared.key.Packed.{Packed}
-use Rattle.grid_canon.specs.Translation.{translates}
-use Rattle.grid_canon.specs.CanonicalForm.{IsCanonicalForm, IsCanonical}
-use Rattle.grid_canon.specs.Key.{key_of}
-use Rattle.grid_canon.proofs.Keys.{key_once}
-use Rattle.grid_canon.proofs.CanonicalForms.{translated_back, translated_size, canonical_exists, canonical_grid, canonical_once, canonical_of_translate}
-use Rattle.grid_moves.specs.Tidy.{is_shift}
-use Rattle.next_moves.specs.Tries.{is_exchange}
+use Rattle.grid_keys.specs.declared.key.Packed.{Packed}
+use Rattle.grid_keys.specs.Translation.{translates}
+use Rattle.grid_keys.specs.CanonicalForm.{IsCanonicalForm, IsCanonical}
+use Rattle.grid_keys.specs.Key.{key_of}
+use Rattle.grid_keys.proofs.Keys.{key_once}
+use Rattle.grid_keys.proofs.CanonicalForms.{translated_back, translated_size, canonical_exists, canonical_grid, canonical_once, canonical_of_translate}
+use Rattle.grid_moves.specs.Kinds.{is_shift, is_exchange}
 use Rattle.grid_moves.specs.SizeAfter.{size_after}
 use Rattle.grid_moves.proofs.Sizes.{step_size}
 use Rattle.next_moves.proofs.Closed.{shift_translates}

@@ -7,11 +7,11 @@ use Rattle.std.proofs.lemmas.List.Elements.{All-push, All-take}
 use Rattle.std.proofs.lemmas.Option.{slice_get_within, get_or_from_slice_get}
 use Rattle.std.proofs.Math.Seq.{take-append_seam}
 use Rattle.grid_core.specs.Diagram.{Diagram, IsGrid, size}
-use Rattle.grid_canon.specs.declared.key.Packed.{Packed}
-use Rattle.grid_canon.specs.CanonicalForm.{IsCanonicalForm}
-use Rattle.grid_canon.specs.Key.{key_of, IsKeyOf}
+use Rattle.grid_keys.specs.declared.key.Packed.{Packed}
+use Rattle.grid_keys.specs.CanonicalForm.{IsCanonicalForm}
+use Rattle.grid_keys.specs.Key.{key_of, IsKeyOf}
 use Rattle.next_moves.specs.declared.links.Offer.{Offer}
-use Rattle.next_moves.specs.Tries.{is_exchange}
+use Rattle.grid_moves.specs.Kinds.{is_exchange}
 use Rattle.next_moves.specs.Offers.{IsOfferList, exchanges_among}
 use Rattle.mono_simplify.specs.ExchangeClass.{IsIrreducible}
 use Rattle.mono_simplify.specs.Listing.{has_key, with_keys, IsExchangeList, Grows, IsListed, IsListing, NoTranslateDestabilises, HasAtMost, HasMoreAndNoneSmaller}

@@ -5,11 +5,11 @@ use Rattle.std.proofs.lemmas.List.{append-nil, take_more, take-append-drop}
 use Rattle.std.proofs.lemmas.List.Sums.{fold-append}
 use Rattle.std.proofs.lemmas.List.Elements.{All-append, filter-append, Contains-append_left, Contains-push}
 use Rattle.indexmap.proofs.CallerLemmas.{Contains-list_any}
-use Rattle.grid_canon.specs.declared.key.Packed.{Packed}
-use Rattle.grid_canon.specs.Key.{same_key}
-use Rattle.grid_canon.proofs.Keys.{same_key_true}
+use Rattle.grid_keys.specs.declared.key.Packed.{Packed}
+use Rattle.grid_keys.specs.Key.{same_key}
+use Rattle.grid_keys.proofs.Keys.{same_key_true}
 use Rattle.next_moves.specs.declared.links.Offer.{Offer}
-use Rattle.next_moves.specs.Tries.{is_exchange}
+use Rattle.grid_moves.specs.Kinds.{is_exchange}
 use Rattle.next_moves.specs.Offers.{exchanges_among}
 use Rattle.next_moves.proofs.Members.{contains_first, contains_later}
 use Rattle.mono_simplify.specs.Listing.{has_key, with_key, with_keys}

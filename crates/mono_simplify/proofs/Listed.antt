@@ -10,15 +10,15 @@ use Rattle.grid_moves.specs.declared.step.Move.{Move}
 use Rattle.grid_moves.specs.declared.step.Move.TheVariants.{ShiftColumns, ShiftRows}
 use Rattle.grid_moves.specs.Joining.{Joins}
 use Rattle.grid_moves.proofs.Joined.{joins_append}
-use Rattle.grid_canon.specs.declared.key.Packed.{Packed}
-use Rattle.grid_canon.specs.Shifts.{column_shift, row_shift, shift_moves}
-use Rattle.grid_canon.specs.Translation.{translates}
-use Rattle.grid_canon.specs.CanonicalForm.{IsCanonicalForm, IsCanonical}
-use Rattle.grid_canon.specs.Key.{key_of, IsKeyOf}
-use Rattle.grid_canon.proofs.Keys.{key_once}
-use Rattle.grid_canon.proofs.Joined.{shifts_joined}
-use Rattle.grid_canon.proofs.LeastTranslates.{shifts_of}
-use Rattle.grid_canon.proofs.CanonicalForms.{translated_size, canonical_grid, canonical_own}
+use Rattle.grid_keys.specs.declared.key.Packed.{Packed}
+use Rattle.grid_keys.specs.Shifts.{column_shift, row_shift, shift_moves}
+use Rattle.grid_keys.specs.Translation.{translates}
+use Rattle.grid_keys.specs.CanonicalForm.{IsCanonicalForm, IsCanonical}
+use Rattle.grid_keys.specs.Key.{key_of, IsKeyOf}
+use Rattle.grid_keys.proofs.Keys.{key_once}
+use Rattle.grid_keys.proofs.Joined.{shifts_joined}
+use Rattle.grid_keys.proofs.LeastTranslates.{shifts_of}
+use Rattle.grid_keys.proofs.CanonicalForms.{translated_size, canonical_grid, canonical_own}
 use Rattle.next_moves.specs.declared.links.Link.{Link}
 use Rattle.next_moves.specs.declared.links.Offer.{Offer}
 use Rattle.next_moves.specs.Offers.{Leads}

@@ -3,8 +3,8 @@ use Rattle.std.proofs.Common.{◌≡◌, ◌∙◌, ◌∷◌, [], List, true, f
 use Rattle.std.specs.List.{list_any}
 use Rattle.std.specs.Map.{lookup, keys_of}
 use Rattle.std.proofs.lemmas.Map.Made.{is_some-lookup}
-use Rattle.grid_canon.specs.declared.key.Packed.{Packed}
-use Rattle.grid_canon.specs.Key.{same_key}
+use Rattle.grid_keys.specs.declared.key.Packed.{Packed}
+use Rattle.grid_keys.specs.Key.{same_key}
 use Rattle.mono_simplify.specs.declared.class.Origin.{Origin}
 use Rattle.mono_simplify.specs.Listing.{has_key}
 use Rattle.mono_simplify.specs.Ways.{Member, keys_in}

@@ -6,13 +6,14 @@ use Rattle.std.proofs.lemmas.List.Elements.{All-nil, All-cons, All-head, All-tai
 use Rattle.grid_core.specs.Diagram.{Diagram}
 use Rattle.grid_moves.specs.declared.step.Move.{Move}
 use Rattle.grid_moves.specs.declared.step.Move.TheVariants.{ShiftColumns, ShiftRows}
-use Rattle.grid_canon.specs.declared.key.Packed.{Packed}
-use Rattle.grid_canon.specs.Shifts.{column_shift, row_shift, shift_moves}
+use Rattle.grid_keys.specs.declared.key.Packed.{Packed}
+use Rattle.grid_keys.specs.Shifts.{column_shift, row_shift, shift_moves}
 use Rattle.next_moves.specs.declared.links.Link.{Link}
 use Rattle.next_moves.specs.Links.{link_moves}
 use Rattle.mono_simplify.specs.declared.class.Origin.{Origin}
 use Rattle.mono_simplify.specs.ExchangeClass.{is_shift_or_exchange}
-use Rattle.mono_simplify.specs.Simplified.{is_destabilisation, is_monotonic, AreMonotonic}
+use Rattle.grid_moves.specs.Kinds.{is_destabilisation}
+use Rattle.mono_simplify.specs.Simplified.{is_monotonic, AreMonotonic}
 use Rattle.mono_simplify.specs.Ways.{Member, AreWays}
 
 abbrev Monotonic : Move → Type 0

@@ -8,17 +8,17 @@ use Rattle.grid_moves.specs.declared.step.Move.{Move}
 use Rattle.grid_moves.specs.declared.step.Move.TheVariants.{ShiftColumns, ShiftRows, ExchangeColumns, ExchangeRows, SlideColumns, SlideRows, Stabilise, Destabilise}
 use Rattle.grid_moves.specs.Step.{Step}
 use Rattle.grid_moves.proofs.OneResult.{step_exists, step_legal}
-use Rattle.grid_canon.specs.declared.key.Packed.{Packed}
-use Rattle.grid_canon.specs.Translation.{translate, translates}
-use Rattle.grid_canon.specs.CanonicalForm.{IsCanonicalForm}
-use Rattle.grid_canon.specs.Key.{key_of, IsKeyOf}
-use Rattle.grid_canon.proofs.Keys.{key_once}
-use Rattle.grid_canon.proofs.LeastTranslates.{shifts_of, translates_contains, map_contains}
-use Rattle.grid_canon.proofs.CanonicalForms.{translated_grid, translated_size, canonical_of_translate, canonical_exists, canonical_grid}
-use Rattle.grid_canon.proofs.Translated.{size-translate}
+use Rattle.grid_keys.specs.declared.key.Packed.{Packed}
+use Rattle.grid_keys.specs.Translation.{translate, translates}
+use Rattle.grid_keys.specs.CanonicalForm.{IsCanonicalForm}
+use Rattle.grid_keys.specs.Key.{key_of, IsKeyOf}
+use Rattle.grid_keys.proofs.Keys.{key_once}
+use Rattle.grid_keys.proofs.LeastTranslates.{shifts_of, translates_contains, map_contains}
+use Rattle.grid_keys.proofs.CanonicalForms.{translated_grid, translated_size, canonical_of_translate, canonical_exists, canonical_grid}
+use Rattle.grid_keys.proofs.Translated.{size-translate}
 use Rattle.next_moves.specs.declared.links.Offer.{Offer}
-use Rattle.grid_moves.specs.Tidy.{is_shift}
-use Rattle.next_moves.specs.Tries.{Try, tries, exchanges, is_exchange, column_exchange, row_exchange}
+use Rattle.grid_moves.specs.Kinds.{is_shift, is_exchange, is_destabilisation}
+use Rattle.next_moves.specs.Tries.{Try, tries, exchanges, try_column_exchange, try_row_exchange}
 use Rattle.grid_moves.specs.SizeAfter.{size_after}
 use Rattle.next_moves.specs.Offers.{is_offered, Leads, IsOfferOf, AreOffersOf, IsOfferList, try_of}
 use Rattle.grid_moves.proofs.Sizes.{step_size}
@@ -28,7 +28,6 @@ use Rattle.next_moves.proofs.Matched.{matched}
 use Rattle.next_moves.proofs.Complete.{neighbour_offered, led_by, ranged}
 use Rattle.next_moves.proofs.Exchanges.{exchanges_of_tries}
 use Rattle.mono_simplify.specs.ExchangeClass.{is_shift_or_exchange, MayDestabilise}
-use Rattle.mono_simplify.specs.Simplified.{is_destabilisation}
 use Rattle.mono_simplify.specs.Listing.{IsExchangeList, NoTranslateDestabilises}
 
 -- a move that neither shifts nor changes the size
@@ -37,9 +36,9 @@ IsExchange move = (is_shift_or_exchange move ≡ true) × (is_shift move ≡ fal
 
 pub exchanges_exchange : (n : ℕ) → All (λ (t : Try). IsExchange t.step) (exchanges n)
 exchanges_exchange n =
-    All-append (λ (t : Try). IsExchange t.step) (map (column_exchange n) (range_with_len 0 n)) (map (row_exchange n) (range_with_len 0 n))
-    (ranged (λ (t : Try). IsExchange t.step) (column_exchange n) n (λ k. (refl, refl, refl, λ m. refl)))
-    (ranged (λ (t : Try). IsExchange t.step) (row_exchange n) n (λ k. (refl, refl, refl, λ m. refl)))
+    All-append (λ (t : Try). IsExchange t.step) (map (try_column_exchange n) (range_with_len 0 n)) (map (try_row_exchange n) (range_with_len 0 n))
+    (ranged (λ (t : Try). IsExchange t.step) (try_column_exchange n) n (λ k. (refl, refl, refl, λ m. refl)))
+    (ranged (λ (t : Try). IsExchange t.step) (try_row_exchange n) n (λ k. (refl, refl, refl, λ m. refl)))
 
 -- an offer's try is one of the list, and is offered
 pub offer_tried : (d : Diagram) (cap : ℕ) (list : List Try) (offers : List Offer) (offer : Offer) → AreOffersOf d cap list offers → Contains offers offer

@@ -8,10 +8,10 @@ use Rattle.std.proofs.lemmas.List.Folds.{list_any_at}
 use Rattle.std.proofs.lemmas.List.Quantifiers.{all_pairs_push}
 use Rattle.std.proofs.lemmas.Option.{slice_get_within}
 use Rattle.grid_core.specs.Diagram.{Diagram}
-use Rattle.grid_canon.specs.declared.key.Packed.{Packed}
-use Rattle.grid_canon.specs.Key.{key_of, same_key}
-use Rattle.grid_canon.proofs.Keys.{key_once, same_key_of}
-use Rattle.grid_canon.proofs.CanonicalForms.{canonical_once}
+use Rattle.grid_keys.specs.declared.key.Packed.{Packed}
+use Rattle.grid_keys.specs.Key.{key_of, same_key}
+use Rattle.grid_keys.proofs.Keys.{key_once, same_key_of}
+use Rattle.grid_keys.proofs.CanonicalForms.{canonical_once}
 use Rattle.next_moves.specs.declared.links.Offer.{Offer}
 use Rattle.next_moves.specs.Offers.{IsOfferOf, try_of}
 use Rattle.next_moves.proofs.Complete.{led_by}

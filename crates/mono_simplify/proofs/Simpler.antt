@@ -8,7 +8,8 @@ use Rattle.grid_core.specs.Diagram.{Diagram, size}
 use Rattle.grid_moves.specs.declared.step.Move.{Move}
 use Rattle.grid_moves.specs.Joining.{JoinsWithin}
 use Rattle.grid_moves.proofs.Within.{within_append, within_end, within_larger}
-use Rattle.mono_simplify.specs.Simplified.{is_destabilisation, is_monotonic, AreMonotonic}
+use Rattle.grid_moves.specs.Kinds.{is_destabilisation}
+use Rattle.mono_simplify.specs.Simplified.{is_monotonic, AreMonotonic}
 use Rattle.mono_simplify.proofs.Monotonic.{monotonic_more}
 
 abbrev pub IsSimpler : Diagram → List Move → Diagram → Type 0

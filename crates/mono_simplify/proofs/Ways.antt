@@ -4,23 +4,22 @@ use Rattle.std.specs.List.{All, Contains, list_any}
 use Rattle.std.proofs.lemmas.List.{append-nil, length-append, length-map, map-append, reverse-append, reverse-reverse}
 use Rattle.std.proofs.lemmas.List.Elements.{All-push, Contains-get_or, Contains-append_left, Contains-append_right, Contains-append_cases, Contains-push}
 use Rattle.std.proofs.lemmas.List.Folds.{list_any_at}
-use Rattle.mono_simplify.specs.Simplified.{is_destabilisation}
+use Rattle.grid_moves.specs.Kinds.{is_destabilisation, is_exchange}
 use Rattle.std.proofs.lemmas.Option.{slice_get_within, get_or_from_slice_get}
 use Rattle.grid_core.specs.Diagram.{Diagram, IsGrid, size}
 use Rattle.grid_moves.specs.declared.step.Move.{Move}
 use Rattle.grid_moves.specs.Joining.{JoinsWithin}
 use Rattle.grid_moves.proofs.Within.{within_append}
-use Rattle.grid_canon.specs.declared.key.Packed.{Packed}
-use Rattle.grid_canon.specs.declared.canonical_form.LeastForm.{LeastForm}
-use Rattle.grid_canon.specs.Shifts.{shift_moves}
-use Rattle.grid_canon.specs.CanonicalForm.{IsCanonicalForm, IsLeastForm}
-use Rattle.grid_canon.specs.Key.{key_of, IsKeyOf}
-use Rattle.grid_canon.proofs.Keys.{key_once}
-use Rattle.grid_canon.proofs.Joined.{shifts_joined_within}
-use Rattle.grid_canon.proofs.CanonicalForms.{canonical_once, canonical_grid}
+use Rattle.grid_keys.specs.declared.key.Packed.{Packed}
+use Rattle.grid_keys.specs.declared.least_form.LeastForm.{LeastForm}
+use Rattle.grid_keys.specs.Shifts.{shift_moves}
+use Rattle.grid_keys.specs.CanonicalForm.{IsCanonicalForm, IsLeastForm}
+use Rattle.grid_keys.specs.Key.{key_of, IsKeyOf}
+use Rattle.grid_keys.proofs.Keys.{key_once}
+use Rattle.grid_keys.proofs.Joined.{shifts_joined_within}
+use Rattle.grid_keys.proofs.CanonicalForms.{canonical_once, canonical_grid}
 use Rattle.next_moves.specs.declared.links.Link.{Link}
 use Rattle.next_moves.specs.declared.links.Offer.{Offer}
-use Rattle.next_moves.specs.Tries.{is_exchange}
 use Rattle.next_moves.specs.Offers.{Leads, exchanges_among}
 use Rattle.next_moves.proofs.Members.{contains_filter}
 use Rattle.next_moves.specs.Links.{link_moves}

@@ -6,8 +6,8 @@ use Rattle.grid_core.specs.declared.mark.Corner.TheVariants.{LowLeft}
 use Rattle.grid_core.specs.Trefoils.{left_trefoil}
 use Rattle.grid_core.proofs.WorkedRows.{unknot}
 use Rattle.grid_moves.specs.declared.step.Move.TheVariants.{ShiftColumns, ShiftRows, ExchangeColumns, ExchangeRows, SlideColumns, SlideRows, Stabilise, Destabilise}
-use Rattle.grid_canon.specs.Key.{key_of}
-use Rattle.next_moves.specs.Tries.{exchanges, all_destabilisations}
+use Rattle.grid_keys.specs.Key.{key_of}
+use Rattle.next_moves.specs.Tries.{exchanges, all_block_tries}
 use Rattle.next_moves.specs.Offers.{is_offered}
 use Rattle.mono_simplify.specs.Simplified.{is_monotonic}
 use Rattle.mono_simplify.specs.Listing.{with_key}
@@ -16,7 +16,7 @@ use Rattle.mono_simplify.specs.Listing.{with_key}
 alone : filter (is_offered left_trefoil 5) (exchanges 5) ≡ []
 alone = refl
 
-irreducible : filter (is_offered left_trefoil 5) (all_destabilisations 5) ≡ []
+irreducible : filter (is_offered left_trefoil 5) (all_block_tries 5) ≡ []
 irreducible = refl
 
 smallest : filter (is_offered unknot 2) (exchanges 2) ≡ []
@@ -29,7 +29,7 @@ two_circles = record { x = 0 ∷ 1 ∷ 2 ∷ 3 ∷ []; o = 1 ∷ 0 ∷ 3 ∷ 2 �
 four_exchanges : length (filter (is_offered two_circles 4) (exchanges 4)) ≡ 4
 four_exchanges = refl
 
-none_smaller : filter (is_offered two_circles 4) (all_destabilisations 4) ≡ []
+none_smaller : filter (is_offered two_circles 4) (all_block_tries 4) ≡ []
 none_smaller = refl
 
 -- of a move of each kind those that simplification makes

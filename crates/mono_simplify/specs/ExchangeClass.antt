@@ -6,9 +6,8 @@ use Rattle.grid_moves.specs.declared.step.Move.{Move}
 use Rattle.grid_moves.specs.declared.step.Move.TheVariants.{Destabilise}
 use Rattle.grid_moves.specs.MoveFault.{first_fault}
 use Rattle.grid_moves.specs.Joining.{Joins}
-use Rattle.grid_canon.specs.CanonicalForm.{IsCanonicalForm}
-use Rattle.grid_moves.specs.Tidy.{is_shift}
-use Rattle.next_moves.specs.Tries.{is_exchange}
+use Rattle.grid_keys.specs.CanonicalForm.{IsCanonicalForm}
+use Rattle.grid_moves.specs.Kinds.{is_shift, is_exchange}
 
 abbrev pub is_shift_or_exchange : Move → Bool
 is_shift_or_exchange move = is_shift move || is_exchange move

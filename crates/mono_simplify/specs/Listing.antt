@@ -3,10 +3,10 @@
 use Rattle.std.specs.Prelude.{◌≡◌, ◌<◌, ◌≤◌, ◌++◌, ℕ, zero, suc, Bool, List, [], ◌∷◌, length, fold, take, slice_get, Some, if◌then◌else◌}
 use Rattle.std.specs.List.{All, Contains, list_any}
 use Rattle.grid_core.specs.Diagram.{Diagram, size}
-use Rattle.grid_canon.specs.declared.key.Packed.{Packed}
-use Rattle.grid_canon.specs.Translation.{translates}
-use Rattle.grid_canon.specs.CanonicalForm.{IsCanonicalForm}
-use Rattle.grid_canon.specs.Key.{key_of, same_key, IsKeyOf}
+use Rattle.grid_keys.specs.declared.key.Packed.{Packed}
+use Rattle.grid_keys.specs.Translation.{translates}
+use Rattle.grid_keys.specs.CanonicalForm.{IsCanonicalForm}
+use Rattle.grid_keys.specs.Key.{key_of, same_key, IsKeyOf}
 use Rattle.next_moves.specs.declared.links.Offer.{Offer}
 use Rattle.next_moves.specs.Tries.{exchanges}
 use Rattle.next_moves.specs.Offers.{AreOffersOf}

@@ -3,22 +3,12 @@ use Rattle.std.specs.Prelude.{◌≡◌, ◌||◌, ℕ, List, [], Bool, true, fa
 use Rattle.std.specs.List.{All, list_any}
 use Rattle.grid_core.specs.Diagram.{Diagram, size}
 use Rattle.grid_moves.specs.declared.step.Move.{Move}
-use Rattle.grid_moves.specs.declared.step.Move.TheVariants.{ShiftColumns, ShiftRows, ExchangeColumns, ExchangeRows, SlideColumns, SlideRows, Stabilise, Destabilise}
+use Rattle.grid_moves.specs.Kinds.{is_destabilisation}
 use Rattle.grid_moves.specs.Joining.{JoinsWithin}
 use Rattle.mono_simplify.specs.declared.simplified.SimpleEnd.{SimpleEnd}
 use Rattle.mono_simplify.specs.declared.simplified.SimpleEnd.TheVariants.{Irreducible, Spent}
 use Rattle.mono_simplify.specs.ExchangeClass.{is_shift_or_exchange, IsIrreducible}
 use Rattle.mono_simplify.specs.Listing.{HasAtMost, HasMoreAndNoneSmaller}
-
-abbrev pub is_destabilisation : Move → Bool
-is_destabilisation (ShiftColumns k) = false
-is_destabilisation (ShiftRows k) = false
-is_destabilisation (ExchangeColumns c) = false
-is_destabilisation (ExchangeRows r) = false
-is_destabilisation (SlideColumns c) = false
-is_destabilisation (SlideRows r) = false
-is_destabilisation (Stabilise c kind corner) = false
-is_destabilisation (Destabilise c r) = true
 
 -- a move that simplification makes: a shift, an exchange or a destabilisation (Dynnikov 2006, monotonic simplification)
 abbrev pub is_monotonic : Move → Bool

@@ -2,9 +2,9 @@
 use Rattle.std.specs.Prelude.{◌≡◌, ◌<◌, ◌+◌, ◌++◌, ℕ, suc, List, Bool, true, false, length, map, take, nat_lt, slice_get, Some}
 use Rattle.std.specs.List.{All, Contains, list_any}
 use Rattle.grid_core.specs.Diagram.{Diagram, size}
-use Rattle.grid_canon.specs.declared.key.Packed.{Packed}
-use Rattle.grid_canon.specs.CanonicalForm.{IsCanonicalForm}
-use Rattle.grid_canon.specs.Key.{key_of, IsKeyOf}
+use Rattle.grid_keys.specs.declared.key.Packed.{Packed}
+use Rattle.grid_keys.specs.CanonicalForm.{IsCanonicalForm}
+use Rattle.grid_keys.specs.Key.{key_of, IsKeyOf}
 use Rattle.next_moves.specs.declared.links.Offer.{Offer}
 use Rattle.next_moves.specs.Offers.{Leads}
 use Rattle.mono_simplify.specs.declared.class.Origin.{Origin}
@@ -12,7 +12,8 @@ use Rattle.mono_simplify.specs.declared.explore.Explored.{Explored}
 use Rattle.mono_simplify.specs.declared.explore.Explored.TheVariants.{Smaller, Whole, More}
 use Rattle.grid_moves.specs.Joining.{JoinsWithin}
 use Rattle.mono_simplify.specs.ExchangeClass.{is_shift_or_exchange, IsIrreducible}
-use Rattle.mono_simplify.specs.Simplified.{is_destabilisation, AreMonotonic}
+use Rattle.grid_moves.specs.Kinds.{is_destabilisation}
+use Rattle.mono_simplify.specs.Simplified.{AreMonotonic}
 use Rattle.mono_simplify.specs.Listing.{IsListed, NoTranslateDestabilises, HasAtMost, HasMoreAndNoneSmaller}
 
 abbrev pub Member : Type 0

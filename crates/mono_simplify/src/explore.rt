@@ -2,17 +2,17 @@
 ghost use Rattle.std.specs.Prelude.{◌≡◌, ◌≤◌, ◌+◌, true, false, length, take, nat_lt, slice_get, Some, IfOk, IfSome, IfNone};
 ghost use Rattle.std.specs.List.{All, Contains};
 ghost use Rattle.grid_core.specs.Diagram.{Diagram};
-ghost use Rattle.grid_canon.specs.Key.{IsKeyOf};
-ghost use Rattle.next_moves.specs.Tries.{is_exchange};
+ghost use Rattle.grid_keys.specs.Key.{IsKeyOf};
+ghost use Rattle.grid_moves.specs.Kinds.{is_exchange, is_destabilisation};
 ghost use Rattle.next_moves.specs.Offers.{exchanges_among};
 ghost use Rattle.mono_simplify.specs.Listing.{IsExchangeList, with_keys, NoTranslateDestabilises};
-ghost use Rattle.mono_simplify.specs.Simplified.{is_destabilisation};
 ghost use Rattle.mono_simplify.specs.Ways.{keys_in, Extends, IsExplored, IsExploredTo};
 
 use crate::class::{Class, Origin};
 use crate::way::way_to;
-use grid_canon::{LeastForm, Packed, canonical_key, grid_of};
+use grid_canon::canonical_key;
 use grid_core::Grid;
+use grid_keys::{LeastForm, Packed, grid_of};
 use grid_moves::Move;
 use memory_core::OutOfMemory;
 use next_moves::{Offer, Offers};

@@ -2,13 +2,13 @@
 ghost use Rattle.std.specs.Prelude.{◌≡◌, ◌≢◌, ◌<◌, ◌+◌, ◌++◌, ◌↔◌, ℕ, List, length, true};
 ghost use Rattle.std.specs.List.{All, AllPairs, Contains};
 ghost use Rattle.grid_core.specs.Diagram.{Diagram, IsGrid, size};
-ghost use Rattle.grid_canon.specs.declared.key.Packed.{Packed};
-ghost use Rattle.grid_canon.specs.Translation.{translates};
-ghost use Rattle.grid_canon.specs.Key.{key_of};
+ghost use Rattle.grid_keys.specs.declared.key.Packed.{Packed};
+ghost use Rattle.grid_keys.specs.Translation.{translates};
+ghost use Rattle.grid_keys.specs.Key.{key_of};
 ghost use Rattle.next_moves.specs.declared.links.Offer.{Offer};
 ghost use Rattle.next_moves.specs.Offers.{IsOfferList};
 ghost use Rattle.mono_simplify.specs.ExchangeClass.{IsInClass, MayDestabilise, IsIrreducible};
-ghost use Rattle.mono_simplify.specs.Simplified.{is_destabilisation};
+ghost use Rattle.grid_moves.specs.Kinds.{is_destabilisation};
 ghost use Rattle.mono_simplify.specs.Listing.{IsListed, IsListing, NoTranslateDestabilises, HasAtMost, HasMoreAndNoneSmaller};
 
 /// The members of the whole listing are exactly those of the class, each once.

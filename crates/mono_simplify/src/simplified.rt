@@ -4,9 +4,9 @@ ghost use Rattle.mono_simplify.specs.Simplified.{Simplifies};
 
 use crate::explore::{Explored, explore};
 use grid_canon::canonical;
-use grid_core::{Grid, Items};
+use grid_core::Grid;
 use grid_moves::Move;
-use memory_core::OutOfMemory;
+use memory_core::{Items, OutOfMemory};
 use next_moves::Offers;
 use std::alloc::Global;
 

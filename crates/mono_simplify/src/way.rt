@@ -3,15 +3,16 @@ ghost use Rattle.std.specs.Prelude.{◌≡◌, ◌<◌, ◌≤◌, ◌++◌, len
 ghost use Rattle.std.specs.List.{Contains};
 ghost use Rattle.grid_core.specs.Diagram.{Diagram, size};
 ghost use Rattle.grid_moves.specs.Joining.{JoinsWithin};
-ghost use Rattle.grid_canon.specs.declared.key.Packed.{Packed};
-ghost use Rattle.grid_canon.specs.Key.{IsKeyOf};
+ghost use Rattle.grid_keys.specs.declared.key.Packed.{Packed};
+ghost use Rattle.grid_keys.specs.Key.{IsKeyOf};
 ghost use Rattle.next_moves.specs.Offers.{Leads};
 ghost use Rattle.mono_simplify.specs.Simplified.{is_monotonic, AreMonotonic};
 ghost use Rattle.mono_simplify.specs.Ways.{keys_in, AreWays};
 
 use crate::class::Class;
-use grid_canon::{canonical, push_shifts_back};
+use grid_canon::canonical;
 use grid_core::Grid;
+use grid_keys::push_shifts_back;
 use grid_moves::Move;
 use memory_core::OutOfMemory;
 use next_moves::{Link, push_link_back};

@@ -12,9 +12,9 @@ use Rattle.grid_moves.specs.MoveFault.{first_fault}
 use Rattle.grid_moves.specs.Shift.{shifted}
 use Rattle.grid_moves.specs.Step.{Step}
 use Rattle.grid_moves.proofs.OneResult.{step_exists}
-use Rattle.grid_canon.specs.Translation.{translate}
-use Rattle.grid_canon.proofs.Translated.{row_of-translate, translate-grid, size-translate}
-use Rattle.next_moves.specs.Tries.{shift_before, place_after_shift, destabilisation}
+use Rattle.grid_keys.specs.Translation.{translate}
+use Rattle.grid_keys.proofs.Translated.{row_of-translate, translate-grid, size-translate}
+use Rattle.next_moves.specs.Tries.{shift_before, place_after_shift, try_destabilisation}
 use Rattle.grid_moves.specs.SizeAfter.{size_after}
 use Rattle.next_moves.specs.Offers.{is_offered}
 use Rattle.next_moves.specs.Extends.{next, row_of_both}
@@ -86,7 +86,7 @@ not_none (Some f) b other = refl
 
 -- so no other block is offered
 pub no_other_block : (d : Diagram) (cap c r : ℕ) → IsGrid d → c < size d → r < size d → r ≢ row_of_both d c → r ≢ row_of_both d (next (size d) c)
-    → is_offered d cap (destabilisation (size d) c r) ≡ false
+    → is_offered d cap (try_destabilisation (size d) c r) ≡ false
 no_other_block d cap c r grid hc hr near far =
     not_none (first_fault (translate d (shift_before (size d) c) (shift_before (size d) r))
     (Destabilise (place_after_shift (size d) c) (place_after_shift (size d) r)))

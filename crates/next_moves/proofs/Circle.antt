@@ -7,7 +7,7 @@ use Rattle.grid_core.specs.Span.{span, share_an_end, are_disjoint, are_nested, s
 use Rattle.grid_moves.specs.Shift.{shifted}
 use Rattle.grid_moves.specs.Exchange.{MayExchange}
 use Rattle.grid_moves.specs.Slide.{MaySlide}
-use Rattle.grid_canon.proofs.Translated.{shifted_cases, shifted-permutes}
+use Rattle.grid_keys.proofs.Translated.{shifted_cases, shifted-permutes}
 
 abbrev is_clear : ℕ → ℕ → ℕ → ℕ → Bool
 is_clear p q s t = are_disjoint (span p q) (span s t) || are_nested (span p q) (span s t)

@@ -8,18 +8,18 @@ use Rattle.grid_moves.specs.declared.step.Move.TheVariants.{ShiftColumns, ShiftR
 use Rattle.grid_moves.specs.Step.{Step}
 use Rattle.grid_moves.specs.Joining.{JoinsWithin, WithinCap}
 use Rattle.grid_moves.proofs.OneResult.{step_once}
-use Rattle.grid_canon.specs.Translation.{translate, translates}
-use Rattle.grid_canon.specs.CanonicalForm.{IsCanonicalForm, IsCanonical}
-use Rattle.grid_canon.proofs.LeastTranslates.{translates_contains, shifts_of}
-use Rattle.grid_canon.proofs.Joined.{column_shift_step, row_shift_step, shifts_joined_within}
-use Rattle.grid_canon.proofs.CanonicalForms.{canonical_exists, canonical_of_translate, translated_back, translated_size}
+use Rattle.grid_keys.specs.Translation.{translate, translates}
+use Rattle.grid_keys.specs.CanonicalForm.{IsCanonicalForm, IsCanonical}
+use Rattle.grid_keys.proofs.LeastTranslates.{translates_contains, shifts_of}
+use Rattle.grid_keys.proofs.Joined.{column_shift_step, row_shift_step, shifts_joined_within}
+use Rattle.grid_keys.proofs.CanonicalForms.{canonical_exists, canonical_of_translate, translated_back, translated_size}
 use Rattle.grid_moves.proofs.Within.{within_cap_after, within_larger}
-use Rattle.grid_canon.specs.Shifts.{shift_moves}
-use Rattle.grid_canon.specs.Key.{key_of}
-use Rattle.grid_canon.proofs.Keys.{key_once}
+use Rattle.grid_keys.specs.Shifts.{shift_moves}
+use Rattle.grid_keys.specs.Key.{key_of}
+use Rattle.grid_keys.proofs.Keys.{key_once}
 use Rattle.next_moves.specs.Offers.{IsOfferList, Neighbourhood, IsWhole}
 use Rattle.next_moves.specs.Reach.{IsReached, AreMembers}
-use Rattle.grid_moves.specs.Tidy.{is_shift}
+use Rattle.grid_moves.specs.Kinds.{is_shift}
 use Rattle.next_moves.specs.Neighbours.{IsNeighbour}
 
 -- a shift leads to a translate

@@ -7,16 +7,16 @@ use Rattle.grid_core.specs.declared.mark.Kind.TheVariants.{Cross, Ring}
 use Rattle.grid_core.specs.Diagram.{Diagram, IsGrid, size}
 use Rattle.grid_moves.specs.Step.{Step}
 use Rattle.grid_moves.proofs.OneResult.{step_once}
-use Rattle.grid_canon.specs.Translation.{translate}
-use Rattle.grid_canon.specs.CanonicalForm.{IsCanonicalForm}
-use Rattle.grid_canon.specs.Key.{key_of}
-use Rattle.grid_canon.proofs.LeastTranslates.{shifts_of, translates_contains, map_contains}
-use Rattle.grid_canon.proofs.CanonicalForms.{translated_size, canonical_of_translate, canonical_once}
+use Rattle.grid_keys.specs.Translation.{translate}
+use Rattle.grid_keys.specs.CanonicalForm.{IsCanonicalForm}
+use Rattle.grid_keys.specs.Key.{key_of}
+use Rattle.grid_keys.proofs.LeastTranslates.{shifts_of, translates_contains, map_contains}
+use Rattle.grid_keys.proofs.CanonicalForms.{translated_size, canonical_of_translate, canonical_once}
 use Rattle.next_moves.specs.declared.links.Offer.{Offer}
-use Rattle.grid_moves.specs.Tidy.{is_shift}
+use Rattle.grid_moves.specs.Kinds.{is_shift}
 use Rattle.next_moves.specs.Neighbours.{IsNeighbour}
 use Rattle.grid_core.specs.Corners.{corners}
-use Rattle.next_moves.specs.Tries.{Try, tries, column_exchange, column_slide, column_trades, row_exchange, row_slide, row_trades, destabilisation, destabilisations, stabilisation, stabilisations}
+use Rattle.next_moves.specs.Tries.{Try, tries, try_column_exchange, try_column_slide, column_trades, try_row_exchange, try_row_slide, row_trades, try_destabilisation, block_tries, try_stabilisation, stabilisation_tries}
 use Rattle.next_moves.specs.Offers.{is_offered, Leads, IsOfferOf, IsOfferList, try_of}
 use Rattle.next_moves.proofs.Extended.{legal_offered}
 use Rattle.next_moves.proofs.Members.{contains_filter, filter_contains, mapped_from}
@@ -73,17 +73,17 @@ both_no_shift s t one two = All-cons IsNoShift s (t ∷ []) one (All-cons IsNoSh
 
 tries_no_shift : (n : ℕ) → All IsNoShift (tries n)
 tries_no_shift n =
-    All-append IsNoShift (flat_map (column_trades n) (range_with_len 0 n) ++ flat_map (row_trades n) (range_with_len 0 n) ++ flat_map (destabilisations n)
-    (range_with_len 0 n)) (flat_map stabilisations (range_with_len 0 n))
+    All-append IsNoShift (flat_map (column_trades n) (range_with_len 0 n) ++ flat_map (row_trades n) (range_with_len 0 n) ++ flat_map (block_tries n)
+    (range_with_len 0 n)) (flat_map stabilisation_tries (range_with_len 0 n))
     (All-append IsNoShift (flat_map (column_trades n) (range_with_len 0 n) ++ flat_map (row_trades n) (range_with_len 0 n))
-    (flat_map (destabilisations n) (range_with_len 0 n))
+    (flat_map (block_tries n) (range_with_len 0 n))
     (All-append IsNoShift (flat_map (column_trades n) (range_with_len 0 n)) (flat_map (row_trades n) (range_with_len 0 n))
-    (flat_ranged IsNoShift (column_trades n) (range_with_len 0 n) (λ k. both_no_shift (column_exchange n k) (column_slide n k) refl refl))
-    (flat_ranged IsNoShift (row_trades n) (range_with_len 0 n) (λ k. both_no_shift (row_exchange n k) (row_slide n k) refl refl)))
-    (flat_ranged IsNoShift (destabilisations n) (range_with_len 0 n) (λ c. ranged IsNoShift (destabilisation n c) n (λ k. refl))))
-    (flat_ranged IsNoShift stabilisations (range_with_len 0 n)
-    (λ c. All-append IsNoShift (map (stabilisation c Cross) corners) (map (stabilisation c Ring) corners)
-    (All-map IsNoShift (stabilisation c Cross) corners (λ k d lt. refl)) (All-map IsNoShift (stabilisation c Ring) corners (λ k d lt. refl))))
+    (flat_ranged IsNoShift (column_trades n) (range_with_len 0 n) (λ k. both_no_shift (try_column_exchange n k) (try_column_slide n k) refl refl))
+    (flat_ranged IsNoShift (row_trades n) (range_with_len 0 n) (λ k. both_no_shift (try_row_exchange n k) (try_row_slide n k) refl refl)))
+    (flat_ranged IsNoShift (block_tries n) (range_with_len 0 n) (λ c. ranged IsNoShift (try_destabilisation n c) n (λ k. refl))))
+    (flat_ranged IsNoShift stabilisation_tries (range_with_len 0 n)
+    (λ c. All-append IsNoShift (map (try_stabilisation c Cross) corners) (map (try_stabilisation c Ring) corners)
+    (All-map IsNoShift (try_stabilisation c Cross) corners (λ k d lt. refl)) (All-map IsNoShift (try_stabilisation c Ring) corners (λ k d lt. refl))))
 
 pub offer_is_neighbour : (d : Diagram) (cap : ℕ) (offers : List Offer) (offer : Offer) → IsGrid d → IsOfferList d cap offers → Contains offers offer
     → (f : Diagram) × (IsNeighbour d cap f × (key_of f ≡ offer.key) × Leads d offer.link f)

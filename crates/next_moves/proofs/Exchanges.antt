@@ -7,7 +7,8 @@ use Rattle.grid_core.specs.declared.mark.Kind.TheVariants.{Cross, Ring}
 use Rattle.grid_core.specs.Diagram.{Diagram}
 use Rattle.next_moves.specs.declared.links.Offer.{Offer}
 use Rattle.grid_core.specs.Corners.{corners}
-use Rattle.next_moves.specs.Tries.{Try, tries, trades, exchanges, is_exchange, column_exchange, column_trades, row_exchange, row_trades, destabilisation, destabilisations, all_destabilisations, stabilisation, stabilisations, all_stabilisations}
+use Rattle.grid_moves.specs.Kinds.{is_exchange}
+use Rattle.next_moves.specs.Tries.{Try, tries, trades, exchanges, try_column_exchange, column_trades, try_row_exchange, row_trades, try_destabilisation, block_tries, all_block_tries, try_stabilisation, stabilisation_tries, all_stabilisation_tries}
 use Rattle.next_moves.specs.Offers.{is_offered, IsOfferOf, AreOffersOf, try_of, exchanges_among}
 use Rattle.next_moves.proofs.Members.{map_filter, filter_swap, filter_none}
 use Rattle.next_moves.proofs.Complete.{ranged, flat_ranged}
@@ -18,33 +19,33 @@ exchanges_in t = is_exchange t.step
 abbrev IsNone : Try → Type 0
 IsNone t = exchanges_in t ≡ false
 
-of_columns : (n : ℕ) (xs : List ℕ) → filter exchanges_in (flat_map (column_trades n) xs) ≡ map (column_exchange n) xs
+of_columns : (n : ℕ) (xs : List ℕ) → filter exchanges_in (flat_map (column_trades n) xs) ≡ map (try_column_exchange n) xs
 of_columns n [] = refl
-of_columns n (x ∷ xs) = ap (λ (ts : List Try). column_exchange n x ∷ ts) (of_columns n xs)
+of_columns n (x ∷ xs) = ap (λ (ts : List Try). try_column_exchange n x ∷ ts) (of_columns n xs)
 
-of_rows : (n : ℕ) (xs : List ℕ) → filter exchanges_in (flat_map (row_trades n) xs) ≡ map (row_exchange n) xs
+of_rows : (n : ℕ) (xs : List ℕ) → filter exchanges_in (flat_map (row_trades n) xs) ≡ map (try_row_exchange n) xs
 of_rows n [] = refl
-of_rows n (x ∷ xs) = ap (λ (ts : List Try). row_exchange n x ∷ ts) (of_rows n xs)
+of_rows n (x ∷ xs) = ap (λ (ts : List Try). try_row_exchange n x ∷ ts) (of_rows n xs)
 
-no_destabilisation : (n : ℕ) → All IsNone (all_destabilisations n)
+no_destabilisation : (n : ℕ) → All IsNone (all_block_tries n)
 no_destabilisation n =
-    flat_ranged IsNone (destabilisations n) (range_with_len 0 n) (λ c. ranged IsNone (destabilisation n c) n (λ k. refl))
+    flat_ranged IsNone (block_tries n) (range_with_len 0 n) (λ c. ranged IsNone (try_destabilisation n c) n (λ k. refl))
 
-no_stabilisation : (n : ℕ) → All IsNone (all_stabilisations n)
+no_stabilisation : (n : ℕ) → All IsNone (all_stabilisation_tries n)
 no_stabilisation n =
-    flat_ranged IsNone stabilisations (range_with_len 0 n) (λ c.
-    All-append IsNone (map (stabilisation c Cross) corners) (map (stabilisation c Ring) corners)
-    (All-map IsNone (stabilisation c Cross) corners (λ k d lt. refl))
-    (All-map IsNone (stabilisation c Ring) corners (λ k d lt. refl)))
+    flat_ranged IsNone stabilisation_tries (range_with_len 0 n) (λ c.
+    All-append IsNone (map (try_stabilisation c Cross) corners) (map (try_stabilisation c Ring) corners)
+    (All-map IsNone (try_stabilisation c Cross) corners (λ k d lt. refl))
+    (All-map IsNone (try_stabilisation c Ring) corners (λ k d lt. refl)))
 
 pub exchanges_of_tries : (n : ℕ) → filter exchanges_in (tries n) ≡ exchanges n
 exchanges_of_tries n =
-    filter-append exchanges_in (trades n ++ all_destabilisations n) (all_stabilisations n)
+    filter-append exchanges_in (trades n ++ all_block_tries n) (all_stabilisation_tries n)
     ∙ ap₂ (λ (ts us : List Try). ts ++ us)
-    (filter-append exchanges_in (trades n) (all_destabilisations n)
-    ∙ ap₂ (λ (ts us : List Try). ts ++ us) of_trades (filter_none exchanges_in (all_destabilisations n) (no_destabilisation n))
+    (filter-append exchanges_in (trades n) (all_block_tries n)
+    ∙ ap₂ (λ (ts us : List Try). ts ++ us) of_trades (filter_none exchanges_in (all_block_tries n) (no_destabilisation n))
     ∙ append-nil (exchanges n))
-    (filter_none exchanges_in (all_stabilisations n) (no_stabilisation n))
+    (filter_none exchanges_in (all_stabilisation_tries n) (no_stabilisation n))
     ∙ append-nil (exchanges n)
   where
     of_trades : filter exchanges_in (trades n) ≡ exchanges n

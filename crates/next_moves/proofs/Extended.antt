@@ -16,14 +16,14 @@ use Rattle.grid_moves.specs.Step.{Step}
 use Rattle.grid_moves.specs.SizeAfter.{size_after}
 use Rattle.grid_moves.proofs.OneResult.{step_legal}
 use Rattle.grid_moves.proofs.Sizes.{step_size}
-use Rattle.grid_canon.specs.Translation.{translate}
-use Rattle.grid_canon.specs.CanonicalForm.{IsLeastForm}
-use Rattle.grid_canon.specs.declared.canonical_form.LeastForm.{LeastForm}
-use Rattle.grid_canon.specs.Key.{key_of}
-use Rattle.grid_canon.proofs.Translated.{size-translate}
+use Rattle.grid_keys.specs.Translation.{translate}
+use Rattle.grid_keys.specs.CanonicalForm.{IsLeastForm}
+use Rattle.grid_keys.specs.declared.least_form.LeastForm.{LeastForm}
+use Rattle.grid_keys.specs.Key.{key_of}
+use Rattle.grid_keys.proofs.Translated.{size-translate}
 use Rattle.next_moves.specs.declared.links.Offer.{Offer}
 use Rattle.grid_core.specs.Corners.{corners}
-use Rattle.next_moves.specs.Tries.{Try, column_trades, row_trades, destabilisations, stabilisation, stabilisations}
+use Rattle.next_moves.specs.Tries.{Try, column_trades, row_trades, block_tries, try_stabilisation, stabilisation_tries}
 use Rattle.next_moves.specs.Offers.{is_offered, Leads, IsOfferOf, AreOffersOf, IsOfferList, try_of}
 use Rattle.next_moves.specs.Extends.{Extends}
 
@@ -151,14 +151,14 @@ offers_from_nothing d cap list old new empty all = subst (λ xs. AreOffersOf d c
 pub whole_list : (d : Diagram) (cap : ℕ) (l m o p q : List Offer) → l ≡ []
     → Extends d cap (flat_map (column_trades (size d)) (range_with_len 0 (size d))) l m
     → Extends d cap (flat_map (row_trades (size d)) (range_with_len 0 (size d))) m o
-    → Extends d cap (flat_map (destabilisations (size d)) (range_with_len 0 (size d))) o p
-    → Extends d cap (flat_map stabilisations (range_with_len 0 (size d))) p q → IsOfferList d cap q
+    → Extends d cap (flat_map (block_tries (size d)) (range_with_len 0 (size d))) o p
+    → Extends d cap (flat_map stabilisation_tries (range_with_len 0 (size d))) p q → IsOfferList d cap q
 whole_list d cap l m o p q empty columns rows blocks marks =
     let n : ℕ = size d in
     let a : List Try = flat_map (column_trades n) (range_with_len 0 n) in
     let b : List Try = flat_map (row_trades n) (range_with_len 0 n) in
-    let e : List Try = flat_map (destabilisations n) (range_with_len 0 n) in
-    let f : List Try = flat_map stabilisations (range_with_len 0 n) in
+    let e : List Try = flat_map (block_tries n) (range_with_len 0 n) in
+    let f : List Try = flat_map stabilisation_tries (range_with_len 0 n) in
     offers_from_nothing d cap (a ++ b ++ e ++ f) l q empty
     (extends_then d cap (a ++ b ++ e) f l p q (extends_then d cap (a ++ b) e l o p (extends_then d cap a b l m o columns rows) blocks) marks)
 
@@ -178,13 +178,13 @@ flat_map_each P f [] all = All-nil P
 flat_map_each P f (x ∷ xs) all = All-append P (f x) (flat_map f xs) (all x) (flat_map_each P f xs all)
 
 pub extends_too_large : (d : Diagram) (cap : ℕ) (old new : List Offer) → cap < size d + 1 → new ≡ old
-    → Extends d cap (flat_map stabilisations (range_with_len 0 (size d))) old new
+    → Extends d cap (flat_map stabilisation_tries (range_with_len 0 (size d))) old new
 extends_too_large d cap old new large same =
-    subst (λ xs. Extends d cap (flat_map stabilisations (range_with_len 0 (size d))) old xs) (sym same)
-    (extends_all_skipped d cap (flat_map stabilisations (range_with_len 0 (size d))) old
-    (flat_map_each (λ t. is_offered d cap t ≡ false) stabilisations (range_with_len 0 (size d)) (λ c.
-    All-append (λ t. is_offered d cap t ≡ false) (map (stabilisation c Cross) corners) (map (stabilisation c Ring) corners)
-    (All-map (λ t. is_offered d cap t ≡ false) (stabilisation c Cross) corners
+    subst (λ xs. Extends d cap (flat_map stabilisation_tries (range_with_len 0 (size d))) old xs) (sym same)
+    (extends_all_skipped d cap (flat_map stabilisation_tries (range_with_len 0 (size d))) old
+    (flat_map_each (λ t. is_offered d cap t ≡ false) stabilisation_tries (range_with_len 0 (size d)) (λ c.
+    All-append (λ t. is_offered d cap t ≡ false) (map (try_stabilisation c Cross) corners) (map (try_stabilisation c Ring) corners)
+    (All-map (λ t. is_offered d cap t ≡ false) (try_stabilisation c Cross) corners
     (λ k e lt. too_large_for (is_none (first_fault (translate d 0 0) (Stabilise c Cross (get_or corners k e)))) (size d + 1) cap large))
-    (All-map (λ t. is_offered d cap t ≡ false) (stabilisation c Ring) corners
+    (All-map (λ t. is_offered d cap t ≡ false) (try_stabilisation c Ring) corners
     (λ k e lt. too_large_for (is_none (first_fault (translate d 0 0) (Stabilise c Ring (get_or corners k e)))) (size d + 1) cap large)))))

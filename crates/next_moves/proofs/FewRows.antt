@@ -6,7 +6,7 @@ use Rattle.std.proofs.lemmas.List.{map-append}
 use Rattle.std.proofs.lemmas.List.Elements.{filter-append}
 use Rattle.grid_core.specs.Diagram.{Diagram, IsGrid, size}
 use Rattle.next_moves.specs.declared.links.Offer.{Offer}
-use Rattle.next_moves.specs.Tries.{Try, destabilisation, destabilisations}
+use Rattle.next_moves.specs.Tries.{Try, try_destabilisation, block_tries}
 use Rattle.next_moves.specs.Offers.{is_offered}
 use Rattle.next_moves.specs.Extends.{Extends, next, row_of_both, if_below}
 use Rattle.next_moves.proofs.Extended.{map_range_more, extends_none}
@@ -113,27 +113,27 @@ extends_same d cap s t a b same one = record {
 
 module _ (d : Diagram) (cap c : ℕ) (grid : IsGrid d) (lt : c < size d) where
   pub one_row : (a : ℕ) (old new : List Offer) → a ≡ row_of_both d c → a ≡ row_of_both d (next (size d) c)
-      → Extends d cap (map (destabilisation (size d) c) (if_below (size d) a)) old new → Extends d cap (destabilisations (size d) c) old new
+      → Extends d cap (map (try_destabilisation (size d) c) (if_below (size d) a)) old new → Extends d cap (block_tries (size d) c) old new
   one_row a old new near far one =
-      extends_same d cap (map (destabilisation (size d) c) (if_below (size d) a)) (destabilisations (size d) c) old new
-      (one_kept (is_offered d cap) (destabilisation (size d) c) a (size d)
+      extends_same d cap (map (try_destabilisation (size d) c) (if_below (size d) a)) (block_tries (size d) c) old new
+      (one_kept (is_offered d cap) (try_destabilisation (size d) c) a (size d)
       (λ r hr other. no_other_block d cap c r grid lt hr (λ e. other (e ∙ sym near)) (λ e. other (e ∙ sym far)))) one
 
   pub two_rows : (a b : ℕ) (old new : List Offer) → a < b
       → ((r : ℕ) → r ≢ a → r ≢ b → (r ≢ row_of_both d c) × (r ≢ row_of_both d (next (size d) c)))
-      → Extends d cap (map (destabilisation (size d) c) (if_below (size d) a ++ if_below (size d) b)) old new
-      → Extends d cap (destabilisations (size d) c) old new
+      → Extends d cap (map (try_destabilisation (size d) c) (if_below (size d) a ++ if_below (size d) b)) old new
+      → Extends d cap (block_tries (size d) c) old new
   two_rows a b old new less others both =
-      extends_same d cap (map (destabilisation (size d) c) (if_below (size d) a ++ if_below (size d) b)) (destabilisations (size d) c) old new
-      (two_kept (is_offered d cap) (destabilisation (size d) c) a b (size d) less
+      extends_same d cap (map (try_destabilisation (size d) c) (if_below (size d) a ++ if_below (size d) b)) (block_tries (size d) c) old new
+      (two_kept (is_offered d cap) (try_destabilisation (size d) c) a b (size d) less
       (λ r hr not_a not_b.
       let neither = others r not_a not_b in
       no_other_block d cap c r grid lt hr neither.0 neither.1)) both
 
-  pub no_rows : (old : List Offer) → ((r : ℕ) → r < size d → is_offered d cap (destabilisation (size d) c r) ≡ false)
-      → Extends d cap (destabilisations (size d) c) old old
+  pub no_rows : (old : List Offer) → ((r : ℕ) → r < size d → is_offered d cap (try_destabilisation (size d) c r) ≡ false)
+      → Extends d cap (block_tries (size d) c) old old
   no_rows old none =
-      extends_same d cap [] (destabilisations (size d) c) old old
-      (one_kept (is_offered d cap) (destabilisation (size d) c) (size d) (size d) (λ r hr other. none r hr)
-      ∙ ap (λ rs. filter (is_offered d cap) (map (destabilisation (size d) c) rs)) (below_none (size d) (size d) (omega arith)))
+      extends_same d cap [] (block_tries (size d) c) old old
+      (one_kept (is_offered d cap) (try_destabilisation (size d) c) (size d) (size d) (λ r hr other. none r hr)
+      ∙ ap (λ rs. filter (is_offered d cap) (map (try_destabilisation (size d) c) rs)) (below_none (size d) (size d) (omega arith)))
       (extends_none d cap old old refl)

@@ -19,13 +19,13 @@ use Rattle.grid_moves.specs.declared.step.MoveFault.{MoveFault}
 use Rattle.grid_moves.specs.declared.step.MoveFault.TheVariants.{Range, Touching, Interleaved, Apart}
 use Rattle.grid_moves.specs.MoveFault.{exchange_fault, slide_fault}
 use Rattle.grid_moves.specs.Shift.{shifted}
-use Rattle.grid_canon.specs.Translation.{translate}
-use Rattle.grid_canon.specs.ShortTrades.{Trades, trades_of}
-use Rattle.grid_canon.proofs.Translated.{origin, shifted-origin, size-translate, row_of-translate}
-use Rattle.grid_canon.proofs.Joined.{unshifted}
+use Rattle.grid_keys.specs.Translation.{translate}
+use Rattle.short_grids.specs.ShortTrades.{Trades, trades_of}
+use Rattle.grid_keys.proofs.Translated.{origin, shifted-origin, size-translate, row_of-translate}
+use Rattle.grid_keys.proofs.Joined.{unshifted}
 use Rattle.lane_spans.specs.Span.{Span as Lane, may_trade_places}
 use Rattle.lane_spans.specs.Columns.{span_at, trades, next_column, AreSpans}
-use Rattle.next_moves.specs.Tries.{shift_before, place_after_shift, column_exchange, column_slide, row_exchange, row_slide}
+use Rattle.next_moves.specs.Tries.{shift_before, place_after_shift, try_column_exchange, try_column_slide, try_row_exchange, try_row_slide}
 use Rattle.next_moves.specs.Offers.{is_legal}
 use Rattle.next_moves.specs.Extends.{next}
 use Rattle.next_moves.proofs.Sides.{shift_before-below, place_after_shift-below, next-below, first_origin, second_origin, shift_before_cases}
@@ -185,14 +185,14 @@ row_lane d r lt = listed (λ k. ends d k) (size d) r lt
 
 -- columns trade places by their lanes where their exchange is legal
 pub column_trades_by_lanes : (d : Diagram) (c : ℕ) → IsGrid d → c < size d
-    → trades (column_lows d) (column_highs d) c ≡ is_legal d (column_exchange (size d) c)
+    → trades (column_lows d) (column_highs d) c ≡ is_legal d (try_column_exchange (size d) c)
 column_trades_by_lanes d c grid lt =
     let far = next-below (size d) c lt in
     listed_trades (λ k. column_span d k) (size d) c lt far (column_has_two_ends d c grid lt) (column_has_two_ends d (next (size d) c) grid far)
     ∙ sym (columns_asked d c grid lt exchange_fault)
 
 pub row_trades_by_lanes : (d : Diagram) (r : ℕ) → IsGrid d → r < size d
-    → trades (row_lows d) (row_highs d) r ≡ is_legal d (row_exchange (size d) r)
+    → trades (row_lows d) (row_highs d) r ≡ is_legal d (try_row_exchange (size d) r)
 row_trades_by_lanes d r grid lt =
     let far = next-below (size d) r lt in
     listed_trades (λ k. ends d k) (size d) r lt far (row_has_two_ends d r grid lt) (row_has_two_ends d (next (size d) r) grid far)
@@ -200,14 +200,14 @@ row_trades_by_lanes d r grid lt =
 
 -- and they slide where they have one end in common
 pub column_slides : (d : Diagram) (c : ℕ) → IsGrid d → c < size d
-    → is_legal d (column_slide (size d) c) ≡ share_one_end (column_span d c) (column_span d (next (size d) c))
+    → is_legal d (try_column_slide (size d) c) ≡ share_one_end (column_span d c) (column_span d (next (size d) c))
 column_slides d c grid lt =
     let s : Span = column_span d c in
     let t : Span = column_span d (next (size d) c) in
     columns_asked d c grid lt slide_fault ∙ slide_test (share_both_ends s t) (share_an_end s t)
 
 pub row_slides : (d : Diagram) (r : ℕ) → IsGrid d → r < size d
-    → is_legal d (row_slide (size d) r) ≡ share_one_end (ends d r) (ends d (next (size d) r))
+    → is_legal d (try_row_slide (size d) r) ≡ share_one_end (ends d r) (ends d (next (size d) r))
 row_slides d r grid lt =
     let s : Span = ends d r in
     let t : Span = ends d (next (size d) r) in
@@ -233,7 +233,7 @@ told_of spans n c lt =
     }
 
 pub columns_told : (d : Diagram) (c : ℕ) (trades : Trades) → trades ≡ trades_of (size d) (column_span d) → IsGrid d → c < size d
-    → AreTold trades c (is_legal d (column_exchange (size d) c)) (is_legal d (column_slide (size d) c))
+    → AreTold trades c (is_legal d (try_column_exchange (size d) c)) (is_legal d (try_column_slide (size d) c))
 columns_told d c trades is grid lt =
     let told =
     subst (λ (t : Trades). AreTold t c (is_none (exchange_fault (column_span d c) (column_span d (next (size d) c))))
@@ -246,7 +246,7 @@ columns_told d c trades is grid lt =
     }
 
 pub rows_told : (d : Diagram) (r : ℕ) (trades : Trades) → trades ≡ trades_of (size d) (ends d) → IsGrid d → r < size d
-    → AreTold trades r (is_legal d (row_exchange (size d) r)) (is_legal d (row_slide (size d) r))
+    → AreTold trades r (is_legal d (try_row_exchange (size d) r)) (is_legal d (try_row_slide (size d) r))
 rows_told d r trades is grid lt =
     let told =
     subst (λ (t : Trades). AreTold t r (is_none (exchange_fault (ends d r) (ends d (next (size d) r))))

@@ -3,10 +3,10 @@ use Rattle.std.proofs.Common.{◌≡◌, ◌≤◌, ◌+◌, ◌++◌, ◌∷◌
 use Rattle.grid_core.specs.Diagram.{Diagram, IsGrid, size}
 use Rattle.grid_moves.specs.Joining.{Joins, JoinsWithin}
 use Rattle.grid_moves.proofs.Within.{within_append, within_joins, within_larger}
-use Rattle.grid_canon.specs.Translation.{translate}
-use Rattle.grid_canon.specs.Shifts.{shift_moves}
-use Rattle.grid_canon.proofs.Translated.{size-translate}
-use Rattle.grid_canon.proofs.Joined.{shifts_joined_within}
+use Rattle.grid_keys.specs.Translation.{translate}
+use Rattle.grid_keys.specs.Shifts.{shift_moves}
+use Rattle.grid_keys.proofs.Translated.{size-translate}
+use Rattle.grid_keys.proofs.Joined.{shifts_joined_within}
 use Rattle.next_moves.specs.declared.links.Link.{Link}
 use Rattle.next_moves.specs.Offers.{Leads}
 use Rattle.next_moves.specs.Links.{link_moves}

@@ -12,14 +12,14 @@ use Rattle.grid_moves.specs.declared.step.Move.TheVariants.{ShiftColumns, ShiftR
 use Rattle.grid_moves.specs.Shift.{shifted}
 use Rattle.grid_moves.specs.Step.{Step}
 use Rattle.grid_moves.proofs.Shifted.{shifted_below}
-use Rattle.grid_canon.specs.Translation.{translate, translates}
-use Rattle.grid_canon.proofs.Translated.{origin, origin-below, origin-shifted, size-translate, row_of-translate, translate-translate}
-use Rattle.grid_canon.proofs.Joined.{at_origin}
-use Rattle.grid_canon.proofs.LeastTranslates.{translates_contains, flat_map_contains, range_contains, map_contains, origin_zero}
-use Rattle.grid_moves.specs.Tidy.{is_shift}
+use Rattle.grid_keys.specs.Translation.{translate, translates}
+use Rattle.grid_keys.proofs.Translated.{origin, origin-below, origin-shifted, size-translate, row_of-translate, translate-translate}
+use Rattle.grid_keys.proofs.Joined.{at_origin}
+use Rattle.grid_keys.proofs.LeastTranslates.{translates_contains, flat_map_contains, range_contains, map_contains, origin_zero}
+use Rattle.grid_moves.specs.Kinds.{is_shift, is_exchange}
 use Rattle.grid_core.specs.Corners.{corners}
 use Rattle.grid_core.proofs.CornerList.{corner_listed}
-use Rattle.next_moves.specs.Tries.{Try, shift_before, place_after_shift, tries, is_exchange, column_exchange, column_slide, column_trades, row_exchange, row_slide, row_trades, destabilisation, destabilisations, stabilisation, stabilisations}
+use Rattle.next_moves.specs.Tries.{Try, shift_before, place_after_shift, tries, try_column_exchange, try_column_slide, column_trades, try_row_exchange, try_row_slide, row_trades, try_destabilisation, block_tries, try_stabilisation, stabilisation_tries}
 use Rattle.next_moves.proofs.Members.{contains_first, contains_later}
 use Rattle.next_moves.proofs.Sides.{shift_before-below, place_after_shift-below, first_origin}
 use Rattle.next_moves.proofs.Rounds.{brought, brought_next, brought_from}
@@ -46,10 +46,10 @@ module _ (n : ℕ) where
   rows_part = flat_map (row_trades n) (range_with_len 0 n)
 
   abbrev blocks_part : List Try
-  blocks_part = flat_map (destabilisations n) (range_with_len 0 n)
+  blocks_part = flat_map (block_tries n) (range_with_len 0 n)
 
   abbrev marks_part : List Try
-  marks_part = flat_map stabilisations (range_with_len 0 n)
+  marks_part = flat_map stabilisation_tries (range_with_len 0 n)
 
   tries_column : (q : ℕ) (t : Try) → q < n → Contains (column_trades n q) t → Contains (tries n) t
   tries_column q t lt among =
@@ -63,25 +63,25 @@ module _ (n : ℕ) where
       (Contains-append_left (columns_part ++ rows_part) blocks_part t
       (Contains-append_right columns_part rows_part t (flat_map_contains (row_trades n) (range_with_len 0 n) q t (range_contains n q lt) among)))
 
-  tries_block : (q s : ℕ) → q < n → s < n → Contains (tries n) (destabilisation n q s)
+  tries_block : (q s : ℕ) → q < n → s < n → Contains (tries n) (try_destabilisation n q s)
   tries_block q s hq hs =
-      Contains-append_left (columns_part ++ rows_part ++ blocks_part) marks_part (destabilisation n q s)
-      (Contains-append_right (columns_part ++ rows_part) blocks_part (destabilisation n q s)
-      (flat_map_contains (destabilisations n) (range_with_len 0 n) q (destabilisation n q s) (range_contains n q hq)
-      (map_contains (destabilisation n q) (range_with_len 0 n) s (range_contains n s hs))))
+      Contains-append_left (columns_part ++ rows_part ++ blocks_part) marks_part (try_destabilisation n q s)
+      (Contains-append_right (columns_part ++ rows_part) blocks_part (try_destabilisation n q s)
+      (flat_map_contains (block_tries n) (range_with_len 0 n) q (try_destabilisation n q s) (range_contains n q hq)
+      (map_contains (try_destabilisation n q) (range_with_len 0 n) s (range_contains n s hs))))
 
-  tries_mark : (q : ℕ) (kind : Kind) (corner : Corner) → q < n → Contains (tries n) (stabilisation q kind corner)
+  tries_mark : (q : ℕ) (kind : Kind) (corner : Corner) → q < n → Contains (tries n) (try_stabilisation q kind corner)
   tries_mark q kind corner hq =
-      Contains-append_right (columns_part ++ rows_part ++ blocks_part) marks_part (stabilisation q kind corner)
-      (flat_map_contains stabilisations (range_with_len 0 n) q (stabilisation q kind corner) (range_contains n q hq) (of_kind kind))
+      Contains-append_right (columns_part ++ rows_part ++ blocks_part) marks_part (try_stabilisation q kind corner)
+      (flat_map_contains stabilisation_tries (range_with_len 0 n) q (try_stabilisation q kind corner) (range_contains n q hq) (of_kind kind))
     where
-      of_kind : (kind : Kind) → Contains (stabilisations q) (stabilisation q kind corner)
+      of_kind : (kind : Kind) → Contains (stabilisation_tries q) (try_stabilisation q kind corner)
       of_kind Cross =
-          Contains-append_left (map (stabilisation q Cross) corners) (map (stabilisation q Ring) corners) (stabilisation q Cross corner)
-          (map_contains (stabilisation q Cross) corners corner (corner_listed corner))
+          Contains-append_left (map (try_stabilisation q Cross) corners) (map (try_stabilisation q Ring) corners) (try_stabilisation q Cross corner)
+          (map_contains (try_stabilisation q Cross) corners corner (corner_listed corner))
       of_kind Ring =
-          Contains-append_right (map (stabilisation q Cross) corners) (map (stabilisation q Ring) corners) (stabilisation q Ring corner)
-          (map_contains (stabilisation q Ring) corners corner (corner_listed corner))
+          Contains-append_right (map (try_stabilisation q Cross) corners) (map (try_stabilisation q Ring) corners) (try_stabilisation q Ring corner)
+          (map_contains (try_stabilisation q Ring) corners corner (corner_listed corner))
 
 -- a translate of a translate, by what its shifts come to
 brought_translate : (d : Diagram) (a b k l t u : ℕ) → IsGrid d → a < size d → b < size d → k < size d → l < size d → origin (size d) k a ≡ t
@@ -146,9 +146,9 @@ match_column_exchange d a b c e grid ha hb step =
     (omega (arith, r.rows, long)) (omega (arith, r.inside, long)) (ap (λ (z : ℕ). origin z r.k (place_after_shift (size d) r.q)) long ∙ r.first)
     (ap (λ (z : ℕ). origin z r.k (place_after_shift (size d) r.q + 1)) long ∙ r.second) in
     record {
-      try = column_exchange (size d) r.q;
+      try = try_column_exchange (size d) r.q;
       alike = refl;
-      among = tries_column (size d) r.q (column_exchange (size d) r.q) r.below (contains_first (column_exchange (size d) r.q) (column_slide (size d) r.q ∷ []));
+      among = tries_column (size d) r.q (try_column_exchange (size d) r.q) r.below (contains_first (try_column_exchange (size d) r.q) (try_column_slide (size d) r.q ∷ []));
       columns = r.shift;
       rows = omega (arith, hb);
       result = translate e r.k r.l;
@@ -167,12 +167,12 @@ match_column_slide d a b c e grid ha hb step =
     (omega (arith, r.rows, long)) (omega (arith, r.inside, long)) (ap (λ (z : ℕ). origin z r.k (place_after_shift (size d) r.q)) long ∙ r.first)
     (ap (λ (z : ℕ). origin z r.k (place_after_shift (size d) r.q + 1)) long ∙ r.second) in
     record {
-      try = column_slide (size d) r.q;
+      try = try_column_slide (size d) r.q;
       alike = refl;
       among =
-          tries_column (size d) r.q (column_slide (size d) r.q) r.below
-          (contains_later (column_exchange (size d) r.q) (column_slide (size d) r.q ∷ []) (column_slide (size d) r.q)
-          (contains_first (column_slide (size d) r.q) []));
+          tries_column (size d) r.q (try_column_slide (size d) r.q) r.below
+          (contains_later (try_column_exchange (size d) r.q) (try_column_slide (size d) r.q ∷ []) (try_column_slide (size d) r.q)
+          (contains_first (try_column_slide (size d) r.q) []));
       columns = r.shift;
       rows = omega (arith, hb);
       result = translate e r.k r.l;
@@ -234,9 +234,9 @@ match_row_exchange d a b c e grid ha hb step =
     (omega (arith, r.rows, long)) (omega (arith, r.inside, long)) (ap (λ (z : ℕ). shifted z r.l c) long ∙ r.first)
     (ap (λ (z : ℕ). shifted z r.l (c + 1)) long ∙ r.second) in
     record {
-      try = row_exchange (size d) r.q;
+      try = try_row_exchange (size d) r.q;
       alike = refl;
-      among = tries_row (size d) r.q (row_exchange (size d) r.q) r.below (contains_first (row_exchange (size d) r.q) (row_slide (size d) r.q ∷ []));
+      among = tries_row (size d) r.q (try_row_exchange (size d) r.q) r.below (contains_first (try_row_exchange (size d) r.q) (try_row_slide (size d) r.q ∷ []));
       columns = omega (arith, ha);
       rows = r.shift;
       result = translate e r.k r.l;
@@ -254,11 +254,11 @@ match_row_slide d a b c e grid ha hb step =
     slide_rows_translated (translate d a b) e c (place_after_shift (size d) r.q) r.k r.l step (omega (arith, r.columns, long)) (omega (arith, r.rows, long))
     (omega (arith, r.inside, long)) (ap (λ (z : ℕ). shifted z r.l c) long ∙ r.first) (ap (λ (z : ℕ). shifted z r.l (c + 1)) long ∙ r.second) in
     record {
-      try = row_slide (size d) r.q;
+      try = try_row_slide (size d) r.q;
       alike = refl;
       among =
-          tries_row (size d) r.q (row_slide (size d) r.q) r.below
-          (contains_later (row_exchange (size d) r.q) (row_slide (size d) r.q ∷ []) (row_slide (size d) r.q) (contains_first (row_slide (size d) r.q) []));
+          tries_row (size d) r.q (try_row_slide (size d) r.q) r.below
+          (contains_later (try_row_exchange (size d) r.q) (try_row_slide (size d) r.q ∷ []) (try_row_slide (size d) r.q) (contains_first (try_row_slide (size d) r.q) []));
       columns = omega (arith, ha);
       rows = r.shift;
       result = translate e r.k r.l;
@@ -297,7 +297,7 @@ match_marks d a b c kind corner e grid ha hb step =
     let k' : ℕ = shifted (size (translate d a b) + 1) q c in
     let l' : ℕ = shifted (size (translate d a b) + 1) s r in
     record {
-      try = stabilisation q kind corner;
+      try = try_stabilisation q kind corner;
       alike = refl;
       among = tries_mark n q kind corner hq;
       columns = zero_below;
@@ -353,7 +353,7 @@ match_blocks d a b c r e grid ha hb step =
     let in_column : c < size e = step.marks.undone.marked.inside in
     let in_row : r < size e = mark_below e step.after step.marks.kind c r step.marks.undone.marked in
     record {
-      try = destabilisation n q s;
+      try = try_destabilisation n q s;
       alike = refl;
       among = tries_block n q s hq hs;
       columns = shift_before-below n q grid.least hq;

@@ -9,9 +9,9 @@ use Rattle.grid_moves.specs.declared.step.Move.TheVariants.{ExchangeColumns, Exc
 use Rattle.grid_moves.specs.Shift.{shifted}
 use Rattle.grid_moves.specs.Step.{Step}
 use Rattle.grid_moves.proofs.Shifted.{shifted_below}
-use Rattle.grid_canon.specs.Translation.{translate, translates}
-use Rattle.grid_canon.proofs.Translated.{origin, origin-shifted}
-use Rattle.grid_canon.proofs.LeastTranslates.{translates_contains}
+use Rattle.grid_keys.specs.Translation.{translate, translates}
+use Rattle.grid_keys.proofs.Translated.{origin, origin-shifted}
+use Rattle.grid_keys.proofs.LeastTranslates.{translates_contains}
 use Rattle.next_moves.proofs.Rounds.{brought}
 use Rattle.next_moves.proofs.TranslatedMoves.{exchange_columns_translated, exchange_rows_translated, slide_columns_translated, slide_rows_translated}
 use Rattle.next_moves.proofs.TranslatedBlocks.{stabilise_translated, destabilise_translated}

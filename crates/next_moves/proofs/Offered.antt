@@ -7,7 +7,7 @@ use Rattle.std.proofs.lemmas.List.{length-append}
 use Rattle.std.proofs.lemmas.List.Elements.{filter-append}
 use Rattle.std.proofs.lemmas.List.Sums.{length-filter, count_by-le-length}
 use Rattle.grid_core.specs.Diagram.{Diagram, IsGrid, size}
-use Rattle.next_moves.specs.Tries.{Try, column_exchange, column_slide, column_trades, row_exchange, row_slide, row_trades, destabilisation, destabilisations, stabilisations, trades, all_destabilisations, all_stabilisations}
+use Rattle.next_moves.specs.Tries.{Try, try_column_exchange, try_column_slide, column_trades, try_row_exchange, try_row_slide, row_trades, try_destabilisation, block_tries, stabilisation_tries, trades, all_block_tries, all_stabilisation_tries}
 use Rattle.next_moves.specs.Offers.{is_offered}
 use Rattle.next_moves.specs.Extends.{next, row_of_both, counted, passed}
 use Rattle.next_moves.proofs.Extended.{map_range_more, flat_map_range_more}
@@ -44,23 +44,23 @@ counted_itself : (r : ℕ) → counted r r ≡ 1
 counted_itself r = grind (arith, nat_tests)
 
 block_counted : (d : Diagram) (cap c r : ℕ) → IsGrid d → c < size d → r < size d
-    → length (filter (is_offered d cap) (destabilisation (size d) c r ∷ [])) ≤ counted (row_of_both d c) r + counted (row_of_both d (next (size d) c)) r
+    → length (filter (is_offered d cap) (try_destabilisation (size d) c r ∷ [])) ≤ counted (row_of_both d c) r + counted (row_of_both d (next (size d) c)) r
 block_counted d cap c r grid hc hr =
-    let most = kept_le (is_offered d cap) (destabilisation (size d) c r ∷ []) in
+    let most = kept_le (is_offered d cap) (try_destabilisation (size d) c r ∷ []) in
     elim (cases_eq r (row_of_both d c)) [
       | inl near ↦ omega (arith, most, ap (λ (z : ℕ). counted z r) (sym near) ∙ counted_itself r)
       | inr other ↦ elim (cases_eq r (row_of_both d (next (size d) c))) [
         | inl far ↦ omega (arith, most, ap (λ (z : ℕ). counted z r) (sym far) ∙ counted_itself r)
-        | inr neither ↦ omega (arith, none_kept (is_offered d cap) (destabilisation (size d) c r) (no_other_block d cap c r grid hc hr other neither))
+        | inr neither ↦ omega (arith, none_kept (is_offered d cap) (try_destabilisation (size d) c r) (no_other_block d cap c r grid hc hr other neither))
       ]
     ]
 
 blocks_passed : (d : Diagram) (cap c m : ℕ) → IsGrid d → c < size d → m ≤ size d
-    → length (filter (is_offered d cap) (map (destabilisation (size d) c) (range_with_len 0 m))) ≤ passed (row_of_both d c) m + passed (row_of_both d (next (size d) c)) m
+    → length (filter (is_offered d cap) (map (try_destabilisation (size d) c) (range_with_len 0 m))) ≤ passed (row_of_both d c) m + passed (row_of_both d (next (size d) c)) m
 blocks_passed d cap c zero grid hc le = omega arith
 blocks_passed d cap c (suc m) grid hc le =
     let p = is_offered d cap in
-    let f = destabilisation (size d) c in
+    let f = try_destabilisation (size d) c in
     let near : ℕ = row_of_both d c in
     let far : ℕ = row_of_both d (next (size d) c) in
     let one : suc m ≡ m + 1 = omega arith in
@@ -74,11 +74,11 @@ blocks_passed d cap c (suc m) grid hc le =
       ap (passed far) one ∙ passed_more far m,
     )
 
-pub blocks_offered : (d : Diagram) (cap : ℕ) → IsGrid d → length (filter (is_offered d cap) (all_destabilisations (size d))) ≤ 2 * size d
+pub blocks_offered : (d : Diagram) (cap : ℕ) → IsGrid d → length (filter (is_offered d cap) (all_block_tries (size d))) ≤ 2 * size d
 blocks_offered d cap grid =
     omega (
       arith,
-      kept_each (is_offered d cap) (destabilisations (size d)) 2 (size d) (λ c hc.
+      kept_each (is_offered d cap) (block_tries (size d)) 2 (size d) (λ c hc.
           omega (
             arith,
             blocks_passed d cap c (size d) grid hc (omega arith),
@@ -106,9 +106,9 @@ trades_offered d cap =
     omega (
       arith,
       kept_append p (flat_map (column_trades n) (range_with_len 0 n)) (flat_map (row_trades n) (range_with_len 0 n)),
-      kept_each p (column_trades n) 1 n (λ c lt. one_kept d cap (column_exchange n c) (column_slide n c) (columns_once d cap n c)),
-      kept_each p (row_trades n) 1 n (λ r lt. one_kept d cap (row_exchange n r) (row_slide n r) (rows_once d cap n r)),
+      kept_each p (column_trades n) 1 n (λ c lt. one_kept d cap (try_column_exchange n c) (try_column_slide n c) (columns_once d cap n c)),
+      kept_each p (row_trades n) 1 n (λ r lt. one_kept d cap (try_row_exchange n r) (try_row_slide n r) (rows_once d cap n r)),
     )
 
-pub stabilisations_offered : (d : Diagram) (cap : ℕ) → length (filter (is_offered d cap) (all_stabilisations (size d))) ≤ 8 * size d
-stabilisations_offered d cap = omega (arith, kept_each (is_offered d cap) stabilisations 8 (size d) (λ c hc. kept_le (is_offered d cap) (stabilisations c)))
+pub stabilisations_offered : (d : Diagram) (cap : ℕ) → length (filter (is_offered d cap) (all_stabilisation_tries (size d))) ≤ 8 * size d
+stabilisations_offered d cap = omega (arith, kept_each (is_offered d cap) stabilisation_tries 8 (size d) (λ c hc. kept_le (is_offered d cap) (stabilisation_tries c)))

@@ -6,7 +6,7 @@ use Rattle.grid_core.specs.Places.{lifted}
 use Rattle.grid_moves.specs.Shift.{shifted}
 use Rattle.grid_moves.specs.Exchange.{exchanged}
 use Rattle.grid_moves.proofs.Shifted.{shifted_below}
-use Rattle.grid_canon.proofs.Translated.{origin, origin_cases, shifted_cases}
+use Rattle.grid_keys.proofs.Translated.{origin, origin_cases, shifted_cases}
 
 -- the shift by (c - p) brings c to p
 pub brought : (n p c : ℕ) → p < n → c < n → shifted n (shifted n p c) c ≡ p

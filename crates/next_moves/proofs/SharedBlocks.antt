@@ -13,10 +13,10 @@ use Rattle.grid_moves.specs.Shift.{shifted}
 use Rattle.grid_moves.specs.SizeAfter.{size_after}
 use Rattle.grid_moves.specs.Step.{Step}
 use Rattle.grid_moves.proofs.OneResult.{step_exists}
-use Rattle.grid_canon.specs.Translation.{translate}
-use Rattle.grid_canon.proofs.Translated.{origin, row_of-translate, translate-grid}
+use Rattle.grid_keys.specs.Translation.{translate}
+use Rattle.grid_keys.proofs.Translated.{origin, row_of-translate, translate-grid}
 use Rattle.next_moves.specs.declared.links.Offer.{Offer}
-use Rattle.next_moves.specs.Tries.{shift_before, place_after_shift, destabilisation, destabilisations}
+use Rattle.next_moves.specs.Tries.{shift_before, place_after_shift, try_destabilisation, block_tries}
 use Rattle.next_moves.specs.Offers.{is_offered}
 use Rattle.next_moves.specs.Extends.{Extends, next}
 use Rattle.next_moves.proofs.Sides.{shift_before-below, place_after_shift-below, next-below, first_origin, second_origin}
@@ -170,7 +170,7 @@ module _ (d : Diagram) (c r : ℕ) (grid : IsGrid d) (hc : c < size d) (hr : r <
       inside z (inr (inr (inl e))) = omega (arith, e, row_below d grid Cross far far_inside)
       inside z (inr (inr (inr e))) = omega (arith, e, row_below d grid Ring far far_inside)
 
-  pub not_shared : (cap : ℕ) → share_one_end (column_span d c) (column_span d far) ≡ false → is_offered d cap (destabilisation (size d) c r) ≡ false
+  pub not_shared : (cap : ℕ) → share_one_end (column_span d c) (column_span d far) ≡ false → is_offered d cap (try_destabilisation (size d) c r) ≡ false
   not_shared cap none =
       not_none (first_fault moved (Destabilise left low)) (nat_le (size_after (Destabilise left low) (size d)) cap) (λ legal.
       let translated = translate-grid d columns rows grid columns_inside (shift_before-below (size d) r grid.least hr) in
@@ -179,5 +179,5 @@ module _ (d : Diagram) (c r : ℕ) (grid : IsGrid d) (hc : c < size d) (hr : r <
 
 -- so where they have not, no block of the two columns is offered
 pub no_blocks : (d : Diagram) (cap c : ℕ) (old : List Offer) → IsGrid d → c < size d → share_one_end (column_span d c) (column_span d (next (size d) c)) ≡ false
-    → Extends d cap (destabilisations (size d) c) old old
+    → Extends d cap (block_tries (size d) c) old old
 no_blocks d cap c old grid lt none = no_rows d cap c grid lt old (λ r hr. not_shared d c r grid lt hr cap none)

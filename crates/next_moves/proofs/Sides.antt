@@ -3,10 +3,10 @@ use Rattle.std.proofs.Common.{◌≡◌, ◌≢◌, ◌<◌, ◌≤◌, ◌+◌,
 use Rattle.std.proofs.lemmas.Bool.{cases_eq, eq-eqb, ne_eqb}
 use Rattle.std.proofs.lemmas.Bool.Decides.{nat_tests}
 use Rattle.grid_moves.specs.Shift.{shifted}
-use Rattle.grid_canon.proofs.Translated.{origin, origin_cases, origin-shifted}
+use Rattle.grid_keys.proofs.Translated.{origin, origin_cases, origin-shifted}
 use Rattle.grid_moves.specs.declared.step.Move.{Move}
 use Rattle.grid_moves.specs.declared.step.Move.TheVariants.{Destabilise}
-use Rattle.next_moves.specs.Tries.{Try, shift_before, place_after_shift, destabilisation}
+use Rattle.next_moves.specs.Tries.{Try, shift_before, place_after_shift, try_destabilisation}
 use Rattle.next_moves.specs.Extends.{next, first_of_pair, counted, passed}
 
 -- the last, or any other
@@ -95,7 +95,7 @@ pair_of_rows n r x o least lt ex eo ne = grind (arith, nat_tests)
 
 -- a block by the shifts before it
 pub block_made : (n c r a b : ℕ) → 2 ≤ n → c < n → r < n → a ≡ shift_before n c → b ≡ shift_before n r
-    → ◌≡◌ {A = Try} (record { before = (a, b); step = Destabilise (c - a) (r - b) }) (destabilisation n c r)
+    → ◌≡◌ {A = Try} (record { before = (a, b); step = Destabilise (c - a) (r - b) }) (try_destabilisation n c r)
 block_made n c r a b least hc hr ea eb =
     ap₂ (λ (z w : ℕ). made z w (c - z) (r - w)) ea eb
     ∙ ap₂ (λ (z w : ℕ). made (shift_before n c) (shift_before n r) z w) (sym (place_after_shift_is n c least hc)) (sym (place_after_shift_is n r least hr))

@@ -9,9 +9,9 @@ use Rattle.grid_moves.specs.MoveFault.{first_fault}
 use Rattle.grid_moves.specs.Exchanged.{columns_exchanged, rows_exchanged}
 use Rattle.grid_moves.specs.Step.{Step}
 use Rattle.grid_moves.proofs.OneResult.{moved, moved_step}
-use Rattle.grid_canon.specs.Translation.{translate}
-use Rattle.grid_canon.proofs.Translated.{translate-grid}
-use Rattle.next_moves.specs.Tries.{Try, shift_before, place_after_shift, column_exchange, column_slide, row_exchange, row_slide}
+use Rattle.grid_keys.specs.Translation.{translate}
+use Rattle.grid_keys.proofs.Translated.{translate-grid}
+use Rattle.next_moves.specs.Tries.{Try, shift_before, place_after_shift, try_column_exchange, try_column_slide, try_row_exchange, try_row_slide}
 use Rattle.next_moves.specs.Offers.{is_legal}
 use Rattle.next_moves.proofs.Sides.{shift_before-below}
 
@@ -46,18 +46,18 @@ module _ (d : Diagram) (c by place : ℕ) (grid : IsGrid d) (lt : c < size d) (s
       subst (λ (z : ℕ). Step (translate d 0 z) (step place) (rows_exchanged place (translate d 0 z))) (sym shift)
       (subst (λ (z : ℕ). Step (translate d 0 (shift_before (size d) c)) (step z) (rows_exchanged z (translate d 0 (shift_before (size d) c)))) (sym stands) is)
 
-  pub columns_exchanged_step : is_legal d (column_exchange (size d) c) ≡ true
+  pub columns_exchanged_step : is_legal d (try_column_exchange (size d) c) ≡ true
       → Step (translate d by 0) (ExchangeColumns place) (columns_exchanged place (translate d by 0))
-  columns_exchanged_step legal = columns_at (λ z. ExchangeColumns z) (legal_step d (column_exchange (size d) c) grid shift_inside some legal)
+  columns_exchanged_step legal = columns_at (λ z. ExchangeColumns z) (legal_step d (try_column_exchange (size d) c) grid shift_inside some legal)
 
-  pub columns_slid_step : is_legal d (column_slide (size d) c) ≡ true
+  pub columns_slid_step : is_legal d (try_column_slide (size d) c) ≡ true
       → Step (translate d by 0) (SlideColumns place) (columns_exchanged place (translate d by 0))
-  columns_slid_step legal = columns_at (λ z. SlideColumns z) (legal_step d (column_slide (size d) c) grid shift_inside some legal)
+  columns_slid_step legal = columns_at (λ z. SlideColumns z) (legal_step d (try_column_slide (size d) c) grid shift_inside some legal)
 
-  pub rows_exchanged_step : is_legal d (row_exchange (size d) c) ≡ true
+  pub rows_exchanged_step : is_legal d (try_row_exchange (size d) c) ≡ true
       → Step (translate d 0 by) (ExchangeRows place) (rows_exchanged place (translate d 0 by))
-  rows_exchanged_step legal = rows_at (λ z. ExchangeRows z) (legal_step d (row_exchange (size d) c) grid some shift_inside legal)
+  rows_exchanged_step legal = rows_at (λ z. ExchangeRows z) (legal_step d (try_row_exchange (size d) c) grid some shift_inside legal)
 
-  pub rows_slid_step : is_legal d (row_slide (size d) c) ≡ true
+  pub rows_slid_step : is_legal d (try_row_slide (size d) c) ≡ true
       → Step (translate d 0 by) (SlideRows place) (rows_exchanged place (translate d 0 by))
-  rows_slid_step legal = rows_at (λ z. SlideRows z) (legal_step d (row_slide (size d) c) grid some shift_inside legal)
+  rows_slid_step legal = rows_at (λ z. SlideRows z) (legal_step d (try_row_slide (size d) c) grid some shift_inside legal)

@@ -11,9 +11,9 @@ use Rattle.grid_moves.specs.declared.step.Move.TheVariants.{ExchangeColumns, Exc
 use Rattle.grid_moves.specs.declared.step.MoveFault.{MoveFault}
 use Rattle.grid_moves.specs.declared.step.MoveFault.TheVariants.{Range, Touching, Interleaved, Apart}
 use Rattle.grid_moves.specs.MoveFault.{first_fault, exchange_fault, slide_fault}
-use Rattle.grid_canon.specs.Translation.{translate}
+use Rattle.grid_keys.specs.Translation.{translate}
 use Rattle.next_moves.specs.declared.links.Offer.{Offer}
-use Rattle.next_moves.specs.Tries.{Try, shift_before, place_after_shift, column_exchange, column_slide, row_exchange, row_slide, column_trades, row_trades}
+use Rattle.next_moves.specs.Tries.{Try, shift_before, place_after_shift, try_column_exchange, try_column_slide, try_row_exchange, try_row_slide, column_trades, row_trades}
 use Rattle.grid_moves.specs.SizeAfter.{size_after}
 use Rattle.next_moves.specs.Offers.{is_legal, is_offered}
 use Rattle.next_moves.specs.Extends.{Extends}
@@ -58,9 +58,9 @@ column_slide_refused : (d : Diagram) (c : ℕ) → share_an_end (column_span d c
 column_slide_refused d c apart =
     refused (nat_lt (c + 1) (size d)) (slide_fault (column_span d c) (column_span d (c + 1))) (parted (column_span d c) (column_span d (c + 1)) apart)
 
-pub columns_once : (d : Diagram) (cap n c : ℕ) → (is_offered d cap (column_exchange n c) ≡ false) ⊎ (is_offered d cap (column_slide n c) ≡ false)
+pub columns_once : (d : Diagram) (cap n c : ℕ) → (is_offered d cap (try_column_exchange n c) ≡ false) ⊎ (is_offered d cap (try_column_slide n c) ≡ false)
 columns_once d cap n c =
-    let before : ℕ × ℕ = (column_exchange n c).before in
+    let before : ℕ × ℕ = (try_column_exchange n c).before in
     let p : ℕ = place_after_shift n c in
     let translated : Diagram = translate d before.0 before.1 in
     elim (cases_Bool (share_an_end (column_span translated p) (column_span translated (p + 1)))) [
@@ -75,9 +75,9 @@ row_exchange_refused d r shared = refused (nat_lt (r + 1) (size d)) (exchange_fa
 row_slide_refused : (d : Diagram) (r : ℕ) → share_an_end (ends d r) (ends d (r + 1)) ≡ false → is_none (first_fault d (SlideRows r)) ≡ false
 row_slide_refused d r apart = refused (nat_lt (r + 1) (size d)) (slide_fault (ends d r) (ends d (r + 1))) (parted (ends d r) (ends d (r + 1)) apart)
 
-pub rows_once : (d : Diagram) (cap n r : ℕ) → (is_offered d cap (row_exchange n r) ≡ false) ⊎ (is_offered d cap (row_slide n r) ≡ false)
+pub rows_once : (d : Diagram) (cap n r : ℕ) → (is_offered d cap (try_row_exchange n r) ≡ false) ⊎ (is_offered d cap (try_row_slide n r) ≡ false)
 rows_once d cap n r =
-    let before : ℕ × ℕ = (row_exchange n r).before in
+    let before : ℕ × ℕ = (try_row_exchange n r).before in
     let p : ℕ = place_after_shift n r in
     let translated : Diagram = translate d before.0 before.1 in
     elim (cases_Bool (share_an_end (ends translated p) (ends translated (p + 1)))) [
@@ -101,39 +101,39 @@ only_exchanged true s t legal = elim (cases_Bool (share_an_end s t)) [
 only_exchanged false s t legal = refl
 
 -- the two tries of a column and the next one, by which of them is legal
-pub columns_exchanged : (d : Diagram) (cap n c : ℕ) (old new : List Offer) → is_legal d (column_exchange n c) ≡ true
-    → Extends d cap (column_exchange n c ∷ []) old new → Extends d cap (column_trades n c) old new
+pub columns_exchanged : (d : Diagram) (cap n c : ℕ) (old new : List Offer) → is_legal d (try_column_exchange n c) ≡ true
+    → Extends d cap (try_column_exchange n c ∷ []) old new → Extends d cap (column_trades n c) old new
 columns_exchanged d cap n c old new legal one =
     let p : ℕ = place_after_shift n c in
     let translated : Diagram = translate d (shift_before n c) 0 in
-    extends_first d cap (column_exchange n c) (column_slide n c) old new
-    (illegal d cap (column_slide n c) (only_exchanged (nat_lt (p + 1) (size translated)) (column_span translated p) (column_span translated (p + 1)) legal)) one
+    extends_first d cap (try_column_exchange n c) (try_column_slide n c) old new
+    (illegal d cap (try_column_slide n c) (only_exchanged (nat_lt (p + 1) (size translated)) (column_span translated p) (column_span translated (p + 1)) legal)) one
 
-pub columns_slid : (d : Diagram) (cap n c : ℕ) (old new : List Offer) → is_legal d (column_exchange n c) ≡ false
-    → Extends d cap (column_slide n c ∷ []) old new → Extends d cap (column_trades n c) old new
+pub columns_slid : (d : Diagram) (cap n c : ℕ) (old new : List Offer) → is_legal d (try_column_exchange n c) ≡ false
+    → Extends d cap (try_column_slide n c ∷ []) old new → Extends d cap (column_trades n c) old new
 columns_slid d cap n c old new no_exchange one =
-    extends_second d cap (column_exchange n c) (column_slide n c) old new (illegal d cap (column_exchange n c) no_exchange) one
+    extends_second d cap (try_column_exchange n c) (try_column_slide n c) old new (illegal d cap (try_column_exchange n c) no_exchange) one
 
-pub columns_kept : (d : Diagram) (cap n c : ℕ) (old : List Offer) → is_legal d (column_exchange n c) ≡ false → is_legal d (column_slide n c) ≡ false
+pub columns_kept : (d : Diagram) (cap n c : ℕ) (old : List Offer) → is_legal d (try_column_exchange n c) ≡ false → is_legal d (try_column_slide n c) ≡ false
     → Extends d cap (column_trades n c) old old
 columns_kept d cap n c old no_exchange no_slide =
-    columns_slid d cap n c old old no_exchange (extends_skip d cap (column_slide n c) old old refl (illegal d cap (column_slide n c) no_slide))
+    columns_slid d cap n c old old no_exchange (extends_skip d cap (try_column_slide n c) old old refl (illegal d cap (try_column_slide n c) no_slide))
 
 -- of a row and the next one likewise
-pub rows_exchanged : (d : Diagram) (cap n r : ℕ) (old new : List Offer) → is_legal d (row_exchange n r) ≡ true
-    → Extends d cap (row_exchange n r ∷ []) old new → Extends d cap (row_trades n r) old new
+pub rows_exchanged : (d : Diagram) (cap n r : ℕ) (old new : List Offer) → is_legal d (try_row_exchange n r) ≡ true
+    → Extends d cap (try_row_exchange n r ∷ []) old new → Extends d cap (row_trades n r) old new
 rows_exchanged d cap n r old new legal one =
     let p : ℕ = place_after_shift n r in
     let translated : Diagram = translate d 0 (shift_before n r) in
-    extends_first d cap (row_exchange n r) (row_slide n r) old new
-    (illegal d cap (row_slide n r) (only_exchanged (nat_lt (p + 1) (size translated)) (ends translated p) (ends translated (p + 1)) legal)) one
+    extends_first d cap (try_row_exchange n r) (try_row_slide n r) old new
+    (illegal d cap (try_row_slide n r) (only_exchanged (nat_lt (p + 1) (size translated)) (ends translated p) (ends translated (p + 1)) legal)) one
 
-pub rows_slid : (d : Diagram) (cap n r : ℕ) (old new : List Offer) → is_legal d (row_exchange n r) ≡ false
-    → Extends d cap (row_slide n r ∷ []) old new → Extends d cap (row_trades n r) old new
+pub rows_slid : (d : Diagram) (cap n r : ℕ) (old new : List Offer) → is_legal d (try_row_exchange n r) ≡ false
+    → Extends d cap (try_row_slide n r ∷ []) old new → Extends d cap (row_trades n r) old new
 rows_slid d cap n r old new no_exchange one =
-    extends_second d cap (row_exchange n r) (row_slide n r) old new (illegal d cap (row_exchange n r) no_exchange) one
+    extends_second d cap (try_row_exchange n r) (try_row_slide n r) old new (illegal d cap (try_row_exchange n r) no_exchange) one
 
-pub rows_kept : (d : Diagram) (cap n r : ℕ) (old : List Offer) → is_legal d (row_exchange n r) ≡ false → is_legal d (row_slide n r) ≡ false
+pub rows_kept : (d : Diagram) (cap n r : ℕ) (old : List Offer) → is_legal d (try_row_exchange n r) ≡ false → is_legal d (try_row_slide n r) ≡ false
     → Extends d cap (row_trades n r) old old
 rows_kept d cap n r old no_exchange no_slide =
-    rows_slid d cap n r old old no_exchange (extends_skip d cap (row_slide n r) old old refl (illegal d cap (row_slide n r) no_slide))
+    rows_slid d cap n r old old no_exchange (extends_skip d cap (try_row_slide n r) old old refl (illegal d cap (try_row_slide n r) no_slide))

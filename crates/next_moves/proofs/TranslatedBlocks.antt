@@ -15,8 +15,8 @@ use Rattle.grid_moves.specs.Step.{Step}
 use Rattle.grid_moves.proofs.Shifted.{shifted_below}
 use Rattle.grid_moves.proofs.Renumbering.{renumbered_back}
 use Rattle.grid_moves.proofs.Undone.{stabilise_back}
-use Rattle.grid_canon.specs.Translation.{translate}
-use Rattle.grid_canon.proofs.Translated.{origin, origin-shifted, shifted-origin, shifted-permutes, size-translate, translate-renumbered, translate-grid}
+use Rattle.grid_keys.specs.Translation.{translate}
+use Rattle.grid_keys.proofs.Translated.{origin, origin-shifted, shifted-origin, shifted-permutes, size-translate, translate-renumbered, translate-grid}
 use Rattle.next_moves.proofs.Rounds.{brought, brought_by, brought_other, lifted_brought}
 use Rattle.grid_moves.proofs.Widened.{right_small, above_small}
 

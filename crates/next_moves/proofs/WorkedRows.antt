@@ -5,20 +5,20 @@ use Rattle.grid_core.specs.Trefoils.{left_trefoil}
 use Rattle.grid_core.proofs.WorkedRows.{unknot}
 use Rattle.grid_moves.specs.declared.step.Move.{Move}
 use Rattle.grid_moves.specs.declared.step.Move.TheVariants.{ExchangeColumns, ExchangeRows, SlideColumns, SlideRows, Destabilise}
-use Rattle.next_moves.specs.Tries.{Try, tries, column_exchange, column_slide, row_exchange, destabilisation}
+use Rattle.next_moves.specs.Tries.{Try, tries, try_column_exchange, try_column_slide, try_row_exchange, try_destabilisation}
 use Rattle.next_moves.specs.Offers.{is_offered}
 
 -- the last column and the first are exchanged behind a shift by 1
-last_columns : column_exchange 4 3 ≡ record { before = (1, 0); step = ExchangeColumns 2 }
+last_columns : try_column_exchange 4 3 ≡ record { before = (1, 0); step = ExchangeColumns 2 }
 last_columns = refl
 
-last_slide : column_slide 4 3 ≡ record { before = (1, 0); step = SlideColumns 2 }
+last_slide : try_column_slide 4 3 ≡ record { before = (1, 0); step = SlideColumns 2 }
 last_slide = refl
 
-first_rows : row_exchange 4 0 ≡ record { before = (0, 0); step = ExchangeRows 0 }
+first_rows : try_row_exchange 4 0 ≡ record { before = (0, 0); step = ExchangeRows 0 }
 first_rows = refl
 
-last_block : destabilisation 4 3 3 ≡ record { before = (1, 1); step = Destabilise 2 2 }
+last_block : try_destabilisation 4 3 3 ≡ record { before = (1, 1); step = Destabilise 2 2 }
 last_block = refl
 
 -- 2n exchanges and 2n slides, n blocks for each column, 8n stabilisations

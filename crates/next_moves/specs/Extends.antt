@@ -2,8 +2,8 @@
 use Rattle.std.specs.Prelude.{◌≡◌, ◌<◌, ◌≤◌, ◌==◌, ◌++◌, ◌∷◌, [], ℕ, List, Option, IfSome, if◌then◌else◌, nat_lt}
 use Rattle.grid_core.specs.declared.mark.Kind.TheVariants.{Cross, Ring}
 use Rattle.grid_core.specs.Diagram.{Diagram, size, row_of}
-use Rattle.grid_canon.specs.declared.digits.TheConstants.{MAX_SHORT_SIZE}
-pub use Rattle.grid_canon.specs.ShortTrades.{next}
+use Rattle.short_grids.specs.declared.digits.TheConstants.{MAX_SHORT_SIZE}
+pub use Rattle.short_grids.specs.ShortTrades.{next}
 use Rattle.next_moves.specs.declared.links.Offer.{Offer}
 use Rattle.next_moves.specs.Tries.{Try}
 use Rattle.next_moves.specs.Offers.{AreOffersOf}

@@ -8,8 +8,9 @@ pub use Rattle.grid_core.specs.Diagram
 pub use Rattle.grid_core.specs.Parts
 pub use Rattle.grid_moves.specs.Shift
 pub use Rattle.grid_moves.specs.Step
+pub use Rattle.grid_moves.specs.Kinds
 pub use Rattle.grid_moves.specs.Joining
 pub use Rattle.grid_moves.specs.MoveLists
-pub use Rattle.grid_canon.specs.Translation
-pub use Rattle.grid_canon.specs.CanonicalForm
-pub use Rattle.grid_canon.specs.Key
+pub use Rattle.grid_keys.specs.Translation
+pub use Rattle.grid_keys.specs.CanonicalForm
+pub use Rattle.grid_keys.specs.Key

@@ -1,7 +1,7 @@
 -- A link, written as a list of moves.
 use Rattle.std.specs.Prelude.{List, [], ◌∷◌, ◌++◌}
 use Rattle.grid_moves.specs.declared.step.Move.{Move}
-use Rattle.grid_canon.specs.Shifts.{shift_moves}
+use Rattle.grid_keys.specs.Shifts.{shift_moves}
 use Rattle.next_moves.specs.declared.links.Link.{Link}
 
 -- the shifts before, the move, and the shifts after, where a shift by 0 is left out

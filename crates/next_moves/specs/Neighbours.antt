@@ -4,9 +4,9 @@ use Rattle.std.specs.List.{Contains}
 use Rattle.grid_core.specs.Diagram.{Diagram, size}
 use Rattle.grid_moves.specs.declared.step.Move.{Move}
 use Rattle.grid_moves.specs.Step.{Step}
-use Rattle.grid_moves.specs.Tidy.{is_shift}
-use Rattle.grid_canon.specs.Translation.{translates}
-use Rattle.grid_canon.specs.CanonicalForm.{IsCanonicalForm}
+use Rattle.grid_moves.specs.Kinds.{is_shift}
+use Rattle.grid_keys.specs.Translation.{translates}
+use Rattle.grid_keys.specs.CanonicalForm.{IsCanonicalForm}
 
 -- some translate of d goes, by one move that is no shift, to a diagram of size at most the cap whose canonical form is f
 pub record IsNeighbour (d : Diagram) (cap : ℕ) (f : Diagram) : Type 0 where

@@ -7,13 +7,14 @@ use Rattle.grid_core.specs.Diagram.{Diagram, IsGrid, size}
 use Rattle.grid_moves.specs.SizeAfter.{size_after}
 use Rattle.grid_moves.specs.Step.{Step}
 use Rattle.grid_moves.specs.MoveFault.{first_fault}
-use Rattle.grid_canon.specs.declared.key.Packed.{Packed}
-use Rattle.grid_canon.specs.Translation.{translate}
-use Rattle.grid_canon.specs.CanonicalForm.{IsCanonical, IsLeastForm}
-use Rattle.grid_canon.specs.Key.{key_of}
+use Rattle.grid_keys.specs.declared.key.Packed.{Packed}
+use Rattle.grid_keys.specs.Translation.{translate}
+use Rattle.grid_keys.specs.CanonicalForm.{IsCanonical, IsLeastForm}
+use Rattle.grid_keys.specs.Key.{key_of}
 use Rattle.next_moves.specs.declared.links.Link.{Link}
 use Rattle.next_moves.specs.declared.links.Offer.{Offer}
-use Rattle.next_moves.specs.Tries.{Try, tries, is_exchange}
+use Rattle.grid_moves.specs.Kinds.{is_exchange}
+use Rattle.next_moves.specs.Tries.{Try, tries}
 
 -- the move is legal on its translate of d
 abbrev pub is_legal : Diagram → Try → Bool

@@ -3,7 +3,7 @@ use Rattle.std.specs.Prelude.{◌≡◌, ◌≢◌, ◌+◌, ◌↔◌, ◌⊎�
 use Rattle.std.specs.List.{All, AllPairs, Contains}
 use Rattle.grid_core.specs.Diagram.{Diagram}
 use Rattle.grid_moves.specs.Joining.{WithinCap}
-use Rattle.grid_canon.specs.CanonicalForm.{IsCanonical}
+use Rattle.grid_keys.specs.CanonicalForm.{IsCanonical}
 
 -- f is canonical, and moves join a or b to it within the cap
 pub record IsReached (a b : Diagram) (cap : ℕ) (f : Diagram) : Type 0 where

@@ -1,11 +1,11 @@
 -- The moves that are tried on a diagram of n columns and rows, each on one of its translates, in order.
 -- Columns c and c + 1 are neighbours, and so are the last and the first: after a shift by 1 these two stand side by side, at the end.
-use Rattle.std.specs.Prelude.{◌+◌, ◌-◌, ◌==◌, ◌++◌, ℕ, List, [], ◌∷◌, Bool, true, false, map, if◌then◌else◌}
+use Rattle.std.specs.Prelude.{◌+◌, ◌-◌, ◌==◌, ◌++◌, ℕ, List, [], ◌∷◌, map, if◌then◌else◌}
 use Rattle.std.specs.List.{range_with_len, flat_map}
 use Rattle.grid_core.specs.declared.mark.Kind.{Kind}
 use Rattle.grid_core.specs.declared.mark.Corner.{Corner}
 use Rattle.grid_moves.specs.declared.step.Move.{Move}
-use Rattle.grid_moves.specs.declared.step.Move.TheVariants.{ShiftColumns, ShiftRows, ExchangeColumns, ExchangeRows, SlideColumns, SlideRows, Stabilise, Destabilise}
+use Rattle.grid_moves.specs.declared.step.Move.TheVariants.{ExchangeColumns, ExchangeRows, SlideColumns, SlideRows, Stabilise, Destabilise}
 use Rattle.grid_moves.specs.MoveLists as moves
 
 -- a move, after a shift of columns and a shift of rows, of which 0 means none
@@ -21,71 +21,61 @@ abbrev pub place_after_shift : ℕ → ℕ → ℕ
 place_after_shift n c = if c + 1 == n then n - 2 else c
 
 -- column c and the next one trade places, by an exchange or by a slide: never are both legal
-abbrev pub column_exchange : ℕ → ℕ → Try
-column_exchange n c = record { before = (shift_before n c, 0); step = ExchangeColumns (place_after_shift n c) }
+abbrev pub try_column_exchange : ℕ → ℕ → Try
+try_column_exchange n c = record { before = (shift_before n c, 0); step = ExchangeColumns (place_after_shift n c) }
 
-abbrev pub column_slide : ℕ → ℕ → Try
-column_slide n c = record { before = (shift_before n c, 0); step = SlideColumns (place_after_shift n c) }
+abbrev pub try_column_slide : ℕ → ℕ → Try
+try_column_slide n c = record { before = (shift_before n c, 0); step = SlideColumns (place_after_shift n c) }
 
 abbrev pub column_trades : ℕ → ℕ → List Try
-column_trades n c = column_exchange n c ∷ column_slide n c ∷ []
+column_trades n c = try_column_exchange n c ∷ try_column_slide n c ∷ []
 
 -- row r and the next one trade places, likewise
-abbrev pub row_exchange : ℕ → ℕ → Try
-row_exchange n r = record { before = (0, shift_before n r); step = ExchangeRows (place_after_shift n r) }
+abbrev pub try_row_exchange : ℕ → ℕ → Try
+try_row_exchange n r = record { before = (0, shift_before n r); step = ExchangeRows (place_after_shift n r) }
 
-abbrev pub row_slide : ℕ → ℕ → Try
-row_slide n r = record { before = (0, shift_before n r); step = SlideRows (place_after_shift n r) }
+abbrev pub try_row_slide : ℕ → ℕ → Try
+try_row_slide n r = record { before = (0, shift_before n r); step = SlideRows (place_after_shift n r) }
 
 abbrev pub row_trades : ℕ → ℕ → List Try
-row_trades n r = row_exchange n r ∷ row_slide n r ∷ []
+row_trades n r = try_row_exchange n r ∷ try_row_slide n r ∷ []
 
 -- the block of column c and the next one, and of row r and the next one, becomes one mark
-abbrev pub destabilisation : ℕ → ℕ → ℕ → Try
-destabilisation n c r = record { before = (shift_before n c, shift_before n r); step = Destabilise (place_after_shift n c) (place_after_shift n r) }
+abbrev pub try_destabilisation : ℕ → ℕ → ℕ → Try
+try_destabilisation n c r = record { before = (shift_before n c, shift_before n r); step = Destabilise (place_after_shift n c) (place_after_shift n r) }
 
 -- the blocks of column c and the next one, by row
-abbrev pub destabilisations : ℕ → ℕ → List Try
-destabilisations n c = map (destabilisation n c) (range_with_len 0 n)
+abbrev pub block_tries : ℕ → ℕ → List Try
+block_tries n c = map (try_destabilisation n c) (range_with_len 0 n)
 
 -- a move on the diagram as it is
 abbrev pub unshifted : Move → Try
 unshifted step = record { before = (0, 0); step = step }
 
 -- the mark of a kind in column c becomes a block of three, with the other kind in this corner
-abbrev pub stabilisation : ℕ → Kind → Corner → Try
-stabilisation c kind corner = unshifted (Stabilise c kind corner)
+abbrev pub try_stabilisation : ℕ → Kind → Corner → Try
+try_stabilisation c kind corner = unshifted (Stabilise c kind corner)
 
 -- the eight stabilisations in column c
-abbrev pub stabilisations : ℕ → List Try
-stabilisations c = map unshifted (moves.stabilisations c)
+abbrev pub stabilisation_tries : ℕ → List Try
+stabilisation_tries c = map unshifted (moves.stabilisations c)
 
 -- neighbouring columns, and neighbouring rows, that trade places
 abbrev pub trades : ℕ → List Try
 trades n = flat_map (column_trades n) (range_with_len 0 n) ++ flat_map (row_trades n) (range_with_len 0 n)
 
-abbrev pub is_exchange : Move → Bool
-is_exchange (ShiftColumns k) = false
-is_exchange (ShiftRows k) = false
-is_exchange (ExchangeColumns c) = true
-is_exchange (ExchangeRows r) = true
-is_exchange (SlideColumns c) = false
-is_exchange (SlideRows r) = false
-is_exchange (Stabilise c kind corner) = false
-is_exchange (Destabilise c r) = false
-
 -- of these the exchanges alone
 abbrev pub exchanges : ℕ → List Try
-exchanges n = map (column_exchange n) (range_with_len 0 n) ++ map (row_exchange n) (range_with_len 0 n)
+exchanges n = map (try_column_exchange n) (range_with_len 0 n) ++ map (try_row_exchange n) (range_with_len 0 n)
 
 -- by column and row
-abbrev pub all_destabilisations : ℕ → List Try
-all_destabilisations n = flat_map (destabilisations n) (range_with_len 0 n)
+abbrev pub all_block_tries : ℕ → List Try
+all_block_tries n = flat_map (block_tries n) (range_with_len 0 n)
 
 -- by column, kind and corner
-abbrev pub all_stabilisations : ℕ → List Try
-all_stabilisations n = flat_map stabilisations (range_with_len 0 n)
+abbrev pub all_stabilisation_tries : ℕ → List Try
+all_stabilisation_tries n = flat_map stabilisation_tries (range_with_len 0 n)
 
 -- all of them, in the order of the offers
 abbrev pub tries : ℕ → List Try
-tries n = trades n ++ all_destabilisations n ++ all_stabilisations n
+tries n = trades n ++ all_block_tries n ++ all_stabilisation_tries n

@@ -11,11 +11,11 @@ ghost use Rattle.grid_moves.specs.declared.step.Move.TheVariants.{ExchangeColumn
 ghost use Rattle.grid_moves.specs.Shift.{shifted};
 ghost use Rattle.grid_moves.specs.Step.{Step};
 ghost use Rattle.grid_moves.specs.Joining.{Joins, JoinsWithin, WithinCap};
-ghost use Rattle.grid_canon.specs.Translation.{translate, translates};
-ghost use Rattle.grid_canon.specs.CanonicalForm.{IsCanonicalForm, IsCanonical};
-ghost use Rattle.grid_canon.specs.Key.{key_of};
+ghost use Rattle.grid_keys.specs.Translation.{translate, translates};
+ghost use Rattle.grid_keys.specs.CanonicalForm.{IsCanonicalForm, IsCanonical};
+ghost use Rattle.grid_keys.specs.Key.{key_of};
 ghost use Rattle.next_moves.specs.Neighbours.{IsNeighbour};
-ghost use Rattle.next_moves.specs.Tries.{trades, column_exchange, row_exchange, all_destabilisations, all_stabilisations};
+ghost use Rattle.next_moves.specs.Tries.{trades, try_column_exchange, try_row_exchange, all_block_tries, all_stabilisation_tries};
 ghost use Rattle.next_moves.specs.Offers.{is_legal, is_offered, Leads, IsOfferList, Neighbourhood, IsWhole};
 ghost use Rattle.next_moves.specs.Links.{link_moves};
 ghost use Rattle.next_moves.specs.Reach.{IsReached, AreMembers, HasMembers, HasMoreMembers};
@@ -93,11 +93,11 @@ pub fn neighbours_trade_places_where_their_exchange_is_legal()
     ensures columns { (d : Diagram) (c : ℕ)
         → IsGrid d
         → c < size d
-        → lane_columns.trades (column_lows d) (column_highs d) c ≡ is_legal d (column_exchange (size d) c) }
+        → lane_columns.trades (column_lows d) (column_highs d) c ≡ is_legal d (try_column_exchange (size d) c) }
     ensures rows { (d : Diagram) (r : ℕ)
         → IsGrid d
         → r < size d
-        → lane_columns.trades (row_lows d) (row_highs d) r ≡ is_legal d (row_exchange (size d) r) }
+        → lane_columns.trades (row_lows d) (row_highs d) r ≡ is_legal d (try_row_exchange (size d) r) }
 {}
 
 /// The key of every neighbour, over all translates and all moves but shifts, is that of some offer.
@@ -123,8 +123,8 @@ pub fn how_many_tries_are_offered()
     ensures trades { (d : Diagram) (cap : ℕ) → length (filter (is_offered d cap) (trades (size d))) ≤ 2 * size d }
     ensures destabilisations { (d : Diagram) (cap : ℕ)
         → IsGrid d
-        → length (filter (is_offered d cap) (all_destabilisations (size d))) ≤ 2 * size d }
-    ensures stabilisations { (d : Diagram) (cap : ℕ) → length (filter (is_offered d cap) (all_stabilisations (size d))) ≤ 8 * size d }
+        → length (filter (is_offered d cap) (all_block_tries (size d))) ≤ 2 * size d }
+    ensures stabilisations { (d : Diagram) (cap : ℕ) → length (filter (is_offered d cap) (all_stabilisation_tries (size d))) ≤ 8 * size d }
 {}
 
 /// A link that leads somewhere is a list of moves, its shifts and its step, that joins the two diagrams, and none on the way is larger than the larger end.

@@ -8,8 +8,6 @@ mod offer_list;
 mod offers;
 mod side_by_side;
 mod spans;
-#[cfg(test)]
-mod tests;
 mod trading;
 mod tries;
 

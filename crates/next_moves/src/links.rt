@@ -2,7 +2,7 @@
 ghost use Rattle.std.specs.Prelude.{◌≡◌, ◌++◌, reverse, IfOk};
 ghost use Rattle.next_moves.specs.Links.{link_moves};
 
-use grid_canon::{Packed, push_shifts, push_shifts_back};
+use grid_keys::{Packed, push_shifts, push_shifts_back};
 use grid_moves::Move;
 use memory_core::OutOfMemory;
 

@@ -2,15 +2,15 @@
 ghost use Rattle.std.specs.Prelude.{◌≡◌, ◌≤◌, ◌*◌, [], length};
 ghost use Rattle.grid_core.specs.declared.grid.TheConstants.{MAX_SIZE};
 ghost use Rattle.grid_core.specs.Diagram.{IsGrid, size};
-ghost use Rattle.grid_canon.specs.CanonicalForm.{IsCanonical};
-ghost use Rattle.grid_canon.specs.Key.{key_of};
+ghost use Rattle.grid_keys.specs.CanonicalForm.{IsCanonical};
+ghost use Rattle.grid_keys.specs.Key.{key_of};
 ghost use Rattle.next_moves.specs.Offers.{IsOfferList};
 
 use crate::links::Offer;
 use crate::offer_list::OfferList;
 use crate::tries::Tries;
-use grid_canon::{LeastForm, Packed, pack};
 use grid_core::{Grid, MAX_SIZE};
+use grid_keys::{LeastForm, Packed, pack};
 use std::marker::Model;
 
 /// The greatest number of offers: at most twelve for each column.

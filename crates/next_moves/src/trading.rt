@@ -5,10 +5,10 @@ ghost use Rattle.grid_core.specs.Diagram.{size};
 ghost use Rattle.grid_core.specs.Parts.{column_span, ends, column_lows, column_highs, row_lows, row_highs};
 ghost use Rattle.grid_moves.specs.Step.{Step};
 ghost use Rattle.grid_moves.specs.Exchanged.{columns_exchanged, rows_exchanged};
-ghost use Rattle.grid_canon.specs.Translation.{translate};
-ghost use Rattle.grid_canon.specs.ShortTrades.{trades_of};
+ghost use Rattle.grid_keys.specs.Translation.{translate};
+ghost use Rattle.short_grids.specs.ShortTrades.{trades_of};
 ghost use Rattle.next_moves.specs.declared.offers.TheConstants.{MAX_OFFERS};
-ghost use Rattle.next_moves.specs.Tries.{column_exchange, column_slide, row_exchange, row_slide, column_trades, row_trades};
+ghost use Rattle.next_moves.specs.Tries.{try_column_exchange, try_column_slide, try_row_exchange, try_row_slide, column_trades, row_trades};
 ghost use Rattle.next_moves.specs.Offers.{is_legal};
 ghost use Rattle.lane_spans.specs.Columns.{has_bit, trades};
 ghost use Rattle.next_moves.specs.Extends.{Extends};
@@ -17,9 +17,9 @@ use crate::offer_list::OfferList;
 use crate::side_by_side::shift_before;
 use crate::spans::Spans;
 use crate::tries::Tries;
-use grid_canon::ShortTrades;
 use grid_moves::Move;
 use lane_spans::has_bit;
+use short_grids::ShortTrades;
 
 impl<'a> Tries<'a> {
     /// Appends the exchanges and slides of neighbouring columns.
@@ -100,7 +100,7 @@ impl<'a> Tries<'a> {
     /// Appends the exchange of a column and the next one, which is legal.
     fn exchange_columns(&self, list: &mut OfferList, c: u8)
         requires column { c < size self.now.diagram }
-        requires legal { is_legal self.now.diagram (column_exchange (size self.now.diagram) c) ≡ true }
+        requires legal { is_legal self.now.diagram (try_column_exchange (size self.now.diagram) c) ≡ true }
         requires room { length list.old.items < MAX_OFFERS }
         ensures offered { Extends self.now.diagram self.now.cap (column_trades (size self.now.diagram) c) list.old.items list.new.items }
         ensures fits { length list.new.items ≤ length list.old.items + 1 }
@@ -113,8 +113,8 @@ impl<'a> Tries<'a> {
     /// Appends the slide of a column and the next one, which is legal.
     fn slide_columns(&self, list: &mut OfferList, c: u8)
         requires column { c < size self.now.diagram }
-        requires no_exchange { is_legal self.now.diagram (column_exchange (size self.now.diagram) c) ≡ false }
-        requires legal { is_legal self.now.diagram (column_slide (size self.now.diagram) c) ≡ true }
+        requires no_exchange { is_legal self.now.diagram (try_column_exchange (size self.now.diagram) c) ≡ false }
+        requires legal { is_legal self.now.diagram (try_column_slide (size self.now.diagram) c) ≡ true }
         requires room { length list.old.items < MAX_OFFERS }
         ensures offered { Extends self.now.diagram self.now.cap (column_trades (size self.now.diagram) c) list.old.items list.new.items }
         ensures fits { length list.new.items ≤ length list.old.items + 1 }
@@ -222,7 +222,7 @@ impl<'a> Tries<'a> {
     /// Appends the exchange of a row and the next one, which is legal.
     fn exchange_rows(&self, list: &mut OfferList, r: u8)
         requires row { r < size self.now.diagram }
-        requires legal { is_legal self.now.diagram (row_exchange (size self.now.diagram) r) ≡ true }
+        requires legal { is_legal self.now.diagram (try_row_exchange (size self.now.diagram) r) ≡ true }
         requires room { length list.old.items < MAX_OFFERS }
         ensures offered { Extends self.now.diagram self.now.cap (row_trades (size self.now.diagram) r) list.old.items list.new.items }
         ensures fits { length list.new.items ≤ length list.old.items + 1 }
@@ -235,8 +235,8 @@ impl<'a> Tries<'a> {
     /// Appends the slide of a row and the next one, which is legal.
     fn slide_rows(&self, list: &mut OfferList, r: u8)
         requires row { r < size self.now.diagram }
-        requires no_exchange { is_legal self.now.diagram (row_exchange (size self.now.diagram) r) ≡ false }
-        requires legal { is_legal self.now.diagram (row_slide (size self.now.diagram) r) ≡ true }
+        requires no_exchange { is_legal self.now.diagram (try_row_exchange (size self.now.diagram) r) ≡ false }
+        requires legal { is_legal self.now.diagram (try_row_slide (size self.now.diagram) r) ≡ true }
         requires room { length list.old.items < MAX_OFFERS }
         ensures offered { Extends self.now.diagram self.now.cap (row_trades (size self.now.diagram) r) list.old.items list.new.items }
         ensures fits { length list.new.items ≤ length list.old.items + 1 }

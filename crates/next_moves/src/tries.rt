@@ -5,10 +5,10 @@ ghost use Rattle.grid_core.specs.Corners.{corners};
 ghost use Rattle.grid_core.specs.Diagram.{IsGrid, size};
 ghost use Rattle.grid_core.specs.Parts.{column_span, column_lows, column_highs};
 ghost use Rattle.grid_moves.specs.Step.{Step};
-ghost use Rattle.grid_canon.specs.Translation.{translate};
-ghost use Rattle.grid_canon.specs.ShortTrades.{trades_of};
+ghost use Rattle.grid_keys.specs.Translation.{translate};
+ghost use Rattle.short_grids.specs.ShortTrades.{trades_of};
 ghost use Rattle.next_moves.specs.declared.offers.TheConstants.{MAX_OFFERS};
-ghost use Rattle.next_moves.specs.Tries.{destabilisation, destabilisations, all_destabilisations, stabilisations, stabilisation};
+ghost use Rattle.next_moves.specs.Tries.{try_destabilisation, block_tries, all_block_tries, stabilisation_tries, try_stabilisation};
 ghost use Rattle.grid_moves.specs.declared.step.Move.TheVariants.{Destabilise};
 ghost use Rattle.next_moves.specs.Extends.{Extends, IsShortOf, row_of_both, if_below};
 
@@ -16,9 +16,11 @@ use crate::links::{Link, Offer};
 use crate::offer_list::OfferList;
 use crate::side_by_side::{next, shift_before};
 use crate::spans::Spans;
-use grid_canon::{LeastKey, MAX_SHORT_SIZE, ShortGrid, ShortTrades, canonical_key, translate};
+use grid_canon::canonical_key;
 use grid_core::{Corner, Grid, Kind};
+use grid_keys::{LeastKey, translate};
 use grid_moves::{Move, apply_in_place, narrowing_of, widening_of};
+use short_grids::{MAX_SHORT_SIZE, ShortGrid, ShortTrades};
 use std::marker::Model;
 
 /// A grid whose moves are tried, and the cap within which. Beside it stands the same grid as a short one, where a short one has room for one
@@ -140,7 +142,7 @@ impl<'a> Tries<'a> {
     /// Appends the destabilisations, by column and then by row.
     pub(crate) fn destabilise(&self, list: &mut OfferList)
         requires room { length list.old.items + 2 * size self.now.diagram ≤ MAX_OFFERS }
-        ensures offered { Extends self.now.diagram self.now.cap (all_destabilisations (size self.now.diagram)) list.old.items list.new.items }
+        ensures offered { Extends self.now.diagram self.now.cap (all_block_tries (size self.now.diagram)) list.old.items list.new.items }
         ensures fits { length list.new.items ≤ length list.old.items + 2 * size self.now.diagram }
     {
         let _size = self.size();
@@ -154,7 +156,7 @@ impl<'a> Tries<'a> {
     fn destabilise_short(&self, list: &mut OfferList, trades: &ShortTrades)
         requires trades { trades.now ≡ trades_of (size self.now.diagram) (column_span self.now.diagram) }
         requires room { length list.old.items + 2 * size self.now.diagram ≤ MAX_OFFERS }
-        ensures offered { Extends self.now.diagram self.now.cap (all_destabilisations (size self.now.diagram)) list.old.items list.new.items }
+        ensures offered { Extends self.now.diagram self.now.cap (all_block_tries (size self.now.diagram)) list.old.items list.new.items }
         ensures fits { length list.new.items ≤ length list.old.items + 2 * size self.now.diagram }
     {
         for column in 0..self.size() {
@@ -167,7 +169,7 @@ impl<'a> Tries<'a> {
         requires column { c < size self.now.diagram }
         requires trades { trades.now ≡ trades_of (size self.now.diagram) (column_span self.now.diagram) }
         requires room { length list.old.items + 2 ≤ MAX_OFFERS }
-        ensures offered { Extends self.now.diagram self.now.cap (destabilisations (size self.now.diagram) c) list.old.items list.new.items }
+        ensures offered { Extends self.now.diagram self.now.cap (block_tries (size self.now.diagram) c) list.old.items list.new.items }
         ensures fits { length list.new.items ≤ length list.old.items + 2 }
     {
         let _size = self.size();
@@ -179,7 +181,7 @@ impl<'a> Tries<'a> {
     /// Appends them where there is no short grid, by the spans of all columns.
     fn destabilise_long(&self, list: &mut OfferList)
         requires room { length list.old.items + 2 * size self.now.diagram ≤ MAX_OFFERS }
-        ensures offered { Extends self.now.diagram self.now.cap (all_destabilisations (size self.now.diagram)) list.old.items list.new.items }
+        ensures offered { Extends self.now.diagram self.now.cap (all_block_tries (size self.now.diagram)) list.old.items list.new.items }
         ensures fits { length list.new.items ≤ length list.old.items + 2 * size self.now.diagram }
     {
         let spans = Spans::of_columns(self.grid());
@@ -194,7 +196,7 @@ impl<'a> Tries<'a> {
         requires lows { spans.now.lows.items ≡ column_lows self.now.diagram }
         requires highs { spans.now.highs.items ≡ column_highs self.now.diagram }
         requires room { length list.old.items + 2 ≤ MAX_OFFERS }
-        ensures offered { Extends self.now.diagram self.now.cap (destabilisations (size self.now.diagram) c) list.old.items list.new.items }
+        ensures offered { Extends self.now.diagram self.now.cap (block_tries (size self.now.diagram) c) list.old.items list.new.items }
         ensures fits { length list.new.items ≤ length list.old.items + 2 }
     {
         if spans.touch_once(c, self.size()) {
@@ -207,7 +209,7 @@ impl<'a> Tries<'a> {
     fn destabilise_column(&self, list: &mut OfferList, c: u8)
         requires column { c < size self.now.diagram }
         requires room { length list.old.items + 2 ≤ MAX_OFFERS }
-        ensures offered { Extends self.now.diagram self.now.cap (destabilisations (size self.now.diagram) c) list.old.items list.new.items }
+        ensures offered { Extends self.now.diagram self.now.cap (block_tries (size self.now.diagram) c) list.old.items list.new.items }
         ensures fits { length list.new.items ≤ length list.old.items + 2 }
     {
         let near = row_of_both(self.grid(), c);
@@ -225,7 +227,7 @@ impl<'a> Tries<'a> {
     fn try_blocks(&self, list: &mut OfferList, c: u8, first: u8, second: u8)
         requires column { c < size self.now.diagram }
         requires room { length list.old.items + 2 ≤ MAX_OFFERS }
-        ensures offered { Extends self.now.diagram self.now.cap (map (destabilisation (size self.now.diagram) c) (if_below (size self.now.diagram) first ++ if_below (size self.now.diagram) second)) list.old.items list.new.items }
+        ensures offered { Extends self.now.diagram self.now.cap (map (try_destabilisation (size self.now.diagram) c) (if_below (size self.now.diagram) first ++ if_below (size self.now.diagram) second)) list.old.items list.new.items }
         ensures fits { length list.new.items ≤ length list.old.items + 2 }
     {
         self.try_block(list, c, first);
@@ -236,7 +238,7 @@ impl<'a> Tries<'a> {
     fn try_block(&self, list: &mut OfferList, c: u8, r: u8)
         requires column { c < size self.now.diagram }
         requires room { length list.old.items < MAX_OFFERS }
-        ensures offered { Extends self.now.diagram self.now.cap (map (destabilisation (size self.now.diagram) c) (if_below (size self.now.diagram) r)) list.old.items list.new.items }
+        ensures offered { Extends self.now.diagram self.now.cap (map (try_destabilisation (size self.now.diagram) c) (if_below (size self.now.diagram) r)) list.old.items list.new.items }
         ensures fits { length list.new.items ≤ length list.old.items + 1 }
     {
         let size = self.size();
@@ -289,7 +291,7 @@ impl<'a> Tries<'a> {
     /// Appends the stabilisations, by column, kind and corner: none where the size is the cap.
     pub(crate) fn stabilise(&self, list: &mut OfferList)
         requires room { length list.old.items + 8 * size self.now.diagram ≤ MAX_OFFERS }
-        ensures offered { Extends self.now.diagram self.now.cap (flat_map stabilisations (range_with_len 0 (size self.now.diagram))) list.old.items list.new.items }
+        ensures offered { Extends self.now.diagram self.now.cap (flat_map stabilisation_tries (range_with_len 0 (size self.now.diagram))) list.old.items list.new.items }
         ensures fits { length list.new.items ≤ length list.old.items + 8 * size self.now.diagram }
     {
         let size = self.size();
@@ -307,7 +309,7 @@ impl<'a> Tries<'a> {
         requires column { column < size self.now.diagram }
         requires cap { size self.now.diagram < self.now.cap }
         requires room { length list.old.items + 4 ≤ MAX_OFFERS }
-        ensures offered { Extends self.now.diagram self.now.cap (map (stabilisation column kind) corners) list.old.items list.new.items }
+        ensures offered { Extends self.now.diagram self.now.cap (map (try_stabilisation column kind) corners) list.old.items list.new.items }
         ensures fits { length list.new.items ≤ length list.old.items + 4 }
     {
         for corner in Corner::ALL {
@@ -325,7 +327,7 @@ impl<'a> Tries<'a> {
         requires column { at.column < size self.now.diagram }
         requires cap { size self.now.diagram < self.now.cap }
         requires room { length list.old.items < MAX_OFFERS }
-        ensures offered { Extends self.now.diagram self.now.cap (stabilisation at.column at.kind at.corner ∷ []) list.old.items list.new.items }
+        ensures offered { Extends self.now.diagram self.now.cap (try_stabilisation at.column at.kind at.corner ∷ []) list.old.items list.new.items }
         ensures fits { length list.new.items ≤ length list.old.items + 1 }
     {
         match self.short() {
@@ -341,7 +343,7 @@ impl<'a> Tries<'a> {
         requires short { short.now ≡ self.now.diagram }
         requires few { size self.now.diagram < MAX_SHORT_SIZE }
         requires room { length list.old.items < MAX_OFFERS }
-        ensures offered { Extends self.now.diagram self.now.cap (stabilisation at.column at.kind at.corner ∷ []) list.old.items list.new.items }
+        ensures offered { Extends self.now.diagram self.now.cap (try_stabilisation at.column at.kind at.corner ∷ []) list.old.items list.new.items }
         ensures fits { length list.new.items ≤ length list.old.items + 1 }
     {
         let _size = self.size();

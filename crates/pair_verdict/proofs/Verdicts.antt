@@ -1,6 +1,6 @@
 -- What a verdict of a search is worth.
 use Rattle.std.proofs.Common.{rules, ◌≡◌, ◌≢◌, ◌⊎◌, refl, ◌≤◌, sym, subst, ℕ, List, Option, Some, None, Result, Ok, Err, IfOk, length}
-use Rattle.memory_core.specs.declared.OutOfMemory.{OutOfMemory}
+use Rattle.memory_core.specs.declared.out_of_memory.OutOfMemory.{OutOfMemory}
 use Rattle.grid_core.specs.Diagram.{size}
 use Rattle.grid_moves.proofs.Within.{within_joins}
 use Rattle.next_moves.specs.Reach.{IsReached, HasMembers, HasMoreMembers}

@@ -1,9 +1,7 @@
 //! The decision on a problem.
 ghost use Rattle.std.specs.Prelude.{◌≡◌, ◌≤◌, ◌≢◌, Some, None, IfOk};
-ghost use Rattle.grid_core.specs.declared.grid.TheConstants.{MAX_SIZE};
-ghost use Rattle.grid_core.specs.Diagram.{size};
 ghost use Rattle.verdict_core.specs.Evidence.{Claims, Holds, HasEvidence, IsTidyVerdict};
-ghost use Rattle.search_book.specs.declared.problem.TheConstants.{MAX_BUDGET};
+ghost use Rattle.search_book.specs.Bounded.{IsBounded};
 ghost use Rattle.search_book.specs.Ended.{Shows};
 ghost use Rattle.search_pool.specs.declared.many.TheConstants.{MAX_WORKERS};
 ghost use Rattle.search_pool.specs.Finding.{IsFinding};
@@ -14,8 +12,7 @@ ghost use Rattle.pair_verdict.specs.Decided.{Decides, IsVerdictAt, JoinsWhereEqu
 use crate::searched::SimplifiedPair;
 use crate::separating::told_apart;
 use grid_canon::canonical;
-use grid_core::Items;
-use memory_core::OutOfMemory;
+use memory_core::{Items, OutOfMemory};
 use next_moves::Offers;
 use search_book::{Book, End, Problem};
 use search_pool::{Finding, Gate, alone_by, pool};
@@ -39,8 +36,7 @@ impl Decision {
         pair: SimplifiedPair,
         finding: Finding,
     ) -> Result<Decision, OutOfMemory>
-        requires first_fits { size given.now.first ≤ given.now.cap }
-        requires second_fits { size given.now.second ≤ given.now.cap }
+        requires bounded { IsBounded given.now }
         requires simplified { AreSimplified given.now pair.first pair.second }
         requires problem { finding.book.problem ≡ searched given.now pair.first pair.second }
         requires over { finding.book.end ≢ None }
@@ -73,11 +69,7 @@ pub fn decide<R: Threads + Wait + Sync, G: Gate + Sync>(
     workers: u32,
     gate: &G,
 ) -> Result<Decision, OutOfMemory>
-    requires first_fits { size problem.first ≤ problem.cap }
-    requires second_fits { size problem.second ≤ problem.cap }
-    requires cap { problem.cap ≤ MAX_SIZE }
-    requires two { 2 ≤ problem.budget }
-    requires most { problem.budget ≤ MAX_BUDGET }
+    requires bounded { IsBounded problem }
     requires some { 1 ≤ workers }
     requires workers { workers ≤ MAX_WORKERS }
     ensures decides { IfOk result (λ d. Decides problem quandles.now workers d.verdict d.kept) }
@@ -105,11 +97,7 @@ pub fn decide_alone(
     problem: Problem,
     quandles: &[Listed],
 ) -> Result<Decision, OutOfMemory>
-    requires first_fits { size problem.first ≤ problem.cap }
-    requires second_fits { size problem.second ≤ problem.cap }
-    requires cap { problem.cap ≤ MAX_SIZE }
-    requires two { 2 ≤ problem.budget }
-    requires most { problem.budget ≤ MAX_BUDGET }
+    requires { IsBounded problem }
     ensures decides { IfOk result (λ d. Decides problem quandles.now 1 d.verdict d.kept) }
     ensures claims { IfOk result (λ d. Claims problem.first problem.second d.verdict) }
     ensures holds { IfOk result (λ d. HasEvidence d.verdict → Holds problem.first problem.second d.verdict) }
@@ -129,11 +117,7 @@ pub fn decide_alone(
 /// call's own frame: in that of a caller that may return before, the frame of a list would be cleared first.
 #[inline(never)]
 fn search_alone(alloc: Global, problem: &Problem) -> Result<(SimplifiedPair, Finding), OutOfMemory>
-    requires first_fits { size problem.now.first ≤ problem.now.cap }
-    requires second_fits { size problem.now.second ≤ problem.now.cap }
-    requires cap { problem.now.cap ≤ MAX_SIZE }
-    requires two { 2 ≤ problem.now.budget }
-    requires most { problem.now.budget ≤ MAX_BUDGET }
+    requires { IsBounded problem.now }
     ensures simplified { IfOk result (λ r. AreSimplified problem.now r.0.first r.0.second) }
     ensures finding { IfOk result (λ r. IsFinding (searched problem.now r.0.first r.0.second) r.1) }
     ensures no_stray { IfOk result (λ r. r.1.stray ≡ None) }
@@ -166,8 +150,7 @@ fn verdict_of(
     pair: SimplifiedPair,
     book: &Book,
 ) -> Result<Verdict, OutOfMemory>
-    requires first_fits { size given.now.first ≤ given.now.cap }
-    requires second_fits { size given.now.second ≤ given.now.cap }
+    requires bounded { IsBounded given.now }
     requires simplified { AreSimplified given.now pair.first pair.second }
     requires problem { book.now.problem ≡ searched given.now pair.first pair.second }
     requires over { book.now.end ≢ None }

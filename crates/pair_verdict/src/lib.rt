@@ -6,8 +6,6 @@ mod decision;
 pub mod laws;
 mod searched;
 mod separating;
-#[cfg(test)]
-mod tests;
 
 pub use decision::{Decision, decide, decide_alone};
 pub use separating::told_apart;

@@ -4,6 +4,7 @@ ghost use Rattle.grid_core.specs.Diagram.{size};
 ghost use Rattle.grid_moves.specs.declared.step.Move.{Move};
 ghost use Rattle.grid_moves.specs.Joining.{JoinsWithin};
 ghost use Rattle.grid_canon.specs.Tidied.{tidied};
+ghost use Rattle.search_book.specs.Bounded.{IsBounded};
 ghost use Rattle.pair_verdict.specs.Searched.{AreSimplified, searched, IsWholeList};
 
 use grid_canon::tidy;
@@ -40,11 +41,9 @@ impl SimplifiedPair {
     /// What is searched: the simplified diagrams, within the cap of the given problem and with its budget.
     pub(crate) fn problem(&self, given: &Problem) -> Problem
         requires simplified { AreSimplified given.now self.now.first self.now.second }
-        requires first_fits { size given.now.first ≤ given.now.cap }
-        requires second_fits { size given.now.second ≤ given.now.cap }
+        requires bounded { IsBounded given.now }
         ensures problem { result ≡ searched given.now self.now.first self.now.second }
-        ensures first_fits { size result.first ≤ result.cap }
-        ensures second_fits { size result.second ≤ result.cap }
+        ensures bounded { IsBounded result }
     {
         Problem {
             first: self.first.grid.copy(),
@@ -62,8 +61,7 @@ impl SimplifiedPair {
         between: &[Move],
     ) -> Result<Vec<Move>, OutOfMemory>
         requires simplified { AreSimplified given.now self.first self.second }
-        requires first_fits { size given.now.first ≤ given.now.cap }
-        requires second_fits { size given.now.second ≤ given.now.cap }
+        requires bounded { IsBounded given.now }
         requires between { JoinsWithin given.now.cap self.first.grid between.now self.second.grid }
         ensures whole { IfOk result (λ list. (whole : List Move)
             × (IsWholeList given.now self.first self.second between.now whole × (list.items ≡ tidied (size given.now.first) 0 0 whole))) }
@@ -82,8 +80,7 @@ impl SimplifiedPair {
         between: &[Move],
     ) -> Result<Vec<Move>, OutOfMemory>
         requires simplified { AreSimplified given.now self.first self.second }
-        requires first_fits { size given.now.first ≤ given.now.cap }
-        requires second_fits { size given.now.second ≤ given.now.cap }
+        requires bounded { IsBounded given.now }
         requires between { JoinsWithin given.now.cap self.first.grid between.now self.second.grid }
         ensures whole { IfOk result (λ list. IsWholeList given.now self.first self.second between.now list.items) }
         ensures joins { IfOk result (λ list. JoinsWithin given.now.cap given.now.first list.items given.now.second) }

@@ -7,8 +7,8 @@ ghost use Rattle.pair_verdict.specs.Separates.{separates, first_separating, IsSe
 
 use colour_list::{fits, list_fitting};
 use colour_rows::Colouring;
-use grid_core::{Grid, Items};
-use memory_core::OutOfMemory;
+use grid_core::Grid;
+use memory_core::{Items, OutOfMemory};
 use quandle_core::Quandle;
 use std::alloc::Global;
 use verdict_core::{Listed, Verdict};

@@ -12,9 +12,9 @@ use Rattle.std.proofs.lemmas.Map.Entries.{place_from_lookup}
 use Rattle.std.proofs.lemmas.Option.{get_or_from_slice_get, slice_get-map, slice_get_within}
 use Rattle.grid_core.specs.Diagram.{IsOneEach}
 use Rattle.grid_core.proofs.OneEach.{each_below, each_length, range_more}
-use Rattle.grid_canon.specs.declared.key.Packed.{Packed}
-use Rattle.grid_canon.specs.Key.{same_key}
-use Rattle.grid_canon.proofs.Keys.{same_key_true, same_key_false}
+use Rattle.grid_keys.specs.declared.key.Packed.{Packed}
+use Rattle.grid_keys.specs.Key.{same_key}
+use Rattle.grid_keys.proofs.Keys.{same_key_true, same_key_false}
 use Rattle.search_book.specs.declared.problem.Side.{Side}
 use Rattle.search_book.specs.declared.entry.Entry.{Entry}
 use Rattle.search_book.specs.declared.key_map.Known.{Known}
@@ -24,7 +24,7 @@ use Rattle.search_book.proofs.Appended.{stands_before, stands_last}
 use Rattle.search_book.proofs.Restaged.{SameButStages, same_keys, kept_sides}
 use Rattle.search_book.proofs.Lookups.{HasKeyAt, id_of_some, id_of_none}
 use Rattle.search_book.proofs.TwoMaps.{moved_in}
-use Rattle.grid_canon.proofs.LeastTranslates.{range_contains}
+use Rattle.grid_keys.proofs.LeastTranslates.{range_contains}
 
 -- where a look-up finds nothing no key passes the test
 none_at : (test : Packed → Bool) (ps : List (Packed × Known)) (k : ℕ) (p : Packed × Known) → lookup test ps ≡ None → slice_get ps k ≡ Some p → test p.0 ≡ false

@@ -3,12 +3,12 @@ use Rattle.std.proofs.Common.{◌≡◌, ◌∙◌, ◌++◌, ◌∷◌, [], ari
 use Rattle.std.specs.Map.{lookup}
 use Rattle.std.proofs.lemmas.List.{append_assoc, map_push}
 use Rattle.std.proofs.lemmas.List.Sorted.{IsPermutation-append_comm, IsPermutation-append_right, IsPermutation-refl}
-use Rattle.grid_canon.specs.declared.brief.BriefKey.{BriefKey}
-use Rattle.grid_canon.specs.declared.key.Packed.{Packed}
-use Rattle.grid_canon.specs.Brief.{whole_key, same_brief}
-use Rattle.grid_canon.specs.Key.{same_key}
-use Rattle.grid_canon.proofs.Briefs.{told_alike}
-use Rattle.grid_canon.proofs.Keys.{same_key_true}
+use Rattle.grid_keys.specs.declared.brief.BriefKey.{BriefKey}
+use Rattle.grid_keys.specs.declared.key.Packed.{Packed}
+use Rattle.grid_keys.specs.Brief.{whole_key, same_brief}
+use Rattle.grid_keys.specs.Key.{same_key}
+use Rattle.grid_keys.proofs.Briefs.{told_alike}
+use Rattle.grid_keys.proofs.Keys.{same_key_true}
 use Rattle.search_book.specs.declared.key_map.Known.{Known}
 use Rattle.search_book.specs.KeyMap.{whole_pair, pairs, IsWide, AreWide}
 

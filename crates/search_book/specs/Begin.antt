@@ -1,8 +1,8 @@
 -- How a book begins.
 use Rattle.std.specs.Prelude.{◌≡◌, ◌∷◌, [], Some, None, if◌then◌else◌}
-use Rattle.grid_canon.specs.declared.canonical_form.LeastForm.{LeastForm}
-use Rattle.grid_canon.specs.CanonicalForm.{IsLeastForm}
-use Rattle.grid_canon.specs.Key.{key_of, same_key}
+use Rattle.grid_keys.specs.declared.least_form.LeastForm.{LeastForm}
+use Rattle.grid_keys.specs.CanonicalForm.{IsLeastForm}
+use Rattle.grid_keys.specs.Key.{key_of, same_key}
 use Rattle.search_book.specs.declared.problem.Problem.{Problem}
 use Rattle.search_book.specs.declared.problem.Side.{Side}
 use Rattle.search_book.specs.declared.problem.Side.TheVariants.{First, Second}

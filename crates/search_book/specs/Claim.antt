@@ -1,6 +1,6 @@
 -- What a claim makes of a book.
 use Rattle.std.specs.Prelude.{◌≡◌, ◌<◌, ◌≤◌, ◌⊎◌, ◌++◌, ◌∷◌, [], ℕ, List, None}
-use Rattle.grid_canon.specs.Key.{size_of}
+use Rattle.grid_keys.specs.Key.{size_of}
 use Rattle.search_book.specs.declared.entry.Entry.{Entry}
 use Rattle.search_book.specs.declared.entry.Stage.TheVariants.{Unclaimed, InFlight}
 use Rattle.search_book.specs.declared.event.Event.TheVariants.{Claim}

@@ -1,8 +1,8 @@
 -- Entries by their ids and by their keys, and their sides and stages.
 use Rattle.std.specs.Prelude.{◌≡◌, ◌≢◌, ℕ, List, Bool, true, false, Option, Some, map, slice_get, slice_set}
 use Rattle.std.specs.List.{position}
-use Rattle.grid_canon.specs.declared.key.Packed.{Packed}
-use Rattle.grid_canon.specs.Key.{same_key}
+use Rattle.grid_keys.specs.declared.key.Packed.{Packed}
+use Rattle.grid_keys.specs.Key.{same_key}
 use Rattle.search_book.specs.declared.problem.Side.{Side}
 use Rattle.search_book.specs.declared.problem.Side.TheVariants.{First, Second}
 use Rattle.search_book.specs.declared.entry.Entry.{Entry}

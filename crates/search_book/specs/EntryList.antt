@@ -1,17 +1,17 @@
 -- The entries in little memory; only private clauses and proofs cite this file.
 use Rattle.std.specs.Prelude.{◌≡◌, ◌<◌, ◌^◌, ℕ, List, Bool, true}
 use Rattle.frontier_core.specs.declared.sizes.TheConstants.{SIZES}
-use Rattle.grid_canon.specs.declared.brief.BriefKey.{BriefKey}
-use Rattle.grid_canon.specs.declared.key.Packed.{Packed}
-use Rattle.grid_canon.specs.Brief.{whole_key}
-use Rattle.grid_canon.specs.Key.{size_of}
+use Rattle.grid_keys.specs.declared.brief.BriefKey.{BriefKey}
+use Rattle.grid_keys.specs.declared.key.Packed.{Packed}
+use Rattle.grid_keys.specs.Brief.{whole_key}
+use Rattle.grid_keys.specs.Key.{size_of}
 use Rattle.search_book.specs.declared.entry.Entry.{Entry}
 use Rattle.search_book.specs.declared.entry_list.BriefEntry.{BriefEntry}
 
--- the entries, for how many there is room, and whether all their keys are to have brief forms
-pub record Kept : Type 0 where
-  pub narrow : Bool
+-- what contracts see of a list of entries: for how many there is room, whether all their keys are to have brief forms, and the entries
+pub record EntriesIn : Type 0 where
   pub room : ℕ
+  pub narrow : Bool
   pub entries : List Entry
 
 -- the entry with the key that its brief key stands for

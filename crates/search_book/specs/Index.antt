@@ -2,7 +2,7 @@
 use Rattle.std.specs.Prelude.{◌≡◌, ◌≢◌, ◌++◌, ℕ, List, Some, length, map, slice_get}
 use Rattle.std.specs.List.{All, AllPairs}
 use Rattle.grid_core.specs.Diagram.{IsOneEach}
-use Rattle.grid_canon.specs.declared.key.Packed.{Packed}
+use Rattle.grid_keys.specs.declared.key.Packed.{Packed}
 use Rattle.search_book.specs.declared.problem.Side.{Side}
 use Rattle.search_book.specs.declared.entry.Entry.{Entry}
 use Rattle.search_book.specs.declared.key_map.Known.{Known}

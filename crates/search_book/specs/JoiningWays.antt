@@ -2,9 +2,9 @@
 use Rattle.std.specs.Prelude.{◌≡◌, ◌<◌, ◌++◌, ◌∷◌, [], ℕ, List, Option, Some, None, slice_get}
 use Rattle.grid_core.specs.Diagram.{Diagram}
 use Rattle.grid_moves.specs.declared.step.Move.{Move}
-use Rattle.grid_canon.specs.declared.canonical_form.LeastForm.{LeastForm}
-use Rattle.grid_canon.specs.CanonicalForm.{IsLeastForm}
-use Rattle.grid_canon.specs.Shifts.{shift_moves}
+use Rattle.grid_keys.specs.declared.least_form.LeastForm.{LeastForm}
+use Rattle.grid_keys.specs.CanonicalForm.{IsLeastForm}
+use Rattle.grid_keys.specs.Shifts.{shift_moves}
 use Rattle.next_moves.specs.declared.links.Link.{Link}
 use Rattle.next_moves.specs.Links.{link_moves}
 use Rattle.search_book.specs.Entries.{StandsAt}

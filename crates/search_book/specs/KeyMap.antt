@@ -1,9 +1,9 @@
 -- What is known of keys, in two maps; only private clauses and proofs cite this file.
 use Rattle.std.specs.Prelude.{◌≢◌, ◌++◌, List, map}
 use Rattle.std.specs.List.{All}
-use Rattle.grid_canon.specs.declared.brief.BriefKey.{BriefKey}
-use Rattle.grid_canon.specs.declared.key.Packed.{Packed}
-use Rattle.grid_canon.specs.Brief.{whole_key}
+use Rattle.grid_keys.specs.declared.brief.BriefKey.{BriefKey}
+use Rattle.grid_keys.specs.declared.key.Packed.{Packed}
+use Rattle.grid_keys.specs.Brief.{whole_key}
 use Rattle.search_book.specs.declared.key_map.Known.{Known}
 
 -- a pair with the key that its brief key stands for

@@ -1,8 +1,8 @@
 -- A settlement in words: which offers were passed over, which were admitted, which one ended the book, and what the book is then.
 use Rattle.std.specs.Prelude.{◌≡◌, ◌≢◌, ◌≤◌, ◌⊎◌, ◌++◌, ◌∷◌, [], ℕ, List, Bool, Option, Some, None, if◌then◌else◌, length, map}
 use Rattle.std.specs.List.{All, list_any}
-use Rattle.grid_canon.specs.declared.key.Packed.{Packed}
-use Rattle.grid_canon.specs.Key.{same_key}
+use Rattle.grid_keys.specs.declared.key.Packed.{Packed}
+use Rattle.grid_keys.specs.Key.{same_key}
 use Rattle.next_moves.specs.declared.links.Offer.{Offer}
 use Rattle.search_book.specs.declared.problem.Side.{Side}
 use Rattle.search_book.specs.declared.entry.Entry.{Entry}

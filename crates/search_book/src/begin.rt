@@ -1,8 +1,8 @@
 //! The roots of a book, with which it begins.
 ghost use Rattle.std.specs.Prelude.{◌≡◌, ◌<◌, ◌≤◌, ◌++◌, ◌∷◌, [], length, IsTrue, None};
 ghost use Rattle.grid_core.specs.Diagram.{IsGrid, size};
-ghost use Rattle.grid_canon.specs.declared.key.TheConstants.{WORD_COLUMNS};
-ghost use Rattle.grid_canon.specs.Key.{key_of};
+ghost use Rattle.grid_keys.specs.declared.key.TheConstants.{WORD_COLUMNS};
+ghost use Rattle.grid_keys.specs.Key.{key_of};
 ghost use Rattle.search_book.specs.declared.problem.Problem.{Problem};
 ghost use Rattle.search_book.specs.Begin.{opened, root};
 ghost use Rattle.search_book.specs.Entries.{id_of};
@@ -11,7 +11,7 @@ use crate::entry::Origin;
 use crate::event::{End, Meeting};
 use crate::problem::Side;
 use crate::roll::Roll;
-use grid_canon::{LeastForm, pack};
+use grid_keys::{LeastForm, pack};
 
 /// Admits the roots, of which there is one where the forms are equal: then the sides have met.
 pub fn admit_roots(roll: &mut Roll, first: &LeastForm, second: &LeastForm) -> Option<End>

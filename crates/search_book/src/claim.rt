@@ -7,7 +7,7 @@ ghost use Rattle.search_book.specs.Sound.{Names};
 
 use crate::answer::Ticket;
 use crate::entry_list::EntryList;
-use grid_canon::LeastForm;
+use grid_keys::LeastForm;
 
 /// The ticket of an entry, whose key names a diagram.
 pub fn ticket(entries: &EntryList, id: u32) -> Ticket

@@ -1,14 +1,14 @@
 //! The entries in the order of their ids, in little memory.
 ghost use Rattle.std.specs.Prelude.{◌≡◌, ◌<◌, ◌≤◌, ◌↔◌, ◌++◌, ◌∷◌, [], length, IfOk, IfSome, IfNone, IsTrue};
-ghost use Rattle.grid_canon.specs.declared.key.TheConstants.{WORD_COLUMNS};
-ghost use Rattle.grid_canon.specs.Brief.{whole_key};
+ghost use Rattle.grid_keys.specs.declared.key.TheConstants.{WORD_COLUMNS};
+ghost use Rattle.grid_keys.specs.Brief.{whole_key};
 ghost use Rattle.search_book.specs.declared.entry.Entry.{Entry};
 ghost use Rattle.search_book.specs.Entries.{StandsAt, at_stage};
 ghost use Rattle.search_book.specs.EntryList.{whole_entry, IsSmall, HasBrief};
 
 use crate::entry::{Entry, Origin, Stage};
 use crate::problem::Side;
-use grid_canon::{BriefKey, WORD_COLUMNS};
+use grid_keys::{BriefKey, WORD_COLUMNS};
 use memory_core::OutOfMemory;
 use std::alloc::Global;
 use std::marker::Model;
@@ -65,9 +65,9 @@ pub struct EntryList {
 impl Model for EntryList {
     ghost use Rattle.std.specs.Prelude.{if◌then◌else◌, map, vec_capacity};
     ghost use Rattle.std.specs.List.{All};
-    ghost use Rattle.search_book.specs.EntryList.{Kept, whole_entry, IsSmall};
+    ghost use Rattle.search_book.specs.EntryList.{EntriesIn, whole_entry, IsSmall};
 
-    ghost Value = { Kept };
+    ghost Value = { EntriesIn };
 
     ghost view = { λ l. record {
       narrow = l.narrow;

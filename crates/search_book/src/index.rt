@@ -2,15 +2,15 @@
 ghost use Rattle.std.specs.Prelude.{◌≡◌, ◌≢◌, ◌<◌, ◌≤◌, ◌++◌, ◌∷◌, [], List, length, slice_get, IfOk, IfSome, IfNone, Some, None};
 ghost use Rattle.std.specs.List.{All};
 ghost use Rattle.std.specs.Map.{lookup};
-ghost use Rattle.grid_canon.specs.Key.{same_key};
-ghost use Rattle.grid_canon.specs.declared.key.Packed.{Packed};
+ghost use Rattle.grid_keys.specs.Key.{same_key};
+ghost use Rattle.grid_keys.specs.declared.key.Packed.{Packed};
 ghost use Rattle.search_book.specs.declared.problem.Side.{Side};
 ghost use Rattle.search_book.specs.Entries.{id_of, keys, sides};
 ghost use Rattle.search_book.specs.Index.{IsIndexOf, IsKnown};
 
 use crate::entry_list::EntryList;
 use crate::key_map::{KeyMap, Known};
-use grid_canon::Packed;
+use grid_keys::Packed;
 use memory_core::OutOfMemory;
 use std::alloc::Global;
 use std::marker::Model;
@@ -40,17 +40,6 @@ impl Index {
         ensures index { IfOk result (λ index. IsIndexOf [] [] index) }
     {
         let by_key = KeyMap::reserve(alloc, room, columns)?;
-        let spilled = Vec::with_capacity(alloc, room as usize)?;
-        Ok(Index { by_key, spilled })
-    }
-
-    /// No id, with room for so many in the list alone: the map asks for memory at each of its first pairs, and may be refused.
-    #[cfg(test)]
-    pub fn without_map(alloc: Global, room: u32) -> Result<Index, OutOfMemory>
-        ensures room { IfOk result (λ index. room ≤ index.room) }
-        ensures index { IfOk result (λ index. IsIndexOf [] [] index) }
-    {
-        let by_key = KeyMap::without_room(alloc);
         let spilled = Vec::with_capacity(alloc, room as usize)?;
         Ok(Index { by_key, spilled })
     }

@@ -1,10 +1,10 @@
 //! What is known of keys, by key.
 ghost use Rattle.std.specs.Prelude.{◌≡◌, ◌++◌, ◌∷◌, [], IfOk, true, false, None, IsPermutation};
 ghost use Rattle.std.specs.Map.{lookup};
-ghost use Rattle.grid_canon.specs.Key.{same_key};
+ghost use Rattle.grid_keys.specs.Key.{same_key};
 
 use crate::problem::Side;
-use grid_canon::{BriefKey, Packed, WORD_COLUMNS};
+use grid_keys::{BriefKey, Packed, WORD_COLUMNS};
 use indexmap::IndexMap;
 use memory_core::OutOfMemory;
 use std::alloc::Global;
@@ -27,7 +27,7 @@ pub struct KeyMap {
 
 impl Model for KeyMap {
     ghost use Rattle.std.specs.Prelude.{List};
-    ghost use Rattle.grid_canon.specs.declared.key.Packed.{Packed};
+    ghost use Rattle.grid_keys.specs.declared.key.Packed.{Packed};
     ghost use Rattle.search_book.specs.declared.key_map.Known.{Known};
     ghost use Rattle.search_book.specs.KeyMap.{pairs, AreWide};
 
@@ -51,17 +51,6 @@ impl KeyMap {
         let brief = IndexMap::with_capacity(alloc, room as usize)?;
         let whole = IndexMap::with_capacity(alloc, wide as usize)?;
         Ok(KeyMap { brief, whole })
-    }
-
-    /// No key, and no room: memory is asked for at each of the first keys, and may be refused.
-    #[cfg(test)]
-    pub fn without_room(alloc: Global) -> KeyMap
-        ensures { result ≡ [] }
-    {
-        KeyMap {
-            brief: IndexMap::new(alloc),
-            whole: IndexMap::new(alloc),
-        }
     }
 
     /// What is known of a key.

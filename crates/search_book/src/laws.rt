@@ -13,7 +13,7 @@ ghost use Rattle.search_book.specs.Begin.{Begins};
 ghost use Rattle.search_book.specs.Machine.{After, Runs, claimed_ids};
 ghost use Rattle.search_book.specs.Events.{settled_ids, settlements};
 ghost use Rattle.search_book.specs.Sound.{IsProblem, IsSound, IsLater};
-ghost use Rattle.grid_canon.specs.Key.{size_of};
+ghost use Rattle.grid_keys.specs.Key.{size_of};
 ghost use Rattle.search_book.specs.Claim.{Claims};
 ghost use Rattle.search_book.specs.Settle.{Settles};
 ghost use Rattle.search_book.specs.Settlement.{IsSettlement};

@@ -6,7 +6,7 @@ ghost use Rattle.search_book.specs.JoiningWays.{ParentsComeFirst, own_moves, way
 
 use crate::entry::Origin;
 use crate::entry_list::EntryList;
-use grid_canon::push_shifts;
+use grid_keys::push_shifts;
 use grid_moves::Move;
 use memory_core::OutOfMemory;
 use next_moves::push_link;

@@ -3,10 +3,10 @@ use Rattle.std.proofs.Common.{◌≡◌, ◌∙◌, ap, ap₂, refl, sym, ℕ, �
 use Rattle.std.proofs.lemmas.List.Elements.{All-contains}
 use Rattle.std.proofs.lemmas.Option.{slice_get_within, get_or_from_slice_get}
 use Rattle.grid_core.specs.Diagram.{size}
-use Rattle.grid_canon.specs.declared.key.Packed.{Packed}
-use Rattle.grid_canon.specs.Key.{key_of, size_of, same_key}
-use Rattle.grid_canon.proofs.Keys.{size_of_key}
-use Rattle.grid_canon.proofs.LeastTranslates.{map_contains}
+use Rattle.grid_keys.specs.declared.key.Packed.{Packed}
+use Rattle.grid_keys.specs.Key.{key_of, size_of, same_key}
+use Rattle.grid_keys.proofs.Keys.{size_of_key}
+use Rattle.grid_keys.proofs.LeastTranslates.{map_contains}
 use Rattle.next_moves.specs.Offers.{Neighbourhood}
 use Rattle.search_book.specs.declared.answer.Held.{Held}
 use Rattle.search_book.specs.declared.answer.Settled.{Settled}
@@ -45,7 +45,7 @@ module _ (s t u : State) (worker : ℕ) (ticket : Ticket) (offers : Neighbourhoo
   pub is_done : (answer : Settled) → AnswersSettle t worker ticket.id offers answer u → answer ≡ Done
   is_done Done answers = refl
   is_done Late answers = absurd (answers.0 (ap (λ (v : State). v.end) claims.after ∙ claims.not_over))
-  is_done (Stranger asked kept) answers = absurd (answers.differ (answers.is_kept ∙ held_now ∙ ap (λ (h : Held). Some h) (sym answers.is_asked)))
+  is_done (Stranger asked kept) answers = absurd (answers.differ (answers.is_held ∙ held_now ∙ ap (λ (h : Held). Some h) (sym answers.is_asked)))
 
   pub turn_history : IsDone t worker ticket.id offers u → u.history ≡ s.history ++ Claim worker ∷ [] ++ Settle worker ticket.id ∷ []
   turn_history done =

@@ -20,13 +20,13 @@ pub allows_offers : (s t : State) (worker : ℕ) (task : Task) → IsSound s →
 allows_offers s t worker task sound is =
     let small : size task.form.grid ≤ s.problem.cap = ticket_small s (record { id = task.id; form = task.form }) sound is.ticket in
     let least : size task.form.grid ≤ task.cap = subst (λ (k : ℕ). size task.form.grid ≤ k) (sym is.cap) small in
-    let most : task.cap ≤ MAX_SIZE = subst (λ (k : ℕ). k ≤ MAX_SIZE) (sym is.cap) sound.problem.cap in
+    let most : task.cap ≤ MAX_SIZE = subst (λ (k : ℕ). k ≤ MAX_SIZE) (sym is.cap) sound.problem.bounded.cap in
     record { canonical = is.ticket.form.canonical; least = least; most = most }
 
 -- a sound book has far fewer settlements than a counter can count
 pub few_settlements : (s : State) → IsSound s → settlements s.history < 2 ^ 64 - 1
 few_settlements s sound =
-    omega (arith, as_many_events s.history, sound.events.most, sound.bounds.budget, sound.problem.most)
+    omega (arith, as_many_events s.history, sound.events.most, sound.bounds.budget, sound.problem.bounded.most)
 
 -- taken offers are one settlement more
 pub one_more_where_done : (s t : State) (worker id : ℕ) (offers : Neighbourhood) (answer : Settled)

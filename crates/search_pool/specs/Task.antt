@@ -2,7 +2,7 @@
 use Rattle.std.specs.Prelude.{◌≡◌, ◌≢◌, ◌≤◌, ◌+◌, ℕ, None}
 use Rattle.grid_core.specs.declared.grid.TheConstants.{MAX_SIZE}
 use Rattle.grid_core.specs.Diagram.{size}
-use Rattle.grid_canon.specs.CanonicalForm.{IsCanonical}
+use Rattle.grid_keys.specs.CanonicalForm.{IsCanonical}
 use Rattle.next_moves.specs.Offers.{Neighbourhood}
 use Rattle.search_book.specs.State.{State}
 use Rattle.search_book.specs.Claim.{Claims}

@@ -10,8 +10,6 @@ mod many;
 mod searcher;
 mod seat;
 mod shared;
-#[cfg(test)]
-mod tests;
 
 pub use finding::Finding;
 pub use gate::{Gate, OpenGate};

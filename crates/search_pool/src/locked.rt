@@ -7,7 +7,7 @@ ghost use Rattle.search_pool.specs.Task.{AllowsOffers, Hands, Counts};
 
 use crate::holding::OneCall;
 use crate::seat::Seat;
-use grid_canon::LeastForm;
+use grid_keys::LeastForm;
 use next_moves::Offers;
 use search_book::{Book, Claim, Settled};
 use std::sync::ledger::{Book as Tally, Ledger, Share};

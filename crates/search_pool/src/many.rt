@@ -1,8 +1,6 @@
 //! Many workers on one book.
 ghost use Rattle.std.specs.Prelude.{◌≡◌, ◌≢◌, ◌≤◌, ◌<◌, IfOk, None, Some, All, true};
-ghost use Rattle.grid_core.specs.declared.grid.TheConstants.{MAX_SIZE};
-ghost use Rattle.grid_core.specs.Diagram.{size};
-ghost use Rattle.search_book.specs.declared.problem.TheConstants.{MAX_BUDGET};
+ghost use Rattle.search_book.specs.Bounded.{IsBounded};
 ghost use Rattle.search_book.specs.Ended.{Shows};
 ghost use Rattle.search_book.specs.Sound.{IsProblem};
 ghost use Rattle.search_book.specs.Events.{settlements};
@@ -39,11 +37,7 @@ pub fn pool<R: Threads + Wait + Sync, G: Gate + Sync>(
     workers: u32,
     gate: &G,
 ) -> Result<Finding, OutOfMemory>
-    requires first_fits { size problem.first ≤ problem.cap }
-    requires second_fits { size problem.second ≤ problem.cap }
-    requires cap { problem.cap ≤ MAX_SIZE }
-    requires two { 2 ≤ problem.budget }
-    requires most { problem.budget ≤ MAX_BUDGET }
+    requires bounded { IsBounded problem }
     requires some { 1 ≤ workers }
     requires workers { workers ≤ MAX_WORKERS }
     ensures finding { IfOk result (λ f. IsFinding problem f) }
@@ -71,11 +65,7 @@ fn compared(
     book: Book,
     settled: u64,
 ) -> Result<Finding, OutOfMemory>
-    requires first_fits { size problem.first ≤ problem.cap }
-    requires second_fits { size problem.second ≤ problem.cap }
-    requires cap { problem.cap ≤ MAX_SIZE }
-    requires two { 2 ≤ problem.budget }
-    requires most { problem.budget ≤ MAX_BUDGET }
+    requires bounded { IsBounded problem }
     requires over { book.end ≢ None }
     requires settled { settled ≡ settlements book.history }
     ensures finding { IfOk result (λ f. IsFinding problem f) }
@@ -127,11 +117,7 @@ fn run_workers<
     made_blank: Blank,
     end_blank: Blank,
 ) -> Result<(Book, u64), OutOfMemory>
-    requires first_fits { size problem.first ≤ problem.cap }
-    requires second_fits { size problem.second ≤ problem.cap }
-    requires cap { problem.cap ≤ MAX_SIZE }
-    requires two { 2 ≤ problem.budget }
-    requires most { problem.budget ≤ MAX_BUDGET }
+    requires bounded { IsBounded problem }
     requires some { 1 ≤ workers }
     requires workers { workers ≤ MAX_WORKERS }
     requires made_blank { (made_blank.name ≡ L.name) × (made_blank.parts ≡ L.parts) × (L.parts ≡ workers) }

@@ -18,14 +18,15 @@ use Rattle.grid_moves.specs.declared.step.MoveFault.TheVariants.{Range}
 use Rattle.grid_moves.specs.MoveFault.{first_fault, shift_fault}
 use Rattle.grid_moves.specs.Step.{Step}
 use Rattle.grid_moves.proofs.OneResult.{step_exists, step_legal}
-use Rattle.grid_canon.proofs.LeastTranslates.{map_contains, flat_map_contains, range_contains}
+use Rattle.grid_keys.proofs.LeastTranslates.{map_contains, flat_map_contains, range_contains}
 use Rattle.grid_core.specs.Corners.{corners}
 use Rattle.grid_core.proofs.CornerList.{corner_listed}
 use Rattle.grid_moves.specs.SizeAfter.{size_after}
 use Rattle.grid_moves.proofs.Sizes.{step_size}
 use Rattle.next_moves.proofs.Members.{contains_filter, filter_contains}
 use Rattle.walk_samples.specs.declared.walk.TheConstants.{LARGEST}
-use Rattle.grid_moves.specs.MoveLists.{is_slide, all_but_slides, column_shift, row_shift, column_exchange, row_exchange, destabilisation}
+use Rattle.grid_moves.specs.Kinds.{is_slide}
+use Rattle.grid_moves.specs.MoveLists.{all_but_slides, column_shift, row_shift, column_exchange, row_exchange, destabilisation}
 use Rattle.grid_moves.specs.MoveLists.{destabilisations, stabilisation, stabilisations}
 use Rattle.walk_samples.specs.Candidates.{is_candidate, candidates}
 use Rattle.walk_samples.proofs.Picked.{candidate_legal, candidate_small}

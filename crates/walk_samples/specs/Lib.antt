@@ -6,6 +6,7 @@ pub use Rattle.grid_core.specs.Diagram
 pub use Rattle.grid_core.specs.Parts
 pub use Rattle.grid_core.specs.Trefoils
 pub use Rattle.grid_moves.specs.Step
+pub use Rattle.grid_moves.specs.Kinds
 pub use Rattle.grid_moves.specs.Joining
 pub use Rattle.grid_moves.specs.MoveLists
 pub use Rattle.colour_list.specs.Fits

@@ -6,7 +6,7 @@ ghost use Rattle.grid_core.specs.Parts.{bottoms};
 ghost use Rattle.grid_moves.specs.Step.{Step};
 ghost use Rattle.grid_moves.specs.Joining.{JoinsWithin};
 ghost use Rattle.walk_samples.specs.declared.walk.TheConstants.{LARGEST, TURNS};
-ghost use Rattle.grid_moves.specs.MoveLists.{is_slide};
+ghost use Rattle.grid_moves.specs.Kinds.{is_slide};
 ghost use Rattle.walk_samples.specs.Candidates.{candidates};
 ghost use Rattle.grid_core.specs.Trefoils.{right_trefoil};
 ghost use Rattle.walk_samples.specs.Walk.{words, Walks};

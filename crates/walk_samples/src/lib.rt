@@ -3,8 +3,6 @@
 
 mod candidates;
 pub mod laws;
-#[cfg(test)]
-mod tests;
 mod text;
 mod walk;
 

@@ -3,9 +3,9 @@ use Rattle.std.proofs.lemmas.List.{length-map, length-append}
 use Rattle.std.specs.List.{All}
 use Rattle.grid_core.specs.Diagram.{Diagram, size}
 use Rattle.grid_moves.specs.Joining.{JoinsWithin}
-use Rattle.grid_canon.specs.declared.key.Packed.{Packed}
-use Rattle.grid_canon.specs.CanonicalForm.{IsCanonical}
-use Rattle.grid_canon.specs.Key.{key_of}
+use Rattle.grid_keys.specs.declared.key.Packed.{Packed}
+use Rattle.grid_keys.specs.CanonicalForm.{IsCanonical}
+use Rattle.grid_keys.specs.Key.{key_of}
 use Rattle.next_moves.specs.declared.links.Offer.{Offer}
 use Rattle.next_moves.specs.Offers.{exchanges_among}
 use Rattle.next_moves.proofs.Exchanges.{exchanges_offered}

@@ -2,7 +2,8 @@ use Rattle.std.proofs.Common.{◌≡◌, [], false}
 use Rattle.std.specs.List.{list_any}
 use Rattle.grid_core.specs.Diagram.{size}
 use Rattle.grid_moves.specs.Joining.{JoinsWithin}
-use Rattle.mono_simplify.specs.Simplified.{is_destabilisation, AreMonotonic}
+use Rattle.grid_moves.specs.Kinds.{is_destabilisation}
+use Rattle.mono_simplify.specs.Simplified.{AreMonotonic}
 use Rattle.mono_simplify.proofs.simplified.simplify_by.Given as goal
 
 abbrev pub invariant-loop-moves : goal.invariant-loop-moves

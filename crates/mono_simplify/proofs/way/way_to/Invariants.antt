@@ -1,8 +1,8 @@
 use Rattle.std.proofs.Common.{◌≡◌, ◌<◌, ◌≤◌, length, slice_get, Some, true}
 use Rattle.std.specs.List.{Contains}
 use Rattle.grid_core.specs.Diagram.{Diagram, size}
-use Rattle.grid_canon.specs.declared.key.Packed.{Packed}
-use Rattle.grid_canon.specs.Key.{IsKeyOf}
+use Rattle.grid_keys.specs.declared.key.Packed.{Packed}
+use Rattle.grid_keys.specs.Key.{IsKeyOf}
 use Rattle.next_moves.specs.Offers.{Leads}
 use Rattle.mono_simplify.specs.Simplified.{is_monotonic, AreMonotonic}
 use Rattle.mono_simplify.specs.Ways.{keys_in}

@@ -1,5 +1,5 @@
 use Rattle.std.proofs.Common.{subst, sym}
-use Rattle.grid_canon.specs.declared.key.Packed.{Packed}
+use Rattle.grid_keys.specs.declared.key.Packed.{Packed}
 use Rattle.search_book.specs.EntryList.{Fits}
 use Rattle.search_book.proofs.Sizes.{grid_fits}
 use Rattle.search_book.proofs.begin.admit_root.Goals as goal

@@ -1,11 +1,11 @@
 use Rattle.std.proofs.Common.{◌≡◌, ◌∙◌, ◌++◌, ◌∷◌, [], List, None, ap, sym}
 use Rattle.std.proofs.lemmas.Bool.{both_ways}
-use Rattle.grid_canon.specs.Key.{key_of}
+use Rattle.grid_keys.specs.Key.{key_of}
 use Rattle.search_book.specs.declared.problem.Side.TheVariants.{First, Second}
 use Rattle.search_book.specs.declared.entry.Entry.{Entry}
 use Rattle.search_book.specs.Entries.{id_of}
 use Rattle.search_book.specs.Begin.{root}
-use Rattle.search_book.specs.Roll.{RollState}
+use Rattle.search_book.specs.EntryList.{EntriesIn}
 use Rattle.search_book.proofs.Opened.{opened_apart, second_is_new}
 use Rattle.search_book.proofs.begin.admit_roots.Goals as goal
 
@@ -14,9 +14,9 @@ returns-else-same_as-clause-opened c = λ p.
     let one : Entry = root First c.args.first.now in
     let two : Entry = root Second c.args.second.now in
     let first : c.admit_root.new.roll.entries ≡ one ∷ [] =
-    ap (λ (k : RollState). k.entries) c.admit_root.ensures ∙ ap (λ (es : List Entry). es ++ one ∷ []) c.requires.none in
+    ap (λ (k : EntriesIn). k.entries) c.admit_root.ensures ∙ ap (λ (es : List Entry). es ++ one ∷ []) c.requires.none in
     let both : c.admit_root-else-same_as.new.roll.entries ≡ one ∷ two ∷ [] =
-    ap (λ (k : RollState). k.entries) c.admit_root-else-same_as.ensures ∙ ap (λ (es : List Entry). es ++ two ∷ []) first in
+    ap (λ (k : EntriesIn). k.entries) c.admit_root-else-same_as.ensures ∙ ap (λ (es : List Entry). es ++ two ∷ []) first in
     opened_apart p c.args.first.now c.args.second.now c.requires.first c.requires.second
     (λ same. both_ways c.same_as.result c.if-same_as.false (c.same_as.ensures.1 same))
     ∙ ap (λ (es : List Entry). record { problem = p; entries = es; history = []; end = None }) (sym both)
@@ -24,7 +24,7 @@ returns-else-same_as-clause-opened c = λ p.
 pub admit_root-requires-else-same_as-clause-new : goal.admit_root-requires-else-same_as-clause-new
 admit_root-requires-else-same_as-clause-new c =
     let first : c.admit_root.new.roll.entries ≡ root First c.args.first.now ∷ [] =
-    ap (λ (k : RollState). k.entries) c.admit_root.ensures ∙ ap (λ (es : List Entry). es ++ root First c.args.first.now ∷ []) c.requires.none in
+    ap (λ (k : EntriesIn). k.entries) c.admit_root.ensures ∙ ap (λ (es : List Entry). es ++ root First c.args.first.now ∷ []) c.requires.none in
     ap (λ (es : List Entry). id_of es (key_of c.args.second.now.grid)) first
     ∙ second_is_new c.args.first.now c.args.second.now c.requires.first c.requires.second
     (λ same. both_ways c.same_as.result c.if-same_as.false (c.same_as.ensures.1 same))

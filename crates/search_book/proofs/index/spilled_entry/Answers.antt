@@ -2,7 +2,7 @@ use Rattle.std.proofs.Common.{◌≢◌, ◌∙◌, ap, sym, subst, ℕ, List, S
 use Rattle.std.proofs.lemmas.List.{take_all}
 use Rattle.std.proofs.lemmas.List.Elements.{All-more}
 use Rattle.search_book.specs.Entries.{keys}
-use Rattle.grid_canon.proofs.Keys.{same_key_true}
+use Rattle.grid_keys.proofs.Keys.{same_key_true}
 use Rattle.search_book.proofs.Indexes.{other_key, own_key, own_side}
 use Rattle.search_book.proofs.index.spilled_entry.Goals as goal
 

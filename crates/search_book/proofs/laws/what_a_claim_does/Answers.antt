@@ -1,5 +1,5 @@
 use Rattle.std.proofs.Common.{◌≡◌, ◌≢◌, ◌∙◌, ap, sym, subst, ℕ, ◌≤◌, inl, inr, arith}
-use Rattle.grid_canon.specs.Key.{size_of}
+use Rattle.grid_keys.specs.Key.{size_of}
 use Rattle.search_book.specs.declared.entry.Entry.{Entry}
 use Rattle.search_book.specs.declared.entry.Stage.TheVariants.{Unclaimed, InFlight}
 use Rattle.search_book.specs.Entries.{StandsAt}

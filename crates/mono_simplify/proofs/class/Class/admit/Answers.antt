@@ -1,6 +1,6 @@
 use Rattle.std.proofs.Common.{◌≡◌, ◌∙◌, ◌++◌, ◌∷◌, [], List, ap, false}
 use Rattle.indexmap.proofs.CallerLemmas.{insert_entry-new}
-use Rattle.grid_canon.specs.Key.{same_key}
+use Rattle.grid_keys.specs.Key.{same_key}
 use Rattle.mono_simplify.specs.Listing.{has_key}
 use Rattle.mono_simplify.specs.Ways.{Member, keys_in}
 use Rattle.mono_simplify.proofs.Lookups.{absent_key}

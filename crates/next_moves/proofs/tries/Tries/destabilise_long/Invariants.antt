@@ -1,12 +1,12 @@
 use Rattle.std.proofs.Common.{◌≤◌, ◌+◌, ◌*◌, length}
 use Rattle.std.specs.List.{range_with_len, flat_map}
 use Rattle.grid_core.specs.Diagram.{size}
-use Rattle.next_moves.specs.Tries.{destabilisations}
+use Rattle.next_moves.specs.Tries.{block_tries}
 use Rattle.next_moves.specs.Extends.{Extends}
 use Rattle.next_moves.proofs.tries.Tries.destabilise_long.Given as goal
 
 abbrev pub invariant-loop-c : goal.invariant-loop-c
 invariant-loop-c l = record {
-  offered : Extends l.self.diagram l.self.cap (flat_map (destabilisations (size l.self.diagram)) (range_with_len 0 l.c)) l.initial.list.items l.list.items;
+  offered : Extends l.self.diagram l.self.cap (flat_map (block_tries (size l.self.diagram)) (range_with_len 0 l.c)) l.initial.list.items l.list.items;
   fits : length l.list.items ≤ length l.initial.list.items + 2 * l.c;
 }

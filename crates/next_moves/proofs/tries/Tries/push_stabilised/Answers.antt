@@ -5,8 +5,8 @@ use Rattle.grid_moves.specs.declared.step.Move.TheVariants.{Stabilise}
 use Rattle.grid_moves.specs.Step.{Step}
 use Rattle.grid_moves.specs.Widening.{widened}
 use Rattle.grid_moves.proofs.Sizes.{step_size}
-use Rattle.grid_canon.specs.Translation.{translate}
-use Rattle.grid_canon.proofs.Joined.{translate_none}
+use Rattle.grid_keys.specs.Translation.{translate}
+use Rattle.grid_keys.proofs.Joined.{translate_none}
 use Rattle.next_moves.specs.Tries.{unshifted}
 use Rattle.next_moves.specs.Extends.{Extends}
 use Rattle.next_moves.proofs.tries.Tries.push_stabilised.Goals as goal

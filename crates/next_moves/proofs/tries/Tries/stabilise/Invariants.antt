@@ -1,11 +1,11 @@
 use Rattle.std.proofs.Common.{◌≤◌, ◌+◌, ◌*◌, length}
 use Rattle.std.specs.List.{range_with_len, flat_map}
-use Rattle.next_moves.specs.Tries.{stabilisations}
+use Rattle.next_moves.specs.Tries.{stabilisation_tries}
 use Rattle.next_moves.specs.Extends.{Extends}
 use Rattle.next_moves.proofs.tries.Tries.stabilise.Given as goal
 
 abbrev pub invariant-loop-c : goal.invariant-loop-c
 invariant-loop-c l = record {
-  offered : Extends l.self.diagram l.self.cap (flat_map stabilisations (range_with_len 0 l.c)) l.initial.list.items l.list.items;
+  offered : Extends l.self.diagram l.self.cap (flat_map stabilisation_tries (range_with_len 0 l.c)) l.initial.list.items l.list.items;
   fits : length l.list.items ≤ length l.initial.list.items + 8 * l.c;
 }

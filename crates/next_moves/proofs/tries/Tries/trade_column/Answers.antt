@@ -2,7 +2,7 @@ use Rattle.std.proofs.Common.{◌≡◌, ◌∙◌, false, length, sym, ap}
 use Rattle.std.proofs.lemmas.List.FromFn.{length-map-range_with_len}
 use Rattle.grid_core.specs.Diagram.{size}
 use Rattle.grid_core.specs.Parts.{column_span}
-use Rattle.next_moves.specs.Tries.{column_slide}
+use Rattle.next_moves.specs.Tries.{try_column_slide}
 use Rattle.next_moves.specs.Offers.{is_legal}
 use Rattle.next_moves.proofs.Legal.{column_trades_by_lanes, column_slides, columns_touch}
 use Rattle.next_moves.proofs.Trades.{columns_kept}
@@ -42,7 +42,7 @@ returns-else-touch_once-clause-offered c =
     let grid = c.size-size.ensures.grid in
     let no_exchange =
     sym (column_trades_by_lanes d c.args.c grid c.requires.column) ∙ sym c.requires.exchanges ∙ sym c.has_bit.ensures ∙ c.if-has_bit.false in
-    let no_slide : is_legal d (column_slide (size d) c.args.c) ≡ false =
+    let no_slide : is_legal d (try_column_slide (size d) c.args.c) ≡ false =
     column_slides d c.args.c grid c.requires.column
     ∙ sym (columns_touch d c.args.c c.size-size.result c.args.spans.now.lows.items c.args.spans.now.highs.items c.size-size.ensures.size c.requires.lows
     c.requires.highs c.requires.column)

@@ -2,7 +2,7 @@ use Rattle.std.proofs.Common.{◌≡◌, ◌∙◌, false, length, sym, ap}
 use Rattle.std.proofs.lemmas.List.FromFn.{length-map-range_with_len}
 use Rattle.grid_core.specs.Diagram.{size}
 use Rattle.grid_core.specs.Parts.{ends}
-use Rattle.next_moves.specs.Tries.{row_slide}
+use Rattle.next_moves.specs.Tries.{try_row_slide}
 use Rattle.next_moves.specs.Offers.{is_legal}
 use Rattle.next_moves.proofs.Legal.{row_trades_by_lanes, row_slides, rows_touch}
 use Rattle.next_moves.proofs.Trades.{rows_kept}
@@ -42,7 +42,7 @@ returns-else-touch_once-clause-offered c =
     let grid = c.size-size.ensures.grid in
     let no_exchange =
     sym (row_trades_by_lanes d c.args.r grid c.requires.row) ∙ sym c.requires.exchanges ∙ sym c.has_bit.ensures ∙ c.if-has_bit.false in
-    let no_slide : is_legal d (row_slide (size d) c.args.r) ≡ false =
+    let no_slide : is_legal d (try_row_slide (size d) c.args.r) ≡ false =
     row_slides d c.args.r grid c.requires.row
     ∙ sym (rows_touch d c.args.r c.size-size.result c.args.spans.now.lows.items c.args.spans.now.highs.items c.size-size.ensures.size c.requires.lows
     c.requires.highs c.requires.row)

@@ -1,6 +1,6 @@
 use Rattle.std.proofs.Common.{◌≡◌, ◌∙◌, false, sym}
 use Rattle.grid_core.specs.Diagram.{size}
-use Rattle.next_moves.specs.Tries.{row_exchange, row_slide}
+use Rattle.next_moves.specs.Tries.{try_row_exchange, try_row_slide}
 use Rattle.next_moves.specs.Offers.{is_legal}
 use Rattle.next_moves.proofs.Legal.{rows_told}
 use Rattle.next_moves.proofs.Trades.{rows_kept}
@@ -33,6 +33,6 @@ pub returns-else-may_slide-clause-offered : goal.returns-else-may_slide-clause-o
 returns-else-may_slide-clause-offered c =
     let d = c.args.self.now.diagram in
     let told = rows_told d c.args.r c.args.trades.now c.requires.trades c.size-size.ensures.grid c.requires.row in
-    let no_exchange : is_legal d (row_exchange (size d) c.args.r) ≡ false = sym told.exchange ∙ sym c.may_exchange.ensures ∙ c.if-may_exchange.false in
-    let no_slide : is_legal d (row_slide (size d) c.args.r) ≡ false = sym told.slide ∙ sym c.may_slide.ensures ∙ c.if-may_slide.false in
+    let no_exchange : is_legal d (try_row_exchange (size d) c.args.r) ≡ false = sym told.exchange ∙ sym c.may_exchange.ensures ∙ c.if-may_exchange.false in
+    let no_slide : is_legal d (try_row_slide (size d) c.args.r) ≡ false = sym told.slide ∙ sym c.may_slide.ensures ∙ c.if-may_slide.false in
     rows_kept d c.args.self.now.cap (size d) c.args.r c.args.list.now.items no_exchange no_slide

@@ -1,6 +1,6 @@
 use Rattle.std.proofs.Common.{◌∙◌, ℕ, ap, ap₂, sym}
-use Rattle.grid_canon.specs.Translation.{translate}
-use Rattle.grid_canon.proofs.Joined.{translate_none}
+use Rattle.grid_keys.specs.Translation.{translate}
+use Rattle.grid_keys.proofs.Joined.{translate_none}
 use Rattle.next_moves.specs.Extends.{Tried}
 use Rattle.next_moves.proofs.tries.Tries.translated.Goals as goal
 

@@ -1,6 +1,6 @@
 use Rattle.std.proofs.Common.{◌∙◌, ◌∷◌, ◌<◌, ◌≤◌, [], ℕ, List, map, refl, arith, ap, sym, subst}
 use Rattle.grid_core.specs.Diagram.{size}
-use Rattle.next_moves.specs.Tries.{Try, shift_before, destabilisation}
+use Rattle.next_moves.specs.Tries.{Try, shift_before, try_destabilisation}
 use Rattle.next_moves.specs.Extends.{Extends}
 use Rattle.next_moves.proofs.Extended.{extends_none}
 use Rattle.next_moves.proofs.FewRows.{below_is, below_none}
@@ -14,7 +14,7 @@ returns-then-r-size-clause-offered c =
     let inside : c.args.r < size d = omega (arith, c.if-r-size.true, c.size-size.ensures.size) in
     let column = c.shift_before.ensures.shift ∙ ap (λ (n : ℕ). shift_before n c.args.c) c.size-size.ensures.size in
     let row = c.shift_before-then-r-size.ensures.shift ∙ ap (λ (n : ℕ). shift_before n c.args.r) c.size-size.ensures.size in
-    subst (λ (rs : List ℕ). Extends d c.args.self.now.cap (map (destabilisation (size d) c.args.c) rs) c.args.list.now.items c.destabilise_at.new.list.items)
+    subst (λ (rs : List ℕ). Extends d c.args.self.now.cap (map (try_destabilisation (size d) c.args.c) rs) c.args.list.now.items c.destabilise_at.new.list.items)
     (sym (below_is (size d) c.args.r inside))
     (subst (λ (t : Try). Extends d c.args.self.now.cap (t ∷ []) c.args.list.now.items c.destabilise_at.new.list.items)
     (block_made (size d) c.args.c c.args.r _ _ least c.requires.column inside column row) c.destabilise_at.ensures.offered)
@@ -23,5 +23,5 @@ pub returns-else-r-size-clause-offered : goal.returns-else-r-size-clause-offered
 returns-else-r-size-clause-offered c =
     let d = c.args.self.now.diagram in
     let outside : size d ≤ c.args.r = omega (arith, c.if-r-size.false, c.size-size.ensures.size) in
-    subst (λ (rs : List ℕ). Extends d c.args.self.now.cap (map (destabilisation (size d) c.args.c) rs) c.args.list.now.items c.args.list.now.items)
+    subst (λ (rs : List ℕ). Extends d c.args.self.now.cap (map (try_destabilisation (size d) c.args.c) rs) c.args.list.now.items c.args.list.now.items)
     (sym (below_none (size d) c.args.r outside)) (extends_none d c.args.self.now.cap c.args.list.now.items c.args.list.now.items refl)

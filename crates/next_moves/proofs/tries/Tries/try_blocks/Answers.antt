@@ -1,7 +1,7 @@
 use Rattle.std.proofs.Common.{List, map, sym, subst}
 use Rattle.std.proofs.lemmas.List.{map-append}
 use Rattle.grid_core.specs.Diagram.{size}
-use Rattle.next_moves.specs.Tries.{Try, destabilisation}
+use Rattle.next_moves.specs.Tries.{Try, try_destabilisation}
 use Rattle.next_moves.specs.Extends.{Extends, if_below}
 use Rattle.next_moves.proofs.Extended.{extends_then}
 use Rattle.next_moves.proofs.tries.Tries.try_blocks.Goals as goal
@@ -10,7 +10,7 @@ pub returns-clause-offered : goal.returns-clause-offered
 returns-clause-offered c =
     let d = c.args.self.now.diagram in
     let cap = c.args.self.now.cap in
-    let f = destabilisation (size d) c.args.c in
+    let f = try_destabilisation (size d) c.args.c in
     let first = if_below (size d) c.args.first in
     let second = if_below (size d) c.args.second in
     subst (λ (ts : List Try). Extends d cap ts c.args.list.now.items c.try_block-2.new.list.items) (sym (map-append f first second))

@@ -1,5 +1,5 @@
 use Rattle.std.proofs.Common.{◌∙◌, refl, arith, ap, sym}
-use Rattle.grid_canon.specs.declared.canonical_form.LeastForm.{LeastForm}
+use Rattle.grid_keys.specs.declared.least_form.LeastForm.{LeastForm}
 use Rattle.next_moves.specs.declared.links.Offer.{Offer}
 use Rattle.next_moves.specs.Offers.{try_of}
 use Rattle.next_moves.proofs.Extended.{extends_legal, extends_large, extends_illegal}

@@ -17,4 +17,4 @@ returns-clause-whole c =
 pub returns-clause-joins : goal.returns-clause-joins
 returns-clause-joins c =
     whole_joins c.args.given.now c.args.self.first c.args.self.second c.args.between.now c.push_undone.new.list.items
-    c.requires.simplified c.requires.first_fits c.requires.second_fits c.requires.between (returns-clause-whole c)
+    c.requires.simplified c.requires.bounded.first_fits c.requires.bounded.second_fits c.requires.between (returns-clause-whole c)

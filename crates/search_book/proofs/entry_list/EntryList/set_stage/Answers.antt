@@ -1,7 +1,7 @@
 use Rattle.std.proofs.Common.{◌≡◌, ◌∙◌, ap, sym, subst, List, Bool, if◌then◌else◌, map, slice_set}
 use Rattle.search_book.specs.declared.entry.Entry.{Entry}
 use Rattle.search_book.specs.Entries.{StandsAt, at_stage}
-use Rattle.search_book.specs.EntryList.{Kept, whole_entry}
+use Rattle.search_book.specs.EntryList.{EntriesIn, whole_entry}
 use Rattle.search_book.proofs.EntryLists.{brief_restaged, whole_restaged}
 use Rattle.search_book.proofs.entry_list.EntryList.set_stage.Goals as goal
 
@@ -11,7 +11,7 @@ returns-then-self c = λ e at.
     let whole = c.self.inside.whole.items in
     let new = slice_set brief c.args.id (record c.index_mut.result.now { stage = c.args.stage }) in
     let now : map whole_entry brief ≡ c.args.self.now.entries =
-    sym (ap (λ (t : Bool). if t then map whole_entry brief else whole) c.if-self.true) ∙ ap (λ (k : Kept). k.entries) c.self.view_is in
+    sym (ap (λ (t : Bool). if t then map whole_entry brief else whole) c.if-self.true) ∙ ap (λ (k : EntriesIn). k.entries) c.self.view_is in
     let stands : StandsAt (map whole_entry brief) c.args.id e = subst (λ (es : List Entry). StandsAt es c.args.id e) (sym now) at in
     let after : (if c.self.inside.narrow then map whole_entry new else whole) ≡ at_stage c.args.self.now.entries c.args.id e c.args.stage =
     ap (λ (t : Bool). if t then map whole_entry new else whole) c.if-self.true
@@ -25,7 +25,7 @@ returns-else-self c = λ e at.
     let whole = c.self.inside.whole.items in
     let new = slice_set whole c.args.id (record c.index_mut-else-self.result.now { stage = c.args.stage }) in
     let now : whole ≡ c.args.self.now.entries =
-    sym (ap (λ (t : Bool). if t then map whole_entry brief else whole) c.if-self.false) ∙ ap (λ (k : Kept). k.entries) c.self.view_is in
+    sym (ap (λ (t : Bool). if t then map whole_entry brief else whole) c.if-self.false) ∙ ap (λ (k : EntriesIn). k.entries) c.self.view_is in
     let stands : StandsAt whole c.args.id e = subst (λ (es : List Entry). StandsAt es c.args.id e) (sym now) at in
     let after : (if c.self.inside.narrow then map whole_entry brief else new) ≡ at_stage c.args.self.now.entries c.args.id e c.args.stage =
     ap (λ (t : Bool). if t then map whole_entry brief else new) c.if-self.false

@@ -1,7 +1,7 @@
 use Rattle.std.proofs.Common.{◌≡◌, ◌≢◌, ◌<◌, ◌∙◌, sym, subst, ℕ, List, length, vec_capacity, None, Some, IfNone, All, slice_get}
 use Rattle.std.specs.Map.{lookup}
 use Rattle.std.proofs.lemmas.List.{length-map}
-use Rattle.grid_canon.specs.Key.{same_key}
+use Rattle.grid_keys.specs.Key.{same_key}
 use Rattle.search_book.specs.declared.entry.Entry.{Entry}
 use Rattle.search_book.specs.Entries.{keys, sides}
 use Rattle.search_book.specs.Index.{Indexed, IsIndexOf}

@@ -1,7 +1,7 @@
 use Rattle.std.proofs.Common.{◌∙◌, ap, List}
 use Rattle.std.specs.Map.{lookup}
-use Rattle.grid_canon.specs.declared.key.Packed.{Packed}
-use Rattle.grid_canon.specs.Key.{same_key}
+use Rattle.grid_keys.specs.declared.key.Packed.{Packed}
+use Rattle.grid_keys.specs.Key.{same_key}
 use Rattle.search_book.specs.declared.key_map.Known.{Known}
 use Rattle.search_book.proofs.TwoMaps.{by_brief, by_whole}
 use Rattle.search_book.proofs.key_map.KeyMap.get.Goals as goal

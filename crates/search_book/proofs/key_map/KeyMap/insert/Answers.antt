@@ -2,10 +2,10 @@ use Rattle.std.proofs.Common.{◌≡◌, ◌∙◌, ◌++◌, ◌∷◌, [], ap,
 use Rattle.std.specs.Map.{lookup}
 use Rattle.std.proofs.lemmas.List.Elements.{All-push}
 use Rattle.indexmap.proofs.CallerLemmas.{insert_entry-new}
-use Rattle.grid_canon.specs.declared.brief.BriefKey.{BriefKey}
-use Rattle.grid_canon.specs.declared.key.Packed.{Packed}
-use Rattle.grid_canon.specs.Brief.{same_brief}
-use Rattle.grid_canon.specs.Key.{same_key}
+use Rattle.grid_keys.specs.declared.brief.BriefKey.{BriefKey}
+use Rattle.grid_keys.specs.declared.key.Packed.{Packed}
+use Rattle.grid_keys.specs.Brief.{same_brief}
+use Rattle.grid_keys.specs.Key.{same_key}
 use Rattle.search_book.specs.declared.key_map.Known.{Known}
 use Rattle.search_book.specs.KeyMap.{pairs, IsWide, AreWide}
 use Rattle.search_book.proofs.TwoMaps.{by_brief, by_whole, brief_more, whole_more}
