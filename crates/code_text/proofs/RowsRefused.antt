@@ -21,5 +21,5 @@ pub rows_refused : (t : CodeText) (fault : RowsFault) → as_unpaired (refused_w
     → IsRowsFault t fault
 rows_refused t rows.Empty unpaired_is direction plane = sym unpaired_is
 rows_refused t (rows.Edge name) unpaired_is direction plane = sym unpaired_is
-rows_refused t (rows.Direction name) unpaired_is direction plane = direction name refl
-rows_refused t rows.Plane unpaired_is direction plane = plane refl
+rows_refused t (rows.Direction name) unpaired_is direction plane = (sym unpaired_is, direction name refl)
+rows_refused t rows.Plane unpaired_is direction plane = (sym unpaired_is, plane refl)

@@ -9,6 +9,7 @@ pub use Rattle.text_lines.specs.Lines
 pub use Rattle.text_lines.specs.Tokens
 pub use Rattle.text_lines.specs.Numbers
 pub use Rattle.text_items.specs.Reading
+pub use Rattle.knot_text.specs.Printed
 pub use Rattle.crossing_codes.specs.Code
 pub use Rattle.code_rows.specs.Rows
 pub use Rattle.code_rows.specs.RowsFault

@@ -1,6 +1,6 @@
--- What is answered to the text of a code: a grid diagram of it, or why there is none.
-use Rattle.std.specs.Prelude.{◌≡◌, ◌<◌, ℕ, true, false, Some, None, Result, Ok, Err}
-use Rattle.grid_core.specs.Diagram.{Diagram}
+-- What is answered to the text of a code: a grid diagram of it, or why none is answered.
+use Rattle.std.specs.Prelude.{◌≡◌, ◌<◌, ℕ, List, length, true, false, Some, None, Result, Ok, Err}
+use Rattle.grid_core.specs.Diagram.{Diagram, IsGrid}
 use Rattle.grid_core.specs.declared.grid.TheConstants.{MAX_SIZE}
 use Rattle.crossing_codes.specs.declared.crossing.Code.{Code}
 use Rattle.crossing_codes.specs.Code.{code}
@@ -15,7 +15,9 @@ use Rattle.code_text.specs.declared.whole.CodeText.{CodeText}
 use Rattle.code_text.specs.declared.refusal.TextRefusal.{TextRefusal}
 use Rattle.code_text.specs.declared.refusal.TextRefusal.TheVariants.{Rows, Gauss, Columns, Lost}
 use Rattle.code_rows.specs.declared.rows_fault.RowsFault.TheVariants as rows
+use Rattle.knot_text.specs.Printed.{grid_text}
 use Rattle.code_text.specs.GaussCheck.{agrees}
+use Rattle.code_text.specs.Whole.{code_text_of}
 
 -- the code has the rows and the loops of the text, and no fault, and the Gauss lines are its own
 pub record Says (t : CodeText) (c : Code) : Type 0 where
@@ -33,20 +35,35 @@ pub record IsDiagramOf (t : CodeText) (d : Diagram) : Type 0 where
 abbrev pub SaysNone : CodeText → Type 0
 SaysNone t = (c : Code) → Says t c → ⊥
 
--- a fault of the rows: of their names exactly the first; `Direction` by the signs that were tried, and `Plane` by any
+-- there are Gauss lines, and the rows have no fault, but no signs of the rows have these lines
+pub record HasWrongLines (t : CodeText) : Type 0 where
+  pub lines : 0 < length t.walks
+  pub code : (c : Code) × IsCodeOf t.rows t.loops c × (first_fault c ≡ None)
+  pub none : SaysNone t
+
+-- a fault of the rows: of their names exactly the first; behind these `Direction` by the signs that were tried, and `Plane` by any
 abbrev pub IsRowsFault : CodeText → RowsFault → Type 0
 IsRowsFault t rows.Empty = unpaired t.rows t.loops ≡ Some rows.Empty
 IsRowsFault t (rows.Edge name) = unpaired t.rows t.loops ≡ Some (rows.Edge name)
-IsRowsFault t (rows.Direction name) =
-    (c : Code) × IsCodeOf t.rows t.loops c × (e : ℕ) × (first_fault c ≡ Some (Edge e)) × (name ≡ name_of (all_names t.rows) e)
-IsRowsFault t rows.Plane = (c : Code) → IsCodeOf t.rows t.loops c → is_plane c.crossings ≡ false
+IsRowsFault t (rows.Direction name) = (unpaired t.rows t.loops ≡ None)
+    × ((c : Code) × IsCodeOf t.rows t.loops c × (e : ℕ) × (first_fault c ≡ Some (Edge e)) × (name ≡ name_of (all_names t.rows) e))
+IsRowsFault t rows.Plane = (unpaired t.rows t.loops ≡ None) × ((c : Code) → IsCodeOf t.rows t.loops c → is_plane c.crossings ≡ false)
 
 abbrev pub IsRefusal : CodeText → TextRefusal → Type 0
 IsRefusal t (Rows fault) = IsRowsFault t fault
-IsRefusal t Gauss = SaysNone t
+IsRefusal t Gauss = HasWrongLines t
 IsRefusal t (Columns columns) = (MAX_SIZE < columns) × ((c : Code) × Says t c)
 IsRefusal t Lost = (c : Code) × Says t c
 
 abbrev pub IsAnswer : CodeText → Result Diagram TextRefusal → Type 0
 IsAnswer t (Ok d) = IsDiagramOf t d
 IsAnswer t (Err refusal) = IsRefusal t refusal
+
+-- the bytes are the text of a code, and the text is a grid whose own code is that one, under other names of crossings and edges
+pub record IsTrueDrawing (bytes text : List ℕ) : Type 0 where
+  pub input : CodeText
+  pub read : code_text_of bytes ≡ Ok input
+  pub grid : Diagram
+  pub is_grid : IsGrid grid
+  pub drawn : IsDiagramOf input grid
+  pub is : text ≡ grid_text grid

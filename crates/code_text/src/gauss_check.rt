@@ -6,7 +6,7 @@ ghost use Rattle.code_text.specs.GaussCheck.{crossing_of, comes_on, leaves_on, a
 
 use crate::gauss_lines::GaussPassage;
 use crossing_codes::{Code, Crossing};
-use grid_core::Items;
+use memory_core::Items;
 use std::alloc::{AllocError, Global};
 
 /// The edge on which the strand comes to a crossing over, or under.

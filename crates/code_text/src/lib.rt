@@ -8,8 +8,6 @@ mod gauss_lines;
 mod refusal;
 mod row_lines;
 mod signs;
-#[cfg(test)]
-mod tests;
 mod text_grid;
 mod whole;
 

@@ -1,15 +1,17 @@
-//! Why the text of a code gives no diagram.
+//! Why no diagram of the text of a code is answered.
 
 use code_rows::RowsFault;
 
-/// Why the text of a code gives no diagram.
+/// Why no diagram of the text of a code is answered. `Columns`, `Lost` and a direction that doesn't fit say what was tried: that another
+/// drawing or other signs would do no better isn't proved.
 #[derive(Clone, Copy, Debug, PartialEq, Eq)]
 pub enum TextRefusal {
     /// The rows have this fault.
     Rows(RowsFault),
-    /// The signed Gauss lines are not those of the rows.
+    /// The rows have no fault, and the signed Gauss lines are not theirs, whatever the signs.
     Gauss,
-    /// The drawing needs this many columns, which are more than a grid may have.
+    /// The drawing needs this many columns, which are more than a grid may have; another may need fewer. Of the number a clause says only
+    /// that it is over 48.
     Columns {
         /// How many.
         columns: usize,

@@ -3,7 +3,7 @@ ghost use Rattle.std.specs.Prelude.{◌≡◌, ◌≤◌, None, length, IfOk, If
 ghost use Rattle.code_faults.specs.declared.fault.TheConstants.{MAX_CROSSINGS};
 ghost use Rattle.code_faults.specs.Fault.{first_fault};
 ghost use Rattle.code_rows.specs.Rows.{IsCodeOf};
-ghost use Rattle.code_text.specs.TextGrid.{Says, SaysNone, IsAnswer};
+ghost use Rattle.code_text.specs.TextGrid.{Says, HasWrongLines, IsAnswer};
 
 use crate::gauss_check::{agrees, all_of};
 use crate::refusal::TextRefusal;
@@ -13,8 +13,8 @@ use code_faults::first_fault;
 use code_grids::{Refusal, grid_of_code};
 use code_rows::code_of_rows;
 use crossing_codes::Code;
-use grid_core::{Grid, Items};
-use memory_core::OutOfMemory;
+use grid_core::Grid;
+use memory_core::{Items, OutOfMemory};
 use std::alloc::Global;
 
 /// A grid diagram of what the text of a code says, or why none is answered. There may be at most `MAX_CROSSINGS` rows.
@@ -49,7 +49,7 @@ fn said_by(alloc: Global, text: &CodeText, code: Code) -> Result<Option<Code>, O
     requires rows { IsCodeOf text.now.rows text.now.loops code }
     requires faultless { first_fault code ≡ None }
     ensures some { IfOk result (λ found. IfSome found (λ said. Says text.now said)) }
-    ensures none { IfOk result (λ found. IfNone found (SaysNone text.now)) }
+    ensures none { IfOk result (λ found. IfNone found (HasWrongLines text.now)) }
 {
     let walks = text.walks.as_slice();
     if walks.is_empty() {
