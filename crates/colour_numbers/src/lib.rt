@@ -4,8 +4,6 @@
 mod counting;
 pub mod laws;
 mod lines;
-#[cfg(test)]
-mod tests;
 
 pub use counting::numbers;
 pub use lines::{numbers_text, push_number_line};

@@ -40,7 +40,7 @@ use Rattle.knot_text.proofs.AtLine.{last_count_at, tokens_at, numbers_at}
 
 -- ---- grids
 
-numbers_behind_at : (letter : List ℕ) (line : NumberedLine) → At line.number (numbers_behind letter line)
+pub numbers_behind_at : (letter : List ℕ) (line : NumberedLine) → At line.number (numbers_behind letter line)
 unfolding numbers_behind
 numbers_behind_at letter line =
     at_bind (word_at letter line) (λ rest e. at_same ((word_keeps letter line).of rest e)

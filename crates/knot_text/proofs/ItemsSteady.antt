@@ -197,14 +197,14 @@ table_steady order =
 -- ---- quandles
 
 -- what a name leads to: a quandle, or the lines of a table of this order
-abbrev Plan : Type 0
+abbrev pub Plan : Type 0
 Plan = NamedQuandle ⊎ ℕ
 
-abbrev go : Plan → Text → Result (NamedQuandle × Text) TextFault
+abbrev pub go : Plan → Text → Result (NamedQuandle × Text) TextFault
 go (inl q) text = Ok (q, text)
 go (inr order) text = table_item order text
 
-go_steady : (p : Plan) → Steady Anywhere (go p)
+pub go_steady : (p : Plan) → Steady Anywhere (go p)
 go_steady (inl q) = pure_steady q
 go_steady (inr order) = table_steady order
 
@@ -232,10 +232,10 @@ plan_of_at n (written.Alexander k a) = ready_at (meant (written.Alexander k a)) 
 abbrev plan_by : Result (Written × NumberedLine) TextFault → Result Plan TextFault
 plan_by s = s >>= λ w. cond (is_over w.0) (Err (Limit w.1.number)) (plan_of w.1.number w.0)
 
-plan : NumberedLine → Result Plan TextFault
+pub plan : NumberedLine → Result Plan TextFault
 plan line = plan_by (written_at line)
 
-plan_at : (line : NumberedLine) → At line.number (plan line)
+pub plan_at : (line : NumberedLine) → At line.number (plan line)
 unfolding plan
 plan_at line =
     at_bind (written_at_at line) (λ w e. at_same ((written_keeps line).of w e) (at_cond (is_over w.0) at_limit (plan_of_at w.1.number w.0)))
@@ -266,7 +266,7 @@ flat_written : (s : Result (Written × NumberedLine) TextFault) (text : Text)
 flat_written (Ok w) text = flat_over (is_over w.0) w.1.number w.0 text
 flat_written (Err e) text = refl
 
-flat_quandle : (line : NumberedLine) (text : Text) → quandle_at line text ≡ (plan line >>= λ p. go p text)
+pub flat_quandle : (line : NumberedLine) (text : Text) → quandle_at line text ≡ (plan line >>= λ p. go p text)
 unfolding quandle_at plan
 flat_quandle line text = flat_written (written_at line) text
 
@@ -414,7 +414,7 @@ unfolding unknown_item
 flat_unknown version one two rest text = flat_said version one two (unknown_at rest) text
 
 -- a choice, and what follows from it
-flat_choice : {A B : Type 0} (b : Bool) (x y : Result B TextFault) (u v : Result A TextFault) (f : A → Result B TextFault) → x ≡ (u >>= f)
+pub flat_choice : {A B : Type 0} (b : Bool) (x y : Result B TextFault) (u v : Result A TextFault) (f : A → Result B TextFault) → x ≡ (u >>= f)
     → y ≡ (v >>= f) → cond b x y ≡ (cond b u v >>= f)
 flat_choice true x y u v f first second = first
 flat_choice false x y u v f first second = second

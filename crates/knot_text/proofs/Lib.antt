@@ -7,6 +7,8 @@ pub mod Tables
 pub mod QuandleAgain
 pub mod VerdictAgain
 pub mod Words
+pub mod LettersAgain
+pub mod CocycleAgain
 pub mod Steady
 pub mod AtLine
 pub mod ItemsAtLine
@@ -25,6 +27,7 @@ pub mod Says
 pub mod LineSays
 pub mod ItemsSay
 pub mod QuandleSays
+pub mod CocycleSays
 pub mod VerdictSays
 pub mod ShapesSay
 mod WorkedRows

@@ -67,11 +67,11 @@ none_among : (lines : List NumberedLine) (u : Unit {0}) → no_line_among lines 
 none_among [] u is = refl
 none_among (line ∷ lines) u is = absurd cc
 
-no_lines : (text : Text) (u : Unit {0}) → text_end text ≡ Ok u → text.lines ≡ []
+pub no_lines : (text : Text) (u : Unit {0}) → text_end text ≡ Ok u → text.lines ≡ []
 unfolding text_end
 no_lines text u is = none_among text.lines u is
 
-at_end : (n : ℕ) → text_end (text_from n []) ≡ Ok tt
+pub at_end : (n : ℕ) → text_end (text_from n []) ≡ Ok tt
 unfolding text_end
 at_end n = refl
 

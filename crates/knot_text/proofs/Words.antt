@@ -38,6 +38,20 @@ use Rattle.knot_text.specs.declared.verdicts.Version.TheVariants.{Plain, Tidy}
 use Rattle.knot_text.proofs.StepsAgain.{IsShort, all_short}
 use Rattle.verdict_core.proofs.Named.{names_order}
 
+-- ---- lists of lines
+
+pub both_lines : (xs ys : List (List (List ℕ))) → list_all is_line xs ≡ true → list_all is_line ys ≡ true → list_all is_line (xs ++ ys) ≡ true
+both_lines [] ys first second = second
+both_lines (x ∷ xs) ys first second =
+    let h = and_parts (is_line x) (list_all is_line xs) first in
+    and_from (is_line x) (list_all is_line (xs ++ ys)) h.0 (both_lines xs ys h.1 second)
+
+pub front_lines : (xs ys : List (List (List ℕ))) → list_all is_line (xs ++ ys) ≡ true → list_all is_line xs ≡ true
+front_lines [] ys all = refl
+front_lines (x ∷ xs) ys all =
+    let h = and_parts (is_line x) (list_all is_line (xs ++ ys)) all in
+    and_from (is_line x) (list_all is_line xs) h.0 (front_lines xs ys h.1)
+
 -- ---- numbers
 
 digit_plain : (c : ℕ) → digit_value c < 10 → is_plain c ≡ true
@@ -66,7 +80,7 @@ digits_line (d ∷ ds) tokens some all words =
     and_from (not (d == 35)) (is_word (d ∷ ds) && list_all is_word tokens) sharp
     (and_from (is_word (d ∷ ds)) (list_all is_word tokens) (digits_word (d ∷ ds) some all) words)
 
-numbers_line : (ks : List ℕ) → 0 < length ks → AllByRecursion IsShort ks → is_line (map decimal ks) ≡ true
+pub numbers_line : (ks : List ℕ) → 0 < length ks → AllByRecursion IsShort ks → is_line (map decimal ks) ≡ true
 numbers_line [] some few = absurd (omega (arith, some))
 numbers_line (k ∷ ks) some few =
     digits_line (decimal k) (map decimal ks) (decimal_nonempty k (omega (arith, few.0))) (decimal_is_IsNumeral k (omega (arith, few.0))).0.1

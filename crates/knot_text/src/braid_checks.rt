@@ -5,7 +5,7 @@ ghost use Rattle.knot_text.specs.BraidChecks.{braidcheck_of};
 
 use braid_core::Braid;
 use braid_moves::BraidMove;
-use grid_core::Items;
+use memory_core::Items;
 use std::alloc::Global;
 use text_items::reading::text_end;
 use text_items::{TextFault, braid_item, steps_item};

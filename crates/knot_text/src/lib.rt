@@ -8,8 +8,6 @@ mod letters;
 mod pairs;
 mod printed;
 mod shapes;
-#[cfg(test)]
-mod tests;
 mod verdicts;
 mod weights;
 

@@ -6,8 +6,8 @@ ghost use Rattle.knot_text.specs.Shapes.{problem_item, problem_of, check_of, rep
 use crate::verdicts::verdict_item;
 use braid_core::Braid;
 use colour_rows::Colouring;
-use grid_core::Items;
 use grid_moves::Move;
+use memory_core::Items;
 use std::alloc::Global;
 use text_items::reading::text_end;
 use text_items::{TextFault, braid_item, coloured, diagram_item, moves_item, quandle_list};

@@ -6,8 +6,8 @@ ghost use Rattle.knot_text.specs.Verdicts.{moves_of, equal_at, colour_line, list
 
 use colour_list::MAX_COLOURINGS;
 use colour_rows::Colouring;
-use grid_core::Items;
 use grid_moves::Move;
+use memory_core::Items;
 use std::alloc::Global;
 use text_items::numbers::numbers_below;
 use text_items::reading::{

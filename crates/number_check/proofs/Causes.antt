@@ -27,10 +27,7 @@ use Rattle.number_check.specs.Holds.{table_of, numbers_by, AreNumbersOf, AreLink
 use Rattle.number_check.specs.Cause.{place_cause, IsSeedCause, counts_cause, IsCauseOf, linked_cause}
 use Rattle.number_check.proofs.FirstUnequal.{equal_of_none, none_of_equal}
 
-same_numbers : (a b : ℕ) → nat_eq a b ≡ true → a ≡ b
-same_numbers a b is = (Decides-eqb a b).0 is
-
-itself : (a : ℕ) → nat_eq a a ≡ true
+pub itself : (a : ℕ) → nat_eq a a ≡ true
 itself a = (Decides-eqb a a).1 refl
 
 same_letters : (a b : ℤ) → int_eq a b ≡ true → a ≡ b
@@ -55,7 +52,7 @@ numbers_hold b which d c settled none = by (nat_le ((table_of b).order ^ length 
     by true few none = record {
       settled = settled;
       few = leb-true ((table_of b).order ^ length c.seeds.items) MAX_CANDIDATES few;
-      own = equal_of_none nat_eq same_numbers c.numbers (numbers_by b d) (no_place which (first_unequal nat_eq c.numbers (numbers_by b d)) none);
+      own = equal_of_none nat_eq eqb-true c.numbers (numbers_by b d) (no_place which (first_unequal nat_eq c.numbers (numbers_by b d)) none);
     }
     by false many none = absurd cc
 
@@ -67,7 +64,7 @@ numbers_faultless b which d c are =
     ap (λ (xs : List ℕ). first_unequal nat_eq xs (numbers_by b d)) are.own ∙ none_of_equal nat_eq itself (numbers_by b d) in
     rw (few, same) refl
 
-seeds_faultless : (which : ℕ) (d : Diagram) (seeds : List ℕ) (c : Cause) → IsSeedCause which d seeds c → Determine seeds d → ⊥
+pub seeds_faultless : (which : ℕ) (d : Diagram) (seeds : List ℕ) (c : Cause) → IsSeedCause which d seeds c → Determine seeds d → ⊥
 seeds_faultless which d seeds (cause.Outside w column) is settled =
     let at = is.1 in
     let inside : slice_index seeds at.0 < size d = settled.columns at.0 0 at.1 in

@@ -27,6 +27,10 @@ pub record AreNumbersOf (b : Block) (d : Diagram) (c : Counted) : Type 0 where
   pub few : (table_of b).order ^ length c.seeds.items ≤ MAX_CANDIDATES
   pub own : c.numbers ≡ numbers_by b d
 
+-- how many components a link has, and its linking numbers
+abbrev pub linked_of : Diagram → Linked
+linked_of d = record { components = length (components d); numbers = linking d }
+
 -- the number of components and the linking numbers are the link's own
 pub record AreLinkingOf (d : Diagram) (l : Linked) : Type 0 where
   pub components : l.components ≡ length (components d)

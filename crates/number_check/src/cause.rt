@@ -12,7 +12,7 @@ pub enum Ruling {
 /// Why evidence by numbers does not hold: the first of these that holds of diagram 1, else the first that holds of diagram 2, else `Equal`.
 #[derive(Clone, Copy, Debug, PartialEq, Eq)]
 pub enum Cause {
-    /// The first of the seeds of this diagram that is no column of it.
+    /// The first of the seeds of this diagram that is no column of it. One that was read as a number over 254 is told as 255.
     Outside { which: u8, column: u8 },
     /// The leftmost column of this diagram that its seeds do not settle.
     Unsettled { which: u8, column: u8 },

@@ -72,15 +72,15 @@ fn cause_settled(
     if !are_few(colouring_quandle(block), seeds) {
         return Ok(Some(Cause::Wide { which, seeds }));
     }
-    let own = own_numbers(alloc, grid, block, seeding)?;
+    let own = numbers_by(alloc, grid, block, seeding)?;
     Ok(place_cause(
         which,
         first_unequal(counted.numbers.as_slice(), own.as_slice()),
     ))
 }
 
-/// The numbers of a grid by a block, whose quandle fits the plan.
-fn own_numbers(
+/// The numbers of a grid by a block, by a plan of the grid that the block's quandle fits.
+pub fn numbers_by(
     alloc: Global,
     grid: &Grid,
     block: &Block,
@@ -97,8 +97,8 @@ fn own_numbers(
     }
 }
 
-/// The quandle that gives the colours.
-fn colouring_quandle(block: &Block) -> &Quandle
+/// The quandle that gives a block's colours: that of its cocycle, if it has one.
+pub fn colouring_quandle(block: &Block) -> &Quandle
     ensures { result.now ≡ table_of block.now }
 {
     match &block.cocycle {

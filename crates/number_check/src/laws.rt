@@ -1,6 +1,6 @@
 //! Laws of the ruling, over the definitions alone.
 ghost use Rattle.std.specs.Prelude.{◌≡◌, ◌↔◌};
-ghost use Rattle.grid_core.specs.Diagram.{Diagram};
+ghost use Rattle.grid_core.specs.Diagram.{Diagram, IsGrid};
 ghost use Rattle.grid_moves.specs.Joining.{Equivalent};
 ghost use Rattle.quandle_core.specs.Quandle.{IsQuandle};
 ghost use Rattle.colour_numbers.specs.Numbers.{IsCocycleOrNone};
@@ -24,4 +24,10 @@ pub fn what_holds_tells_apart()
 /// The ruling is `Accepted` exactly where the evidence holds.
 pub fn evidence_is_accepted_exactly_where_it_holds()
     ensures { (d e : Diagram) (evidence : Evidence) (ruling : Ruling) → RulesOn d e evidence ruling → (ruling ≡ Ruling.Accepted) ↔ Holds d e evidence }
+{}
+
+/// On all evidence on two grids there is exactly one ruling.
+pub fn evidence_has_exactly_one_ruling()
+    ensures some { (d e : Diagram) (evidence : Evidence) → IsGrid d → IsGrid e → (ruling : Ruling) × RulesOn d e evidence ruling }
+    ensures single { (d e : Diagram) (evidence : Evidence) (one two : Ruling) → RulesOn d e evidence one → RulesOn d e evidence two → one ≡ two }
 {}

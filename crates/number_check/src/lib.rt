@@ -7,9 +7,9 @@ mod counts;
 pub mod laws;
 mod links;
 mod ruling;
-#[cfg(test)]
-mod tests;
 mod unequal;
 
 pub use cause::{Cause, Ruling};
-pub use ruling::rule;
+pub use counts::{colouring_quandle, numbers_by};
+pub use links::{are_same, linked_of};
+pub use ruling::{laws_of, rule};

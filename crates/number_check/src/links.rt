@@ -2,6 +2,7 @@
 ghost use Rattle.std.specs.Prelude.{◌≡◌, IfOk, length, take};
 ghost use Rattle.linking_core.specs.Component.{components};
 ghost use Rattle.linking_core.specs.Linking.{linking};
+ghost use Rattle.number_check.specs.Holds.{linked_of};
 ghost use Rattle.number_check.specs.Cause.{linked_cause, are_same, cause_of_links};
 
 use crate::cause::Cause;
@@ -9,7 +10,7 @@ use crate::counts::place_cause;
 use crate::unequal::first_unequal_of;
 use grid_core::{Grid, Rows};
 use linking_core::{component, linking};
-use memory_core::OutOfMemory;
+use memory_core::{Items, OutOfMemory};
 use number_text::Linked;
 use std::alloc::Global;
 
@@ -54,8 +55,19 @@ fn linked_cause(
     ))
 }
 
+/// How many components a link has, and its linking numbers.
+pub fn linked_of(alloc: Global, grid: &Grid) -> Result<Linked, OutOfMemory>
+    ensures { IfOk result (λ l. l ≡ linked_of grid.now) }
+{
+    let numbers = own_numbers(alloc, grid)?;
+    Ok(Linked {
+        components: component_count(grid),
+        numbers: Items::from_vec(numbers),
+    })
+}
+
 /// Whether the same is said of both.
-fn are_same(one: &Linked, two: &Linked) -> bool
+pub fn are_same(one: &Linked, two: &Linked) -> bool
     ensures { result ≡ are_same one.now two.now }
 {
     one.components == two.components && one.numbers.as_slice() == two.numbers.as_slice()

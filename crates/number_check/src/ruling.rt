@@ -81,8 +81,8 @@ fn rule_counts(
     Ok(Ruling::Accepted)
 }
 
-/// A block's quandle is one, and so is its cocycle, if there is one.
-fn laws_of(block: &Block)
+/// A block's quandle is one, and so is its cocycle, if there is one. It does nothing.
+pub fn laws_of(block: &Block)
     ensures quandle { IsQuandle block.now.listed.table }
     ensures cocycle { IsCocycleOrNone block.now.cocycle }
 {

@@ -3,12 +3,12 @@ use Rattle.std.specs.Prelude.{ℕ, zero, suc, List, [], ◌∷◌, map, codes, O
 use Rattle.std.specs.Str.{bytes_eq}
 use Rattle.quandle_core.specs.Quandle.{Table}
 use Rattle.cocycle_core.specs.Cocycle.{Cochain}
-use Rattle.text_lines.specs.Lines.{NumberedLine, Text, begins}
+use Rattle.text_lines.specs.Lines.{NumberedLine, Text, text_of, begins}
 use Rattle.verdict_core.specs.Names.{NamedQuandle}
 use Rattle.text_items.specs.declared.fault.TextFault.{TextFault}
 use Rattle.text_items.specs.declared.fault.TextFault.TheVariants.{Malformed, Limit}
 use Rattle.text_items.specs.declared.quandles.TheConstants.{MAX_QUANDLES}
-use Rattle.text_items.specs.Reading.{◌>>=◌, next_line, next_token, line_end, word, number, last_number}
+use Rattle.text_items.specs.Reading.{◌>>=◌, next_line, next_token, line_end, text_end, word, number, last_number}
 use Rattle.text_items.specs.Quandles.{written_at, quandle_item, built_in}
 use Rattle.text_items.specs.Cocycles.{cocycle_item}
 use Rattle.number_text.specs.declared.blocks.Block.{Block}
@@ -96,3 +96,16 @@ unfoldable pub block_list : Text → Result (List Block × Text) TextFault
 block_list text = do
   listed ← blocks MAX_QUANDLES text
   Ok (or_built_in listed.0, listed.1)
+
+-- ---- a text of blocks alone
+
+-- the blocks, and nothing behind them
+unfoldable pub blocks_in : Text → Result (List Block) TextFault
+blocks_in text = do
+  listed ← blocks MAX_QUANDLES text
+  end ← text_end listed.1
+  Ok listed.0
+
+-- the same of bytes
+abbrev pub blocks_of : List ℕ → Result (List Block) TextFault
+blocks_of bytes = blocks_in (text_of bytes)

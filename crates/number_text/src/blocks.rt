@@ -3,13 +3,13 @@ ghost use Rattle.std.specs.Prelude.{◌≡◌, map, IfOk, IfErr};
 ghost use Rattle.text_items.specs.Reading.{Gives};
 ghost use Rattle.text_items.specs.Quandles.{built_in};
 ghost use Rattle.text_items.specs.declared.fault.TextFault.TheVariants as fault;
-ghost use Rattle.number_text.specs.Blocks.{alone, cocycle_or_none, block_item, order_form, factor_form, end_form, spelled_form, name_form, surplus_block, blocks, block_list};
+ghost use Rattle.number_text.specs.Blocks.{alone, cocycle_or_none, block_item, order_form, factor_form, end_form, spelled_form, name_form, surplus_block, blocks, block_list, blocks_of};
 
 use cocycle_core::Cocycle;
-use grid_core::Items;
+use memory_core::Items;
 use quandle_core::Quandle;
 use std::alloc::Global;
-use text_items::reading::{last_number, line_end, next_line, next_token, number, word};
+use text_items::reading::{last_number, line_end, next_line, next_token, number, text_end, word};
 use text_items::{MAX_QUANDLES, TextFault, cocycle_item, quandle_item, quandle_list};
 use text_lines::{Line, Lines};
 use verdict_core::Listed;
@@ -36,7 +36,7 @@ pub(crate) fn cocycle_or_none(
     Ok(Some(cocycle_item(quandle, lines)?))
 }
 
-/// A quandle item, and behind it perhaps a cocycle of the quandle. Takes no memory.
+/// A quandle item, and behind it perhaps a cocycle of the quandle.
 #[tactic(auto, unfolding(crate::specs::Blocks::block_item))]
 pub fn block_item(lines: &mut Lines) -> Result<Block, TextFault>
     ensures { Gives (λ b. (b, lines.new)) result (block_item lines.old) }
@@ -167,5 +167,18 @@ pub(crate) fn block_list(alloc: Global, lines: &mut Lines) -> Result<Items<Block
     if blocks.is_empty() {
         return Ok(Items::from_vec(built_in_blocks(alloc)?));
     }
+    Ok(Items::from_vec(blocks))
+}
+
+/// All blocks of a text of blocks alone, at most `MAX_QUANDLES`: none stand for an empty list.
+///
+/// Else the fault of the first bad line, or want of memory.
+#[tactic(auto, unfolding(crate::specs::Blocks::blocks_in))]
+pub fn read_blocks(alloc: Global, bytes: &[u8]) -> Result<Items<Block>, TextFault>
+    ensures { Gives (λ b. b) result (blocks_of bytes.now) }
+{
+    let mut lines = Lines::new(bytes);
+    let blocks = blocks(alloc, &mut lines)?;
+    text_end(&mut lines)?;
     Ok(Items::from_vec(blocks))
 }

@@ -7,10 +7,8 @@ mod evidence;
 mod evidence_items;
 mod number_lines;
 mod numbered;
-#[cfg(test)]
-mod tests;
 
-pub use blocks::{Block, block_item};
+pub use blocks::{Block, block_item, read_blocks};
 pub use evidence::{Counted, Evidence, Linked};
 pub use evidence_items::{THIRD_VERSION, third_item};
 pub use numbered::{NumbersText, read_numbers};

@@ -4,7 +4,7 @@ ghost use Rattle.text_items.specs.Reading.{Gives};
 ghost use Rattle.number_text.specs.Numbered.{numbers_of};
 
 use crate::blocks::{Block, block_list};
-use grid_core::Items;
+use memory_core::Items;
 use std::alloc::Global;
 use text_items::reading::text_end;
 use text_items::{TextFault, diagram_item};

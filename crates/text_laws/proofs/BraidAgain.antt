@@ -23,23 +23,9 @@ use Rattle.text_items.specs.Braids.{letter_of, is_long_letter, exceeds, braid_at
 use Rattle.knot_text.specs.Printed.{letter_token, braid_lines, braid_text}
 use Rattle.knot_text.proofs.StepsAgain.{line_of, lines_before, word_again, number_again}
 use Rattle.knot_text.proofs.Words.{decimal_word}
+use Rattle.knot_text.proofs.LettersAgain.{letter_again, letter_word}
 
 -- ---- letters
-
--- a number begins with no `-`
-unsigned : (t : List ℕ) (k : ℕ) → number_of t ≡ Some k → letter_of t ≡ Some (pos k)
-unsigned [] k is = absurd cc
-unsigned (b ∷ bs) k is = by (b == 45) refl
-  where
-    by : (s : Bool) → (b == 45) ≡ s → letter_of (b ∷ bs) ≡ Some (pos k)
-    by true dash =
-        let no : ◌≡◌ {A = Option ℕ} None (Some k) = subst (λ (c : ℕ). number_of (c ∷ bs) ≡ Some k) (eqb-true b 45 dash) is in
-        absurd cc
-    by false other = rw (other, is) refl
-
-pub letter_again : (a : ℤ) → unsigned_abs a ≤ MAX_NUMBER → letter_of (letter_token a) ≡ Some a
-letter_again (pos k) few = unsigned (decimal k) k (decimal_read k (omega (arith, few)))
-letter_again (negsuc k) few = rw (decimal_read (k + 1) (omega (arith, few))) (ap (λ (n : ℕ). Some (neg_ℤ (pos n))) (add-one k))
 
 letters_again : (m n : ℕ) (ls : List ℤ) → m ≤ MAX_STRANDS → AllByRecursion (IsLetter m) ls → each_token letter_of n (map letter_token ls) ≡ Ok ls
 unfolding each_token
@@ -75,14 +61,6 @@ line_again n b braid =
     ) refl
 
 -- ---- words
-
-pub letter_word : (a : ℤ) → unsigned_abs a ≤ MAX_NUMBER → is_word (letter_token a) ≡ true
-letter_word (pos k) few = decimal_word k few
-letter_word (negsuc k) few = signed (decimal (k + 1)) (decimal_word (k + 1) (omega (arith, few)))
-  where
-    signed : (t : List ℕ) → is_word t ≡ true → is_word (codes "-" ++ t) ≡ true
-    signed [] is = absurd cc
-    signed (c ∷ cs) is = is
 
 letters_words : (m : ℕ) (ls : List ℤ) → m ≤ MAX_STRANDS → AllByRecursion (IsLetter m) ls → list_all is_word (map letter_token ls) ≡ true
 letters_words m [] most all = refl

@@ -7,7 +7,8 @@ use Rattle.quandle_core.specs.Quandle.{Table}
 use Rattle.grid_moves.specs.declared.step.Move.{Move}
 use Rattle.grid_moves.specs.declared.step.Move.TheVariants.{ShiftColumns, ShiftRows, ExchangeColumns, ExchangeRows, SlideColumns, SlideRows}
 use Rattle.grid_moves.specs.declared.step.Move.TheVariants.{Stabilise, Destabilise}
-use Rattle.grid_moves.specs.Tidy.{is_shift, is_column_shift, is_row_shift, may_follow}
+use Rattle.grid_moves.specs.Kinds.{is_shift, is_column_shift, is_row_shift}
+use Rattle.grid_moves.specs.Tidy.{may_follow}
 use Rattle.cocycle_core.specs.Fault.{first_fault as cochain_fault}
 use Rattle.text_lines.specs.Lines.{NumberedLine, Text}
 use Rattle.verdict_core.specs.declared.names.QuandleName.TheVariants as name

@@ -29,25 +29,13 @@ use Rattle.knot_text.specs.WrittenThere.{tokens_by_line, said_by, listed_lines, 
 use Rattle.knot_text.specs.WrittenThere.{HasReplayText, replay_lines}
 use Rattle.knot_text.proofs.StepsAgain.{all_short}
 use Rattle.verdict_core.proofs.Named.{names_order}
-use Rattle.knot_text.proofs.Words.{grid_words, moves_words, verdict_words, version_words, numbers_words}
+use Rattle.knot_text.proofs.Words.{both_lines, front_lines, grid_words, moves_words, verdict_words, version_words, numbers_words}
 use Rattle.knot_text.specs.declared.verdicts.Version.{Version}
 use Rattle.text_laws.proofs.BraidAgain.{braid_words}
 use Rattle.text_laws.proofs.WrittenAgain.{numbered_tokens}
 use Rattle.text_laws.proofs.ShapesAgain.{diagram_grid, problem_in_written, check_in_written, replay_in_written}
 
 -- ---- the lines are lines of words
-
-both_lines : (xs ys : List (List (List ℕ))) → list_all is_line xs ≡ true → list_all is_line ys ≡ true → list_all is_line (xs ++ ys) ≡ true
-both_lines [] ys first second = second
-both_lines (x ∷ xs) ys first second =
-    let h = and_parts (is_line x) (list_all is_line xs) first in
-    and_from (is_line x) (list_all is_line (xs ++ ys)) h.0 (both_lines xs ys h.1 second)
-
-front_lines : (xs ys : List (List (List ℕ))) → list_all is_line (xs ++ ys) ≡ true → list_all is_line xs ≡ true
-front_lines [] ys all = refl
-front_lines (x ∷ xs) ys all =
-    let h = and_parts (is_line x) (list_all is_line (xs ++ ys)) all in
-    and_from (is_line x) (list_all is_line xs) h.0 (front_lines xs ys h.1)
 
 diagram_words : (d : Diagram) → HasDiagramText d → list_all is_line (diagram_lines d) ≡ true
 diagram_words (Grid d) grid = grid_words d grid

@@ -20,7 +20,7 @@ use Rattle.knot_text.specs.Printed.{letter_token, braid_lines, sign_word, step_t
 use Rattle.knot_text.specs.WrittenThere.{tokens_by_line, said_by, SaysStep, SaySteps, AreStepsLines, StepsInFront, IsBraidCheckText}
 use Rattle.knot_text.proofs.StepsAgain.{line_of, lines_before, word_again, number_again, most_again, count_again}
 use Rattle.knot_text.proofs.MovesAgain.{place_again}
-use Rattle.text_laws.proofs.BraidAgain.{letter_again, letter_word}
+use Rattle.knot_text.proofs.LettersAgain.{letter_again, letter_word}
 use Rattle.knot_text.proofs.Words.{decimal_word, all_lines}
 use Rattle.text_laws.proofs.StepsAlike.{steps_alike}
 use Rattle.text_laws.proofs.StepsSay.{steps_say, braidcheck_in_says}

@@ -22,12 +22,13 @@ use Rattle.knot_text.specs.Printed.{row_tokens, quandle_lines, diagram_lines}
 use Rattle.knot_text.specs.WrittenThere.{tokens_by_line, StandInFront, said_by, value_lines, cocycle_lines, HasCocycleText, HasWeightText, weight_lines}
 use Rattle.knot_text.proofs.Tables.{row, rows_last}
 use Rattle.knot_text.proofs.StepsAgain.{line_of, lines_before, word_again, last_again, most_again}
-use Rattle.knot_text.proofs.QuandleAgain.{line_again, rows_again}
+use Rattle.knot_text.proofs.CocycleAgain.{cocycle_again}
 use Rattle.text_laws.proofs.Alike.{Alike, alike_ok, alike_err, alike_if, Same, SameText, SameLeft, same_bind, line_bind, rest_bind, text_bind, next_bind}
 use Rattle.text_laws.proofs.ItemsAlike.{word_alike, last_alike, most_alike, below_alike, rows_alike}
 use Rattle.text_laws.proofs.WrittenAgain.{read_again, quandle_written}
 use Rattle.text_laws.proofs.ShapesAgain.{cut, nothing_behind, whole, diagram_written, end_read}
-use Rattle.text_laws.proofs.WeightsSay.{cocycle_says, weight_in_says}
+use Rattle.knot_text.proofs.CocycleSays.{cocycle_says}
+use Rattle.text_laws.proofs.WeightsSay.{weight_in_says}
 
 -- ---- texts of the same tokens
 
@@ -48,48 +49,6 @@ cocycle_alike q t u same =
     next_bind _ _ _ _ same (λ ts n m v w behind. same_bind (modulus_alike ts n m) (λ k. cochain_alike q k v w behind))
 
 -- ---- a cocycle
-
-modulus_again : (k n : ℕ) → 2 ≤ k → k ≤ MAX_MODULUS → modulus_at (line_of n (codes "weight" ∷ decimal k ∷ [])) ≡ Ok k
-unfolding modulus_at
-modulus_again k n some few = rw (
-  word_again (codes "weight") n (decimal k ∷ []),
-  last_again k n
-      (omega (arith, few)),
-  most_again MAX_MODULUS n k few,
-  le-leb 2 k some,
-) refl
-
--- what the laws say of some entries
-abbrev tested : Table → ℕ → List ℕ → ℕ → Text → Result (Cochain × Text) TextFault
-tested q k entries n text = cond (is_none (first_fault (cochain q k entries))) (Ok (cochain q k entries, text)) (Err (Malformed n))
-
-cochain_by : (w : Cochain) (n j : ℕ) (text : Text) → IsCocycle w → w.modulus ≤ MAX_MODULUS → w.quandle.order ≡ suc j
-    → cochain_item w.quandle w.modulus (lines_before (numbered n (value_lines w)) text) ≡ Ok (w, text)
-unfolding cochain_item next_line
-cochain_by w n j text is few size =
-    let q = w.quandle in
-    let k = w.modulus in
-    let t : Table = record { order = q.order; entries = w.entries } in
-    let front = flat_map (row t) (range_with_len 0 j) in
-    let last : 0 + j ≡ j = omega arith in
-    let fewer : q.order - 1 ≡ j = omega (arith, size) in
-    let lines = numbered n (map (row_tokens t) (range_with_len 0 (suc j))) in
-    let rows = rows_again t k n 0 j text few is.within (omega (arith, size)) in
-    let end = line_again t k (n + j + 1) (0 + j) few is.within (omega (arith, size)) in
-    let all : front ++ row t (0 + j) ≡ w.entries = ap (λ (x : ℕ). front ++ row t x) last ∙ rows_last t j is.square size in
-    let none : is_none (first_fault w) ≡ true = ap (λ f. is_none f) (none_from_cocycle w is) in
-    let read : cochain_item q k (lines_before lines text) ≡ tested q k (front ++ row t (0 + j)) (n + j + 1) text = rw (fewer, rows, end) refl in
-    let passes : tested q k w.entries (n + j + 1) text ≡ Ok (w, text) = rw none refl in
-    ap (λ (i : ℕ). cochain_item q k (lines_before (numbered n (map (row_tokens t) (range_with_len 0 i))) text)) size ∙ read
-    ∙ ap (λ (es : List ℕ). tested q k es (n + j + 1) text) all ∙ passes
-
-cocycle_again : (w : Cochain) (n : ℕ) (text : Text) → IsCocycle w → w.modulus ≤ MAX_MODULUS
-    → cocycle_item w.quandle (lines_before (numbered n (cocycle_lines w)) text) ≡ Ok (w, text)
-unfolding cocycle_item next_line
-cocycle_again w n text is few =
-    let some = is.quandle.least in
-    let size : w.quandle.order ≡ suc (w.quandle.order - 1) = omega (arith, some) in
-    rw (modulus_again w.modulus (n + 1) is.least few) (cochain_by w (n + 1) (w.quandle.order - 1) text is few size)
 
 cocycle_written : (q : Table) (text : Text) (w : Cochain) (rest : Text) → IsQuandle q → HasCocycleText q w → StandInFront (cocycle_lines w) text rest
     → cocycle_item q text ≡ Ok (w, rest)
