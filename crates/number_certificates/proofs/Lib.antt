@@ -1,0 +1,3 @@
+pub mod Earlier
+mod WorkedRows
+pub mod PartTexts

@@ -1,0 +1,121 @@
+-- A block that was read has a text, and so has the block of evidence that was read.
+use Rattle.std.proofs.Common.{◌≡◌, ℕ, zero, suc, List, [], ◌∷◌, Bool, true, false, cond, Option, Some, None, Result, Ok, Err, ap, codes}
+use Rattle.std.specs.List.{AllByRecursion}
+use Rattle.std.specs.Str.{bytes_eq}
+use Rattle.quandle_core.specs.Quandle.{Table, IsQuandle}
+use Rattle.cocycle_core.specs.Cocycle.{Cochain}
+use Rattle.text_lines.specs.Lines.{NumberedLine, Text, begins, text_of}
+use Rattle.verdict_core.specs.declared.problem.ProblemText.{ProblemText}
+use Rattle.verdict_core.proofs.Named.{named_is}
+use Rattle.text_items.specs.declared.fault.TextFault.{TextFault}
+use Rattle.text_items.specs.Reading.{◌>>=◌, next_line, next_token, line_end, word, text_end}
+use Rattle.knot_text.specs.Printed.{quandle_lines, HasQuandleText}
+use Rattle.knot_text.specs.WrittenThere.{cocycle_lines, HasCocycleText}
+use Rattle.knot_text.specs.Shapes.{problem_item, check_of}
+use Rattle.knot_text.proofs.Steady.{bind_ok, ok_is}
+use Rattle.knot_text.proofs.Says.{Says, says_ok, says_err, says_bind, says_if}
+use Rattle.knot_text.proofs.ItemsSay.{IsWritten}
+use Rattle.knot_text.proofs.QuandleSays.{IsQuandleAt, quandle_at_says, quandle_says}
+use Rattle.knot_text.proofs.CocycleSays.{cocycle_says}
+use Rattle.number_text.specs.declared.blocks.Block.{Block}
+use Rattle.number_text.specs.declared.evidence.Evidence.{Evidence}
+use Rattle.number_text.specs.declared.evidence.Evidence.TheVariants.{Numbers, Linking}
+use Rattle.number_text.specs.Blocks.{cocycle_or_none, block_item, name_form, surplus_block, blocks}
+use Rattle.number_text.specs.Evidence.{count_of, counted_item, numbers_evidence, linked_item, linking_evidence, evidence_at, head_at, third_item}
+use Rattle.number_certificates.specs.declared.said.Said.{Said}
+use Rattle.number_certificates.specs.declared.said.Said.TheVariants as said
+use Rattle.number_certificates.specs.Said.{has_third, third_in, third_of, with_verdict, said_of}
+use Rattle.number_certificates.specs.Printed.{HasPerhapsText, HasBlockText}
+
+-- whatever is read
+anything : {A : Type 0} (r : Result A TextFault) → Says r (λ x. Unit {0})
+anything r = record { of = λ x is. tt }
+
+perhaps_says : (quandle : Table) (text : Text) → IsQuandle quandle → Says (cocycle_or_none quandle text) (λ x. HasPerhapsText quandle x.0)
+unfolding cocycle_or_none
+perhaps_says quandle text is = says_if (begins (codes "weight") text)
+    (λ some. says_bind (IsWritten (HasCocycleText quandle) cocycle_lines text) (cocycle_says quandle text is) (λ w written. says_ok (Some w.0, w.1) written.0))
+    (λ none. says_ok (None, text) tt)
+
+block_says : (text : Text) → Says (block_item text) (λ x. HasBlockText x.0)
+unfolding block_item
+block_says text = says_bind (IsWritten HasQuandleText (quandle_lines (codes "quandle")) text) (quandle_says text) (λ q named.
+    says_bind (λ x. HasPerhapsText q.0.table x.0) (perhaps_says q.0.table q.1 (named_is q.0.name q.0.table named.0.names)) (λ w cocycle.
+    says_ok (record { listed = q.0; cocycle = w.0 }, w.1) (record { listed = named.0; cocycle = cocycle })))
+
+surplus_says : (text : Text) → Says (surplus_block text) (λ x. AllByRecursion HasBlockText x.0)
+unfolding surplus_block
+surplus_says text = says_bind (λ x. Unit {0}) (anything (next_line text)) (λ line there.
+    says_bind (λ x. Unit {0}) (anything (word (codes "quandle") line.0)) (λ rest named.
+    says_bind (λ x. Unit {0}) (anything (name_form rest)) (λ form is. says_err)))
+
+blocks_say : (room : ℕ) (text : Text) → Says (blocks room text) (λ x. AllByRecursion HasBlockText x.0)
+unfolding blocks
+blocks_say zero text = says_if (begins (codes "quandle") text) (λ more. surplus_says text) (λ none. says_ok ([], text) tt)
+blocks_say (suc room) text = says_if (begins (codes "quandle") text) (λ more.
+    says_bind (λ x. HasBlockText x.0) (block_says text) (λ first has.
+    says_bind (λ x. AllByRecursion HasBlockText x.0) (blocks_say room first.1) (λ others each. says_ok (first.0 ∷ others.0, others.1) (has, each))))
+    (λ none. says_ok ([], text) tt)
+
+pub block_text : (text rest : Text) (b : Block) → block_item text ≡ Ok (b, rest) → HasBlockText b
+block_text text rest b read = (block_says text).of (b, rest) read
+
+pub blocks_text : (room : ℕ) (text rest : Text) (bs : List Block) → blocks room text ≡ Ok (bs, rest) → AllByRecursion HasBlockText bs
+blocks_text room text rest bs read = (blocks_say room text).of (bs, rest) read
+
+-- ---- evidence
+
+-- the block of evidence, if it is by one, has a text
+abbrev pub HasBlock : Evidence → Type 0
+HasBlock (Numbers b one two) = HasBlockText b
+HasBlock (Linking one two) = Unit {0}
+
+numbers_say : (line : NumberedLine) (text : Text) → Says (numbers_evidence line text) (λ x. HasBlock x.0)
+unfolding numbers_evidence
+numbers_say line text = says_bind (IsQuandleAt line.tokens text) (quandle_at_says line text) (λ q named.
+    says_bind (λ x. HasPerhapsText q.0.table x.0) (perhaps_says q.0.table q.1 (named_is q.0.name q.0.table named.text.names)) (λ w cocycle.
+    says_bind (λ x. Unit {0}) (anything (counted_item (count_of w.0) w.1)) (λ first one.
+    says_bind (λ x. Unit {0}) (anything (counted_item (count_of w.0) first.1)) (λ second two.
+    says_ok (Numbers (record { listed = q.0; cocycle = w.0 }) first.0 second.0, second.1) (record { listed = named.text; cocycle = cocycle })))))
+
+linking_says : (line : NumberedLine) (text : Text) → Says (linking_evidence line text) (λ x. HasBlock x.0)
+unfolding linking_evidence
+linking_says line text = says_bind (λ x. Unit {0}) (anything (line_end line)) (λ end ended.
+    says_bind (λ x. Unit {0}) (anything (linked_item text)) (λ first one.
+    says_bind (λ x. Unit {0}) (anything (linked_item first.1)) (λ second two. says_ok (Linking first.0 second.0, second.1) tt)))
+
+evidence_says : (line : NumberedLine) (text : Text) → Says (evidence_at line text) (λ x. HasBlock x.0)
+unfolding evidence_at
+evidence_says line text = says_bind (λ x. Unit {0}) (anything (word (codes "different") line)) (λ rest named.
+    says_bind (λ x. Unit {0}) (anything (next_token rest)) (λ kind token.
+    says_if (bytes_eq kind.0 (codes "numbers")) (λ numbers. numbers_say kind.1 text) (λ others.
+    says_if (bytes_eq kind.0 (codes "linking")) (λ linking. linking_says kind.1 text) (λ none. says_err))))
+
+third_says : (text : Text) → Says (third_item text) (λ x. HasBlock x.0)
+unfolding third_item
+third_says text = says_bind (λ x. Unit {0}) (anything (next_line text)) (λ head there.
+    says_bind (λ x. Unit {0}) (anything (head_at head.0)) (λ version is.
+    says_bind (λ x. Unit {0}) (anything (next_line head.1)) (λ line behind. evidence_says line.0 line.1)))
+
+-- ---- what is said
+
+abbrev HasBlockSaid : Said → Type 0
+HasBlockSaid (said.Verdict verdict) = Unit {0}
+HasBlockSaid (said.Evidence evidence) = HasBlock evidence
+
+third_in_says : (text : Text) → Says (third_in text) (λ x. HasBlockSaid x.1)
+unfolding third_in
+third_in_says text = says_bind (λ x. Unit {0}) (anything (problem_item text)) (λ problem is.
+    says_bind (λ x. HasBlock x.0) (third_says problem.1) (λ evidence has.
+    says_bind (λ x. Unit {0}) (anything (text_end evidence.1)) (λ end ended. says_ok (problem.0, said.Evidence evidence.0) has)))
+
+pub said_block : (bytes : List ℕ) (p : ProblemText) (evidence : Evidence) → said_of bytes ≡ Ok (p, said.Evidence evidence) → HasBlock evidence
+said_block bytes p evidence read = by (has_third (problem_item (text_of bytes))) read
+  where
+    by : (t : Bool) → cond t (third_of bytes) (with_verdict (check_of bytes)) ≡ Ok (p, said.Evidence evidence) → HasBlock evidence
+    by true is = (third_in_says (text_of bytes)).of (p, said.Evidence evidence) is
+    by false is =
+        let b = bind_ok (check_of bytes) (λ check. Ok (check.0, said.Verdict check.1)) (p, said.Evidence evidence) is in
+        let no : said.Verdict b.0.1 ≡ said.Evidence evidence =
+        ap (λ (y : ProblemText × Said). y.1) (ok_is (b.0.0, said.Verdict b.0.1) (p, said.Evidence evidence) b.2) in
+        absurd cc

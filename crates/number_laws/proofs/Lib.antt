@@ -1,0 +1,4 @@
+mod EvidenceAgain
+mod EvidenceWords
+pub mod EvidenceBehind
+pub mod EvidenceFails
