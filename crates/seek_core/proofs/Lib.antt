@@ -2,6 +2,9 @@ mod ByFormula
 mod OwnTables
 mod NoneLost
 mod AllKinds
+mod GivenTexts
+mod Rounds
 mod Separated
+mod Texts
 mod WholeLines
 mod SaidInTurn

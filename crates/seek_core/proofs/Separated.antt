@@ -1,7 +1,8 @@
 -- What is found of two diagrams: by the first quandle that separates them, or by moves.
 use Rattle.std.proofs.Common.{rules, ◌≡◌, ◌∙◌, refl, ap, sym, subst, ℕ, List, [], ◌++◌, Option, Some, None, Ok, IfSome, All}
 use Rattle.std.proofs.lemmas.List.Elements.{All-append, All-filter, recursion_from_All}
-use Rattle.grid_core.specs.Diagram.{Diagram}
+use Rattle.std.specs.Option.{option_or}
+use Rattle.grid_core.specs.Diagram.{Diagram, IsGrid}
 use Rattle.verdict_core.specs.Names.{NamedQuandle}
 use Rattle.verdict_core.specs.Diagrams.{grid_of, columns}
 use Rattle.verdict_core.specs.Evidence.{Holds, IsTidyVerdict}
@@ -13,13 +14,23 @@ use Rattle.pair_verdict.specs.Separates.{separates, first_separating}
 use Rattle.pair_verdict.proofs.FirstFound.{find_passes, holds_by}
 use Rattle.decision_core.specs.Decision.{IsByWrittenQuandle}
 use Rattle.decision_core.proofs.PrintedVerdicts.{found}
+use Rattle.number_text.specs.declared.blocks.Block.{Block}
+use Rattle.number_text.specs.declared.evidence.Evidence.{Evidence}
+use Rattle.number_certificates.specs.declared.said.Said.{Said}
+use Rattle.number_certificates.specs.declared.said.Said.TheVariants as said
+use Rattle.number_certificates.specs.Printed.{HasBlockText}
+use Rattle.number_search.specs.declared.seed_pair.SeedPair.{SeedPair}
+use Rattle.number_search.specs.Told.{told_by_linking, told_by_blocks, told_apart}
+use Rattle.number_search.proofs.Held.{told_holds}
+use Rattle.number_decision.proofs.HeldTexts.{held_text}
 use Rattle.seek_core.specs.Candidates.{fitting, candidates}
 use Rattle.seek_core.specs.Formulas.{formula_quandles}
 use Rattle.seek_core.specs.declared.finding.Search.{Search}
 use Rattle.seek_core.specs.declared.answer.Tried.{Tried}
-use Rattle.seek_core.specs.Found.{IsFoundWhere, IsSearchOf, IsFindingOf}
-use Rattle.seek_core.specs.Answers.{WasTriedInVain}
+use Rattle.seek_core.specs.Found.{IsVerdictBy, IsFoundWhere, IsSearchOn, IsSearchOf, IsFindingOf}
+use Rattle.seek_core.specs.Answers.{WasTriedInVain, WereTriedInVain}
 use Rattle.seek_core.proofs.ByFormula.{formula_texts}
+use Rattle.seek_core.proofs.GivenTexts.{by_written}
 
 -- ---- the quandles that are tried have texts
 
@@ -40,21 +51,13 @@ candidates_are d e listed formulas start mid end none first same second =
 
 -- ---- what is found
 
--- the diagrams and the list are those of a problem
-pub tried_of : (d e d' e' : Diagram) (qs qs' tried : List NamedQuandle) → d ≡ d' → e ≡ e' → qs ≡ qs' → tried ≡ candidates d e qs
-    → tried ≡ candidates d' e' qs'
-tried_of d e d' e' qs qs' tried first second listed is =
-    is
-    ∙ ap (λ (rs : List NamedQuandle). candidates d e rs) listed
-    ∙ ap (λ (g : Diagram). candidates g e qs') first
-    ∙ ap (λ (g : Diagram). candidates d' g qs') second
-
-pub found_of : (d e d' e' : Diagram) (qs qs' : List NamedQuandle) (o : Option Verdict) → d ≡ d' → e ≡ e' → qs ≡ qs'
-    → IsFoundWhere d e (first_separating d e qs) o → IsFoundWhere d' e' (first_separating d' e' qs') o
-found_of d e d' e' qs qs' o first second tried found =
-    subst (λ (rs : List NamedQuandle). IsFoundWhere d' e' (first_separating d' e' rs) o) tried
-    (subst (λ (g : Diagram). IsFoundWhere d' g (first_separating d' g qs) o) second
-    (subst (λ (g : Diagram). IsFoundWhere g e (first_separating g e qs) o) first found))
+-- a search on the diagrams and the quandles of a problem
+pub search_of : (d e d' e' : Diagram) (listed listed' : List NamedQuandle) (blocks : List Block) (s : Search) → d ≡ d' → e ≡ e' → listed ≡ listed'
+    → IsSearchOn d e listed blocks s → IsSearchOn d' e' listed' blocks s
+search_of d e d' e' listed listed' blocks s first second same search =
+    subst (λ (g : Diagram). IsSearchOn g e' listed' blocks s) first
+    (subst (λ (g : Diagram). IsSearchOn d g listed' blocks s) second
+    (subst (λ (qs : List NamedQuandle). IsSearchOn d e qs blocks s) same search))
 
 -- ---- what it is worth
 
@@ -64,7 +67,7 @@ record IsWorth (d e : Diagram) (v : Verdict) : Type 0 where
   tidy : IsTidyVerdict v
 
 worth_by : (d e : Diagram) (qs : List NamedQuandle) (first : Option NamedQuandle) (v : Verdict) → All HasQuandleText qs → first_separating d e qs ≡ first
-    → IsFoundWhere d e first (Some v) → IsWorth d e v
+    → IsVerdictBy d e first v → IsWorth d e v
 worth_by d e qs (Some q) v all is lists = record {
   holds = holds_by d e q v (find_passes (λ (r : NamedQuandle). separates d e r.table) qs q is) lists;
   written = subst IsByWrittenQuandle (sym lists.verdict)
@@ -74,37 +77,66 @@ worth_by d e qs (Some q) v all is lists = record {
 worth_by d e qs None v all is equal = subst (IsWorth d e) (sym equal.verdict) (record { holds = equal.joins; written = tt; tidy = equal.tidy })
 
 -- of the diagrams of a problem
-finding_of : (p : ProblemText) (qs : List NamedQuandle) (v : Verdict) → All HasQuandleText qs
-    → IsFoundWhere (grid_of p.first) (grid_of p.second) (first_separating (grid_of p.first) (grid_of p.second) qs) (Some v) → IsFindingOf p v
-finding_of p qs v all found =
+finding_of : (p : ProblemText) (blocks : List Block) (s : Search) (x : Said) → IsGrid (grid_of p.first) → IsGrid (grid_of p.second)
+    → All HasQuandleText s.quandles.items → All HasBlockText blocks → (search : IsSearchOf p blocks s)
+    → IsFoundWhere (grid_of p.first) (grid_of p.second) (first_separating (grid_of p.first) (grid_of p.second) s.quandles.items)
+    (told_apart (grid_of p.first) (grid_of p.second) search.seeds blocks) (Some x) → IsFindingOf p x
+finding_of p blocks s (said.Verdict v) one two all texts search found =
     let d = grid_of p.first in
     let e = grid_of p.second in
-    let worth = worth_by d e qs (first_separating d e qs) v all refl found in
+    let worth = worth_by d e s.quandles.items (first_separating d e s.quandles.items) v all refl found in
     record { holds = worth.holds; written = worth.written; tidy = worth.tidy }
+finding_of p blocks s (said.Evidence x) one two all texts search found = record {
+  holds = told_holds (grid_of p.first) (grid_of p.second) search.seeds blocks x one two search.plans found;
+  written = held_text (grid_of p.first) (grid_of p.second) x one two
+      (told_holds (grid_of p.first) (grid_of p.second) search.seeds blocks x one two search.plans found)
+      (by_written (grid_of p.first) (grid_of p.second) search.seeds blocks x one two search.plans texts found);
+}
 
-pub finding_if : (p : ProblemText) (qs : List NamedQuandle) (o : Option Verdict) → All HasQuandleText qs
-    → IsFoundWhere (grid_of p.first) (grid_of p.second) (first_separating (grid_of p.first) (grid_of p.second) qs) o → IfSome o (λ v. IsFindingOf p v)
-finding_if p qs (Some v) all found = finding_of p qs v all found
-finding_if p qs None all found = search rules
+pub finding_if : (p : ProblemText) (blocks : List Block) (s : Search) → IsGrid (grid_of p.first) → IsGrid (grid_of p.second) → All HasQuandleText s.quandles.items
+    → All HasBlockText blocks → IsSearchOf p blocks s → IfSome s.said (λ x. IsFindingOf p x)
+finding_if p blocks s one two all texts search = by s.said refl
+  where
+    by : (o : Option Said) → s.said ≡ o → IfSome o (λ x. IsFindingOf p x)
+    by None is = tt
+    by (Some x) is = finding_of p blocks s x one two all texts search
+        (subst (λ (o : Option Said). IsFoundWhere (grid_of p.first) (grid_of p.second) (first_separating (grid_of p.first) (grid_of p.second) s.quandles.items)
+        (told_apart (grid_of p.first) (grid_of p.second) search.seeds blocks) o) is search.found)
 
 -- ---- where nothing is found
 
-none_separates : (d e : Diagram) (first : Option NamedQuandle) → IsFoundWhere d e first None → first ≡ None
-none_separates d e (Some q) found = absurd found
-none_separates d e None found = refl
+linking_none : (d e : Diagram) (s : SeedPair) (blocks : List Block) → told_apart d e s blocks ≡ None
+    → (told_by_linking d e ≡ None) × (told_by_blocks d e s blocks ≡ None)
+linking_none d e s blocks none = by (told_by_linking d e) refl none
+  where
+    by : (o : Option Evidence) → told_by_linking d e ≡ o → option_or o (told_by_blocks d e s blocks) ≡ None
+        → (told_by_linking d e ≡ None) × (told_by_blocks d e s blocks ≡ None)
+    by None linking none = (linking, none)
+    by (Some x) linking none = absurd cc
 
-pub in_vain_of : (bytes : List ℕ) (p : ProblemText) (s : Search) (tried : Tried) → problem_of bytes ≡ Ok p
-    → tried.columns ≡ (columns p.first, columns p.second) → tried.quandles ≡ s.quandles.items → s.verdict ≡ None → IsSearchOf p s
-    → WasTriedInVain bytes tried
-in_vain_of bytes p s tried read wide same none search =
+pub in_vain_of : (bytes : List ℕ) (p : ProblemText) (blocks : List Block) (s : Search) (tried : Tried) → problem_of bytes ≡ Ok p
+    → tried.columns ≡ (columns p.first, columns p.second) → tried.quandles ≡ s.quandles.items → tried.blocks ≡ s.blocks → s.said ≡ None
+    → IsSearchOf p blocks s → WasTriedInVain bytes tried × WereTriedInVain bytes blocks tried
+in_vain_of bytes p blocks s tried read wide same fitting none search =
     let d = grid_of p.first in
     let e = grid_of p.second in
-    let first = first_separating d e s.quandles.items in
-    record {
-      problem = p;
-      read = read;
-      wide = wide;
-      quandles = same ∙ search.tried;
-      in_vain = ap (first_separating d e) same
-          ∙ none_separates d e first (subst (λ (o : Option Verdict). IsFoundWhere d e first o) none search.found);
-    }
+    let neither : (first_separating d e s.quandles.items ≡ None) × (told_apart d e search.seeds blocks ≡ None) =
+    subst (λ (o : Option Said). IsFoundWhere d e (first_separating d e s.quandles.items) (told_apart d e search.seeds blocks) o) none search.found in
+    let untold = linking_none d e search.seeds blocks neither.1 in (
+      record {
+        problem = p;
+        read = read;
+        wide = wide;
+        linking = untold.0;
+        quandles = same ∙ search.quandles;
+        in_vain = ap (first_separating d e) same ∙ neither.0;
+      },
+      record {
+        problem = p;
+        read = read;
+        seeds = search.seeds;
+        plans = search.plans;
+        fitting = fitting ∙ search.fitting;
+        in_vain = untold.1;
+      },
+    )

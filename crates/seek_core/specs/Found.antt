@@ -1,5 +1,5 @@
 -- What a search for a verdict on two diagrams comes to.
-use Rattle.std.specs.Prelude.{◌≡◌, true, List, Option, Some, None}
+use Rattle.std.specs.Prelude.{◌≡◌, true, List, Option, Some, None, count_by}
 use Rattle.grid_core.specs.Diagram.{Diagram}
 use Rattle.grid_moves.specs.declared.step.Move.{Move}
 use Rattle.grid_moves.specs.Joining.{Joins}
@@ -8,10 +8,18 @@ use Rattle.verdict_core.specs.declared.problem.ProblemText.{ProblemText}
 use Rattle.verdict_core.specs.declared.verdict.Verdict.{Verdict}
 use Rattle.verdict_core.specs.declared.verdict.Verdict.TheVariants.{Equal}
 use Rattle.verdict_core.specs.Diagrams.{grid_of}
-use Rattle.verdict_core.specs.Evidence.{Holds, IsTidyVerdict}
+use Rattle.verdict_core.specs.Evidence as verdict
 use Rattle.verdict_core.specs.Names.{NamedQuandle}
 use Rattle.pair_verdict.specs.Separates.{first_separating, IsDifferentBy}
 use Rattle.decision_core.specs.Decision.{IsByWrittenQuandle}
+use Rattle.number_text.specs.declared.blocks.Block.{Block}
+use Rattle.number_text.specs.declared.evidence.Evidence.{Evidence}
+use Rattle.number_check.specs.Holds as numbers
+use Rattle.number_certificates.specs.declared.said.Said.{Said}
+use Rattle.number_certificates.specs.declared.said.Said.TheVariants as said
+use Rattle.number_certificates.specs.Printed.{HasEvidenceText}
+use Rattle.number_search.specs.declared.seed_pair.SeedPair.{SeedPair}
+use Rattle.number_search.specs.Told.{ArePlansOf, fits_both, told_apart}
 use Rattle.seek_core.specs.declared.finding.Search.{Search}
 use Rattle.seek_core.specs.Candidates.{candidates}
 
@@ -22,22 +30,47 @@ pub record IsEqualBy (d e : Diagram) (v : Verdict) : Type 0 where
   pub joins : Joins d moves e
   pub tidy : is_tidy moves ≡ true
 
--- by the first quandle that separates the diagrams they are found to be different; where none does, moves may be found that join them,
--- or nothing
-abbrev pub IsFoundWhere : Diagram → Diagram → Option NamedQuandle → Option Verdict → Type 0
-IsFoundWhere d e (Some q) (Some v) = IsDifferentBy d e q v
-IsFoundWhere d e (Some q) None = ⊥
-IsFoundWhere d e None (Some v) = IsEqualBy d e v
-IsFoundWhere d e None None = Unit {0}
+-- a verdict is `different` by the first quandle that separates the diagrams, and where none does, it is `equal`
+abbrev pub IsVerdictBy : Diagram → Diagram → Option NamedQuandle → Verdict → Type 0
+IsVerdictBy d e (Some q) v = IsDifferentBy d e q v
+IsVerdictBy d e None v = IsEqualBy d e v
 
--- what a search of a problem tried, and what it found
-pub record IsSearchOf (p : ProblemText) (s : Search) : Type 0 where
-  pub tried : s.quandles.items ≡ candidates (grid_of p.first) (grid_of p.second) p.quandles
-  pub found : IsFoundWhere (grid_of p.first) (grid_of p.second) (first_separating (grid_of p.first) (grid_of p.second) s.quandles.items) s.verdict
+-- such a verdict, or none, only where no quandle separates the diagrams
+abbrev pub IsVerdictWhere : Diagram → Diagram → Option NamedQuandle → Option Verdict → Type 0
+IsVerdictWhere d e quandle (Some v) = IsVerdictBy d e quandle v
+IsVerdictWhere d e quandle None = quandle ≡ None
 
--- the evidence of a verdict holds of the diagrams of a problem, its moves, if any, are a tidy list, and its quandle, if it is by one, has
--- a text
-pub record IsFindingOf (p : ProblemText) (v : Verdict) : Type 0 where
-  pub holds : Holds (grid_of p.first) (grid_of p.second) v
+-- what is found is such a verdict, or evidence by numbers; nothing is found only where no quandle separates the diagrams, and there is no such
+-- evidence
+abbrev pub IsFoundWhere : Diagram → Diagram → Option NamedQuandle → Option Evidence → Option Said → Type 0
+IsFoundWhere d e quandle evidence (Some (said.Verdict v)) = IsVerdictBy d e quandle v
+IsFoundWhere d e quandle evidence (Some (said.Evidence x)) = evidence ≡ Some x
+IsFoundWhere d e quandle evidence None = (quandle ≡ None) × (evidence ≡ None)
+
+-- what a search on two diagrams and listed quandles tried, with so many of the blocks that fit plans of both diagrams, and what it found
+pub record IsSearchOn (d e : Diagram) (listed : List NamedQuandle) (blocks : List Block) (s : Search) : Type 0 where
+  pub quandles : s.quandles.items ≡ candidates d e listed
+  pub seeds : SeedPair
+  pub plans : ArePlansOf d e seeds
+  pub fitting : s.blocks ≡ count_by (fits_both seeds) blocks
+  pub found : IsFoundWhere d e (first_separating d e s.quandles.items) (told_apart d e seeds blocks) s.said
+
+-- the same of a problem
+abbrev pub IsSearchOf : ProblemText → List Block → Search → Type 0
+IsSearchOf p blocks s = IsSearchOn (grid_of p.first) (grid_of p.second) p.quandles blocks s
+
+-- a verdict holds of the diagrams of a problem, its moves, if any, are a tidy list, and its quandle, if it is by one, has a text
+pub record IsVerdictOf (p : ProblemText) (v : Verdict) : Type 0 where
+  pub holds : verdict.Holds (grid_of p.first) (grid_of p.second) v
   pub written : IsByWrittenQuandle v
-  pub tidy : IsTidyVerdict v
+  pub tidy : verdict.IsTidyVerdict v
+
+-- evidence by numbers holds of the diagrams of a problem, and has a text
+pub record IsEvidenceOf (p : ProblemText) (x : Evidence) : Type 0 where
+  pub holds : numbers.Holds (grid_of p.first) (grid_of p.second) x
+  pub written : HasEvidenceText x
+
+-- what is said of the diagrams of a problem is one of both
+abbrev pub IsFindingOf : ProblemText → Said → Type 0
+IsFindingOf p (said.Verdict v) = IsVerdictOf p v
+IsFindingOf p (said.Evidence x) = IsEvidenceOf p x

@@ -2,6 +2,7 @@ pub mod Formulas
 pub mod Candidates
 pub mod Found
 pub mod Parts
+pub mod Given
 pub mod Answers
 pub use Rattle.grid_moves.specs.Joining
 pub use Rattle.knot_ports.specs.Faults
@@ -13,3 +14,8 @@ pub use Rattle.knot_text.specs.Printed
 pub use Rattle.knot_text.specs.Shapes
 pub use Rattle.pair_verdict.specs.Separates
 pub use Rattle.decision_core.specs.Decision
+pub use Rattle.text_items.specs.Reading
+pub use Rattle.number_text.specs.Blocks
+pub use Rattle.number_certificates.specs.Printed as EvidenceTexts
+pub use Rattle.number_decision.specs.Evidence as WrittenEvidence
+pub use Rattle.number_search.specs.Told

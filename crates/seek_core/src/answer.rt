@@ -1,37 +1,43 @@
-//! The answer to an input: the text of a decision on it, or what was tried, or its first bad line.
+//! The answer to an input: the text of what can be said of its diagrams, or what was tried, or its first bad line.
 ghost use Rattle.std.specs.Prelude.{◌≡◌, ℕ, List, Ok, IfOk};
 ghost use Rattle.std.specs.List.{All};
 ghost use Rattle.knot_text.specs.Printed.{HasQuandleText};
 ghost use Rattle.knot_text.specs.Shapes.{problem_of};
-ghost use Rattle.seek_core.specs.Answers.{IsTrueAnswer};
+ghost use Rattle.number_certificates.specs.Printed.{third_text};
+ghost use Rattle.seek_core.specs.Answers.{IsTrueAnswer, IsTidySaid, said_text};
 
+use crate::blocks::Blocks;
 use crate::bounds::Bounds;
 use crate::finding::{Search, find};
 use decision_core::laws::a_verdict_that_holds_is_a_decision;
-use grid_core::Items;
 use knot_text::{print_verdict, read_problem};
 use meeting_walks::Watch;
-use memory_core::OutOfMemory;
+use memory_core::{Items, OutOfMemory};
+use number_certificates::{Said, print_evidence};
+use number_decision::laws::evidence_that_holds_is_evidence_on_its_problem;
+use number_text::Evidence;
 use std::alloc::Global;
 use std::thread::Threads;
 use text_items::TextFault;
 use verdict_core::{Listed, ProblemText};
 
-/// What was tried of two diagrams without finding a verdict on them.
+/// What was tried of two diagrams, whose linking numbers agree, without finding anything.
 #[derive(Drop)]
 pub struct Tried {
     /// The columns of both diagrams.
     pub columns: (u8, u8),
     /// The quandles that fit both diagrams, none of which separates them.
     pub quandles: Items<Listed>,
+    /// How many of the blocks fit the seeds of both diagrams, none of which tells them apart.
+    pub blocks: usize,
 }
 
 /// What is answered to an input.
 #[derive(Drop)]
 pub enum Answer {
-    /// The text of a verdict.
+    /// The text of a verdict, or of evidence by numbers.
     Decided(Items<u8>),
-    /// No verdict was found.
+    /// Nothing was found.
     NotFound(Tried),
     /// The first bad line has not the form of what is due there, or says what can't be, or stands behind the end.
     Malformed { line: usize },
@@ -39,20 +45,21 @@ pub enum Answer {
     Limit { line: usize },
 }
 
-/// The answer to the bytes of an input: a problem is decided where a verdict on it is found within the bounds. Want of memory is the
-/// only error.
+/// The answer to the bytes of an input: a problem is decided where something can be said of its diagrams that is found by the blocks and within
+/// the bounds. Want of memory is the only error.
 pub fn answer_to<R: Threads + Sync, W: Watch>(
     rt: &R,
     alloc: Global,
     bytes: &[u8],
+    blocks: &Blocks,
     bounds: Bounds,
     watch: &mut W,
 ) -> Result<Answer, OutOfMemory>
-    ensures { IfOk result (λ a. IsTrueAnswer bytes.now a) }
+    ensures { IfOk result (λ a. IsTrueAnswer bytes.now blocks.now a) }
 {
     a_verdict_that_holds_is_a_decision();
     match read_problem(alloc, bytes) {
-        Ok(problem) => answer_problem(rt, alloc, &problem, bounds, watch),
+        Ok(problem) => answer_problem(rt, alloc, &problem, blocks, bounds, watch),
         Err(TextFault::OutOfMemory) => Err(OutOfMemory),
         Err(TextFault::Malformed { line }) => Ok(Answer::Malformed { line }),
         Err(TextFault::Limit { line }) => Ok(Answer::Limit { line }),
@@ -64,22 +71,48 @@ fn answer_problem<R: Threads + Sync, W: Watch>(
     rt: &R,
     alloc: Global,
     problem: &ProblemText,
+    blocks: &Blocks,
     bounds: Bounds,
     watch: &mut W,
 ) -> Result<Answer, OutOfMemory>
     requires { All HasQuandleText problem.now.quandles }
-    ensures { (bytes : List ℕ) → problem_of bytes ≡ Ok problem.now → IfOk result (λ a. IsTrueAnswer bytes a) }
+    ensures { (bytes : List ℕ) → problem_of bytes ≡ Ok problem.now → IfOk result (λ a. IsTrueAnswer bytes blocks.now a) }
 {
     a_verdict_that_holds_is_a_decision();
-    let Search { verdict, quandles } = find(rt, alloc, problem, bounds, watch)?;
-    match verdict {
-        Some(verdict) => {
-            let text = print_verdict(alloc, &verdict)?;
+    evidence_that_holds_is_evidence_on_its_problem();
+    let Search {
+        said,
+        quandles,
+        blocks: fitting,
+    } = find(rt, alloc, problem, blocks, bounds, watch)?;
+    match said {
+        Some(said) => {
+            let text = text_of(alloc, &said)?;
             Ok(Answer::Decided(Items::from_vec(text)))
         }
         None => Ok(Answer::NotFound(Tried {
             columns: (problem.first.columns(), problem.second.columns()),
             quandles: Items::from_vec(quandles),
+            blocks: fitting,
         })),
     }
+}
+
+/// The text of what is said of two diagrams.
+fn text_of(alloc: Global, said: &Said) -> Result<Vec<u8>, OutOfMemory>
+    requires { IsTidySaid said.now }
+    ensures { IfOk result (λ v. v.items ≡ said_text said.now) }
+{
+    match said {
+        Said::Verdict(verdict) => print_verdict(alloc, verdict),
+        Said::Evidence(evidence) => evidence_text(alloc, evidence),
+    }
+}
+
+/// The text of evidence by numbers.
+fn evidence_text(alloc: Global, evidence: &Evidence) -> Result<Vec<u8>, OutOfMemory>
+    ensures { IfOk result (λ v. v.items ≡ third_text evidence.now) }
+{
+    let text = print_evidence(alloc, evidence)?;
+    Ok(text)
 }

@@ -1,5 +1,8 @@
 //! What bounds a search.
 
+/// The most steps of the short walk, which joins most pairs of diagrams of one link. It takes some hundredths of a second.
+pub const SHORT_STEPS: u64 = 32_768;
+
 /// What bounds the search for moves, and how many seek. No clause says that the same bounds have the same answer.
 #[derive(Clone, Copy, Debug, PartialEq, Eq)]
 pub struct Bounds {
@@ -7,4 +10,19 @@ pub struct Bounds {
     pub walks: meeting_walks::Bounds,
     /// How many workers seek, each in a thread and with a seed of its own; 0 counts as 1. The one with the fewest steps is heard.
     pub workers: u32,
+}
+
+impl Bounds {
+    /// The same for the short walk.
+    pub(crate) fn short(self) -> Bounds {
+        let Bounds { walks, workers } = self;
+        Bounds {
+            walks: meeting_walks::Bounds {
+                seed: walks.seed,
+                steps: walks.steps.min(SHORT_STEPS),
+                room: walks.room,
+            },
+            workers,
+        }
+    }
 }

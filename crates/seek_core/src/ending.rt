@@ -1,28 +1,31 @@
 //! The top call: the answer to an input, written.
 ghost use Rattle.std.specs.Prelude.{◌≡◌, ◌<◌, ◌≤◌, ℕ, List, length};
+ghost use Rattle.number_text.specs.declared.blocks.Block.{Block};
+ghost use Rattle.seek_core.specs.declared.answer.Tried.{Tried};
 ghost use Rattle.knot_ports.specs.Faults.{Rose};
 ghost use Rattle.decision_core.specs.declared.status.Status.TheVariants as status;
 ghost use Rattle.seek_core.specs.declared.ending.Ending.TheVariants as ending;
 ghost use Rattle.decision_core.specs.declared.limits.TheConstants.{MAX_INPUT};
-ghost use Rattle.seek_core.specs.Answers.{Ends, WritesDecision, IsTooLong, IsTrueAnswer, ending_status};
+ghost use Rattle.seek_core.specs.Answers.{Ends, WritesDecision, WereTriedInVain, IsTooLong, IsTrueAnswer, ending_status};
 ghost use Rattle.seek_core.specs.Parts.{joined};
 
 use crate::answer::{Answer, Tried, answer_to};
+use crate::blocks::Blocks;
 use crate::bounds::Bounds;
 use crate::parts::join_parts;
 use decision_core::{MAX_INPUT, Status};
-use grid_core::Items;
 use knot_ports::{Sink, give_all};
 use meeting_walks::Watch;
+use memory_core::Items;
 use std::alloc::Global;
 use std::thread::Threads;
 
 /// How a call of `run` ended.
 #[derive(Drop)]
 pub enum Ending {
-    /// The text of a verdict was written.
+    /// The text of a verdict, or of evidence by numbers, was written.
     Done,
-    /// No verdict was found.
+    /// Nothing was found.
     NotFound(Tried),
     /// The first bad line has not the form of what is due there, or says what can't be, or stands behind the end.
     Malformed { line: usize },
@@ -52,28 +55,32 @@ impl Ending {
     }
 }
 
-/// Looks for a verdict on the two diagrams of an input, which comes in parts, and writes it to the sink.
+/// Looks for what can be said of the two diagrams of an input, which comes in parts, and writes it to the sink: a verdict with its evidence, or
+/// evidence by numbers.
 ///
-/// Where it ends with status 0, the text of a verdict was written, what it says of the two diagrams is true, and behind the input `check`
-/// accepts it, where both are within its limit of bytes. Else nothing was written, or, where the sink failed, a front of such a text: the
-/// whole text is made before the first write. That a verdict is found is not promised. A longer input than `MAX_INPUT` is answered by
-/// `TooLong`, or by want of memory, and the sink is said to have failed only where its count of faults rose, or stands at its last value.
+/// Where it ends with status 0, such a text was written, what it says of the two diagrams is true, and behind the input `check` accepts it,
+/// where both are within its limit of bytes. Else nothing was written, or, where the sink failed, a front of such a text: the whole text is made
+/// before the first write. That anything is found is not promised; where nothing is, linking numbers agree, and neither the quandles nor the
+/// blocks that fit tell the two apart. A longer input than `MAX_INPUT` is answered by `TooLong`, or by want of memory, and the sink is said to
+/// have failed only where its count of faults rose, or stands at its last value.
 pub fn run<R: Threads + Sync, K: Sink, W: Watch>(
     rt: &R,
     alloc: Global,
     parts: &[Items<u8>],
+    blocks: &Blocks,
     bounds: Bounds,
     sink: &mut K,
     watch: &mut W,
 ) -> Ending
     ensures decides { ending_status result ≡ status.Done → WritesDecision (joined parts.now) (K.held sink.old) (K.held sink.new) }
     ensures ends { Ends (joined parts.now) (K.held sink.old) (K.held sink.new) result }
+    ensures blocks { (tried : Tried) → result ≡ ending.NotFound tried → WereTriedInVain (joined parts.now) blocks.now tried }
     ensures long { MAX_INPUT < length (joined parts.now) → IsTooLong result }
     ensures fault { result ≡ ending.WriteFault → Rose (K.faults sink.old) (K.faults sink.new) }
     ensures count { K.faults sink.old ≤ K.faults sink.new }
 {
     match join_parts(alloc, parts) {
-        Ok(bytes) => run_whole(rt, alloc, bytes.as_slice(), bounds, sink, watch),
+        Ok(bytes) => run_whole(rt, alloc, bytes.as_slice(), blocks, bounds, sink, watch),
         Err(_) => Ending::OutOfMemory,
     }
 }
@@ -83,11 +90,13 @@ fn run_whole<R: Threads + Sync, K: Sink, W: Watch>(
     rt: &R,
     alloc: Global,
     bytes: &[u8],
+    blocks: &Blocks,
     bounds: Bounds,
     sink: &mut K,
     watch: &mut W,
 ) -> Ending
     ensures ends { Ends bytes.now (K.held sink.old) (K.held sink.new) result }
+    ensures blocks { (tried : Tried) → result ≡ ending.NotFound tried → WereTriedInVain bytes.now blocks.now tried }
     ensures long { MAX_INPUT < length bytes.now → IsTooLong result }
     ensures fault { result ≡ ending.WriteFault → Rose (K.faults sink.old) (K.faults sink.new) }
     ensures count { K.faults sink.old ≤ K.faults sink.new }
@@ -95,7 +104,7 @@ fn run_whole<R: Threads + Sync, K: Sink, W: Watch>(
     if bytes.len() > MAX_INPUT {
         return Ending::TooLong;
     }
-    match answer_to(rt, alloc, bytes, bounds, watch) {
+    match answer_to(rt, alloc, bytes, blocks, bounds, watch) {
         Ok(answer) => deliver(answer, sink),
         Err(_) => Ending::OutOfMemory,
     }
@@ -103,7 +112,9 @@ fn run_whole<R: Threads + Sync, K: Sink, W: Watch>(
 
 /// Writes an answer, where it is a text, whatever input it answers.
 fn deliver<K: Sink>(answer: Answer, sink: &mut K) -> Ending
-    ensures ends { (bytes : List ℕ) → IsTrueAnswer bytes answer → Ends bytes (K.held sink.old) (K.held sink.new) result }
+    ensures ends { (bytes : List ℕ) (blocks : List Block) → IsTrueAnswer bytes blocks answer → Ends bytes (K.held sink.old) (K.held sink.new) result }
+    ensures blocks { (bytes : List ℕ) (blocks : List Block) (tried : Tried) → IsTrueAnswer bytes blocks answer → result ≡ ending.NotFound tried
+        → WereTriedInVain bytes blocks tried }
     ensures fault { result ≡ ending.WriteFault → Rose (K.faults sink.old) (K.faults sink.new) }
     ensures count { K.faults sink.old ≤ K.faults sink.new }
 {

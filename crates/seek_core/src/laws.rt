@@ -12,7 +12,13 @@ ghost use Rattle.pair_verdict.specs.Separates.{separates, first_separating};
 ghost use Rattle.knot_text.specs.Printed.{HasQuandleText};
 ghost use Rattle.knot_text.specs.Shapes.{problem_of};
 ghost use Rattle.knot_text.specs.WrittenThere.{said_by};
-ghost use Rattle.seek_core.specs.Answers.{WasTriedInVain};
+ghost use Rattle.linking_core.specs.Component.{components};
+ghost use Rattle.linking_core.specs.Linking.{linking};
+ghost use Rattle.number_text.specs.declared.blocks.Block.{Block};
+ghost use Rattle.number_check.specs.Holds.{numbers_by};
+ghost use Rattle.number_search.specs.declared.seed_pair.SeedPair.{SeedPair};
+ghost use Rattle.number_search.specs.Told.{ArePlansOf, fits_both};
+ghost use Rattle.seek_core.specs.Answers.{WasTriedInVain, WereTriedInVain};
 ghost use Rattle.seek_core.specs.Candidates.{IsUnlisted, candidates};
 ghost use Rattle.seek_core.specs.Formulas.{formula_quandles, HaveOwnTables, HaveTable, IsFactor, IsByFormula};
 ghost use Rattle.seek_core.specs.Parts.{joined};
@@ -77,6 +83,21 @@ pub fn what_was_tried_in_vain_no_quandle_separates()
 {
     a_verdict_that_holds_is_a_decision();
 }
+
+/// Where an input was tried in vain, its two links have as many components and the same linking numbers, and by each of the blocks that fits plans
+/// of both diagrams they have the same numbers of colourings.
+pub fn what_was_tried_in_vain_no_numbers_tell_apart()
+    ensures linking { (bytes : List ℕ) (tried : Tried) (problem : ProblemText)
+        → WasTriedInVain bytes tried
+        → problem_of bytes ≡ Ok problem
+        → (length (components (grid_of problem.first)) ≡ length (components (grid_of problem.second)))
+        × (linking (grid_of problem.first) ≡ linking (grid_of problem.second)) }
+    ensures blocks { (bytes : List ℕ) (blocks : List Block) (tried : Tried) (problem : ProblemText)
+        → WereTriedInVain bytes blocks tried
+        → problem_of bytes ≡ Ok problem
+        → (s : SeedPair) × ArePlansOf (grid_of problem.first) (grid_of problem.second) s
+        × All (λ (b : Block). fits_both s b ≡ true → numbers_by b (grid_of problem.first) ≡ numbers_by b (grid_of problem.second)) blocks }
+{}
 
 /// Each candidate fits both diagrams, and is a listed quandle, or one by formula whose name no listed one has: nothing else is tried.
 pub fn a_candidate_is_listed_or_by_formula()

@@ -1,9 +1,10 @@
-//! The verdict on two diagrams, sought first by quandles and then by walks, and its text.
-//! Nothing is promised of what is found; what is answered is a decision on the input, which is true and which `check` accepts behind it,
-//! where both are within its limit of bytes.
+//! What can be said of two diagrams, sought in rounds by numbers, by quandles and by walks, and its text.
+//! Nothing is promised of what walks find. What is answered is a decision on the input or evidence by numbers on it, which is true and which
+//! `check` accepts behind it, where both are within its limit of bytes.
 #![tactic(auto)]
 
 mod answer;
+mod blocks;
 mod bounds;
 mod candidates;
 mod ending;
@@ -11,12 +12,12 @@ mod finding;
 mod formulas;
 pub mod laws;
 mod parts;
-#[cfg(test)]
-mod tests;
+mod separating;
 
 pub use answer::{Answer, Tried, answer_to};
-pub use bounds::Bounds;
+pub use blocks::Blocks;
+pub use bounds::{Bounds, SHORT_STEPS};
 pub use ending::{Ending, run};
-pub use finding::{Search, find};
+pub use finding::{FIRST_QUANDLES, Search, find};
 pub use formulas::formula_quandles;
 pub use parts::join_parts;

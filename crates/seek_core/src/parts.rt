@@ -4,8 +4,7 @@ ghost use Rattle.text_lines.specs.Lines.{are_whole_lines};
 ghost use Rattle.decision_core.specs.Decision.{put_behind};
 ghost use Rattle.seek_core.specs.Parts.{joined};
 
-use grid_core::Items;
-use memory_core::OutOfMemory;
+use memory_core::{Items, OutOfMemory};
 use std::alloc::Global;
 
 /// The parts one behind the other, each from the beginning of a line on.

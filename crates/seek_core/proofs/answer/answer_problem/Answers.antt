@@ -1,26 +1,26 @@
 use Rattle.std.proofs.Common.{rules, ◌∙◌, List, ℕ, Option, IfSome, sym, subst}
-use Rattle.verdict_core.specs.declared.verdict.Verdict.{Verdict}
-use Rattle.decision_core.specs.Decision.{IsDecision}
+use Rattle.number_certificates.specs.declared.said.Said.{Said}
 use Rattle.seek_core.specs.declared.answer.Tried.{Tried}
 use Rattle.seek_core.specs.Found.{IsFindingOf}
+use Rattle.seek_core.specs.Answers.{Decides}
 use Rattle.seek_core.proofs.Separated.{in_vain_of}
+use Rattle.seek_core.proofs.Texts.{tidy_said, decided}
 use Rattle.seek_core.proofs.answer.answer_problem.Goals as goal
 
 pub returns-in-None : goal.returns-in-None
 returns-in-None g c = λ bytes read.
-    let s = c.in_ok-verdict.field-0 in
-    let tried : Tried = record { columns = (c.columns.result, c.columns-in-None.result); quandles = c.from_vec-in-None.result } in
-    in_vain_of bytes c.args.problem.now s tried read (search rules) c.from_vec-in-None.ensures c.in-None.is c.in_ok-verdict.ensures.search
+    let s = c.in_ok-said.field-0 in
+    let tried : Tried = record { columns = (c.columns.result, c.columns-in-None.result); quandles = c.from_vec-in-None.result; blocks = s.blocks } in
+    in_vain_of bytes c.args.problem.now c.args.blocks.now s tried read (search rules) c.from_vec-in-None.ensures (search rules) c.in-None.is c.in_ok-said.ensures.search
 
-pub print_verdict-requires : goal.print_verdict-requires
-print_verdict-requires g c =
+pub text_of-requires : goal.text_of-requires
+text_of-requires g c =
     let p = c.args.problem.now in
-    let found = subst (λ (o : Option Verdict). IfSome o (λ v. IsFindingOf p v)) c.in-Some.is c.in_ok-verdict.ensures.finding in
-    found.tidy
+    tidy_said p c.in-Some.said (subst (λ (o : Option Said). IfSome o (λ x. IsFindingOf p x)) c.in-Some.is c.in_ok-said.ensures.finding)
 
 pub returns-in_ok-text-in-Some : goal.returns-in_ok-text-in-Some
 returns-in_ok-text-in-Some g c = λ bytes read.
     let p = c.args.problem.now in
-    let found = subst (λ (o : Option Verdict). IfSome o (λ v. IsFindingOf p v)) c.in-Some.is c.in_ok-verdict.ensures.finding in
-    subst (λ (text : List ℕ). IsDecision bytes text) (sym (c.from_vec.ensures ∙ c.in_ok-text-in-Some.ensures))
-    (c.a_verdict_that_holds_is_a_decision.ensures.decision bytes p c.in-Some.verdict read found.holds found.written found.tidy)
+    let finding = subst (λ (o : Option Said). IfSome o (λ x. IsFindingOf p x)) c.in-Some.is c.in_ok-said.ensures.finding in
+    subst (λ (text : List ℕ). Decides bytes text) (sym (c.from_vec.ensures ∙ c.in_ok-text-in-Some.ensures))
+    (decided c.a_verdict_that_holds_is_a_decision.ensures.decision c.evidence_that_holds_is_evidence_on_its_problem.ensures bytes p c.in-Some.said read finding)

@@ -1,5 +1,13 @@
+use Rattle.std.proofs.Common.{List, subst}
+use Rattle.grid_core.specs.Diagram.{IsGrid}
 use Rattle.verdict_core.specs.Diagrams.{grid_of}
-use Rattle.seek_core.proofs.Separated.{tried_of, found_of, finding_if}
+use Rattle.verdict_core.specs.Names.{NamedQuandle}
+use Rattle.pair_verdict.specs.Separates.{first_separating}
+use Rattle.number_text.specs.declared.blocks.Block.{Block}
+use Rattle.number_search.specs.Told.{told_apart}
+use Rattle.seek_core.specs.declared.finding.Search.{Search}
+use Rattle.seek_core.specs.Found.{IsFoundWhere, IsSearchOn}
+use Rattle.seek_core.proofs.Separated.{search_of, finding_if}
 use Rattle.seek_core.proofs.finding.find.Goals as goal
 
 pub returns-clause-search : goal.returns-clause-search
@@ -7,17 +15,23 @@ returns-clause-search g c =
     let p = c.args.problem.now in
     let d = c.grid-first.result in
     let e = c.grid-second.result in
-    let qs = c.in_ok-quandles.quandles.items in
-    let first = c.grid-first.ensures in
-    let second = c.grid-second.ensures in
-    record {
-      tried = tried_of d e (grid_of p.first) (grid_of p.second) c.as_slice.result.now p.quandles qs first second c.as_slice.ensures
-          c.in_ok-quandles.ensures.quandles;
-      found = found_of d e (grid_of p.first) (grid_of p.second) c.as_slice-2.result.now qs c.in_ok-verdict.verdict first second
-          c.as_slice-2.ensures.value c.in_ok-verdict.ensures;
-    }
+    let given = c.as_slice-given.result.now in
+    let s : Search = record { said = c.in_ok-said.said; quandles = c.in_ok-quandles.quandles; blocks = c.count_fitting.result } in
+    let found = subst (λ (qs : List NamedQuandle). IsFoundWhere d e (first_separating d e qs) (told_apart d e c.in_ok-seeds.seeds given) c.in_ok-said.said)
+    c.as_slice-2.ensures.value c.in_ok-said.ensures in
+    let search : IsSearchOn d e c.as_slice.result.now given s = record {
+      quandles = c.in_ok-quandles.ensures.quandles;
+      seeds = c.in_ok-seeds.seeds;
+      plans = c.in_ok-seeds.ensures;
+      fitting = c.count_fitting.ensures;
+      found = found;
+    } in
+    subst (λ (bs : List Block). IsSearchOn (grid_of p.first) (grid_of p.second) p.quandles bs s) c.as_slice-given.ensures.list
+    (search_of d e (grid_of p.first) (grid_of p.second) c.as_slice.result.now p.quandles given s c.grid-first.ensures c.grid-second.ensures
+    c.as_slice.ensures search)
 
 pub returns-clause-finding : goal.returns-clause-finding
 returns-clause-finding g c =
-    let found = (returns-clause-search g c).found in
-    finding_if c.args.problem.now c.in_ok-quandles.quandles.items c.in_ok-verdict.verdict c.in_ok-quandles.ensures.texts found
+    let s : Search = record { said = c.in_ok-said.said; quandles = c.in_ok-quandles.quandles; blocks = c.count_fitting.result } in
+    finding_if c.args.problem.now c.args.blocks.now s (subst IsGrid c.grid-first.ensures c.size.ensures.grid) (subst IsGrid c.grid-second.ensures c.size-2.ensures.grid)
+    c.in_ok-quandles.ensures.texts c.as_slice-given.ensures.texts (returns-clause-search g c)

@@ -1,0 +1,10 @@
+//! Two diagrams told apart by numbers: by linking numbers, or by the numbers of their colourings by blocks, counted from few seeds.
+//! What is found is evidence that `rule` of number_check accepts, so that no moves join the two; nothing is found exactly where these numbers agree.
+#![tactic(auto)]
+
+pub mod laws;
+mod seed_pair;
+mod told;
+
+pub use seed_pair::SeedPair;
+pub use told::{count_fitting, tell_apart, tell_apart_by_blocks, tell_apart_by_linking};

@@ -1,0 +1,107 @@
+-- What the rounds of a search come to.
+use Rattle.std.proofs.Common.{◌≡◌, ◌∙◌, ◌++◌, ◌&&◌, ◌==◌, not, ℕ, Bool, true, false, List, [], ◌∷◌, Option, Some, None, IfSome, length, take, drop, cond, refl, sym, ap, ap₂, subst}
+use Rattle.std.specs.List.{AllByRecursion, find}
+use Rattle.std.specs.Option.{is_some, option_or}
+use Rattle.std.proofs.lemmas.Bool.{eq-eqb}
+use Rattle.std.proofs.lemmas.List.{take-append-drop}
+use Rattle.std.proofs.lemmas.List.Folds.{find-append}
+use Rattle.grid_core.specs.Diagram.{Diagram}
+use Rattle.grid_moves.specs.Joining.{Equivalent}
+use Rattle.quandle_core.specs.Quandle.{Table, IsQuandle}
+use Rattle.colour_list.specs.Fits.{fits}
+use Rattle.colour_list.specs.Listing.{colourings}
+use Rattle.colour_laws.proofs.Counted.{equivalent_lengths}
+use Rattle.verdict_core.specs.Names.{NamedQuandle}
+use Rattle.verdict_core.specs.declared.verdict.Verdict.{Verdict}
+use Rattle.verdict_core.proofs.Named.{named_is}
+use Rattle.knot_text.specs.Printed.{HasQuandleText}
+use Rattle.pair_verdict.specs.Separates.{separates, first_separating, IsSeparation}
+use Rattle.number_text.specs.declared.blocks.Block.{Block}
+use Rattle.number_text.specs.declared.evidence.Evidence.{Evidence}
+use Rattle.number_certificates.specs.declared.said.Said.{Said}
+use Rattle.number_certificates.specs.declared.said.Said.TheVariants as said
+use Rattle.number_search.specs.declared.seed_pair.SeedPair.{SeedPair}
+use Rattle.number_search.specs.Told.{told_by_linking, told_by_blocks, told_apart}
+use Rattle.seek_core.specs.Found.{IsEqualBy, IsVerdictBy, IsVerdictWhere, IsFoundWhere}
+
+-- ---- no quandle separates diagrams that are joined
+
+never_both : (a : Bool) → a && false ≡ false
+never_both true = refl
+never_both false = refl
+
+joined_alike : (d e : Diagram) (t : Table) → IsQuandle t → Equivalent d e → separates d e t ≡ false
+joined_alike d e t quandle joined =
+    let counts : length (colourings t d) == length (colourings t e) ≡ true =
+    eq-eqb (length (colourings t d)) (length (colourings t e)) (equivalent_lengths t quandle d e joined) in
+    ap (λ (same : Bool). (fits t d && fits t e) && not same) counts ∙ never_both (fits t d && fits t e)
+
+none_where_joined : (d e : Diagram) (qs : List NamedQuandle) → AllByRecursion HasQuandleText qs → Equivalent d e → first_separating d e qs ≡ None
+none_where_joined d e [] texts joined = refl
+none_where_joined d e (q ∷ qs) texts joined =
+    ap (λ (b : Bool). cond b (Some q) (first_separating d e qs)) (joined_alike d e q.table (named_is q.name q.table texts.0.names) joined)
+    ∙ none_where_joined d e qs texts.1 joined
+
+equal_verdict : (d e : Diagram) (qs : List NamedQuandle) (v : Verdict) → AllByRecursion HasQuandleText qs → IsEqualBy d e v
+    → IsVerdictBy d e (first_separating d e qs) v
+equal_verdict d e qs v texts equal =
+    subst (λ (q : Option NamedQuandle). IsVerdictBy d e q v) (sym (none_where_joined d e qs texts (equal.moves, equal.joins))) equal
+
+-- ---- a verdict, in the last rounds
+
+pub joined_verdict : (d e : Diagram) (qs : List NamedQuandle) (o : Option Verdict) → AllByRecursion HasQuandleText qs → IfSome o (λ v. IsEqualBy d e v)
+    → is_some o ≡ true → IsVerdictWhere d e (first_separating d e qs) o
+joined_verdict d e qs None texts equal some = absurd cc
+joined_verdict d e qs (Some v) texts equal some = equal_verdict d e qs v texts equal
+
+-- ---- all rounds: the first quandles, and the others behind them
+
+parted : (d e : Diagram) (qs : List NamedQuandle) (n : ℕ)
+    → first_separating d e qs ≡ option_or (first_separating d e (take n qs)) (first_separating d e (drop n qs))
+parted d e qs n =
+    ap (first_separating d e) (sym (take-append-drop n qs)) ∙ find-append (λ (q : NamedQuandle). separates d e q.table) (take n qs) (drop n qs)
+
+whole_verdict : (d e : Diagram) (qs : List NamedQuandle) (n : ℕ) (q : Option NamedQuandle) (v : Verdict) → AllByRecursion HasQuandleText qs
+    → first_separating d e (take n qs) ≡ q → IsVerdictBy d e q v → IsVerdictBy d e (first_separating d e qs) v
+whole_verdict d e qs n (Some q) v texts front told =
+    let whole = parted d e qs n ∙ ap (λ o. option_or o (first_separating d e (drop n qs))) front in
+    subst (λ (r : Option NamedQuandle). IsVerdictBy d e r v) (sym whole) told
+whole_verdict d e qs n None v texts front equal = equal_verdict d e qs v texts equal
+
+pub front_found : (d e : Diagram) (qs front : List NamedQuandle) (n : ℕ) (evidence : Option Evidence) (o : Option Said) → AllByRecursion HasQuandleText qs
+    → front ≡ take n qs → IsFoundWhere d e (first_separating d e front) evidence o → is_some o ≡ true
+    → IsFoundWhere d e (first_separating d e qs) evidence o
+front_found d e qs front n evidence None texts is found some = absurd cc
+front_found d e qs front n evidence (Some (said.Verdict v)) texts is found some =
+    whole_verdict d e qs n (first_separating d e front) v texts (ap (first_separating d e) (sym is)) found
+front_found d e qs front n evidence (Some (said.Evidence x)) texts is found some = found
+
+-- nothing is found in front
+neither : (d e : Diagram) (q : Option NamedQuandle) (evidence : Option Evidence) (o : Option Said) → IsFoundWhere d e q evidence o → is_some o ≡ false
+    → (q ≡ None) × (evidence ≡ None)
+neither d e q evidence None found none = found
+neither d e q evidence (Some (said.Verdict v)) found none = absurd cc
+neither d e q evidence (Some (said.Evidence x)) found none = absurd cc
+
+others_are : (d e : Diagram) (qs front others : List NamedQuandle) (n : ℕ) → front ≡ take n qs → others ≡ drop n qs → first_separating d e front ≡ None
+    → first_separating d e others ≡ first_separating d e qs
+others_are d e qs front others n is behind none =
+    ap (first_separating d e) behind
+    ∙ sym (ap (λ o. option_or o (first_separating d e (drop n qs))) (ap (first_separating d e) (sym is) ∙ none))
+    ∙ sym (parted d e qs n)
+
+pub later_verdict : (d e : Diagram) (qs front others : List NamedQuandle) (n : ℕ) (evidence : Option Evidence) (o : Option Said) (p : Option Verdict) (v : Verdict)
+    → front ≡ take n qs → others ≡ drop n qs → IsFoundWhere d e (first_separating d e front) evidence o → is_some o ≡ false
+    → IsVerdictWhere d e (first_separating d e others) p → p ≡ Some v → IsVerdictBy d e (first_separating d e qs) v
+later_verdict d e qs front others n evidence o p v is behind found none later some =
+    let nothing = neither d e (first_separating d e front) evidence o found none in
+    subst (λ (q : Option NamedQuandle). IsVerdictBy d e q v) (others_are d e qs front others n is behind nothing.0)
+    (subst (λ (r : Option Verdict). IsVerdictWhere d e (first_separating d e others) r) some later)
+
+pub nothing_later : (d e : Diagram) (qs front others : List NamedQuandle) (n : ℕ) (evidence : Option Evidence) (o : Option Said) (p : Option Verdict)
+    → front ≡ take n qs → others ≡ drop n qs → IsFoundWhere d e (first_separating d e front) evidence o → is_some o ≡ false
+    → IsVerdictWhere d e (first_separating d e others) p → p ≡ None → (first_separating d e qs ≡ None) × (evidence ≡ None)
+nothing_later d e qs front others n evidence o p is behind found none later last =
+    let nothing = neither d e (first_separating d e front) evidence o found none in
+    let no_quandle : first_separating d e others ≡ None = subst (λ (r : Option Verdict). IsVerdictWhere d e (first_separating d e others) r) last later in
+    (sym (others_are d e qs front others n is behind nothing.0) ∙ no_quandle, nothing.1)
