@@ -1,6 +1,9 @@
 //! How a call ends.
 ghost use Rattle.std.specs.Prelude.{◌≡◌};
+ghost use Rattle.std.specs.Process.{exit_status};
 ghost use Rattle.decision_core.specs.Status.{status_number};
+
+use std::process::ExitCode;
 
 /// How a call ended: of `knot`, with `Unknown` where `decide` found no evidence; of `seek`, where nothing was found.
 #[derive(Clone, Copy, Debug, PartialEq, Eq)]
@@ -41,5 +44,12 @@ impl Status {
             Status::OutOfMemory => 7,
             Status::Rejected => 8,
         }
+    }
+
+    /// The same, as a process ends with it.
+    pub fn exit_code(&self) -> ExitCode
+        ensures { exit_status result ≡ status_number self.now }
+    {
+        ExitCode::from(self.number())
     }
 }

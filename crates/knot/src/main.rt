@@ -1,18 +1,22 @@
-//! The program: standard input and output, and the status as the exit status.
-//! All that it answers is `run`'s, with a gate that lets everyone pass; beside it standard error has a sentence where something is wrong.
+//! The program: the words of the system, standard input and output, and a call of them.
+//! All that it answers is `call`'s; beside it standard error has a line where a terminal is read.
 //! The words come from the system, and where it gives none main ends by itself.
 #![tactic(auto)]
 
+ghost use Rattle.std.specs.Prelude.{◌≡◌};
+ghost use Rattle.std.specs.Process.{exit_status};
+ghost use Rattle.decision_core.specs.Status.{status_number};
+
+mod call;
+
+use crate::call::call;
 use decision_core::MAX_INPUT;
-use knot_jobs::{Status, run};
+use knot_jobs::Status;
 use knot_ports::{StdSink, StdSource};
-use knot_tells::{reading, sentence_of};
-use search_pool::OpenGate;
+use knot_tells::reading;
 use std::io;
 use std::io::IsTerminal;
 use std::process::ExitCode;
-use std::sync::Wait;
-use std::thread::Threads;
 
 /// Where the system refuses the words for another cause than memory.
 const NO_WORDS: u8 = 10;
@@ -22,45 +26,33 @@ const KEPT: usize = MAX_INPUT + 1;
 fn main(rt: HostRuntime) -> ExitCode {
     let args = match std::env::args(&rt) {
         Ok(args) => args,
-        Err(error) if error.kind() == io::ErrorKind::OutOfMemory => return no_memory(&rt),
-        Err(error) => {
-            let _told = eprintln!(rt; "knot: the words can't be read: {error}");
-            return ExitCode::from(NO_WORDS);
-        }
+        Err(error) => return without_words(&rt, &error),
     };
     let words: Vec<String> = match args.collect(rt.alloc()) {
         Ok(words) => words,
         Err(_) => return no_memory(&rt),
     };
-    ExitCode::from(call(&rt, &rt, words.as_slice()).number())
+    if rt.stdin().is_terminal() && reading(rt.alloc(), words.as_slice()).is_some() {
+        let _told = eprintln!(rt; "knot: standard input is read, up to its end (Ctrl-D)");
+    }
+    let mut source = StdSource::new(rt.alloc(), rt.stdin(), KEPT);
+    let mut sink = StdSink::new(rt.stdout());
+    call(&rt, &rt, words.as_slice(), &mut source, &mut sink)
+}
+
+/// The system gives no words.
+fn without_words(rt: &HostRuntime, error: &io::Error) -> ExitCode {
+    if error.kind() == io::ErrorKind::OutOfMemory {
+        return no_memory(rt);
+    }
+    let _told = eprintln!(rt; "knot: the words can't be read: {error}");
+    ExitCode::from(NO_WORDS)
 }
 
 /// There is no memory for the words.
-fn no_memory(rt: &HostRuntime) -> ExitCode {
+fn no_memory(rt: &HostRuntime) -> ExitCode
+    ensures { exit_status result ≡ status_number Status.OutOfMemory }
+{
     let _told = eprintln!(rt; "knot: there is not enough memory");
-    ExitCode::from(Status::OutOfMemory.number())
-}
-
-/// Does what the words ask for, with workers in threads of the second runtime, and tells what is wrong.
-fn call<R: Threads + Wait + Sync>(rt: &HostRuntime, threads: &R, words: &[String]) -> Status {
-    let alloc = rt.alloc();
-    if rt.stdin().is_terminal() && reading(alloc, words).is_some() {
-        let _told = eprintln!(rt; "knot: standard input is read, up to its end (Ctrl-D)");
-    }
-    let mut source = StdSource::new(alloc, rt.stdin(), KEPT);
-    let mut sink = StdSink::new(rt.stdout());
-    let mut kept = None;
-    let status = run(
-        threads,
-        alloc,
-        words,
-        &mut source,
-        &mut sink,
-        &OpenGate,
-        &mut kept,
-    );
-    if let Some(sentence) = sentence_of(rt, alloc, words, status, &source, &sink) {
-        let _told = eprintln!(rt; "knot: {sentence}");
-    }
-    status
+    Status::OutOfMemory.exit_code()
 }

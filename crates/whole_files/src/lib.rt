@@ -4,8 +4,6 @@
 
 mod place;
 mod put;
-#[cfg(test)]
-mod tests;
 mod text;
 
 pub use place::Place;

@@ -1,25 +1,27 @@
 //! A text is put in a place whole, or the place is as it was.
-ghost use Rattle.std.specs.Prelude.{◌≡◌, OnOk, OnErr};
+ghost use Rattle.std.specs.Prelude.{◌≡◌, true, false, OnOk, OnErr};
 ghost use Rattle.std.specs.Io.KnownBytes.{Appends};
 ghost use Rattle.whole_files.specs.Place.{emptied};
 
 use crate::place::Place;
 use std::io;
 
-/// Tries whether a file can be made beside the place, and leaves nothing of it.
+/// Tries whether a file can be made beside the place, and removed.
 pub fn try_place<P: Place>(port: &mut P) -> io::Result<()>
     ensures apart { P.standing port.new ≡ P.standing port.old }
-    ensures empty { emptied (P.beside port.new) ≡ emptied (P.beside port.old) }
+    ensures empty { OnOk result (P.beside port.new ≡ emptied (P.beside port.old)) }
+    ensures gone { OnOk result (P.is_made port.new ≡ false) }
 {
     port.create()?;
     port.remove()
 }
 
-/// Puts a file with this text in the place, when all of it is stored. Where a step fails, the place is as it was, and nothing is left
-/// beside it, if that can be removed.
+/// Puts a file with this text in the place, when all of it is stored. Where a step fails, the place is as it was, and the file that was
+/// made beside it is removed, if it can be.
 pub fn put_whole<P: Place>(port: &mut P, text: &[u8]) -> io::Result<()>
     ensures whole { OnOk result (Appends (emptied (P.beside port.old)) (P.standing port.new) text.now) }
     ensures none { OnErr result (P.standing port.new ≡ P.standing port.old) }
+    ensures gone { P.is_made port.new ≡ true → P.is_made port.old ≡ true }
 {
     port.create()?;
     let put = fill(port, text);
@@ -33,6 +35,8 @@ pub fn put_whole<P: Place>(port: &mut P, text: &[u8]) -> io::Result<()>
 fn fill<P: Place>(port: &mut P, text: &[u8]) -> io::Result<()>
     ensures whole { OnOk result (Appends (P.beside port.old) (P.standing port.new) text.now) }
     ensures none { OnErr result (P.standing port.new ≡ P.standing port.old) }
+    ensures gone { OnOk result (P.is_made port.new ≡ false) }
+    ensures made { OnErr result (P.is_made port.new ≡ P.is_made port.old) }
 {
     write_whole(port, text)?;
     port.store()?;
@@ -43,6 +47,7 @@ fn fill<P: Place>(port: &mut P, text: &[u8]) -> io::Result<()>
 fn write_whole<P: Place>(port: &mut P, text: &[u8]) -> io::Result<()>
     ensures apart { P.standing port.new ≡ P.standing port.old }
     ensures whole { OnOk result (Appends (P.beside port.old) (P.beside port.new) text.now) }
+    ensures made { P.is_made port.new ≡ P.is_made port.old }
 {
     let mut done = 0;
     while done < text.len() {

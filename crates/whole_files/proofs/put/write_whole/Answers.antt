@@ -9,5 +9,6 @@ loop-done-preserved g c =
     record {
       within = search rules;
       apart = search rules;
+      made = search rules;
       written = rw (take-add c.loop-done.done c.in_ok-count.count text, ← c.split_at.ensures.back) written;
     }

@@ -6,6 +6,7 @@ abbrev pub invariant-loop-done : goal.invariant-loop-done
 invariant-loop-done g l = record {
   within : l.done ≤ length l.text;
   apart : g.P.Place.standing l.port ≡ g.P.Place.standing l.fn.port;
+  made : g.P.Place.is_made l.port ≡ g.P.Place.is_made l.fn.port;
   written : Appends (g.P.Place.beside l.fn.port) (g.P.Place.beside l.port) (take l.done l.text);
 }
 

@@ -1,0 +1,10 @@
+use Rattle.knot.proofs.call.call.Goals as goal
+
+pub returns : goal.returns
+returns g c = record {
+  status = c.run-status.result;
+  number = c.exit_code.ensures;
+  kept = c.run-status.new.kept;
+  ends = c.run-status.ensures.ends;
+  truth = c.run-status.ensures.truth;
+}
