@@ -17,7 +17,7 @@ pub(crate) fn read_and_written<'a>(rt: &HostRuntime, asked: &Asked<'a>) -> Optio
             Given::File(_) | Given::Code(_) | Given::Braid(_) => {}
         }
     }
-    for path in &asked.quandles {
+    for path in asked.quandles.iter().chain(asked.weights.iter()) {
         if *path != "-" && is_it(*path) {
             return Some(*path);
         }
@@ -28,7 +28,10 @@ pub(crate) fn read_and_written<'a>(rt: &HostRuntime, asked: &Asked<'a>) -> Optio
 /// Whether standard input is read.
 pub(crate) fn reads_input(asked: &Asked) -> bool {
     let [first, second] = diagrams_of(asked);
-    is_input(first) || is_input(second) || asked.quandles.contains(&"-")
+    is_input(first)
+        || is_input(second)
+        || asked.quandles.contains(&"-")
+        || asked.weights.contains(&"-")
 }
 
 /// Whether a diagram is read from standard input.

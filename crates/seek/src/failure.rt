@@ -36,7 +36,13 @@ pub(crate) enum Failure<'a> {
         line: usize,
         is_limit: bool,
     },
-    /// A code gives no diagram.
+    /// A line of blocks is not what is due there, or exceeds a limit.
+    Blocks {
+        name: &'a str,
+        line: usize,
+        is_limit: bool,
+    },
+    /// No diagram of a code is answered.
     NoDiagram {
         name: &'a str,
         refusal: TextRefusal,
@@ -72,6 +78,23 @@ impl<'a> Failure<'a> {
         }
     }
 
+    /// The text of blocks can't be read.
+    pub(crate) fn of_blocks(name: &'a str, fault: TextFault) -> Failure<'a> {
+        match fault {
+            TextFault::Malformed { line } => Failure::Blocks {
+                name,
+                line,
+                is_limit: false,
+            },
+            TextFault::Limit { line } => Failure::Blocks {
+                name,
+                line,
+                is_limit: true,
+            },
+            TextFault::OutOfMemory => Failure::OutOfMemory,
+        }
+    }
+
     /// The exit status of the program.
     pub(crate) fn status(&self) -> Status
         ensures { result ≢ status.Done }
@@ -82,6 +105,8 @@ impl<'a> Failure<'a> {
             Failure::NotOne { .. } => Status::Malformed,
             Failure::Code { is_limit: true, .. } => Status::Limit,
             Failure::Code { .. } => Status::Malformed,
+            Failure::Blocks { is_limit: true, .. } => Status::Limit,
+            Failure::Blocks { .. } => Status::Malformed,
             Failure::NoDiagram {
                 refusal: TextRefusal::Columns { .. },
                 ..
@@ -118,7 +143,7 @@ fn write_job<W: fmt::Write>(f: &mut fmt::Formatter<W>, name: &str) -> fmt::Resul
     }
 }
 
-/// Writes why a code gives no diagram.
+/// Writes why no diagram of a code is answered.
 fn write_refusal<W: fmt::Write>(
     f: &mut fmt::Formatter<W>,
     name: &str,
@@ -164,6 +189,15 @@ impl<'a> fmt::Display for Failure<'a> {
                 line,
                 is_limit: true,
             } => write!(f, "{name}, line {line} exceeds a limit"),
+            Failure::Blocks {
+                name,
+                line,
+                is_limit: true,
+            } => write!(f, "{name}, line {line} exceeds a limit"),
+            Failure::Blocks { name, line, .. } => write!(
+                f,
+                "{name}, line {line} is not what is due in a list of quandles and cocycles"
+            ),
             Failure::Code { name, line, .. } => write!(
                 f,
                 "{name}, line {line} is not what is due in a planar diagram code"

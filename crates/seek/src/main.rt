@@ -1,7 +1,8 @@
 //! The program: a verdict on two diagrams, sought and written.
-//! What is written with status 0 is a decision on the problem, by the contract of `run` of seek_core, which is called here.
+//! What `run` of seek_core writes, which is called here, is a decision on the problem, or evidence by numbers on it, by its contract.
 #![tactic(auto)]
 
+mod blocks;
 mod clash;
 mod failure;
 mod out_file;
@@ -9,6 +10,7 @@ mod parts;
 mod progress;
 mod report;
 
+use crate::blocks::read_blocks;
 use crate::clash::{read_and_written, reads_input};
 use crate::failure::{Failure, OUTPUT};
 use crate::out_file::OutFile;
@@ -18,7 +20,7 @@ use crate::report::{tell, tell_ending};
 use clap::error::ErrorKind;
 use decision_core::Status;
 use knot_ports::{Sink, StdSink};
-use seek_core::{Bounds, Ending, run};
+use seek_core::{Blocks, Bounds, Ending, run};
 use seek_words::{Asked, Talk, option_bounds, read_words};
 use std::io;
 use std::io::IsTerminal;
@@ -92,10 +94,14 @@ fn seek<R: Threads + Sync>(rt: &HostRuntime, threads: &R, asked: &Asked) -> Stat
         Ok(parts) => parts,
         Err(failure) => return tell(rt, &failure),
     };
+    let blocks = match read_blocks(rt, asked) {
+        Ok(blocks) => blocks,
+        Err(failure) => return tell(rt, &failure),
+    };
     let mut teller = Teller::new(rt, asked.talk);
     let written = match asked.out {
-        Some(path) => to_file(rt, threads, &parts, asked, path, &mut teller),
-        None => to_output(rt, threads, &parts, asked, &mut teller),
+        Some(path) => to_file(rt, threads, &parts, &blocks, asked, path, &mut teller),
+        None => to_output(rt, threads, &parts, &blocks, asked, &mut teller),
     };
     match written {
         Ok(ending) => tell_ending(rt, asked, &parts, &ending, teller.steps()),
@@ -108,6 +114,7 @@ fn run_told<R: Threads + Sync, K: Sink>(
     rt: &HostRuntime,
     threads: &R,
     parts: &Parts,
+    blocks: &Blocks,
     asked: &Asked,
     sink: &mut K,
     teller: &mut Teller,
@@ -116,6 +123,7 @@ fn run_told<R: Threads + Sync, K: Sink>(
         threads,
         rt.alloc(),
         parts.bytes(),
+        blocks,
         bounds_of(asked),
         sink,
         teller,
@@ -141,11 +149,12 @@ fn to_output<'a, R: Threads + Sync>(
     rt: &HostRuntime,
     threads: &R,
     parts: &Parts,
+    blocks: &Blocks,
     asked: &Asked,
     teller: &mut Teller,
 ) -> Result<Ending, Failure<'a>> {
     let mut sink = StdSink::new(rt.stdout());
-    match run_told(rt, threads, parts, asked, &mut sink, teller) {
+    match run_told(rt, threads, parts, blocks, asked, &mut sink, teller) {
         Ending::WriteFault => Err(Failure::Write {
             name: OUTPUT,
             error: sink.take_error(),
@@ -159,6 +168,7 @@ fn to_file<'a, R: Threads + Sync>(
     rt: &HostRuntime,
     threads: &R,
     parts: &Parts,
+    blocks: &Blocks,
     asked: &Asked,
     path: &'a str,
     teller: &mut Teller,
@@ -172,7 +182,7 @@ fn to_file<'a, R: Threads + Sync>(
             error: Some(error),
         });
     }
-    let ending = run_told(rt, threads, parts, asked, &mut file, teller);
+    let ending = run_told(rt, threads, parts, blocks, asked, &mut file, teller);
     match ending {
         Ending::Done => match file.keep() {
             Ok(()) => Ok(Ending::Done),

@@ -4,9 +4,9 @@ ghost use Rattle.std.specs.Prelude.{◌≡◌, ◌++◌, codes, IfOk};
 use crate::failure::Failure;
 use code_text::{grid_of_text, read_code};
 use decision_core::MAX_INPUT;
-use grid_core::Items;
 use knot_ports::{ReadEnd, StdSource, read_all};
 use knot_text::print_grid;
+use memory_core::Items;
 use seek_faults::one_diagram;
 use seek_words::{Asked, Diagrams, Given};
 use std::alloc::{AllocError, Global};
@@ -154,7 +154,11 @@ fn read_bytes<'a>(
 }
 
 /// The bytes of a file, or of standard input where it is called `-`.
-fn read_file<'a>(rt: &HostRuntime, path: &str, name: &'a str) -> Result<Vec<u8>, Failure<'a>> {
+pub(crate) fn read_file<'a>(
+    rt: &HostRuntime,
+    path: &str,
+    name: &'a str,
+) -> Result<Vec<u8>, Failure<'a>> {
     if path == "-" {
         return read_source(rt.alloc(), name, rt.stdin());
     }

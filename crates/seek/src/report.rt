@@ -12,7 +12,7 @@ use seek_words::{Asked, Talk};
 use std::fmt;
 use verdict_core::{Listed, QuandleName};
 
-/// Tells how a call ended, where that is not with a verdict: the status, which is 0 only where it ended with one. The first worker has
+/// Tells how a call of `run` ended that found nothing, or failed: the status, which is 0 only where it is done. The first worker has
 /// made so many steps.
 pub(crate) fn tell_ending(
     rt: &HostRuntime,
@@ -108,16 +108,23 @@ impl<'a> fmt::Display for InWords<'a> {
         let (first, second) = self.0.columns;
         let quandles = self.0.quandles.as_slice();
         let count = quandles.len();
-        write!(f, "of diagrams of {first} and {second} columns")?;
+        write!(
+            f,
+            "of diagrams of {first} and {second} columns, whose linking numbers agree,"
+        )?;
         match quandles.last() {
             Some(last) => {
                 let last = Name(last);
                 write!(
                     f,
                     " none of the {count} quandles tried that fit both, up to {last}, tells them apart"
-                )
+                )?;
             }
-            None => write!(f, " none of the quandles tried fits both"),
+            None => write!(f, " none of the quandles tried fits both")?,
+        }
+        match self.0.blocks {
+            0 => Ok(()),
+            blocks => write!(f, ", nor do numbers by {blocks} quandles of --weights"),
         }
     }
 }

@@ -1,0 +1,2 @@
+pub mod Alone
+pub use Rattle.text_lines.specs.Lines

@@ -1,4 +1,7 @@
 //! Whether a text is one diagram.
+ghost use Rattle.std.specs.Prelude.{◌≡◌};
+ghost use Rattle.text_lines.specs.Lines.{text_of};
+ghost use Rattle.seek_faults.specs.Alone.{nothing_more, one_line_more, one_diagram};
 
 use std::fmt;
 use text_lines::Lines;
@@ -39,18 +42,36 @@ impl fmt::Display for NotOne {
 
 /// Whether a text is one diagram and no more, by the number of its lines: one that begins with `braid`, or one that begins with `x` and
 /// another. A text that begins with another word is left to `reason_at`, and so is what else is wrong with a line.
-pub fn one_diagram(bytes: &[u8]) -> Result<(), NotOne> {
+pub fn one_diagram(bytes: &[u8]) -> Result<(), NotOne>
+    ensures { result ≡ one_diagram (text_of bytes.now).lines }
+{
     let mut lines = Lines::new(bytes);
     let Some(first) = lines.next_line() else {
         return Err(NotOne::Nothing);
     };
-    let is_grid = first.starts(b"x");
-    if !is_grid && !first.starts(b"braid") {
-        return Ok(());
+    if first.starts(b"x") {
+        return one_line_more(&mut lines);
     }
-    if is_grid && lines.next_line().is_none() {
-        return Err(NotOne::Half);
+    if first.starts(b"braid") {
+        return nothing_more(&mut lines);
     }
+    Ok(())
+}
+
+/// Whether one line is left and no more, behind the Xs of a grid.
+fn one_line_more(lines: &mut Lines) -> Result<(), NotOne>
+    ensures { result ≡ one_line_more lines.old.lines }
+{
+    match lines.next_line() {
+        Some(_) => nothing_more(lines),
+        None => Err(NotOne::Half),
+    }
+}
+
+/// Whether no line is left.
+fn nothing_more(lines: &mut Lines) -> Result<(), NotOne>
+    ensures { result ≡ nothing_more lines.old.lines }
+{
     match lines.next_line() {
         Some(line) => Err(NotOne::More {
             line: line.number(),

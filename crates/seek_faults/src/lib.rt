@@ -13,8 +13,6 @@ mod shape;
 #[cfg(test)]
 mod shape_tests;
 mod shown;
-#[cfg(test)]
-mod tests;
 
 pub use alone::{NotOne, one_diagram};
 pub use braids::BraidReason;

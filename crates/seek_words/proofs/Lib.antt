@@ -1,1 +1,2 @@
 mod WorkedWords
+mod Shown

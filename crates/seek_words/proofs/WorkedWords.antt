@@ -43,6 +43,19 @@ quandles : all_of (codes "quandles") (matches_of seek_app line) ≡ Some (codes 
 unfolding clap_on_literals
 quandles = refl
 
+weights : all_of (codes "weights") (matches_of seek_app (codes "seek" ∷ codes "--weights=w" ∷ codes "a" ∷ codes "--weights" ∷ codes "v" ∷ []))
+    ≡ Some (codes "w" ∷ codes "v" ∷ [])
+unfolding clap_on_literals
+weights = refl
+
+some_weights : one_of (codes "no-weights") (matches_of seek_app line) ≡ Some (codes "false")
+unfolding clap_on_literals
+some_weights = refl
+
+no_weights : one_of (codes "no-weights") (matches_of seek_app (codes "seek" ∷ codes "--no-weights" ∷ codes "a" ∷ [])) ≡ Some (codes "true")
+unfolding clap_on_literals
+no_weights = refl
+
 no_file : first_of (codes "out") (matches_of seek_app line) ≡ None
 unfolding clap_on_literals
 no_file = refl
@@ -50,3 +63,11 @@ no_file = refl
 no_workers : fault_of seek_app (codes "seek" ∷ codes "--workers" ∷ codes "0" ∷ []) ≡ kind.ValueValidation ∷ []
 unfolding clap_on_literals
 no_workers = refl
+
+help : fault_of seek_app (codes "seek" ∷ codes "--help" ∷ []) ≡ kind.DisplayHelp ∷ []
+unfolding clap_on_literals
+help = refl
+
+version : fault_of seek_app (codes "seek" ∷ codes "a" ∷ codes "--version" ∷ []) ≡ kind.DisplayVersion ∷ []
+unfolding clap_on_literals
+version = refl

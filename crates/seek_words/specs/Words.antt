@@ -1,9 +1,13 @@
 -- What the words of a command line ask of the seeker, by `clap`'s meaning of one simple command: two lists, the files among them, and options.
-use Rattle.std.specs.Prelude.{◌≡◌, ◌^◌, ◌-◌, ℕ, List, [], ◌∷◌, Option, Some, true, codes, pos, map, option_map, unwrap_or, string_bytes, String}
+use Rattle.std.specs.Prelude.{◌≡◌, ◌⊎◌, ◌^◌, ◌-◌, ℕ, List, [], ◌∷◌, Option, Some, true, codes, pos, map, option_map, unwrap_or, string_bytes, String}
 use Rattle.std.specs.Str.Parse.{digits_value, without_leading_plus}
 use Rattle.std.specs.declared.alloc.Global.{Global}
 use Rattle.clap.specs.Walk.{Row, Rule, Text, first_of, one_of, all_of}
 use Rattle.clap.specs.Simple.{App, new_app, new_rule, on_top, with_rule, matches_of}
+use Rattle.clap.specs.Faults.{fault_of}
+use Rattle.clap.specs.Kinds.{IsAmong}
+use Rattle.clap.specs.declared.error.kind.ErrorKind.{ErrorKind}
+use Rattle.clap.specs.declared.error.kind.ErrorKind.TheVariants.{DisplayHelp, DisplayVersion}
 use Rattle.clap.specs.declared.builder.action.ArgAction.TheVariants.{Set, SetTrue, Append}
 use Rattle.clap.specs.declared.builder.value_parser.ValueParser.{ValueParser}
 use Rattle.clap.specs.declared.builder.value_parser.ValueParser.TheVariants as parser
@@ -48,8 +52,8 @@ versioned a = on_top (λ s. record s { has_version = true }) a
 
 abbrev pub with_inputs : App → App
 with_inputs a =
-    with_rule (with_rule (with_rule (with_rule (with_rule a files_rule) (list_rule (codes "braid"))) (list_rule (codes "pd"))) (list_rule (codes "quandles")))
-    (text_rule (codes "out"))
+    with_rule (with_rule (with_rule (with_rule (with_rule (with_rule (with_rule a files_rule) (list_rule (codes "braid"))) (list_rule (codes "pd")))
+    (list_rule (codes "quandles"))) (list_rule (codes "weights"))) (flag_rule (codes "no-weights"))) (text_rule (codes "out"))
 
 abbrev pub seed_rule : Rule
 seed_rule = number_rule (codes "seed") (parser.Unsigned 0 (2 ^ 64 - 1)) (codes "1")
@@ -85,9 +89,15 @@ pub record IsTalkBy (quiet progress : Option Text) (talk : Talk) : Type 0 where
   pub told : quiet ≡ Some (codes "false") → progress ≡ Some (codes "true") → talk ≡ Progress
   pub plain : quiet ≡ Some (codes "false") → progress ≡ Some (codes "false") → talk ≡ Terminal
 
+-- which files of quandles with cocycles are asked for, by what the words give of `--no-weights` and `--weights`, of which the first decides
+pub record AreWeightsBy (none : Option Text) (given files : List Text) : Type 0 where
+  pub dropped : none ≡ Some (codes "true") → files ≡ []
+  pub kept : none ≡ Some (codes "false") → files ≡ given
+
 -- these matches ask for this, but for the diagrams: what the words give of each option, and else its default
 pub record AsksBy (rows : List Row) (asked : Asked) : Type 0 where
   pub quandles : map (λ s. s.now) asked.quandles.items ≡ unwrap_or (all_of (codes "quandles") rows) []
+  pub weights : AreWeightsBy (one_of (codes "no-weights") rows) (unwrap_or (all_of (codes "weights") rows) []) (map (λ s. s.now) asked.weights.items)
   pub out : option_map (λ s. s.now) asked.out ≡ first_of (codes "out") rows
   pub seed : option_map number_of (one_of (codes "seed") rows) ≡ Some asked.seed
   pub steps : option_map number_of (one_of (codes "steps") rows) ≡ Some asked.steps
@@ -98,3 +108,13 @@ pub record AsksBy (rows : List Row) (asked : Asked) : Type 0 where
 -- the words ask for this
 abbrev pub Asks : List Text → Asked → Type 0
 Asks words asked = AsksBy (matches_of seek_app words) asked
+
+-- ---- what words are answered with by `clap`
+
+-- an error that is the help or the version
+abbrev pub IsShown : ErrorKind → Type 0
+IsShown k = (k ≡ DisplayHelp) ⊎ (k ≡ DisplayVersion)
+
+-- the words ask for the help or the version
+abbrev pub AskForText : List Text → Type 0
+AskForText words = IsAmong DisplayHelp (fault_of seek_app words) ⊎ IsAmong DisplayVersion (fault_of seek_app words)

@@ -1,12 +1,15 @@
 //! What the words ask for.
-ghost use Rattle.std.specs.Prelude.{◌≡◌, [], map, unwrap_or, IfOk, IfSome, codes};
+ghost use Rattle.std.specs.Prelude.{◌≡◌, [], map, unwrap_or, IfOk, IfErr, IfSome, codes};
 ghost use Rattle.clap.specs.Matches.{found_of, one_text};
 ghost use Rattle.clap.specs.Simple.{matches_of};
+ghost use Rattle.clap.specs.Values.{kind_of};
 ghost use Rattle.clap.specs.Walk.{rows_of, all_of};
 ghost use Rattle.seek_words.specs.Matched.{AreNumbersOf};
-ghost use Rattle.seek_words.specs.Words.{texts_of, seek_app, IsTalkBy, AsksBy, Asks};
+ghost use Rattle.seek_words.specs.Words.{texts_of, seek_app, AreWeightsBy, IsTalkBy, AsksBy, Asks, IsShown, AskForText};
 
-use crate::command::{OUT, PROGRESS, QUANDLES, QUIET, ROOM, SEED, STEPS, WORKERS, command};
+use crate::command::{
+    NO_WEIGHTS, OUT, PROGRESS, QUANDLES, QUIET, ROOM, SEED, STEPS, WEIGHTS, WORKERS, command,
+};
 use crate::given::{Diagrams, diagrams_of};
 use clap::error::ErrorKind;
 use clap::{ArgMatches, Error};
@@ -36,6 +39,8 @@ pub struct Asked<'a> {
     pub diagrams: Diagrams<'a>,
     /// The files of quandles.
     pub quandles: Vec<&'a str>,
+    /// The files of quandles with cocycles.
+    pub weights: Vec<&'a str>,
     /// The file that is written; standard output without one.
     pub out: Option<&'a str>,
     pub seed: u64,
@@ -58,7 +63,8 @@ struct Numbers {
 /// What the words ask for, or the text for whoever wrote them: what is wrong with them, the help, or the version. `words[0]` is the
 /// program's name.
 pub fn read_words<'a>(alloc: Global, words: &'a [String]) -> Result<Asked<'a>, Error>
-    ensures { IfOk result (λ asked. Asks (texts_of words.entry.now) asked) }
+    ensures asks { IfOk result (λ asked. Asks (texts_of words.entry.now) asked) }
+    ensures shown { IfErr result (λ e. IsShown (kind_of e) → AskForText (texts_of words.entry.now)) }
 {
     let matches = parse(alloc, words)?;
     asked_by(alloc, &matches)
@@ -66,14 +72,16 @@ pub fn read_words<'a>(alloc: Global, words: &'a [String]) -> Result<Asked<'a>, E
 
 /// The matches of the words.
 fn parse<'a>(alloc: Global, words: &'a [String]) -> Result<ArgMatches<'a>, Error>
-    ensures { IfOk result (λ m. rows_of (found_of m) ≡ matches_of seek_app (texts_of words.entry.now)) }
+    ensures rows { IfOk result (λ m. rows_of (found_of m) ≡ matches_of seek_app (texts_of words.entry.now)) }
+    ensures shown { IfErr result (λ e. IsShown (kind_of e) → AskForText (texts_of words.entry.now)) }
 {
     command(alloc)?.try_get_matches_from(words)
 }
 
 /// What matches ask for.
 fn asked_by<'a>(alloc: Global, matches: &ArgMatches<'a>) -> Result<Asked<'a>, Error>
-    ensures { IfOk result (λ asked. AsksBy (rows_of (found_of matches.now)) asked) }
+    ensures refused { IfErr result (λ e. IsShown (kind_of e) → ⊥) }
+    ensures asks { IfOk result (λ asked. AsksBy (rows_of (found_of matches.now)) asked) }
 {
     let Some(diagrams) = diagrams_of(alloc, matches)? else {
         return Err(refusal(alloc, TWO)?);
@@ -94,10 +102,12 @@ fn asked_with<'a>(
     requires { AreNumbersOf matches.now numbers }
     ensures { IfOk result (λ asked. AsksBy (rows_of (found_of matches.now)) asked) }
 {
-    let quandles = quandles_of(alloc, matches)?;
+    let quandles = values_of(alloc, matches, QUANDLES)?;
+    let weights = weights_of(alloc, matches)?;
     Ok(Asked {
         diagrams,
         quandles,
+        weights,
         out: matches.get_str(OUT),
         seed: numbers.seed,
         steps: numbers.steps,
@@ -107,21 +117,38 @@ fn asked_with<'a>(
     })
 }
 
-/// The files of quandles.
-fn quandles_of<'a>(alloc: Global, matches: &ArgMatches<'a>) -> Result<Vec<&'a str>, AllocError>
-    ensures { IfOk result (λ v. map (λ s. s.now) v.items ≡ unwrap_or (all_of (codes "quandles") (rows_of (found_of matches.now))) []) }
+/// The files of quandles with cocycles: none where none are wanted.
+fn weights_of<'a>(alloc: Global, matches: &ArgMatches<'a>) -> Result<Vec<&'a str>, AllocError>
+    ensures { IfOk result (λ v. AreWeightsBy (one_text (found_of matches.now) (codes "no-weights"))
+        (unwrap_or (all_of (codes "weights") (rows_of (found_of matches.now))) []) (map (λ s. s.now) v.items)) }
 {
-    match matches.get_strs(QUANDLES) {
+    if matches.get_flag(NO_WEIGHTS) {
+        return Ok(Vec::new(alloc));
+    }
+    values_of(alloc, matches, WEIGHTS)
+}
+
+/// The values of an option that may be given often.
+fn values_of<'a>(
+    alloc: Global,
+    matches: &ArgMatches<'a>,
+    name: &str,
+) -> Result<Vec<&'a str>, AllocError>
+    ensures { IfOk result (λ v. map (λ s. s.now) v.items ≡ unwrap_or (all_of name.now (rows_of (found_of matches.now))) []) }
+{
+    match matches.get_strs(name) {
         None => Ok(Vec::new(alloc)),
         Some(values) => {
-            let quandles = Vec::from_slice(alloc, values)?;
-            Ok(quandles)
+            let list = Vec::from_slice(alloc, values)?;
+            Ok(list)
         }
     }
 }
 
 /// The error of words that `clap` takes.
-fn refusal(alloc: Global, text: &str) -> Result<Error, AllocError> {
+fn refusal(alloc: Global, text: &str) -> Result<Error, AllocError>
+    ensures { IfOk result (λ e. kind_of e ≡ ErrorKind.WrongNumberOfValues) }
+{
     let mut command = command(alloc)?;
     command.error(ErrorKind::WrongNumberOfValues, text)
 }

@@ -33,8 +33,9 @@ Example: is the closure of a braid the diagram in a file?
     seek --braid \"2 1 1 1\" trefoil.txt
 
 What is written with status 0 is a verdict with its evidence: `equal` and moves that lead from the first diagram to the second, or
-`different`, a quandle, and all colourings of both diagrams by it. Behind the problem `knot check` accepts it, where both are within
-its limit of bytes. The other statuses:
+`different` and a quandle with all colourings of both diagrams by it, or their numbers of colourings, by weight where there is a
+cocycle, or their linking numbers. Behind the problem `knot check` accepts it, where both are within its limit of bytes. The other
+statuses:
     1 nothing was found   2 the words are wrong   3 a line or a code is wrong   4 a limit is passed
     5 reading failed      6 writing failed        7 memory was wanting
     10 the system gives the program no words that it can read
@@ -48,6 +49,10 @@ pub(crate) const BRAID: &str = "braid";
 pub(crate) const CODE: &str = "pd";
 
 pub(crate) const QUANDLES: &str = "quandles";
+
+pub(crate) const WEIGHTS: &str = "weights";
+
+pub(crate) const NO_WEIGHTS: &str = "no-weights";
 
 pub(crate) const OUT: &str = "out";
 
@@ -148,6 +153,31 @@ fn quandles_arg<'a>(alloc: Global) -> Arg<'a>
     )
 }
 
+/// The files of quandles with cocycles.
+fn weights_arg<'a>(alloc: Global) -> Arg<'a>
+    ensures rule { rule_of result ≡ list_rule (codes "weights") }
+    ensures local { result.global ≡ false }
+{
+    list_arg(
+        alloc,
+        WEIGHTS,
+        "FILE",
+        "A file of quandles with cocycles, by which colourings are counted by weight",
+    )
+}
+
+/// Whether no cocycles are tried.
+fn no_weights_arg<'a>(alloc: Global) -> Arg<'a>
+    ensures rule { rule_of result ≡ flag_rule (codes "no-weights") }
+    ensures local { result.global ≡ false }
+{
+    flag_arg(
+        alloc,
+        NO_WEIGHTS,
+        "Count by no file of --weights, nor by the list that stands for it where none is named",
+    )
+}
+
 /// The file that is written.
 fn out_arg<'a>(alloc: Global) -> Arg<'a>
     ensures rule { rule_of result ≡ text_rule (codes "out") }
@@ -227,6 +257,8 @@ fn with_inputs<'a>(alloc: Global, command: Command<'a>) -> Result<Command<'a>, A
         .arg(braid_arg(alloc))?
         .arg(code_arg(alloc))?
         .arg(quandles_arg(alloc))?
+        .arg(weights_arg(alloc))?
+        .arg(no_weights_arg(alloc))?
         .arg(out_arg(alloc))
 }
 

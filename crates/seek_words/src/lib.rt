@@ -5,8 +5,6 @@ mod asked;
 mod command;
 mod given;
 mod limits;
-#[cfg(test)]
-mod tests;
 
 pub use asked::{Asked, Talk, read_words};
 pub use command::VERSION;

@@ -1,10 +1,10 @@
-use Rattle.std.proofs.Common.{◌≡◌, ◌∙◌, Some, codes, rules, subst}
-use Rattle.std.specs.Prelude.{option_map}
+use Rattle.std.proofs.Common.{◌≡◌, ◌∙◌, [], Some, codes, map, rules, subst}
+use Rattle.std.specs.Prelude.{option_map, unwrap_or}
 use Rattle.clap.specs.Matches.{found_of}
-use Rattle.clap.specs.Walk.{one_of, rows_of}
+use Rattle.clap.specs.Walk.{all_of, one_of, rows_of}
 use Rattle.clap.proofs.WalkLemmas.{first_value-rows, one_text-rows}
 use Rattle.clap.specs.Matches.{one_text}
-use Rattle.seek_words.specs.Words.{IsTalkBy, number_of}
+use Rattle.seek_words.specs.Words.{AreWeightsBy, IsTalkBy, number_of}
 use Rattle.seek_words.proofs.asked.asked_with.Goals as goal
 
 pub returns : goal.returns
@@ -16,6 +16,8 @@ returns c =
     let told = subst (λ o. IsTalkBy (one_text f (codes "quiet")) o c.talk_of.result) progress c.talk_of.ensures in
     record {
       quandles = search rules;
+      weights = subst (λ o. AreWeightsBy o (unwrap_or (all_of (codes "weights") (rows_of f)) []) (map (λ s. s.now) c.in_ok-weights.weights.items))
+          (one_text-rows f (codes "no-weights")) c.in_ok-weights.ensures;
       out = c.get_str.ensures ∙ first_value-rows f (codes "out");
       seed = subst (λ o. option_map number_of o ≡ Some n.seed) (one_text-rows f (codes "seed")) c.requires.seed;
       steps = subst (λ o. option_map number_of o ≡ Some n.steps) (one_text-rows f (codes "steps")) c.requires.steps;
