@@ -9,20 +9,23 @@ use Rattle.verdict_core.specs.Diagrams.{grid_of, columns}
 use Rattle.text_items.specs.declared.fault.TextFault.{TextFault}
 use Rattle.knot_text.specs.declared.verdicts.Version.TheVariants.{Tidy}
 use Rattle.knot_text.specs.Printed.{HasQuandleText, HasVersionText}
-use Rattle.knot_text.specs.Shapes.{problem_of, check_of}
+use Rattle.knot_text.specs.Shapes.{problem_of}
 use Rattle.cert_check.specs.declared.ruling.Ruling.TheVariants.{Accepted}
-use Rattle.cert_check.specs.Ruling.{RulesOn}
+use Rattle.number_certificates.specs.declared.said.Said.{Said}
+use Rattle.number_certificates.proofs.Earlier.{read_so}
+use Rattle.number_check.specs.declared.cause.Ruling.TheVariants as numbers
 use Rattle.search_book.specs.declared.problem.Problem.{Problem}
 use Rattle.search_pool.specs.declared.finding.Finding.{Finding}
 use Rattle.pair_verdict.specs.Decided.{Decides}
 use Rattle.decision_core.specs.Decision.{put_behind, IsDecision, IsShort}
 use Rattle.decision_core.proofs.Grids.{grids_of_problem}
 use Rattle.decision_core.proofs.AcceptedBehind.{quandles_text}
+use Rattle.number_decision.specs.Evidence.{IsEvidenceOn}
 use Rattle.knot_jobs.specs.declared.words.Asked.{Asked}
 use Rattle.knot_jobs.specs.Jobs.Decide.{problem_for}
-use Rattle.knot_jobs.specs.Jobs.Check.{AnswersCheck}
-use Rattle.knot_jobs.specs.Lines.{ruling_line}
-use Rattle.knot_jobs.specs.Reply.{done, AnswersRead}
+use Rattle.plain_jobs.specs.Jobs.Check.{AnswersCheck}
+use Rattle.plain_jobs.specs.Lines.{ruling_line}
+use Rattle.plain_jobs.specs.Reply.{done, AnswersRead}
 use Rattle.knot_jobs.specs.Truth.{IsAcceptedByCheck}
 
 -- ---- the verdict on a problem that was read has a text
@@ -43,14 +46,14 @@ has_text texts bytes asked input workers v kept read decides short =
 -- ---- the ruling
 
 -- what is read so is accepted
-abbrev IsReplied : Result (ProblemText × Verdict) TextFault → Type 0
+abbrev IsReplied : Result (ProblemText × Said) TextFault → Type 0
 IsReplied read = AnswersRead AnswersCheck read (done (ruling_line Accepted))
-
-replied : (p : ProblemText) (v : Verdict) (read : Result (ProblemText × Verdict) TextFault) → read ≡ Ok (p, v)
-    → RulesOn (grid_of p.first) (grid_of p.second) v Accepted → IsReplied read
-replied p v read is ruled = subst IsReplied (sym is) (record { ruling = Accepted; rules = ruled; is = refl })
 
 pub accepted_by_check : (bytes text : List ℕ) → IsDecision bytes text → IsAcceptedByCheck bytes text
 accepted_by_check bytes text decision = λ fits.
     let accepted = decision.accepted fits in
-    replied decision.problem decision.verdict (check_of (put_behind bytes text)) accepted.read accepted.rules
+    subst IsReplied (sym (read_so (put_behind bytes text) decision.problem decision.verdict accepted.read))
+    (record { ruling = Accepted; rules = accepted.rules; is = refl })
+
+pub evidence_by_check : (bytes text : List ℕ) → IsEvidenceOn bytes text → IsAcceptedByCheck bytes text
+evidence_by_check bytes text on = λ fits. subst IsReplied (sym on.accepted.read) (record { ruling = numbers.Accepted; rules = on.accepted.rules; is = refl })

@@ -6,23 +6,28 @@ use Rattle.clap.specs.Walk.{Text}
 use Rattle.knot_jobs.specs.Words.{job_word, Asks, AsksNothing}
 use Rattle.knot_jobs.specs.declared.words.Asked.{Asked}
 use Rattle.knot_jobs.specs.declared.words.Job.{Job}
-use Rattle.knot_jobs.specs.declared.words.Job.TheVariants.{Decide, Check, Replay, Colour, Close, Code, Braid, Linking, Braidcheck, Weights, Numbers, Simplify, Grid, Sample}
+use Rattle.knot_jobs.specs.declared.words.Job.TheVariants.{Decide, Simplify, Sample, Plain}
+use Rattle.plain_jobs.specs.declared.job.PlainJob.TheVariants.{Check, Replay, Colour, Close, Code, Braid, Linking, Braidcheck, Weights, Numbers, Grid}
 use Rattle.knot_jobs.proofs.KnotReads.{one_number}
 
 -- the job that is called so
 abbrev job_of : List ℕ → Job
-job_of word = if bytes_eq word (job_word Check) then Check else (
-    if bytes_eq word (job_word Replay) then Replay else (
-    if bytes_eq word (job_word Colour) then Colour else (
-    if bytes_eq word (job_word Close) then Close else (
-    if bytes_eq word (job_word Code) then Code else (
-    if bytes_eq word (job_word Braid) then Braid else (
-    if bytes_eq word (job_word Linking) then Linking else (
-    if bytes_eq word (job_word Braidcheck) then Braidcheck else (
-    if bytes_eq word (job_word Weights) then Weights else (
-    if bytes_eq word (job_word Numbers) then Numbers else (
+job_of word = if bytes_eq word (job_word Decide) then Decide else (
     if bytes_eq word (job_word Simplify) then Simplify else (
-    if bytes_eq word (job_word Grid) then Grid else (if bytes_eq word (job_word Decide) then Decide else Sample)
+    if bytes_eq word (job_word (Plain Check)) then Plain Check else (
+    if bytes_eq word (job_word (Plain Replay)) then Plain Replay else (
+    if bytes_eq word (job_word (Plain Colour)) then Plain Colour else (
+    if bytes_eq word (job_word (Plain Close)) then Plain Close else (
+    if bytes_eq word (job_word (Plain Code)) then Plain Code else (
+    if bytes_eq word (job_word (Plain Braid)) then Plain Braid else (
+    if bytes_eq word (job_word (Plain Linking)) then Plain Linking else (
+    if bytes_eq word (job_word (Plain Braidcheck)) then Plain Braidcheck else (
+    if bytes_eq word (job_word (Plain Weights)) then Plain Weights else (
+    if bytes_eq word (job_word (Plain Numbers)) then Plain Numbers else (
+    if bytes_eq word (job_word (Plain Grid)) then Plain Grid else (
+    Sample
+    )
+    )
     )
     )
     )
@@ -37,18 +42,18 @@ job_of word = if bytes_eq word (job_word Check) then Check else (
 
 job_of_word : (job : Job) → job_of (job_word job) ≡ job
 job_of_word Decide = refl
-job_of_word Check = refl
-job_of_word Replay = refl
-job_of_word Colour = refl
-job_of_word Close = refl
-job_of_word Code = refl
-job_of_word Braid = refl
-job_of_word Linking = refl
-job_of_word Braidcheck = refl
-job_of_word Weights = refl
-job_of_word Numbers = refl
 job_of_word Simplify = refl
-job_of_word Grid = refl
+job_of_word (Plain Check) = refl
+job_of_word (Plain Replay) = refl
+job_of_word (Plain Colour) = refl
+job_of_word (Plain Close) = refl
+job_of_word (Plain Code) = refl
+job_of_word (Plain Braid) = refl
+job_of_word (Plain Linking) = refl
+job_of_word (Plain Braidcheck) = refl
+job_of_word (Plain Weights) = refl
+job_of_word (Plain Numbers) = refl
+job_of_word (Plain Grid) = refl
 job_of_word Sample = refl
 
 one_job : (a b : Job) → job_word a ≡ job_word b → a ≡ b

@@ -1,6 +1,6 @@
 -- Verdicts that are printed with Done, and decisions on the problem of an input.
 use Rattle.std.proofs.Common.{rules, ◌≡◌, subst, ℕ, List, Result, IfOk}
-use Rattle.memory_core.specs.declared.OutOfMemory.{OutOfMemory}
+use Rattle.memory_core.specs.declared.out_of_memory.OutOfMemory.{OutOfMemory}
 use Rattle.search_book.specs.declared.problem.Problem.{Problem}
 use Rattle.verdict_core.specs.declared.verdict.Verdict.{Verdict}
 use Rattle.verdict_core.specs.declared.verdict.Verdict.TheVariants.{Equal, Different, UnknownBudget, UnknownExhausted}

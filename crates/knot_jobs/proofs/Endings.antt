@@ -13,7 +13,8 @@ use Rattle.decision_core.specs.declared.status.Status.{Status}
 use Rattle.decision_core.specs.declared.status.Status.TheVariants as status
 use Rattle.knot_jobs.specs.Words.{Asks, AsksNothing}
 use Rattle.decision_core.specs.Status.{IsOfAnswer}
-use Rattle.knot_jobs.specs.Reply.{without_search, too_long}
+use Rattle.plain_jobs.specs.Reply.{plain_reply, too_long}
+use Rattle.knot_jobs.specs.Reply.{without_search}
 use Rattle.knot_jobs.specs.Jobs.Decide.{with_workers}
 use Rattle.knot_jobs.specs.Answer.{limit_of, part_for, leaves_no_choice, IsOver, IsWithin, AnswersText, Answers}
 use Rattle.knot_jobs.specs.Call.{Call, Change, IsUntouched, Failed, TakesAll, Comes, Loses}
@@ -26,7 +27,7 @@ use Rattle.knot_jobs.proofs.OneAnswer.{answer_status, answers_once, not_decide, 
 pub usage_ends : (call : Call) (s : Status) → AsksNothing call.words → IsUntouched call.source → IsWritten call.sink usage_line status.Usage s
     → Ends call s None
 usage_ends call s refused source written =
-    let usage : Reply = without_search status.Usage usage_line in
+    let usage : Reply = without_search (plain_reply status.Usage usage_line) in
     let misused : IsMisused call usage = record { refused = refused; source = source; is = refl } in
     elim written [
       | inl whole ↦ subst (λ z. Ends call z None) (sym whole.0) (record { text = usage_line; is = misused; written = whole.1 })
@@ -225,8 +226,8 @@ outcome_once input a b asked r r' words left left' asks fixed one two =
 
 -- the answer to the bytes that came is the answer to the whole input: where it is too long, so are they
 whole_by : (limit : Option ℕ) (asked : Asked) (bytes : List ℕ) (reply : Reply)
-    → (IsOver limit (front limit bytes) × (reply ≡ too_long)) ⊎ (IsWithin limit (front limit bytes) × AnswersText asked (front limit bytes) reply)
-    → (IsOver limit (if is_some limit then bytes else []) × (reply ≡ too_long))
+    → (IsOver limit (front limit bytes) × (reply ≡ without_search too_long)) ⊎ (IsWithin limit (front limit bytes) × AnswersText asked (front limit bytes) reply)
+    → (IsOver limit (if is_some limit then bytes else []) × (reply ≡ without_search too_long))
     ⊎ (IsWithin limit (if is_some limit then bytes else []) × AnswersText asked (if is_some limit then bytes else []) reply)
 whole_by None asked bytes reply one = one
 whole_by (Some limit) asked bytes reply one =

@@ -57,5 +57,5 @@ decided_text few p qs workers v kept first second named decides short = (plain, 
           (find_passes (separated p) qs told.quandle told.first_that_does) told.lists
       | inr was ↦
           let problem : IsProblem (searched p was.one was.two) = subst IsProblem was.found.problem was.found.sound.problem in
-          searched_text p v problem.cap problem.most was.true_within short
+          searched_text p v problem.bounded.cap problem.bounded.most was.true_within short
     ]

@@ -4,17 +4,18 @@ use Rattle.clap.specs.Faults.{fault_of}
 use Rattle.clap.specs.declared.error.kind.ErrorKind.TheVariants as kind
 use Rattle.clap.proofs.OnLiterals.{clap_on_literals}
 use Rattle.knot_jobs.specs.Words.{AreTaken, Asks, job_given, knot_app}
-use Rattle.knot_jobs.specs.declared.words.Job.TheVariants.{Check, Replay, Colour}
+use Rattle.knot_jobs.specs.declared.words.Job.TheVariants.{Plain}
+use Rattle.plain_jobs.specs.declared.job.PlainJob.TheVariants.{Check, Replay, Colour}
 
-defaults : Asks (codes "knot" ∷ codes "check" ∷ []) (record { job = Check; workers = 1; budget = 20000; spare = 1; seed = 1 })
+defaults : Asks (codes "knot" ∷ codes "check" ∷ []) (record { job = Plain Check; workers = 1; budget = 20000; spare = 1; seed = 1 })
 unfolding clap_on_literals
 defaults = record { taken = refl; job = refl; workers = refl; budget = refl; spare = refl; seed = refl }
 
-greatest : Asks (codes "knot" ∷ codes "replay" ∷ codes "--budget" ∷ codes "500000" ∷ codes "--seed=18446744073709551615" ∷ []) (record { job = Replay; workers = 1; budget = 500000; spare = 1; seed = 18446744073709551615 })
+greatest : Asks (codes "knot" ∷ codes "replay" ∷ codes "--budget" ∷ codes "500000" ∷ codes "--seed=18446744073709551615" ∷ []) (record { job = Plain Replay; workers = 1; budget = 500000; spare = 1; seed = 18446744073709551615 })
 unfolding clap_on_literals
 greatest = record { taken = refl; job = refl; workers = refl; budget = refl; spare = refl; seed = refl }
 
-options_before_the_job : Asks (codes "knot" ∷ codes "--workers" ∷ codes "8" ∷ codes "colour" ∷ []) (record { job = Colour; workers = 8; budget = 20000; spare = 1; seed = 1 })
+options_before_the_job : Asks (codes "knot" ∷ codes "--workers" ∷ codes "8" ∷ codes "colour" ∷ []) (record { job = Plain Colour; workers = 8; budget = 20000; spare = 1; seed = 1 })
 unfolding clap_on_literals
 options_before_the_job = record { taken = refl; job = refl; workers = refl; budget = refl; spare = refl; seed = refl }
 
@@ -53,11 +54,11 @@ unknown_job = refl
 
 -- ---- spellings
 
-pluses_and_zeros : Asks (codes "knot" ∷ codes "check" ∷ codes "--workers" ∷ codes "00008" ∷ codes "--spare=+0" ∷ codes "--seed" ∷ codes "+000" ∷ []) (record { job = Check; workers = 8; budget = 20000; spare = 0; seed = 0 })
+pluses_and_zeros : Asks (codes "knot" ∷ codes "check" ∷ codes "--workers" ∷ codes "00008" ∷ codes "--spare=+0" ∷ codes "--seed" ∷ codes "+000" ∷ []) (record { job = Plain Check; workers = 8; budget = 20000; spare = 0; seed = 0 })
 unfolding clap_on_literals
 pluses_and_zeros = record { taken = refl; job = refl; workers = refl; budget = refl; spare = refl; seed = refl }
 
-minus_zero : Asks (codes "knot" ∷ codes "check" ∷ codes "--spare=-0" ∷ []) (record { job = Check; workers = 1; budget = 20000; spare = 0; seed = 1 })
+minus_zero : Asks (codes "knot" ∷ codes "check" ∷ codes "--spare=-0" ∷ []) (record { job = Plain Check; workers = 1; budget = 20000; spare = 0; seed = 1 })
 unfolding clap_on_literals
 minus_zero = record { taken = refl; job = refl; workers = refl; budget = refl; spare = refl; seed = refl }
 
@@ -97,7 +98,7 @@ shortened : fault_of knot_app (codes "knot" ∷ codes "check" ∷ codes "--work"
 unfolding clap_on_literals
 shortened = refl
 
-two_hyphens : Asks (codes "knot" ∷ codes "--" ∷ codes "check" ∷ []) (record { job = Check; workers = 1; budget = 20000; spare = 1; seed = 1 })
+two_hyphens : Asks (codes "knot" ∷ codes "--" ∷ codes "check" ∷ []) (record { job = Plain Check; workers = 1; budget = 20000; spare = 1; seed = 1 })
 unfolding clap_on_literals
 two_hyphens = record { taken = refl; job = refl; workers = refl; budget = refl; spare = refl; seed = refl }
 

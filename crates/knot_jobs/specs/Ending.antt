@@ -8,6 +8,7 @@ use Rattle.knot_jobs.specs.declared.words.Asked.{Asked}
 use Rattle.decision_core.specs.declared.status.Status.{Status}
 use Rattle.decision_core.specs.declared.status.Status.TheVariants as status
 use Rattle.knot_jobs.specs.Words.{Asks, AsksNothing}
+use Rattle.plain_jobs.specs.Reply.{plain_reply}
 use Rattle.knot_jobs.specs.Reply.{without_search}
 use Rattle.knot_jobs.specs.Jobs.Decide.{with_workers}
 use Rattle.knot_jobs.specs.Answer.{limit_of, Answers}
@@ -34,7 +35,7 @@ pub record IsAnswered (call : Call) (reply : Reply) : Type 0 where
 pub record IsMisused (call : Call) (reply : Reply) : Type 0 where
   pub refused : AsksNothing call.words
   pub source : IsUntouched call.source
-  pub is : reply ≡ without_search status.Usage usage_line
+  pub is : reply ≡ without_search (plain_reply status.Usage usage_line)
 
 -- the reply that is due by the words and the input
 abbrev pub IsDue : Call → Reply → Type 0

@@ -1,15 +1,4 @@
--- What each job answers to its input: a file a job.
+-- What each job answers to its input that searches or takes an option: a file a job.
 pub mod Decide
-pub mod Check
-pub mod Replay
-pub mod Colour
-pub mod Close
-pub mod Code
-pub mod Braid
-pub mod Linking
-pub mod Braidcheck
-pub mod Weights
-pub mod Numbers
 pub mod Simplify
-pub mod Grid
 pub mod Sample

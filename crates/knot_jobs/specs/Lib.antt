@@ -1,8 +1,5 @@
 pub mod Words
 pub mod Matched
-pub mod Lines
-pub mod Comparison
-pub mod EquallyMany
 pub mod Reply
 pub mod Jobs
 pub mod Answer

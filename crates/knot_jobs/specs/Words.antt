@@ -11,7 +11,9 @@ use Rattle.clap.specs.declared.builder.value_parser.ValueParser.{ValueParser}
 use Rattle.clap.specs.declared.builder.value_parser.ValueParser.TheVariants as parser
 use Rattle.knot_jobs.specs.declared.words.Asked.{Asked}
 use Rattle.knot_jobs.specs.declared.words.Job.{Job}
-use Rattle.knot_jobs.specs.declared.words.Job.TheVariants.{Decide, Check, Replay, Colour, Close, Code, Braid, Linking, Braidcheck, Weights, Numbers, Simplify, Grid, Sample}
+use Rattle.knot_jobs.specs.declared.words.Job.TheVariants.{Decide, Simplify, Sample, Plain}
+use Rattle.plain_jobs.specs.declared.job.PlainJob.{PlainJob}
+use Rattle.plain_jobs.specs.declared.job.PlainJob.TheVariants.{Check, Replay, Colour, Close, Code, Braid, Linking, Braidcheck, Weights, Numbers, Grid}
 
 -- ---- the command
 
@@ -69,21 +71,24 @@ abbrev pub number_given : Text → List Text → Option ℕ
 number_given name words = option_map number_of (one_of name (matches_of knot_app words))
 
 -- how a job is called
+abbrev pub plain_word : PlainJob → Text
+plain_word Check = codes "check"
+plain_word Replay = codes "replay"
+plain_word Colour = codes "colour"
+plain_word Close = codes "close"
+plain_word Code = codes "code"
+plain_word Braid = codes "braid"
+plain_word Linking = codes "linking"
+plain_word Braidcheck = codes "braidcheck"
+plain_word Weights = codes "weights"
+plain_word Numbers = codes "numbers"
+plain_word Grid = codes "grid"
+
 abbrev pub job_word : Job → Text
 job_word Decide = codes "decide"
-job_word Check = codes "check"
-job_word Replay = codes "replay"
-job_word Colour = codes "colour"
-job_word Close = codes "close"
-job_word Code = codes "code"
-job_word Braid = codes "braid"
-job_word Linking = codes "linking"
-job_word Braidcheck = codes "braidcheck"
-job_word Weights = codes "weights"
-job_word Numbers = codes "numbers"
 job_word Simplify = codes "simplify"
-job_word Grid = codes "grid"
 job_word Sample = codes "sample"
+job_word (Plain job) = plain_word job
 
 -- the words are taken, and ask for this job with these numbers
 pub record Asks (words : List Text) (asked : Asked) : Type 0 where

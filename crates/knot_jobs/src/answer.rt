@@ -5,13 +5,11 @@ ghost use Rattle.knot_jobs.specs.Words.{IsWithinBounds};
 ghost use Rattle.knot_jobs.specs.Answer.{limit_of, AnswersText};
 ghost use Rattle.knot_jobs.specs.Truth.{IsTrueReply};
 
-use crate::jobs::{
-    braid, braidcheck, check, close, code, colour, decide, grid, linking, numbers, replay, sample,
-    simplify, weights,
-};
+use crate::jobs::{decide, sample, simplify};
 use crate::reply::Reply;
 use crate::words::{Asked, Job};
 use decision_core::{MAX_CERTIFICATE, MAX_INPUT, Status};
+use plain_jobs::PlainJob;
 use search_pool::Gate;
 use std::alloc::{AllocError, Global};
 use std::sync::Wait;
@@ -24,7 +22,7 @@ impl Job {
         ensures small { IfSome result (λ limit. limit ≤ MAX_CERTIFICATE) }
     {
         match self {
-            Job::Check => Some(MAX_CERTIFICATE),
+            Job::Plain(PlainJob::Check) => Some(MAX_CERTIFICATE),
             Job::Sample => None,
             _ => Some(MAX_INPUT),
         }
@@ -58,18 +56,8 @@ pub(crate) fn answer_alone(alloc: Global, asked: &Asked, bytes: &[u8]) -> Result
 {
     match asked.job {
         Job::Decide => decide::answer_alone(alloc, asked, bytes),
-        Job::Check => check::answer(alloc, bytes),
-        Job::Replay => replay::answer(alloc, bytes),
-        Job::Colour => colour::answer(alloc, bytes),
-        Job::Close => close::answer(alloc, bytes),
-        Job::Code => code::answer(alloc, bytes),
-        Job::Braid => braid::answer(alloc, bytes),
-        Job::Linking => linking::answer(alloc, bytes),
-        Job::Braidcheck => braidcheck::answer(alloc, bytes),
-        Job::Weights => weights::answer(alloc, bytes),
-        Job::Numbers => numbers::answer(alloc, bytes),
-        Job::Simplify => simplify::answer(alloc, asked, bytes),
-        Job::Grid => grid::answer(alloc, bytes),
-        Job::Sample => sample::answer(alloc, asked.seed),
+        Job::Simplify => Ok(Reply::without_search(simplify::answer(alloc, asked, bytes)?)),
+        Job::Sample => Ok(Reply::without_search(sample::answer(alloc, asked.seed)?)),
+        Job::Plain(job) => Ok(Reply::without_search(plain_jobs::answer(alloc, job, bytes)?)),
     }
 }

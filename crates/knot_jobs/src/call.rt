@@ -23,14 +23,16 @@ const USAGE: &[u8] = b"usage: knot JOB [--workers W] [--budget B] [--spare S] [-
 
 /// Does what the words ask for: reads the whole input from the source, answers it, and writes the answer to the sink.
 ///
-/// The words are the program's name, which isn't looked at, a job (`decide`, `check`, `replay`, `colour`, `close`, `code`,
-/// `braid`, `linking`, `braidcheck`, `weights`, `numbers`, `simplify` or `sample`) and options; other words end in `Usage`, and the source
-/// is not called, as it is not for `sample`. An input of more bytes than the job's limit (33,554,432 for `check`, else 1,048,576)
-/// ends in `Limit`, one with a bad line in `Malformed` or `Limit` by its first bad line, and every other in the job's answer: `Done`, `Unknown` where `decide` finds no evidence, or
-/// `Rejected`. The whole answer is made before the first write, so `ReadFault` and `OutOfMemory` write nothing; `WriteFault`
-/// has written a front of what was due. Faults come only where the source's or sink's own count of faults rose. Where `decide`
-/// or `check` ends with `Done`, what the verdict says is true; where `linking` or `weights` writes `different`, no list of moves joins the two;
-/// and where `braidcheck` ends with `Done`, no quandle tells the closures of the two braids apart by how many colourings they have.
+/// The words are the program's name, which isn't looked at, a job (`decide`, `check`, `replay`, `colour`, `close`, `code`, `grid`,
+/// `braid`, `linking`, `braidcheck`, `weights`, `numbers`, `simplify` or `sample`) and options. Other words end in `Usage`; then the
+/// source is not called, and neither is it for `sample`. An input of more bytes than the job's limit (33,554,432 for `check`, else
+/// 1,048,576) ends in `Limit`, one with a bad line in `Malformed` or `Limit` by its first bad line. Every other ends as the job
+/// answers it: `Done`, `Unknown` where `decide` finds no evidence, `Rejected`, or `Limit` where `grid` has a code that no diagram of
+/// 48 columns was drawn for. The whole answer is made before the first write, so `ReadFault` and `OutOfMemory` write nothing;
+/// `WriteFault` has written a front of what was due. Faults come only where the source's or sink's own count of faults rose. Where
+/// `decide` or `check` ends with `Done`, what the verdict says is true, and evidence by numbers or linking numbers holds; where
+/// `linking` or `weights` writes `different`, no list of moves joins the two; and where `braidcheck` ends with `Done`, no quandle
+/// tells the closures of the two braids apart by how many colourings they have.
 ///
 /// Where `decide` searched, and its answer was written, the search is left in `kept`; else `kept` is None. It searches with as
 /// many workers as the words ask for, which pass the gate between a claim and its settlement; where they ask for one, it

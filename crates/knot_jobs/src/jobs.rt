@@ -1,15 +1,4 @@
-//! What each job answers to its input: a file a job.
-pub(crate) mod braid;
-pub(crate) mod braidcheck;
-pub(crate) mod check;
-pub(crate) mod close;
-pub(crate) mod code;
-pub(crate) mod colour;
+//! What each job answers that searches or takes an option: a file a job.
 pub(crate) mod decide;
-pub(crate) mod grid;
-pub(crate) mod linking;
-pub(crate) mod numbers;
-pub(crate) mod replay;
 pub(crate) mod sample;
 pub(crate) mod simplify;
-pub(crate) mod weights;

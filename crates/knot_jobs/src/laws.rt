@@ -4,12 +4,6 @@ ghost use Rattle.clap.specs.Walk.{Text};
 ghost use Rattle.std.specs.List.{AllByRecursion};
 ghost use Rattle.grid_core.specs.Diagram.{Diagram, IsGrid, size};
 ghost use Rattle.grid_core.specs.declared.grid.TheConstants.{MAX_SIZE};
-ghost use Rattle.grid_moves.specs.Joining.{Joins};
-ghost use Rattle.quandle_core.specs.Quandle.{Table, IsQuandle};
-ghost use Rattle.colour_rows.specs.Colouring.{IsColouring};
-ghost use Rattle.braid_core.specs.Braid.{Word, IsBraid};
-ghost use Rattle.braid_moves.specs.declared.ruling.BraidRuling.TheVariants.{Accepted};
-ghost use Rattle.braid_moves.specs.Ruling.{ruling};
 ghost use Rattle.verdict_core.specs.declared.verdict.Verdict.{Verdict};
 ghost use Rattle.verdict_core.specs.Names.{NamedQuandle};
 ghost use Rattle.knot_text.specs.Printed.{HasQuandleText, HasVersionText};
@@ -19,21 +13,19 @@ ghost use Rattle.pair_verdict.specs.Decided.{Decides};
 ghost use Rattle.knot_jobs.specs.Words.{Asks, AsksNothing};
 ghost use Rattle.decision_core.specs.Status.{IsOfDefinedAnswer, IsOfAnswer};
 ghost use Rattle.decision_core.specs.Decision.{IsDecision, IsShort};
+ghost use Rattle.number_decision.specs.Evidence.{IsEvidenceOn};
 ghost use Rattle.knot_jobs.specs.Answer.{limit_of, part_for, leaves_no_choice, IsWithin, IsInShape, IsBeyondColumns, Answers};
 ghost use Rattle.knot_jobs.specs.Call.{Call, Failed};
 ghost use Rattle.knot_jobs.specs.Ending.{IsDue, Ends};
 ghost use Rattle.knot_jobs.specs.Jobs.Decide.{with_workers, problem_for};
-ghost use Rattle.knot_jobs.specs.Jobs.Replay.{Carries};
-ghost use Rattle.knot_jobs.specs.EquallyMany.{HaveEquallyMany};
 ghost use Rattle.knot_jobs.specs.Truth.{IsAcceptedByCheck};
 
 use crate::reply::Reply;
 use crate::words::{Asked, Job};
-use braid_moves::BraidMove;
 use colour_list::laws::no_more_colourings_than_choices;
 use decision_core::Status;
-use grid_moves::Move;
 use knot_text::Version;
+use plain_jobs::PlainJob;
 
 /// Words ask for at most one thing, and no words both ask for something and ask for nothing.
 pub fn words_ask_for_one_thing()
@@ -90,9 +82,11 @@ pub fn a_call_without_faults_ends_with_what_is_due()
 /// The most bytes that an input may have: 33,554,432 of `check`, which reads evidence, and 1,048,576 of the others, `braidcheck` and
 /// `weights` among them. `sample` has no input.
 pub fn each_job_has_its_limit()
-    ensures check { limit_of Job.Check ≡ Some 33554432 }
-    ensures others { AllByRecursion (λ (job : Job). limit_of job ≡ Some 1048576) (Job.Decide ∷ Job.Replay ∷ Job.Colour ∷ Job.Close ∷ Job.Code
-        ∷ Job.Braid ∷ Job.Linking ∷ Job.Braidcheck ∷ Job.Weights ∷ Job.Numbers ∷ Job.Simplify ∷ Job.Grid ∷ []) }
+    ensures check { limit_of (Job.Plain PlainJob.Check) ≡ Some 33554432 }
+    ensures searches { AllByRecursion (λ (job : Job). limit_of job ≡ Some 1048576) (Job.Decide ∷ Job.Simplify ∷ []) }
+    ensures others { AllByRecursion (λ (job : PlainJob). limit_of (Job.Plain job) ≡ Some 1048576) (PlainJob.Replay ∷ PlainJob.Colour
+        ∷ PlainJob.Close ∷ PlainJob.Code ∷ PlainJob.Braid ∷ PlainJob.Linking ∷ PlainJob.Braidcheck ∷ PlainJob.Weights ∷ PlainJob.Numbers
+        ∷ PlainJob.Grid ∷ []) }
     ensures sample { limit_of Job.Sample ≡ None }
 {}
 
@@ -114,20 +108,6 @@ pub fn an_input_in_shape_has_a_defined_answer()
         → IsOfDefinedAnswer reply.status ⊎ IsBeyondColumns asked.job reply }
 {}
 
-/// Moves that carry colours join the diagrams, and carry each colouring of the first to one of the last.
-pub fn a_replay_carries_a_colouring_to_a_colouring()
-    ensures joins { (t : Table) (d e : Diagram) (colours last : List ℕ) (moves : List Move) → Carries t d colours moves e last → Joins d moves e }
-    ensures colouring { (t : Table) (d e : Diagram) (colours last : List ℕ) (moves : List Move) → IsQuandle t → Carries t d colours moves e last
-        → IsColouring t d colours
-        → IsColouring t e last }
-{}
-
-/// Where steps from one braid to another are accepted, the actions of both braids have equally many fixed points for every
-/// quandle, and their closures equally many colourings.
-pub fn accepted_braids_have_equally_many_colourings()
-    ensures { (v w : Word) → IsBraid v → IsBraid w → (steps : List BraidMove) → ruling v w steps ≡ Accepted → HaveEquallyMany v w }
-{}
-
 /// A decision has a text behind its two diagrams, where the listed quandles have texts, and its moves, if any, are not too many
 /// for one: so what is printed is read back.
 pub fn a_decision_has_a_text()
@@ -142,7 +122,9 @@ pub fn a_decision_has_a_text()
     no_more_colourings_than_choices();
 }
 
-/// A decision on an input, whoever found it, is accepted by the job `check` behind the input, where both are within its limit of bytes.
+/// A decision on an input, whoever found it, is accepted by the job `check` behind the input, where both are within its limit of bytes, and so is
+/// evidence by numbers.
 pub fn a_decision_is_accepted_by_check()
-    ensures { (bytes text : List ℕ) → IsDecision bytes text → IsAcceptedByCheck bytes text }
+    ensures decision { (bytes text : List ℕ) → IsDecision bytes text → IsAcceptedByCheck bytes text }
+    ensures evidence { (bytes text : List ℕ) → IsEvidenceOn bytes text → IsAcceptedByCheck bytes text }
 {}

@@ -4,14 +4,13 @@
 
 mod answer;
 mod call;
-mod comparison;
 mod jobs;
 pub mod laws;
-mod lines;
 mod reply;
 mod words;
 
 pub use call::{run, run_alone};
 pub use decision_core::Status;
+pub use plain_jobs::PlainJob;
 pub use walk_samples::sample_walk;
 pub use words::{Asked, Job, WordsFault, read_words};

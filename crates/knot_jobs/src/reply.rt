@@ -1,10 +1,11 @@
-//! What a call answers, and the replies that several jobs have.
+//! What a call answers: a plain reply, and the search that is kept with it.
 ghost use Rattle.std.specs.Prelude.{◌≡◌, IfOk};
-ghost use Rattle.knot_jobs.specs.Reply.{without_search, too_long, IsFaultReply};
+ghost use Rattle.plain_jobs.specs.Reply.{too_long, IsFaultReply};
+ghost use Rattle.knot_jobs.specs.Reply.{without_search, plainly};
 
-use crate::lines::{limit_bytes, limit_line, malformed_line};
 use decision_core::Status;
-use grid_core::Items;
+use memory_core::Items;
+use plain_jobs::PlainReply;
 use search_pool::Finding;
 use std::alloc::{AllocError, Global};
 use text_items::TextFault;
@@ -18,34 +19,28 @@ pub(crate) struct Reply {
 }
 
 impl Reply {
-    /// The reply of this status and text, behind which is no search.
-    pub(crate) fn new(status: Status, text: Vec<u8>) -> Reply
-        ensures { result ≡ without_search status text.items }
+    /// A plain reply, behind which is no search.
+    pub(crate) fn without_search(plain: PlainReply) -> Reply
+        ensures { result ≡ without_search plain }
     {
         Reply {
-            status,
-            text: Items::from_vec(text),
+            status: plain.status,
+            text: plain.text,
             kept: None,
         }
     }
 
     /// The reply to an input that is too long.
     pub(crate) fn too_long(alloc: Global) -> Result<Reply, AllocError>
-        ensures { IfOk result (λ reply. reply ≡ too_long) }
+        ensures { IfOk result (λ reply. reply ≡ without_search too_long) }
     {
-        Ok(Reply::new(Status::Limit, limit_bytes(alloc)?))
+        Ok(Reply::without_search(PlainReply::too_long(alloc)?))
     }
 
     /// The reply to a first bad line.
     pub(crate) fn to_fault(alloc: Global, fault: TextFault) -> Result<Reply, AllocError>
-        ensures { IfOk result (λ reply. IsFaultReply fault reply) }
+        ensures { IfOk result (λ reply. plainly IsFaultReply fault reply) }
     {
-        match fault {
-            TextFault::Malformed { line } => {
-                Ok(Reply::new(Status::Malformed, malformed_line(alloc, line)?))
-            }
-            TextFault::Limit { line } => Ok(Reply::new(Status::Limit, limit_line(alloc, line)?)),
-            TextFault::OutOfMemory => Err(AllocError),
-        }
+        Ok(Reply::without_search(PlainReply::to_fault(alloc, fault)?))
     }
 }

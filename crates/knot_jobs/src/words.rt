@@ -4,12 +4,13 @@ ghost use Rattle.clap.specs.Simple.{app_of, matches_of};
 ghost use Rattle.clap.specs.Matches.{found_of};
 ghost use Rattle.clap.specs.Walk.{rows_of, rule_of};
 ghost use Rattle.knot_jobs.specs.Words.{job_rule, number_rule, workers_rule, budget_rule, spare_rule, seed_rule, knot_app};
-ghost use Rattle.knot_jobs.specs.Words.{texts_of, AreTaken, Asks, AsksNothing, IsWithinBounds, job_word};
+ghost use Rattle.knot_jobs.specs.Words.{texts_of, AreTaken, Asks, AsksNothing, IsWithinBounds, plain_word, job_word};
 ghost use Rattle.knot_jobs.specs.Matched.{AreMatchesBy, HasText, IsReadAs};
 
 use clap::builder::ValueParser;
 use clap::error::ErrorKind;
 use clap::{Arg, ArgAction, ArgMatches, Command};
+use plain_jobs::PlainJob;
 use std::alloc::{AllocError, Global};
 use std::str::FromStr;
 
@@ -18,32 +19,12 @@ use std::str::FromStr;
 pub enum Job {
     /// Looks for evidence that two diagrams are equal or different.
     Decide,
-    /// Rules on evidence about two diagrams.
-    Check,
-    /// Makes moves on a diagram.
-    Replay,
-    /// Lists the colourings of a diagram.
-    Colour,
-    /// Makes the closure of a braid, and lists the fixed points of the braid's action.
-    Close,
-    /// Writes the crossing code of a diagram.
-    Code,
-    /// Writes a braid word of a diagram, and lists the fixed points of the word's action.
-    Braid,
-    /// Compares the linking numbers of two diagrams.
-    Linking,
-    /// Rules on steps that are to lead from one braid to another.
-    Braidcheck,
-    /// Compares the weights of the colourings of two diagrams by a cocycle.
-    Weights,
-    /// Counts the colourings of a diagram, by cocycles those of each weight.
-    Numbers,
     /// Simplifies a diagram by moves that never make it larger.
     Simplify,
-    /// Draws a grid diagram of a code.
-    Grid,
     /// Makes a list of moves from a seed, has it checked, and counts colourings at both ends. It reads nothing.
     Sample,
+    /// A job that needs no search and takes no option.
+    Plain(PlainJob),
 }
 
 /// A job and its options.
@@ -186,19 +167,29 @@ fn job_named(word: &str) -> Option<Job>
 {
     match word {
         "decide" => Some(Job::Decide),
-        "check" => Some(Job::Check),
-        "replay" => Some(Job::Replay),
-        "colour" => Some(Job::Colour),
-        "close" => Some(Job::Close),
-        "code" => Some(Job::Code),
-        "braid" => Some(Job::Braid),
-        "linking" => Some(Job::Linking),
-        "braidcheck" => Some(Job::Braidcheck),
-        "weights" => Some(Job::Weights),
-        "numbers" => Some(Job::Numbers),
         "simplify" => Some(Job::Simplify),
-        "grid" => Some(Job::Grid),
         "sample" => Some(Job::Sample),
+        _ => Some(Job::Plain(plain_job_named(word)?)),
+    }
+}
+
+/// The plain job that is called so.
+fn plain_job_named(word: &str) -> Option<PlainJob>
+    ensures some { IfSome result (λ job. word.now ≡ plain_word job) }
+    ensures none { IsNone result → (job : _) → word.now ≢ plain_word job }
+{
+    match word {
+        "check" => Some(PlainJob::Check),
+        "replay" => Some(PlainJob::Replay),
+        "colour" => Some(PlainJob::Colour),
+        "close" => Some(PlainJob::Close),
+        "code" => Some(PlainJob::Code),
+        "braid" => Some(PlainJob::Braid),
+        "linking" => Some(PlainJob::Linking),
+        "braidcheck" => Some(PlainJob::Braidcheck),
+        "weights" => Some(PlainJob::Weights),
+        "numbers" => Some(PlainJob::Numbers),
+        "grid" => Some(PlainJob::Grid),
         _ => None,
     }
 }

@@ -1,22 +1,38 @@
 //! The shape of each job's input.
 
-use knot_jobs::Job;
+use knot_jobs::{Job, PlainJob};
 use seek_faults::{PROBLEM, Part, Shape, Then};
+
+/// A diagram alone.
+const DIAGRAM: Shape = Shape {
+    are_two: false,
+    are_braids: false,
+    then: Then::Nothing,
+};
 
 /// What the input of a job is made of; None where it has none, and for a code.
 pub(crate) fn shape_of(job: Job) -> Option<Shape> {
+    match job {
+        Job::Decide => Some(PROBLEM),
+        Job::Simplify => Some(DIAGRAM),
+        Job::Sample => None,
+        Job::Plain(job) => plain_shape_of(job),
+    }
+}
+
+/// What the input of a plain job is made of; None for a code.
+fn plain_shape_of(job: PlainJob) -> Option<Shape> {
     let (are_two, are_braids, then) = match job {
-        Job::Decide => return Some(PROBLEM),
-        Job::Check => (true, false, Then::QuandlesAnd(Part::Verdict)),
-        Job::Replay => (false, false, Then::Only(Part::Moves)),
-        Job::Colour | Job::Braid => (false, false, Then::Quandles),
-        Job::Close => (false, true, Then::Quandles),
-        Job::Code | Job::Simplify => (false, false, Then::Nothing),
-        Job::Linking => (true, false, Then::Nothing),
-        Job::Braidcheck => (true, true, Then::Only(Part::Steps)),
-        Job::Weights => (true, false, Then::QuandleAnd(Part::Cocycle)),
-        Job::Numbers => (false, false, Then::QuandlesAnd(Part::Cocycle)),
-        Job::Grid | Job::Sample => return None,
+        PlainJob::Check => (true, false, Then::QuandlesAnd(Part::Verdict)),
+        PlainJob::Replay => (false, false, Then::Only(Part::Moves)),
+        PlainJob::Colour | PlainJob::Braid => (false, false, Then::Quandles),
+        PlainJob::Close => (false, true, Then::Quandles),
+        PlainJob::Code => return Some(DIAGRAM),
+        PlainJob::Linking => (true, false, Then::Nothing),
+        PlainJob::Braidcheck => (true, true, Then::Only(Part::Steps)),
+        PlainJob::Weights => (true, false, Then::QuandleAnd(Part::Cocycle)),
+        PlainJob::Numbers => (false, false, Then::QuandlesAnd(Part::Cocycle)),
+        PlainJob::Grid => return None,
     };
     Some(Shape {
         are_two,

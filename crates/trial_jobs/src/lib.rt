@@ -1,4 +1,4 @@
-//! The tests of what the jobs answer: decisions by one worker and by many, words, links, simplification, steps and weights.
+//! The tests of what the jobs answer: decisions by one worker and by many, and simplification.
 #![tactic(auto)]
 
 #[cfg(test)]

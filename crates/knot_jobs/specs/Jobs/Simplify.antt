@@ -9,8 +9,8 @@ use Rattle.mono_simplify.specs.Simplified.{Simplifies}
 use Rattle.verdict_core.specs.declared.diagrams.Diagram.{Diagram}
 use Rattle.verdict_core.specs.Diagrams.{grid_of}
 use Rattle.knot_text.specs.Printed.{grid_text, moves_text}
-use Rattle.knot_jobs.specs.declared.reply.Reply.{Reply}
-use Rattle.knot_jobs.specs.Reply.{done}
+use Rattle.plain_jobs.specs.declared.reply.PlainReply.{PlainReply}
+use Rattle.plain_jobs.specs.Reply.{done}
 
 -- no destabilisation can be reached by shifts and exchanges; or the budget was spent, which is this number of members
 abbrev pub end_line : SimpleEnd → List ℕ
@@ -22,7 +22,7 @@ abbrev pub simplified_text : Simplified → List ℕ
 simplified_text s = grid_text s.grid ++ (moves_text s.moves ++ end_line s.end)
 
 -- the diagram, simplified with this budget
-pub record AnswersSimplify (budget : ℕ) (input : Diagram) (reply : Reply) : Type 0 where
+pub record AnswersSimplify (budget : ℕ) (input : Diagram) (reply : PlainReply) : Type 0 where
   pub simplified : Simplified
   pub simplifies : Simplifies (grid_of input) budget simplified.grid simplified.moves simplified.end
   pub is : reply ≡ done (simplified_text simplified)

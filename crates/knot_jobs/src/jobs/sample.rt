@@ -2,17 +2,17 @@
 ghost use Rattle.std.specs.Prelude.{IfOk};
 ghost use Rattle.knot_jobs.specs.Jobs.Sample.{AnswersSample};
 
-use crate::reply::Reply;
 use decision_core::Status;
+use plain_jobs::PlainReply;
 use std::alloc::{AllocError, Global};
 use walk_samples::sample_text;
 
 /// The answer to a seed. There is no input.
-pub(crate) fn answer(alloc: Global, seed: u64) -> Result<Reply, AllocError>
+pub(crate) fn answer(alloc: Global, seed: u64) -> Result<PlainReply, AllocError>
     ensures { IfOk result (λ reply. AnswersSample seed reply) }
 {
     match sample_text(alloc, seed) {
-        Ok(text) => Ok(Reply::new(Status::Done, text)),
+        Ok(text) => Ok(PlainReply::new(Status::Done, text)),
         Err(_) => Err(AllocError),
     }
 }

@@ -2,31 +2,31 @@
 ghost use Rattle.std.specs.Prelude.{◌≡◌, ◌++◌, IfOk, OnOk};
 ghost use Rattle.knot_text.specs.Shapes.{lone_diagram_of};
 ghost use Rattle.knot_jobs.specs.Words.{IsWithinBounds};
-ghost use Rattle.knot_jobs.specs.Reply.{AnswersRead};
+ghost use Rattle.plain_jobs.specs.Reply.{AnswersRead};
 ghost use Rattle.knot_jobs.specs.Jobs.Simplify.{end_line, simplified_text, AnswersSimplify};
 
-use crate::reply::Reply;
 use crate::words::Asked;
 use decision_core::Status;
 use knot_text::{Diagram, print_grid, print_moves, read_diagram};
 use memory_core::OutOfMemory;
 use mono_simplify::{SimpleEnd, Simplified, simplify};
+use plain_jobs::PlainReply;
 use std::alloc::{AllocError, Global};
 use text_lines::push_counted;
 
 /// The answer to the bytes of a diagram, with the budget that is asked for.
-pub(crate) fn answer(alloc: Global, asked: &Asked, bytes: &[u8]) -> Result<Reply, AllocError>
+pub(crate) fn answer(alloc: Global, asked: &Asked, bytes: &[u8]) -> Result<PlainReply, AllocError>
     requires bounds { IsWithinBounds asked.now }
     ensures { IfOk result (λ reply. AnswersRead (AnswersSimplify asked.now.budget) (lone_diagram_of bytes.now) reply) }
 {
     match read_diagram(alloc, bytes) {
         Ok(diagram) => answer_diagram(alloc, asked, &diagram),
-        Err(fault) => Reply::to_fault(alloc, fault),
+        Err(fault) => PlainReply::to_fault(alloc, fault),
     }
 }
 
 /// The answer to a diagram.
-fn answer_diagram(alloc: Global, asked: &Asked, diagram: &Diagram) -> Result<Reply, AllocError>
+fn answer_diagram(alloc: Global, asked: &Asked, diagram: &Diagram) -> Result<PlainReply, AllocError>
     requires bounds { IsWithinBounds asked.now }
     ensures { IfOk result (λ reply. AnswersSimplify asked.now.budget diagram.now reply) }
 {
@@ -34,7 +34,7 @@ fn answer_diagram(alloc: Global, asked: &Asked, diagram: &Diagram) -> Result<Rep
         return Err(AllocError);
     };
     match simplified_text(alloc, &simplified) {
-        Ok(text) => Ok(Reply::new(Status::Done, text)),
+        Ok(text) => Ok(PlainReply::new(Status::Done, text)),
         Err(_) => Err(AllocError),
     }
 }

@@ -1,13 +1,31 @@
-use Rattle.std.proofs.Common.{IfOk, subst, sym}
-use Rattle.knot_jobs.specs.declared.words.Job.{Job}
-use Rattle.knot_jobs.specs.Reply.{AnswersRead}
-use Rattle.knot_jobs.specs.Answer.{task_of}
+use Rattle.std.proofs.Common.{Ok}
+use Rattle.knot_text.specs.Shapes.{lone_diagram_of}
+use Rattle.plain_jobs.specs.Job.{plain_task}
+use Rattle.knot_jobs.specs.declared.words.Job.TheVariants.{Simplify, Sample, Plain}
+use Rattle.knot_jobs.specs.Jobs.Simplify.{AnswersSimplify}
+use Rattle.knot_jobs.specs.Jobs.Sample.{AnswersSample}
+use Rattle.knot_jobs.proofs.Plainly.{read_plainly, answers_as}
 use Rattle.knot_jobs.proofs.answer.answer_alone.Goals as goal
 
--- the task of `sample` rests on what is asked, and so the search does not find it
-pub returns-in-Sample-clause-answer : goal.returns-in-Sample-clause-answer
-returns-in-Sample-clause-answer c =
+pub returns-in_ok-answer-in-Simplify-clause-answer : goal.returns-in_ok-answer-in-Simplify-clause-answer
+returns-in_ok-answer-in-Simplify-clause-answer c =
     let asked = c.args.asked.now in
     let bytes = c.args.bytes.now in
-    subst (λ (job : Job). IfOk c.answer-in-Sample.result (λ reply. AnswersRead (task_of job asked).Replies ((task_of job asked).read bytes) reply))
-    (sym c.in-Sample.is) c.answer-in-Sample.ensures
+    let plain = c.in_ok-answer-in-Simplify.field-0 in
+    answers_as asked bytes Simplify plain c.without_search.result c.in-Simplify.is c.without_search.ensures
+    (read_plainly (AnswersSimplify asked.budget) (lone_diagram_of bytes) plain c.in_ok-answer-in-Simplify.ensures)
+
+pub returns-in_ok-answer-in-Sample-clause-answer : goal.returns-in_ok-answer-in-Sample-clause-answer
+returns-in_ok-answer-in-Sample-clause-answer c =
+    let asked = c.args.asked.now in
+    let plain = c.in_ok-answer-in-Sample.field-0 in
+    answers_as asked c.args.bytes.now Sample plain c.without_search-in-Sample.result c.in-Sample.is c.without_search-in-Sample.ensures
+    (read_plainly AnswersSample (Ok asked.seed) plain c.in_ok-answer-in-Sample.ensures)
+
+pub returns-in_ok-answer-in-Plain-clause-answer : goal.returns-in_ok-answer-in-Plain-clause-answer
+returns-in_ok-answer-in-Plain-clause-answer c =
+    let bytes = c.args.bytes.now in
+    let job = c.in-Plain.job in
+    let plain = c.in_ok-answer-in-Plain.field-0 in
+    answers_as c.args.asked.now bytes (Plain job) plain c.without_search-in-Plain.result c.in-Plain.is c.without_search-in-Plain.ensures
+    (read_plainly (plain_task job).Replies ((plain_task job).read bytes) plain c.in_ok-answer-in-Plain.ensures.answer)

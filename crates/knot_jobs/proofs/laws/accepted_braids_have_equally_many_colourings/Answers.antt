@@ -1,5 +1,0 @@
-use Rattle.knot_jobs.proofs.EquallyMany.{accepted_equally}
-use Rattle.knot_jobs.proofs.laws.accepted_braids_have_equally_many_colourings.Goals as goal
-
-pub returns : goal.returns
-returns c = accepted_equally

@@ -1,0 +1,9 @@
+mod WorkedAnswers
+mod Listed
+mod InOrder
+mod FeetListed
+mod Compared
+mod EquallyMany
+mod Along
+mod Grids
+pub mod Replies

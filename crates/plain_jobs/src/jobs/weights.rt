@@ -1,0 +1,111 @@
+//! The job `weights`: the weights of the colourings of two diagrams by a cocycle, and whether they differ.
+ghost use Rattle.std.specs.Prelude.{◌≡◌, ◌≢◌, true, IfOk};
+ghost use Rattle.grid_moves.specs.Joining.{Equivalent};
+ghost use Rattle.colour_list.specs.Fits.{fits};
+ghost use Rattle.colour_weights.specs.Weights.{weights};
+ghost use Rattle.verdict_core.specs.Diagrams.{grid_of};
+ghost use Rattle.knot_text.specs.Weights.{weight_of};
+ghost use Rattle.plain_jobs.specs.Comparison.{EndsDifferent};
+ghost use Rattle.plain_jobs.specs.Reply.{AnswersRead};
+ghost use Rattle.plain_jobs.specs.Jobs.Weights.{weighed_text, wide_line, weights_text, AnswersWeights};
+ghost use Rattle.plain_jobs.specs.Truth.{IsTrueWeighing};
+
+use crate::comparison::push_comparison;
+use crate::reply::PlainReply;
+use cocycle_core::Cocycle;
+use colour_list::{ListFault, fits};
+use colour_numbers::push_number_line;
+use colour_weights::laws::equivalent_diagrams_have_equal_weights;
+use colour_weights::weights;
+use decision_core::Status;
+use grid_core::Grid;
+use knot_text::{WeightText, read_weights};
+use std::alloc::{AllocError, Global};
+use text_lines::push_paired;
+
+/// The answer to the bytes of two diagrams, a quandle and a cocycle.
+pub(crate) fn answer(alloc: Global, bytes: &[u8]) -> Result<PlainReply, AllocError>
+    ensures answer { IfOk result (λ reply. AnswersRead AnswersWeights (weight_of bytes.now) reply) }
+    ensures claim { IfOk result (λ reply. reply.status ≡ Status.Done → IsTrueWeighing bytes.now reply.text) }
+{
+    match read_weights(alloc, bytes) {
+        Ok(input) => answer_input(alloc, &input),
+        Err(fault) => PlainReply::to_fault(alloc, fault),
+    }
+}
+
+/// The answer to two diagrams, a quandle and a cocycle.
+fn answer_input(alloc: Global, input: &WeightText) -> Result<PlainReply, AllocError>
+    ensures answer { IfOk result (λ reply. AnswersWeights input.now reply) }
+    ensures claim { IfOk result (λ reply. EndsDifferent reply.text → Equivalent (grid_of input.now.first) (grid_of input.now.second) → ⊥) }
+{
+    equivalent_diagrams_have_equal_weights();
+    let _modulus = input.cocycle.modulus();
+    let first = input.first.grid();
+    let second = input.second.grid();
+    let text = weights_text(alloc, &first, &second, &input.cocycle)?;
+    Ok(PlainReply::new(Status::Done, text))
+}
+
+/// The text of two grids and a cocycle: the first grid that its quandle does not fit, or the weights of both.
+fn weights_text(
+    alloc: Global,
+    first: &Grid,
+    second: &Grid,
+    cocycle: &Cocycle,
+) -> Result<Vec<u8>, AllocError>
+    ensures text { IfOk result (λ v. v.items ≡ weights_text cocycle.now first.now second.now) }
+    ensures apart { IfOk result (λ v. EndsDifferent v.items → weights cocycle.now first.now ≢ weights cocycle.now second.now) }
+{
+    if !fits(first, cocycle.quandle()) {
+        return wide_line(alloc, 1, first);
+    }
+    if !fits(second, cocycle.quandle()) {
+        return wide_line(alloc, 2, second);
+    }
+    weighed_text(alloc, first, second, cocycle)
+}
+
+/// The line of the first or the second grid, which has too many choices of a colour for each bottom.
+fn wide_line(alloc: Global, which: u8, grid: &Grid) -> Result<Vec<u8>, AllocError>
+    ensures text { IfOk result (λ v. v.items ≡ wide_line which grid.now) }
+    ensures apart { IfOk result (λ v. EndsDifferent v.items → ⊥) }
+{
+    let mut out = Vec::new(alloc);
+    let bottoms = u64::from(grid.bottoms());
+    push_paired(&mut out, b"wide ", u64::from(which), bottoms)?;
+    Ok(out)
+}
+
+/// The text of the weights of two grids that the cocycle's quandle fits, and whether they differ.
+fn weighed_text(
+    alloc: Global,
+    first: &Grid,
+    second: &Grid,
+    cocycle: &Cocycle,
+) -> Result<Vec<u8>, AllocError>
+    requires first { fits cocycle.now.quandle first.now ≡ true }
+    requires second { fits cocycle.now.quandle second.now ≡ true }
+    ensures text { IfOk result (λ v. v.items ≡ weighed_text cocycle.now first.now second.now) }
+    ensures apart { IfOk result (λ v. EndsDifferent v.items → weights cocycle.now first.now ≢ weights cocycle.now second.now) }
+{
+    let one = counts(alloc, first, cocycle)?;
+    let two = counts(alloc, second, cocycle)?;
+    let mut out = Vec::new(alloc);
+    push_number_line(&mut out, b"weights", one.as_slice())?;
+    push_number_line(&mut out, b"weights", two.as_slice())?;
+    push_comparison(&mut out, one.as_slice() == two.as_slice())?;
+    Ok(out)
+}
+
+/// For each weight, how many colourings of a grid have it, where the cocycle's quandle fits the grid.
+fn counts(alloc: Global, grid: &Grid, cocycle: &Cocycle) -> Result<Vec<u32>, AllocError>
+    requires { fits cocycle.now.quandle grid.now ≡ true }
+    ensures { IfOk result (λ v. v.items ≡ weights cocycle.now grid.now) }
+{
+    match weights(alloc, grid, cocycle) {
+        Ok(counts) => Ok(counts),
+        Err(ListFault::OutOfMemory) => Err(AllocError),
+        Err(ListFault::TooWide { .. }) => unreachable!(),
+    }
+}
