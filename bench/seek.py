@@ -1,9 +1,13 @@
 #!/usr/bin/env python3
-"""Joins a table of pairs by `seek`, each of two diagrams of one link, has `knot check` rule on what is written, and times it.
+"""Joins a table of pairs by `seek`, each of two diagrams of one link, has `knot check` rule on what is written, and times it, with all rounds
+and by the walks alone.
 
     python3 bench/seek.py                    the table, a line a family
     python3 bench/seek.py --each             also a line for each pair
     python3 bench/seek.py --family walks     one family: words, walks, sums, links or unknots
+    python3 bench/seek.py --first 3          the first three pairs of each family
+    python3 bench/seek.py --no-weights       without the tree's list of quandles with cocycles, which `./seek` takes
+    python3 bench/seek.py --no-walks         the rounds alone are timed: half the time or less
     python3 bench/seek.py --seed 5           the seed that `seek` is given; the pairs stay the same
     python3 bench/seek.py --workers 2        the table, and the time of each pair by so many workers beside that of one
     python3 bench/seek.py --instructions     the instructions of a step, by callgrind, and no table
@@ -13,9 +17,14 @@ walk of 3,000 moves from it ends in 12 to 24 columns; sums of two knots in eithe
 one process, and its seconds are those of the processor; what workers gain is told by the clock. The instructions of a step are those
 of a walk of 220,000 steps less those of one of 20,000, between a diagram and its mirror image, which no moves join and no quandle
 tells apart, over the 200,000 steps.
+
+The walks alone are those of the same seed. `seek` has no word for them, so they are timed like this. With 64 times the quandle of one
+colour in place of the first quandles, and no cocycles, all before the short walk takes next to nothing. Where the short walk joins a pair, that
+run is the walks alone. Else they are a run with all steps less one that ends before the long walk.
 """
 import argparse
 import csv
+import itertools
 import os
 import random
 import re
@@ -29,13 +38,15 @@ from typing import NamedTuple
 
 # grids knows where the modules of tools/ are.
 from grids import UNKNOT
-from knot_workbench.diagrams import CORNERS, MAX_SIZE, Braid, Grid, grid_of, grid_text
+from knot_workbench.diagrams import CORNERS, MAX_QUANDLES, MAX_SIZE, Braid, Grid, grid_of, grid_text
 from knot_workbench.moves import Illegal, made
 from measure import CRATES, PROGRAM, built, counted
 
 TOP = os.path.join(CRATES, "..")
 
 SEEK = os.path.join(CRATES, "seek", "out", "seek")
+LIST = os.path.join(TOP, "quandles", "weights", "list.txt")
+BOUNDS = os.path.join(CRATES, "seek_core", "src", "bounds.rt")
 # The line before a verdict.
 HEAD = "certificate 2\n"
 MOVES = 3_000
@@ -226,14 +237,30 @@ def processor_seconds():
     return used.ru_utime + used.ru_stime
 
 
-def sought(problem, seed, workers=1):
+def sought(problem, seed, *words):
     with tempfile.NamedTemporaryFile("w", suffix=".txt") as file:
         file.write(problem)
         file.flush()
         before, start = processor_seconds(), time.perf_counter()
-        done = subprocess.run([SEEK, "--seed", str(seed), "--workers", str(workers), file.name], capture_output=True)
+        done = subprocess.run([SEEK, "--seed", str(seed), *words, file.name], capture_output=True)
         clock, processor = time.perf_counter() - start, processor_seconds() - before
         return Sought(done.returncode, done.stdout.decode(), done.stderr.decode(), processor, clock)
+
+
+def short_steps():
+    """How many steps the short walk has."""
+    with open(BOUNDS, encoding="utf-8") as source:
+        return int(re.search(r"pub const SHORT_STEPS: u64 = ([\d_]+);", source.read())[1])
+
+
+def walks_alone(problem, seed):
+    """The processor seconds of the walks alone, or None where they join nothing."""
+    bare = problem + "quandle trivial 1\n" * MAX_QUANDLES
+    short = sought(bare, seed, "--no-weights", "--steps", str(short_steps()))
+    if short.status == 0:
+        return short.processor
+    both = sought(bare, seed, "--no-weights")
+    return both.processor - short.processor if both.status == 0 else None
 
 
 def is_accepted(problem, verdict):
@@ -242,20 +269,22 @@ def is_accepted(problem, verdict):
 
 
 class Family(NamedTuple):
-    """The processor seconds and the lengths of the lists of a family's pairs, how many pairs had no list, and of each pair the seconds
-    by the clock of one worker and of so many."""
+    """The processor seconds and the lengths of the lists of a family's pairs, how many pairs had no list, of each pair that had one the
+    seconds of all rounds and of the walks alone, and of each pair the seconds by the clock of one worker and of so many."""
     seconds: list
     lengths: list
     missed: int
+    walks: list
     clocks: list
 
 
-def run_family(name, seed, with_each, workers):
-    seconds, lengths, missed, clocks = [], [], 0, []
+def run_family(name, asked):
+    seconds, lengths, missed, walks, clocks = [], [], 0, [], []
     dice = random.Random(f"pairs of {name}")
-    for pair, first, second in FAMILIES[name](dice):
+    weights = [] if asked.no_weights else ["--weights", LIST]
+    for pair, first, second in itertools.islice(FAMILIES[name](dice), asked.first):
         problem = text_of(first) + text_of(second)
-        one = sought(problem, seed)
+        one = sought(problem, asked.seed, *weights)
         seconds.append(one.processor)
         is_list = one.verdict.startswith(HEAD + "equal ")
         if is_list and not is_accepted(problem, one.verdict):
@@ -264,19 +293,25 @@ def run_family(name, seed, with_each, workers):
             lengths.append(int(one.verdict.removeprefix(HEAD).split(maxsplit=2)[1]))
         else:
             missed += 1
-        if workers > 1:
-            clocks.append((one.clock, sought(problem, seed, workers).clock))
-        if with_each:
+        alone = walks_alone(problem, asked.seed) if is_list and not asked.no_walks else None
+        if alone is not None:
+            walks.append((one.processor, alone))
+        if asked.workers > 1:
+            clocks.append((one.clock, sought(problem, asked.seed, *weights, "--workers", str(asked.workers)).clock))
+        if asked.each:
             ending = lengths[-1] if is_list else f"status {one.status}: {one.said.strip()}"
-            print(f"  {pair:28} {one.processor:8.3f} s  {ending}", flush=True)
-    return Family(seconds, lengths, missed, clocks)
+            by_walks = "" if alone is None else f"walks alone {alone:8.3f} s  "
+            print(f"  {pair:28} {one.processor:8.3f} s  {by_walks}{ending}", flush=True)
+    return Family(seconds, lengths, missed, walks, clocks)
 
 
 def show(name, family):
     pairs, lengths = len(family.seconds), family.lengths
     lists = f"{statistics.median(lengths):8.0f} {max(lengths):8}" if lengths else " " * 17
     seconds = f"{sum(family.seconds):9.2f} {statistics.median(family.seconds):8.3f} {max(family.seconds):8.3f}"
-    print(f"{name:8} {pairs:5} {pairs - family.missed:6} {seconds} {lists}", flush=True)
+    rounds, alone = (sum(column) for column in zip(*family.walks)) if family.walks else (0, 0)
+    walks = f"{alone:9.2f} {rounds / alone:6.2f}" if alone else " " * 16
+    print(f"{name:8} {pairs:5} {pairs - family.missed:6} {seconds} {walks} {lists}", flush=True)
 
 
 def show_workers(clocks, workers):
@@ -301,6 +336,9 @@ def main():
     words = argparse.ArgumentParser(description=__doc__, formatter_class=argparse.RawDescriptionHelpFormatter)
     words.add_argument("--each", action="store_true")
     words.add_argument("--family", choices=sorted(FAMILIES))
+    words.add_argument("--first", type=int)
+    words.add_argument("--no-weights", action="store_true")
+    words.add_argument("--no-walks", action="store_true")
     words.add_argument("--seed", type=int, default=1)
     words.add_argument("--workers", type=int, default=1)
     words.add_argument("--instructions", action="store_true")
@@ -309,10 +347,10 @@ def main():
     built(SEEK, "./seek --version")
     if asked.instructions:
         return show_instructions(asked.seed)
-    print(f"{'pairs':8} {'all':>5} {'joined':>6} {'seconds':>9} {'median':>8} {'longest':>8} {'list':>8} {'longest':>8}")
-    total = Family([], [], 0, [])
+    print(f"{'pairs':8} {'all':>5} {'joined':>6} {'seconds':>9} {'median':>8} {'longest':>8} {'walks':>9} {'ratio':>6} {'list':>8} {'longest':>8}")
+    total = Family([], [], 0, [], [])
     for name in [asked.family] if asked.family else FAMILIES:
-        found = run_family(name, asked.seed, asked.each, asked.workers)
+        found = run_family(name, asked)
         show(name, found)
         total = Family(*(before + more for before, more in zip(total, found)))
     show("all", total)

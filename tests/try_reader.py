@@ -14,6 +14,10 @@ import reader
 from hostile import BAD_INPUTS, EXAMPLES
 
 
+# The status of an answer by its first word.
+STATUSES = {b"malformed": reader.MALFORMED, b"limit": reader.LIMIT, b"rejected": reader.REJECTED}
+
+
 def stored(path):
     """The status and the text of an example."""
     stem = path[:-4]
@@ -35,7 +39,8 @@ def try_examples():
 def try_table():
     rows = list(cases.table(BAD_INPUTS))
     for row in rows:
-        assert reader.answer(row.words, row.data).text == row.due, row.name
+        problem = reader.answer(row.words, row.data).problem_with(STATUSES[row.due.split()[0]], row.due)
+        assert problem is None, (row.name, problem)
     return len(rows)
 
 

@@ -158,7 +158,7 @@ def help_part(text, first):
 
 def options_of(text):
     """The options of a help, each with what it says, as pairs."""
-    return re.findall(r"(?m)^ +((?:-\w, )?--[a-z]+(?: <?[A-Z]+>?)?)  +(\S.*)$", text)
+    return re.findall(r"(?m)^ +((?:-\w, )?--[a-z-]+(?: <?[A-Z]+>?)?)  +(\S.*)$", text)
 
 
 def tagged(pairs):

@@ -47,7 +47,7 @@ gzip -9n "$root"/usr/share/man/man?/* || exit 1
 version=$("$top/knot" --version | cut -d ' ' -f 2)
 architecture=$(dpkg --print-architecture)
 # The newest version of the C library that a symbol of a program asks for.
-library=$(cat "$root/usr/lib/knot-workbench/knot" "$root/usr/bin/seek" | grep -ao 'GLIBC_[0-9][0-9.]*' | sort -u -t _ -k 2 -V | tail -n 1 | cut -d _ -f 2)
+library=$(cat "$root/usr/lib/knot-workbench/knot" "$root/usr/lib/knot-workbench/seek" | grep -ao 'GLIBC_[0-9][0-9.]*' | sort -u -t _ -k 2 -V | tail -n 1 | cut -d _ -f 2)
 kilobytes=$(du -sk "$root" | cut -f 1)
 mkdir "$root/DEBIAN" || exit 1
 cat >"$root/DEBIAN/control" <<END || exit 1

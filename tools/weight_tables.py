@@ -1,7 +1,7 @@
 #!/usr/bin/env python3
 """Makes the ready tables of quandles/weights/, quandles with 2-cocycles that tell many knots from their mirror images.
 
-    tools/weight_tables.py [FOLDER]             writes T5, T7, M20a, M20b and M30, of at most 32 colours
+    tools/weight_tables.py [FOLDER]             writes T5, T7, M20a, M20b and M30, of at most 32 colours, and the list that seek tries
     tools/weight_tables.py --larger FOLDER      writes M42a, M42b, M42c and M56b, which are too large for the program today
 
 FOLDER is quandles/weights/ beside this folder where none is given. A table stands behind two diagrams, as the job weights reads it:
@@ -29,6 +29,11 @@ from lib.fields import Field
 
 IDENTITY = ((1, 0), (0, 1))
 FOUR = (2, (1, 1))
+
+# What stands in the list: quandles of no cocycle, and then the tables, the fewest colours first.
+LIST = "list"
+PLAIN = ("dihedral 3", "tetrahedral", "alexander 5 2", "alexander 7 2", "alexander 11 3", "alexander 17 10")
+WEIGHED = ("T5", "M20a", "M20b", "T7", "M30")
 
 # The colours as matrices, the first of them x0; s(x) by colour; the logarithm of each element of the torus, and its order.
 Conjugates = namedtuple("Conjugates", "field colours sections logarithms modulus said")
@@ -140,14 +145,26 @@ LARGER = {
 }
 
 
-def text_of(name):
-    """The whole file of one of the names in READY and LARGER."""
+def parts_of(name):
+    """What one of the names in READY and LARGER is, and the lines of its quandle and its cocycle."""
     found = {**READY, **LARGER}[name]()
     table = operation(found)
-    use = f"Append it to two diagrams: cat problem.txt quandles/weights/{name}.txt | ./knot weights" if name in READY else "Too large for the program today."
-    lines = [f"# {name}: {found.said}; a cocycle mod {found.modulus}.", f"# Made by tools/weight_tables.py. {use}"]
     squares = "".join(" ".join(map(str, row)) + "\n" for row in cocycle(found, table))
-    return "\n".join(lines) + "\n" + quandle_text(quandle_of(f"table {len(table)}", table)) + f"weight {found.modulus}\n" + squares
+    return f"# {name}: {found.said}; a cocycle mod {found.modulus}.\n", quandle_text(quandle_of(f"table {len(table)}", table)) + f"weight {found.modulus}\n" + squares
+
+
+def text_of(name):
+    """The whole file of one of these names."""
+    said, lines = parts_of(name)
+    use = f"Append it to two diagrams: cat problem.txt quandles/weights/{name}.txt | ./knot weights" if name in READY else "Too large for the program today."
+    return f"{said}# Made by tools/weight_tables.py. {use}\n{lines}"
+
+
+def list_text():
+    """The list that seek tries where its words name no other."""
+    head = ("# Quandles, and quandles with a cocycle, by which seek counts colourings where its words name no file of --weights.\n"
+            "# Made by tools/weight_tables.py.\n")
+    return head + "".join(f"quandle {name}\n" for name in PLAIN) + "".join("".join(parts_of(name)) for name in WEIGHED)
 
 
 def main():
@@ -163,6 +180,8 @@ def main():
         parser.error(f"there is no folder {folder}")
     for name in LARGER if words.larger else READY:
         calls.put(os.path.join(folder, f"{name}.txt"), text_of(name))
+    if not words.larger:
+        calls.put(os.path.join(folder, f"{LIST}.txt"), list_text())
 
 
 if __name__ == "__main__":

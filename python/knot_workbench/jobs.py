@@ -12,7 +12,7 @@ from .codes import Code, read_code, rows_text
 from .diagrams import (Braid, Diagram, Grid, Lines, Move, Quandle, Rows, diagram_text, grid_of, move_text, number_of, quandle_fault,
                        quandle_of, read_grid, read_moves, read_quandle)
 from .faults import BadAnswer, BadCode, BadText, Fault, Wide
-from .programs import answered
+from .programs import answered, weights_in_tree
 
 # A quandle, its name as in a line `quandle`, or the rows of its table.
 QuandleLike = Union[Quandle, str, Sequence[Sequence[int]]]
@@ -72,16 +72,26 @@ def lines_of(job: str, text: str, words: Sequence[str] = ()) -> Lines:
 
 # ---- searches
 
+def weights_words(files: Optional[Sequence[str]]) -> List[str]:
+    """The words that name files of quandles with cocycles, or the tree's own list where no files are meant."""
+    if files is None:
+        files = weights_in_tree()
+    elif not files:
+        return ["--no-weights"]
+    return [f"--weights={file}" for file in files]
+
+
 def problem_text(first: Diagram, second: Diagram, quandles: Quandles = ()) -> str:
     """Two diagrams and quandles, as `decide` and `seek` read them."""
     return diagram_text(first) + diagram_text(second) + "".join(one.text for one in quandles_of(quandles))
 
 
-def seek(first: Diagram, second: Diagram, quandles: Quandles = (), *, seed: Optional[int] = None, steps: Optional[int] = None,
-         room: Optional[int] = None, workers: Optional[int] = None, timeout: Optional[float] = None) -> Optional[Certificate]:
-    """Seeks evidence by quandles, those given first, and by random walks. The certificate, or None where nothing was found, which says
-    nothing of the two. The options are those of the program `seek`; raises TimedOut after `timeout` seconds."""
-    words = options_of(seed=seed, steps=steps, room=room, workers=workers)
+def seek(first: Diagram, second: Diagram, quandles: Quandles = (), *, weights: Optional[Sequence[str]] = None, seed: Optional[int] = None,
+         steps: Optional[int] = None, room: Optional[int] = None, workers: Optional[int] = None, timeout: Optional[float] = None) -> Optional[Certificate]:
+    """Seeks evidence by numbers, by quandles, those given first, and by random walks. The certificate, or None where nothing was found, which
+    says nothing of the two. `weights` names files of quandles with cocycles; None stands for the list of the tree or of the prefix, () for none.
+    The options are those of the program `seek`; raises TimedOut after `timeout` seconds."""
+    words = [*weights_words(weights), *options_of(seed=seed, steps=steps, room=room, workers=workers)]
     ran = answered("seek", ["--quiet", *words, "-"], problem_text(first, second, quandles), also=(1,), timeout=timeout)
     return None if ran.status == 1 else certificate_of("seek", first, second, quandles, ran.text)
 

@@ -58,6 +58,14 @@ def path_of(name: str) -> str:
     raise NoProgram(f"there is no built program {name}: build it with tools/build.py, or name it by the variable {name.upper()}")
 
 
+def weights_in_tree() -> List[str]:
+    """The list of quandles with cocycles of the tree, where the seek that is called is the one that was built there: a launcher, or the command
+    of a prefix, names its list by itself."""
+    top = os.path.dirname(os.path.dirname(HERE))
+    file = os.path.join(top, "quandles", "weights", "list.txt")
+    return [file] if os.path.isfile(file) and path_of("seek") == os.path.join(top, "crates", "seek", "out", "seek") else []
+
+
 def run(name: str, words: Sequence[str], text: str, timeout: Optional[float] = None) -> Ran:
     """Runs a program on a text, and waits so many seconds at most. Raises NoProgram, TimedOut."""
     path = path_of(name)

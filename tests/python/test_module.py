@@ -404,7 +404,7 @@ class Built(unittest.TestCase):
             self.assertEqual((found.is_equal, found.verdict.quandle.name, len(found.verdict.first)), (False, "dihedral 3", 9))
             self.assertTrue(found.check())
         self.assertEqual(kw.decide(TREFOIL, TREFOIL.mirror(), spare=0), kw.Unknown(True, 2, 5))
-        self.assertIsNone(kw.seek(TREFOIL, TREFOIL.mirror(), steps=1000))
+        self.assertIsNone(kw.seek(TREFOIL, TREFOIL.mirror(), weights=(), steps=1000))
 
     def test_the_other_jobs(self):
         self.assertEqual(kw.code(TREFOIL).writhe(), 3)

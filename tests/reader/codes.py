@@ -52,8 +52,8 @@ def print_code(grid):
     return "\n".join([*code, f"loops {loops}", *gauss]) + "\n"
 
 
-def linking_numbers(grid):
-    """The linking numbers of all ordered pairs of components, in ascending order."""
+def components_of(grid):
+    """For each column a column of its component, the same for all of them."""
     components = {}
     xs = turned(grid)[0]
     for start in range(size_of(grid)):
@@ -61,6 +61,17 @@ def linking_numbers(grid):
         while column not in components:
             components[column] = start
             column = xs[grid[1][column]]
+    return components
+
+
+def component_count(grid):
+    """How many components the link has."""
+    return len(set(components_of(grid).values()))
+
+
+def linking_numbers(grid):
+    """The linking numbers of all ordered pairs of components, in ascending order."""
+    components = components_of(grid)
     sums = {(i, j): 0 for i in set(components.values()) for j in set(components.values()) if i != j}
     for row, (left, _, between) in enumerate(rows_of(grid)):
         for column in between:

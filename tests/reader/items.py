@@ -107,11 +107,12 @@ def read_rows(lines, n, bound):
     return table
 
 
-def read_name(lines, word, is_one_too_many=False):
-    """A line of this word and the name of a quandle, and the lines of its table."""
+def read_name(lines, *words, is_one_too_many=False):
+    """A line of these words and the name of a quandle, and the lines of its table."""
     tokens = lines.due()
-    lines.form(len(tokens) >= 2 and tokens[0] == word and tokens[1] in NAMES and len(tokens) == 2 + NAMES[tokens[1]]
-               and are_numbers(tokens[2:]))
+    lines.form(tuple(tokens[:len(words)]) == words)
+    tokens = tokens[len(words) - 1:]
+    lines.form(len(tokens) >= 2 and tokens[1] in NAMES and len(tokens) == 2 + NAMES[tokens[1]] and are_numbers(tokens[2:]))
     kind = tokens[1].decode()
     lines.limits(not is_one_too_many and (kind == "tetrahedral" or at_most(tokens[2], MAX_ORDER)) and are_short(tokens[2:]))
     numbers = [int(token) for token in tokens[2:]]
@@ -138,7 +139,7 @@ def read_quandles(lines):
     """Any number of quandles; the built-in list where there are none."""
     quandles = []
     while lines.begins_with(b"quandle"):
-        quandles.append(read_name(lines, b"quandle", len(quandles) == MAX_QUANDLES))
+        quandles.append(read_name(lines, b"quandle", is_one_too_many=len(quandles) == MAX_QUANDLES))
     return quandles or BUILT_IN
 
 
@@ -282,6 +283,43 @@ def read_verdict(lines, first, second):
     return ("unknown", tokens[1].decode(), *(int(token) for token in tokens[2:]))
 
 
+def read_values(lines, word, is_value, most=None):
+    """The numbers of a line that begins with the word and holds its form and its limits."""
+    tokens = lines.due()
+    lines.form(tokens[0] == word and all(is_value(token) for token in tokens[1:]))
+    lines.limits((most is None or len(tokens) - 1 <= most) and are_short(tokens[1:]))
+    return [int(token) for token in tokens[1:]]
+
+
+def read_counted(lines, due):
+    """The seeds of a diagram, and so many numbers of its colourings."""
+    seeds = read_values(lines, b"seeds", is_number, MAX_SIZE)
+    lines.advance()
+    numbers = read_values(lines, b"numbers", is_number)
+    lines.content(len(numbers) == due)
+    lines.advance()
+    return seeds, numbers
+
+
+def read_linked(lines):
+    """The number of components of a link, and its linking numbers."""
+    components = read_count(lines, b"components")
+    numbers = read_values(lines, b"numbers", is_letter)
+    lines.advance()
+    return components, numbers
+
+
+def read_evidence(lines):
+    """Evidence by numbers, behind the line `certificate 3`: its word, and what stands behind it."""
+    lines.advance()
+    if tuple(lines.due()) == (b"different", b"linking"):
+        lines.advance()
+        return "linking", [read_linked(lines) for _ in range(2)]
+    quandle = read_name(lines, b"different", b"numbers")
+    cocycle = read_cocycle(lines, quandle) if lines.begins_with(b"weight") else None
+    return "numbers", quandle, cocycle, [read_counted(lines, cocycle[0] if cocycle else 1) for _ in range(2)]
+
+
 def two_diagrams(lines):
     """Two diagrams."""
     return read_diagram(lines), read_diagram(lines)
@@ -292,10 +330,12 @@ def problem(lines):
     return (*two_diagrams(lines), read_quandles(lines))
 
 
-def problem_and_verdict(lines):
-    """A problem, whose quandles are passed over, and a verdict."""
+def problem_and_said(lines):
+    """A problem, whose quandles are passed over, and a verdict or evidence by numbers."""
     first, second = two_diagrams(lines)
     read_quandles(lines)
+    if lines.tokens is not None and tuple(lines.tokens) == (b"certificate", b"3"):
+        return first, second, read_evidence(lines)
     return first, second, read_verdict(lines, first, second)
 
 
@@ -401,6 +441,6 @@ def diagram_and_blocks(lines):
     """A diagram, and any number of quandles, each perhaps with a cocycle behind it; the built-in list where there are none."""
     grid, blocks = read_diagram(lines), []
     while lines.begins_with(b"quandle"):
-        quandle = read_name(lines, b"quandle", len(blocks) == MAX_QUANDLES)
+        quandle = read_name(lines, b"quandle", is_one_too_many=len(blocks) == MAX_QUANDLES)
         blocks.append((quandle, read_cocycle(lines, quandle) if lines.begins_with(b"weight") else None))
     return grid, blocks or [(quandle, None) for quandle in BUILT_IN]

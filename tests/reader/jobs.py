@@ -11,9 +11,9 @@ from .codes import linking_numbers, print_code
 from .diagrams import apply, bottoms, carried, colourings, fits, is_colouring, play, print_grid, print_list
 from .drawn import answer_grid
 from .items import (braid_and_quandles, code_text, diagram_and_blocks, diagram_and_moves, diagram_and_quandles, lone_diagram, pair_and_weights,
-    problem, problem_and_verdict, two_braids_and_steps, two_diagrams)
+    problem, problem_and_said, two_braids_and_steps, two_diagrams)
 from .lines import DONE, Fault, LIMIT, Lines, MALFORMED, MAX_LIST, NOT_UTF8, REJECTED, USAGE
-from .numbers import answer_numbers
+from .numbers import answer_numbers, cause_of_linking, cause_of_numbers
 from .weights import weight
 
 USAGE_LINE = b"usage: knot JOB [--workers W] [--budget B] [--spare S] [--seed N]\n"
@@ -48,9 +48,14 @@ def cause_of(first, second, verdict):
     return "samelength" if len(lists[0]) == len(lists[1]) else None
 
 
-def answer_check(_options, first, second, verdict):
+# Evidence by numbers, by its word.
+CAUSES_BY_NUMBERS = {"numbers": cause_of_numbers, "linking": cause_of_linking}
+
+
+def answer_check(_options, first, second, said):
     """`accepted`, or the first cause."""
-    cause = cause_of(first, second, verdict)
+    by_numbers = CAUSES_BY_NUMBERS.get(said[0])
+    cause = by_numbers(first, second, *said[1:]) if by_numbers else cause_of(first, second, said)
     return Answer(REJECTED, f"rejected {cause}\n") if cause else Answer(DONE, "accepted\n")
 
 
@@ -155,7 +160,7 @@ MEBIBYTE = 1_048_576
 # A job's shape, its answer, and its limit of bytes; None where the input is not read.
 JOBS = {
     b"decide": (problem, answer_decide, MEBIBYTE),
-    b"check": (problem_and_verdict, answer_check, 32 * MEBIBYTE),
+    b"check": (problem_and_said, answer_check, 32 * MEBIBYTE),
     b"replay": (diagram_and_moves, answer_replay, MEBIBYTE),
     b"colour": (diagram_and_quandles, answer_colour, MEBIBYTE),
     b"close": (braid_and_quandles, answer_close, MEBIBYTE),

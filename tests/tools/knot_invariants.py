@@ -1,4 +1,4 @@
-"""Alexander and Jones polynomials of closed braids, by nothing that the scripts under test use."""
+"""Alexander and Jones polynomials and signatures of closed braids, by nothing that the scripts under test use."""
 from fractions import Fraction
 
 
@@ -175,3 +175,62 @@ def jones_polynomial(strands, letters):
     writhe = sum(1 if letter > 0 else -1 for letter in letters)
     turned = poly_times({-3 * writhe: -1 if writhe % 2 else 1}, bracket(strands, letters))
     return {Fraction(-power, 4): entry for power, entry in turned.items()}
+
+
+def seifert_matrix(strands, letters):
+    """A Seifert matrix of the closed braid: the surface has a disc for each strand and a band for each letter, and a loop goes through two bands
+    that follow each other in one place."""
+    loops, last = [], {}
+    for level, letter in enumerate(letters):
+        place = abs(letter)
+        if place in last:
+            loops.append((place, last[place], level))
+        last[place] = level
+    signs = [1 if letter > 0 else -1 for letter in letters]
+    matrix = [[0] * len(loops) for _ in loops]
+    for one, (place, low, high) in enumerate(loops):
+        matrix[one][one] = -(signs[low] + signs[high]) // 2
+        for two, (other, bottom, top) in enumerate(loops):
+            if other == place and bottom == high:
+                if signs[high] > 0:
+                    matrix[two][one] = 1
+                else:
+                    matrix[one][two] = -1
+            elif other == place + 1 and low < bottom < high < top:
+                matrix[two][one] = 1
+            elif other == place + 1 and bottom < low < top < high:
+                matrix[two][one] = -1
+    return matrix
+
+
+def alexander_by_seifert(strands, letters):
+    """The coefficients as `alexander_polynomial` has them, by the Seifert matrix."""
+    matrix = seifert_matrix(strands, letters)
+    places = range(len(matrix))
+    found = determinant([[poly_add({0: matrix[i][j]} if matrix[i][j] else {}, {1: -matrix[j][i]} if matrix[j][i] else {}) for j in places] for i in places])
+    dense = [found.get(power, 0) for power in range(min(found), max(found) + 1)]
+    return dense if dense[0] > 0 else [-entry for entry in dense]
+
+
+def signature(strands, letters):
+    """The signature of the closed braid, that of the Seifert matrix and its transpose; -2 for the right trefoil."""
+    matrix = seifert_matrix(strands, letters)
+    places = range(len(matrix))
+    form = [[Fraction(matrix[i][j] + matrix[j][i]) for j in places] for i in places]
+    total, left = 0, list(places)
+    while left:
+        pivot = next((i for i in left if form[i][i]), None)
+        if pivot is None:
+            pair = next(((i, j) for i in left for j in left if form[i][j]), None)
+            if pair is None:
+                break
+            pivot, other = pair
+            form[pivot] = [a + b for a, b in zip(form[pivot], form[other])]
+            for row in form:
+                row[pivot] += row[other]
+        total += 1 if form[pivot][pivot] > 0 else -1
+        left.remove(pivot)
+        for i in left:
+            by = form[i][pivot] / form[pivot][pivot]
+            form[i] = [a - by * b for a, b in zip(form[i], form[pivot])]
+    return total

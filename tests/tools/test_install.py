@@ -21,7 +21,7 @@ def jobs_of_help():
 
 
 def options_of_seek():
-    return re.findall(r"(?m)^ +(?:-., )?(--[a-z]+)", common.read("examples", "seek", "help.out").split("Options:")[1])
+    return re.findall(r"(?m)^ +(?:-., )?(--[a-z-]+)", common.read("examples", "seek", "help.out").split("Options:")[1])
 
 
 class ManualPages(unittest.TestCase):
@@ -46,7 +46,7 @@ class ManualPages(unittest.TestCase):
         text = common.run("man.py", "--print", "seek.1")[1]
         self.assertGreaterEqual(len(options_of_seek()), 11)
         for option in options_of_seek():
-            self.assertIn(f"\\-\\-{option[2:]}", text)
+            self.assertIn("--".replace("-", "\\-") + option[2:].replace("-", "\\-"), text)
         self.assertNotIn("./seek", text)
 
     def test_the_formats_have_each_heading_and_each_line_of_code(self):
@@ -143,9 +143,10 @@ class Installed(unittest.TestCase):
         files = self.installed()
         self.assertIn(f"{len(files) - 1} files installed below {self.prefix}\n", out)
         self.assertIn(f"put {self.prefix}/bin into PATH\n", out)
-        for path in ("bin/knot", "bin/seek", "lib/knot-workbench/knot", "share/man/man1/knot.1", "share/man/man1/seek.1", "share/man/man5/knot-formats.5",
+        for path in ("bin/knot", "bin/seek", "lib/knot-workbench/knot", "lib/knot-workbench/seek", "share/man/man1/knot.1", "share/man/man1/seek.1", "share/man/man5/knot-formats.5",
                      "share/bash-completion/completions/knot", "share/zsh/site-functions/_seek", "share/fish/vendor_completions.d/knot.fish",
-                     "share/knot-workbench/quandles/list-64.txt", "share/knot-workbench/quandles/weights/T5.txt", "share/knot-workbench/installed.txt"):
+                     "share/knot-workbench/quandles/list-64.txt", "share/knot-workbench/quandles/weights/T5.txt",
+                     "share/knot-workbench/quandles/weights/list.txt", "share/knot-workbench/installed.txt"):
             self.assertIn(path, files)
         self.assertEqual(self.called("--uninstall"), (0, f"{len(files) - 1} files removed from {self.prefix}\n", ""))
         self.assertFalse(os.path.exists(self.prefix))
@@ -164,6 +165,14 @@ class Installed(unittest.TestCase):
         done = common.call([knot, "code"], text=UNKNOT)
         self.assertEqual((done.returncode, done.stdout), (0, "crossings 0\nloops 1\n"))
         self.assertEqual(common.call([knot, "nojob"], text="").returncode, 2)
+
+    def test_seek_is_given_the_installed_list(self):
+        with open(self.program, "w", encoding="utf-8") as out:
+            out.write('#!/bin/sh\nprintf "%s\\n" "$@"\n')
+        self.called()
+        listed = self.path("share", "knot-workbench", "quandles", "weights", "list.txt")
+        for words, wanted in (["--seed", "2", "a b"], ["--weights", listed, "--seed", "2", "a b"]), (["--weights=x", "a"], ["--weights=x", "a"]), (["--help"], ["--help"]):
+            self.assertEqual(common.call([self.path("bin", "seek"), *words]).stdout.splitlines(), wanted)
 
     def test_the_module_finds_the_programs_beside_it(self):
         self.called()
@@ -208,7 +217,7 @@ class Installed(unittest.TestCase):
             out.write("# newer\n")
         self.assertEqual(self.called()[0], 0)
         self.assertEqual(self.installed(), before)
-        with open(self.path("bin", "seek"), encoding="utf-8") as file:
+        with open(self.path("lib", "knot-workbench", "seek"), encoding="utf-8") as file:
             self.assertIn("# newer", file.read())
         self.assertEqual(self.called("--uninstall")[0], 0)
         self.assertFalse(os.path.exists(self.prefix))

@@ -105,8 +105,8 @@ class Streams(unittest.TestCase):
 class OldPython(unittest.TestCase):
     def test_an_older_python_is_named(self):
         script = "import runpy, sys; sys.version_info = (3, 8, 18); sys.argv = sys.argv[1:]; runpy.run_path(sys.argv[0], run_name='__main__')"
-        for name in ("draw.py", "turn.py", "join.py", "cocycles.py", "quandles.py", "weight_tables.py", "to_regina.py", "to_sage.py", "to_snappy.py", "against_regina.py",
-                     "show.py", "man.py", "completions.py"):
+        for name in ("draw.py", "turn.py", "join.py", "cocycles.py", "quandles.py", "weight_tables.py", "large_quandles.py", "to_regina.py",
+                     "to_sage.py", "to_snappy.py", "against_regina.py", "show.py", "man.py", "completions.py"):
             path = os.path.join(common.TOOLS, name)
             done = common.call([sys.executable, "-c", script, path, "--help"], env={**os.environ, "PYTHONPATH": common.TOOLS})
             self.assertEqual((done.returncode, done.stdout, done.stderr), (1, "", f"{name}: Python 3.9 or newer is needed, and this is Python 3.8\n"))

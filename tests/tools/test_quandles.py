@@ -20,6 +20,8 @@ ALEXANDER = {
     "8_17": "1 -4 8 -11", "8_18": "1 -5 10 -13", "8_19": "1 -1 0 1", "8_20": "1 -2 3", "8_21": "1 -4 5",
 }
 DETERMINANTS = [3, 5, 5, 7, 9, 11, 13, 7, 11, 13, 15, 17, 19, 21, 13, 17, 17, 19, 21, 23, 23, 25, 25, 27, 27, 29, 29, 31, 33, 35, 37, 45, 3, 9, 15]
+# As tables of knots have them, without their signs, which depend on the mirror image.
+SIGNATURES = [2, 0, 4, 2, 0, 2, 0, 6, 2, 4, 2, 4, 2, 0, 0, 4, 0, 2, 4, 2, 2, 0, 0, 2, 2, 0, 0, 2, 4, 2, 0, 0, 6, 0, 2]
 NOT_ALTERNATING = ("8_19", "8_20", "8_21")
 
 
@@ -281,6 +283,14 @@ class Knots(unittest.TestCase):
             found = knot_invariants.alexander_polynomial(*braid)
             self.assertEqual(found, polynomial(name), name)
             self.assertEqual(abs(sum(entry * (-1) ** place for place, entry in enumerate(found))), determinant, name)
+
+    def test_the_words_close_to_knots_of_the_printed_signatures(self):
+        self.assertEqual(len(self.knots), len(SIGNATURES))
+        for (name, braid), wanted in zip(self.knots, SIGNATURES):
+            self.assertEqual(knot_invariants.alexander_by_seifert(*braid), polynomial(name), name)
+            found = knot_invariants.signature(*braid)
+            self.assertEqual(abs(found), wanted, name)
+            self.assertEqual(knot_invariants.signature(braid.strands, [-letter for letter in braid.letters]), -found, name)
 
     def test_the_words_close_to_knots_of_their_crossing_numbers(self):
         # An alternating knot has as many crossings as its Jones polynomial spans, any other prime knot more (Kauffman, Murasugi, Thistlethwaite).

@@ -52,8 +52,8 @@ class Tables(unittest.TestCase):
     def test_the_files_are_what_the_script_writes(self):
         with tempfile.TemporaryDirectory() as folder:
             self.assertEqual(common.run("weight_tables.py", folder), (0, "", ""))
-            self.assertEqual(sorted(os.listdir(folder)), sorted(f"{name}.txt" for name in weight_tables.READY))
-            for name in weight_tables.READY:
+            self.assertEqual(sorted(os.listdir(folder)), sorted(f"{name}.txt" for name in (*weight_tables.READY, weight_tables.LIST)))
+            for name in (*weight_tables.READY, weight_tables.LIST):
                 with open(os.path.join(folder, f"{name}.txt"), encoding="utf-8") as written:
                     self.assertEqual(written.read(), common.read("quandles", "weights", f"{name}.txt"), name)
 

@@ -54,15 +54,19 @@ def read_answer(path, problem, job):
 def without_head_line(body):
     """An answer without the line that tells the version of a verdict."""
     head, _, rest = body.partition(b"\n")
-    return rest if head == b"certificate 2" else body
+    return rest if head in (b"certificate 2", b"certificate 3") else body
 
 
 def says(body):
     """An answer in short: its first line behind its head line. Of a quandle by a table the table stands behind it, and where the verdict
-    is the last line, as in `linking` and `weights`, that comes first."""
+    is the last line, as in `linking` and `weights`, that comes first. Of evidence by numbers the quandle, or by its order a table, and the
+    numbers of both diagrams."""
     lines = without_head_line(body).decode("utf-8", "replace").splitlines()
     if not lines:
         return ""
+    if lines[0].startswith(("different numbers", "different linking")):
+        numbers = [line.partition(" ")[2] for line in lines if line.partition(" ")[0] == "numbers"]
+        return f"{lines[0]}{' by weight' if any(line.startswith('weight ') for line in lines) else ''}: {' / '.join(numbers)}"
     if lines[-1] in ("different", "alike") and len(lines) > 1:
         return lines[-1] + " " + " / ".join(line.rstrip() for line in lines[:-1])
     words = lines[0].split()

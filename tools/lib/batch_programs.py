@@ -138,6 +138,12 @@ def behind_launcher(program):
     return None
 
 
+def weights_beside(direct):
+    """The words by which the launcher gives seek the list of its tree, if there is one."""
+    listed = os.path.join(os.path.dirname(direct), "..", "..", "..", "quandles", "weights", "list.txt")
+    return ["--weights", os.path.realpath(listed)] if os.path.isfile(listed) else []
+
+
 class Programs:
     """The programs of a batch, by what they are asked for.
 
@@ -148,6 +154,8 @@ class Programs:
     def __init__(self, runner, program, seeker, checker):
         self.runner = runner
         self.paths = {"knot": program, "seek": seeker, "check": checker}
+        # What a launcher gives seek, where the words name no file of quandles with cocycles.
+        self.weights = []
 
     def path(self, use):
         """The program of this use, one of `knot`, `seek` and `check`."""
@@ -156,7 +164,8 @@ class Programs:
     def call(self, job, words):
         """The call of a job: `seek`, a job of knot, or "" for a program that takes no name of a job."""
         if job == "seek":
-            return [self.paths["seek"], *words]
+            named = any(word.partition("=")[0] == "--weights" for word in words)
+            return [self.paths["seek"], *([] if named else self.weights), *words]
         return [self.paths["knot"], *([job] if job else []), *words]
 
     def prepare(self, uses):
@@ -178,6 +187,8 @@ class Programs:
         if status != ANSWERED:
             hint = "; --no-seek leaves out the stages that ask it" if not words else ""
             raise BatchError(f"{path} does not run here: on two unknots it ends with {why_none(status)}{hint}")
+        if os.path.basename(direct) == "seek":
+            self.weights = weights_beside(direct)
         return direct if os.access(direct, os.X_OK) else path
 
     def ran(self, call, given, is_shown=False):
