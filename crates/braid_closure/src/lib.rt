@@ -5,7 +5,5 @@
 mod closure;
 mod columns;
 pub mod laws;
-#[cfg(test)]
-mod tests;
 
 pub use closure::{Closure, close};

@@ -9,8 +9,6 @@ pub mod laws;
 mod letters;
 mod ruling;
 mod step;
-#[cfg(test)]
-mod tests;
 
 pub use applying::apply_braid;
 pub use carrying::carry_tuple;

@@ -10,7 +10,5 @@ mod order;
 mod plan;
 mod rectangles;
 mod tables;
-#[cfg(test)]
-mod tests;
 
 pub use draw::{Draft, draft_of};

@@ -6,7 +6,5 @@ mod blocks;
 mod carrying;
 pub mod laws;
 mod passing;
-#[cfg(test)]
-mod tests;
 
 pub use carrying::carry;

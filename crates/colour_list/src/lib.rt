@@ -7,8 +7,6 @@ mod grouping;
 pub mod laws;
 mod level;
 mod limits;
-#[cfg(test)]
-mod tests;
 
 pub use complete::{list, list_fitting};
 pub use limits::{ListFault, MAX_COLOURINGS, fits};
