@@ -142,8 +142,8 @@ class Weights(unittest.TestCase):
             self.assertEqual(sorted(os.listdir(folder)), ["3_1-mirror-3_1.txt", "knots.csv"])
 
     def test_the_stored_problems_say_what_their_heads_say(self):
-        ready = {f"{name}.txt" for name in weight_tables.READY}
-        names = sorted(set(os.listdir(os.path.join(common.LISTS, "weights"))) - ready)
+        blocks = {"list.txt", *(f"{name}.txt" for name in weight_tables.READY)}
+        names = sorted(set(os.listdir(os.path.join(common.LISTS, "weights"))) - blocks)
         self.assertTrue(names)
         for name in names:
             text = common.read("quandles", "weights", name)
