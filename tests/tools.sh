@@ -1,5 +1,5 @@
 #!/bin/sh
-# Runs the tests of tools/, of the module in python/ and of tests/edits.py: those that need knot itself run where KNOT names a built one,
+# Runs the tests of tools/, of the module in python/, of tests/edits.py and of tests/rows.py: those that need knot itself run where KNOT names a built one,
 # or crates/knot/out/knot is there. Then those of the launchers, in trees of their own.
 set -u
 

@@ -1,4 +1,4 @@
-//! The tests of what the jobs answer: decisions by one worker and by many, and simplification.
+//! The tests of the searches of calls: which are kept, and how many workers are at a book at once.
 #![tactic(auto)]
 
 #[cfg(test)]

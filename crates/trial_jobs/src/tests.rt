@@ -1,18 +1,48 @@
-//! What the jobs answer to worked inputs.
-mod decisions;
+//! The searches that calls of `decide` keep.
+mod gate;
+mod kept;
 mod many;
-mod simplified;
 
+use crate::tests::gate::Meeting;
+use decision_core::Status;
+use knot_jobs::run;
+use knot_ports::{MemSink, MemSource};
+use search_book::End;
+use search_pool::Finding;
 use std::alloc::Global;
-use std::process::Abort;
+use std::sync::Wait;
 use std::test::Fail;
-use trial_calls::{CALM, Row, run_line};
+use std::thread::Threads;
+use trial_calls::words_of;
 
-/// Whether a call has what is expected of it.
-fn compare(rt: &impl Abort, alloc: Global, row: &Row) -> Result<(), Fail> {
-    let (line, input, status, text) = *row;
-    let (ended, written) = run_line(alloc, line, input, &CALM)?;
-    assert_eq!(rt; ended, status, "{line}");
-    assert_eq!(rt; written.as_slice(), text, "{line}");
-    Ok(())
+/// The left trefoil and the right one.
+const TREFOILS: &[u8] = b"x 0 1 2 3 4\no 2 3 4 0 1\nx 4 3 2 1 0\no 2 1 0 4 3\n";
+
+/// The status of a call. The search that it kept is left behind.
+fn call<R: Threads + Wait + Sync>(
+    rt: &R,
+    alloc: Global,
+    line: &str,
+    input: &[u8],
+    gate: &Meeting,
+    kept: &mut Option<Finding>,
+) -> Result<Status, Fail> {
+    let words = words_of(alloc, line)?;
+    let mut source = MemSource::new(Vec::from_slice(alloc, input)?, 4096, Vec::new(alloc));
+    let mut sink = MemSink::new(alloc, 4096, 4096, Vec::new(alloc))?;
+    let status = run(
+        rt,
+        alloc,
+        words.as_slice(),
+        &mut source,
+        &mut sink,
+        gate,
+        kept,
+    );
+    Ok(status)
+}
+
+/// Whether every entry of a search was settled, and its sides did not meet.
+fn is_exhausted(finding: &Finding) -> bool {
+    matches!(finding.book.end(), Some(End::Exhausted))
 }

@@ -1,4 +1,3 @@
-//! A file a crate.
-mod bad_lines;
-mod numbered;
-mod texts;
+//! What is read and printed, where no program shows it.
+mod printed;
+mod read;

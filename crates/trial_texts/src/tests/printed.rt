@@ -1,7 +1,7 @@
 //! Printed texts, and what is read of them.
-use grid_core::{Corner, Grid, Kind};
+use grid_core::{Corner, Kind};
 use grid_moves::{Move, is_tidy};
-use knot_text::{print_grid, print_moves, print_verdict, read_check};
+use knot_text::{print_moves, print_verdict, read_check};
 use memory_core::OutOfMemory;
 use quandle_core::MAX_ORDER;
 use std::alloc::Global;
@@ -16,25 +16,19 @@ fn is_text(printed: Result<Vec<u8>, OutOfMemory>, wanted: &[u8]) -> bool {
     }
 }
 
-#[test]
-fn grids_and_moves_have_their_texts(rt: HostRuntime) -> Result<(), Fail> {
-    let alloc = rt.alloc();
-    let grid = Grid::new(&[4, 3, 2, 1, 0], &[2, 1, 0, 4, 3]);
-    assert!(rt; grid.is_ok());
-    let Ok(grid) = grid else { return Ok(()) };
-    assert!(rt; is_text(print_grid(alloc, &grid), b"x 4 3 2 1 0\no 2 1 0 4 3\n"));
-    let moves = [
-        Move::ShiftRows(10),
-        Move::Stabilise {
-            column: 3,
-            kind: Kind::Ring,
-            corner: Corner::LowLeft,
-        },
-        Move::Destabilise { column: 3, row: 3 },
-    ];
-    let wanted = b"moves 3\nshift rows 10\nstabilise 3 o lowleft\ndestabilise 3 3\n";
-    assert!(rt; is_text(print_moves(alloc, &moves), wanted));
-    Ok(())
+const MOVES: [Move; 3] = [
+    Move::ShiftRows(10),
+    Move::Stabilise {
+        column: 3,
+        kind: Kind::Ring,
+        corner: Corner::LowLeft,
+    },
+    Move::Destabilise { column: 3, row: 3 },
+];
+
+/// Whether these moves are printed as this text.
+fn are_printed(alloc: Global, moves: &[Move], wanted: &[u8]) -> bool {
+    is_text(print_moves(alloc, moves), wanted)
 }
 
 /// Whether a verdict is printed as this text; not where its moves are no tidy list.
@@ -49,6 +43,34 @@ fn is_printed(alloc: Global, verdict: &Verdict, wanted: &[u8]) -> bool {
     }
 }
 
+/// Whether a verdict without evidence is printed as this text.
+fn is_unknown_printed(alloc: Global, budget: u32, wanted: &[u8]) -> bool {
+    let verdict = Verdict::UnknownBudget { budget };
+    is_printed(alloc, &verdict, wanted)
+}
+
+#[test]
+fn moves_and_verdicts_have_their_texts(rt: HostRuntime) -> Result<(), Fail> {
+    let wanted = b"moves 3\nshift rows 10\nstabilise 3 o lowleft\ndestabilise 3 3\n";
+    assert!(rt; are_printed(rt.alloc(), MOVES.as_slice(), wanted));
+    assert!(rt; is_unknown_printed(rt.alloc(), 7, b"certificate 2\nunknown budget 7\n"));
+    Ok(())
+}
+
+/// Verdicts on the unknots of two and of three columns.
+const VERDICTS: [&[u8]; 10] = [
+    b"certificate 2\nequal 0\n",
+    b"certificate 2\nequal 3\nshift columns 2\nshift rows 1\nexchange columns 0\n",
+    b"certificate 2\nequal 2\nexchange columns 0\nshift columns 255\n",
+    b"certificate 2\nequal 2\nslide columns 4\nslide rows 0\n",
+    b"certificate 2\nunknown budget 20000\n",
+    b"certificate 2\nunknown exhausted 5 2\n",
+    b"certificate 2\ndifferent tetrahedral\nlist 2\n0 0\n3 1\nlist 1\n0 1 2\n",
+    b"certificate 2\ndifferent alexander 5 2\nlist 0\nlist 1\n4 4 4\n",
+    b"certificate 2\ndifferent dihedral 12\nlist 1\n11 10\nlist 0\n",
+    b"certificate 2\ndifferent table 2\n0 0\n1 1\nlist 1\n0 1\nlist 0\n",
+];
+
 /// Whether the verdict of a text of a check is printed as it was read.
 fn is_printed_as_read(alloc: Global, verdict: &[u8]) -> Result<bool, Fail> {
     let mut text = Vec::from_slice(alloc, b"x 0 1\no 1 0\nx 0 1 2\no 1 2 0\n")?;
@@ -61,22 +83,15 @@ fn is_printed_as_read(alloc: Global, verdict: &[u8]) -> Result<bool, Fail> {
 
 #[test]
 fn verdicts_are_printed_as_they_were_read(rt: HostRuntime) -> Result<(), Fail> {
-    let rows: [&[u8]; 10] = [
-        b"certificate 2\nequal 0\n",
-        b"certificate 2\nequal 3\nshift columns 2\nshift rows 1\nexchange columns 0\n",
-        b"certificate 2\nequal 2\nexchange columns 0\nshift columns 255\n",
-        b"certificate 2\nequal 2\nslide columns 4\nslide rows 0\n",
-        b"certificate 2\nunknown budget 20000\n",
-        b"certificate 2\nunknown exhausted 5 2\n",
-        b"certificate 2\ndifferent tetrahedral\nlist 2\n0 0\n3 1\nlist 1\n0 1 2\n",
-        b"certificate 2\ndifferent alexander 5 2\nlist 0\nlist 1\n4 4 4\n",
-        b"certificate 2\ndifferent dihedral 12\nlist 1\n11 10\nlist 0\n",
-        b"certificate 2\ndifferent table 2\n0 0\n1 1\nlist 1\n0 1\nlist 0\n",
-    ];
-    for verdict in rows {
+    for verdict in VERDICTS {
         assert!(rt; is_printed_as_read(rt.alloc(), verdict)?);
     }
     Ok(())
+}
+
+/// Whether a name alone names a quandle.
+fn is_name(name: QuandleName) -> bool {
+    Listed::named(name).is_some()
 }
 
 #[test]
@@ -92,9 +107,7 @@ fn names_that_name_no_quandle_have_none(rt: HostRuntime) -> Result<(), Fail> {
         (QuandleName::Table, false),
     ];
     for (name, named) in rows {
-        assert_eq!(rt; Listed::named(name).is_some(), named);
+        assert!(rt; is_name(name) == named);
     }
-    let unknown = Verdict::UnknownBudget { budget: 7 };
-    assert!(rt; is_printed(rt.alloc(), &unknown, b"certificate 2\nunknown budget 7\n"));
     Ok(())
 }

@@ -1,0 +1,355 @@
+#!/usr/bin/env python3
+"""Runs the rows of tests/rows/ on the built programs: calls with an input, and what each must answer.
+
+    tests/rows.py                            all rows
+    tests/rows.py codes texts/braids         those of some files of tests/rows/
+    tests/rows.py --knot PATH --seek PATH    on these programs; KNOT and SEEK in the environment name them too
+
+Where none is named, ./knot and ./seek are called once, which builds them, and then what they built is called itself.
+
+A file has a subject, and is read by people. A row is a name, a call, and parts. What stands in a part is set in by four blanks:
+
+    == names of quandles have a form
+    knot colour
+    input
+        x 0 1
+        o 1 0
+        ...
+    each of
+        quandle
+        quandle trivial 2 2
+    answer 3
+        malformed line 3
+
+  input                     standard input; without it there is none
+  unreadable input          standard input is a folder, so that each read fails
+  file NAME                 a file that lies where the call is made
+  each of                   so many cases: each line stands in turn in the place of the line `...` above, up to the next `each of`
+  answer STATUS             the exit status, and standard output
+  error                     standard error
+  taken                     the input is read: the status is 0, 1 or 8
+  accepted behind it        the status is 0, and `knot check` accepts what is written behind the input
+  simplified to N columns   a grid of N columns, moves and `irreducible` are written, and `knot replay` makes these moves to this grid
+  cut at each byte          of each front of the input: it is malformed, or answered likewise where only the last line feed is gone
+  altered at each byte      of the input with a byte 1 in each place: its line is malformed
+
+Each line of a part ends with a line feed, but where it ends with a backslash. Within lines stand \\\\ \\t \\r \\n \\0 and \\xHH for one byte,
+\\{MAX_SIZE + 1} for a number, \\{0 to MAX_SIZE} for numbers with blanks between, and \\{" 1" x MAX_SIZE - 4} for so many copies of a text.
+The constants are those of the crates. Lines that begin with # are remarks, and empty lines between parts say nothing.
+
+Each difference is printed, and last a line with the counts. There are some 1,300 calls.
+
+exit status:
+  0  each row has what it must
+  1  some have not
+  2  the words are no call, a row is none, or a program is wanting; nothing was tried
+"""
+import argparse
+import itertools
+import os
+import re
+import subprocess
+import sys
+import tempfile
+from concurrent.futures import ThreadPoolExecutor
+from dataclasses import dataclass, field
+
+TOP = os.path.dirname(os.path.dirname(os.path.abspath(__file__)))
+ROWS = os.path.join(TOP, "tests", "rows")
+# How many seconds a call may take.
+PATIENCE = 600
+# The statuses of an input that was read.
+TAKEN = (0, 1, 8)
+MALFORMED = 3
+MARGIN = "    "
+ONE_BYTE = {"\\": b"\\", "t": b"\t", "r": b"\r", "n": b"\n", "0": b"\0"}
+ESCAPE = re.compile(r"\\(?:\{(?P<sum>[^}]*)\}|x(?P<byte>[0-9a-f]{2})|(?P<one>.))")
+NUMBER = re.compile(r"(?P<front>\w+)(?: (?P<sign>[+-]) (?P<rest>[0-9]+))?")
+PART = re.compile(r"input|unreadable input|file (\S+)|each of|answer ([0-9]+)|error|taken|accepted behind it|simplified to ([0-9]+) columns"
+                  r"|(?:cut|altered) at each byte")
+
+
+class RowError(Exception):
+    """A row is none, or the call can't be done; nothing was tried."""
+
+
+@dataclass
+class Case:
+    """A call and its input, None where it can't be read, and the parts that say what is expected."""
+    name: str
+    words: list
+    given: bytes
+    files: dict = field(default_factory=dict)
+    wanted: list = field(default_factory=list)
+
+
+@dataclass
+class Ended:
+    """How a call ended: its status, or minus the signal that ended it; and what it wrote."""
+    status: int
+    text: bytes
+    error: bytes
+
+
+def constants():
+    """The limits of the crates, by their names."""
+    found = {}
+    for folder, folders, names in os.walk(os.path.join(TOP, "crates")):
+        folders[:] = [it for it in folders if it not in ("out", "specs", "proofs", "must-fail", "edits")]
+        for name in names:
+            if name.endswith(".rt"):
+                with open(os.path.join(folder, name), encoding="utf-8") as file:
+                    found.update(re.findall(r"^pub const (MAX_\w+): \w+ = ([0-9_]+);", file.read(), re.M))
+    return {name: int(number) for name, number in found.items()}
+
+
+def number_of(text, known):
+    """A number, or a constant, and perhaps another one to be added or taken away."""
+    parts = NUMBER.fullmatch(text)
+    if not parts or not (parts["front"].isdigit() or parts["front"] in known):
+        raise RowError(f"`{text}` is no number, and no constant of a crate")
+    front = int(parts["front"]) if parts["front"].isdigit() else known[parts["front"]]
+    return front + int(f"{parts['sign']}{parts['rest']}") if parts["sign"] else front
+
+
+def sum_of(text, known):
+    """What stands in braces: a number, numbers from one to another, or so many copies of a text."""
+    copies = re.fullmatch(r'"(.*)" x (.*)', text)
+    if copies:
+        return bytes_of(copies[1], known) * number_of(copies[2], known)
+    first, _, last = text.partition(" to ")
+    numbers = range(number_of(first, known), number_of(last or first, known) + 1)
+    return " ".join(map(str, numbers)).encode()
+
+
+def bytes_of(line, known):
+    """The bytes of a line, without a line feed behind it."""
+    made, at = b"", 0
+    for escape in ESCAPE.finditer(line):
+        made += line[at:escape.start()].encode()
+        at = escape.end()
+        if escape["sum"] is not None:
+            made += sum_of(escape["sum"], known)
+        elif escape["byte"]:
+            made += bytes.fromhex(escape["byte"])
+        elif escape["one"] in ONE_BYTE:
+            made += ONE_BYTE[escape["one"]]
+        else:
+            raise RowError(f"`{escape[0]}` stands for no byte")
+    return made + line[at:].encode()
+
+
+def text_of(lines, known):
+    """The text of so many lines of a part."""
+    return b"".join(bytes_of(line[:-1], known) if re.search(r"(?<!\\)(?:\\\\)*\\$", line) else bytes_of(line, known) + b"\n" for line in lines)
+
+
+def blocks_of(path):
+    """The lines at the margin, each with its number and what stands below it set in."""
+    found, empty = [], 0
+    with open(path, encoding="utf-8", newline="\n") as file:
+        for number, line in enumerate(file.read().split("\n"), 1):
+            if not line.strip():
+                empty += 1
+                continue
+            if not line.startswith(MARGIN):
+                if not line.startswith("#"):
+                    found.append((number, line, []))
+            elif found:
+                found[-1][2].extend([""] * empty if found[-1][2] else [])
+                found[-1][2].append(line[len(MARGIN):])
+            empty = 0
+    return found
+
+
+def rows_of(path):
+    """The rows of a file: name, call and parts, as blocks."""
+    rows = []
+    for block in blocks_of(path):
+        if block[1].startswith("== "):
+            rows.append((block[1][3:], []))
+        elif rows:
+            rows[-1][1].append(block)
+        else:
+            raise RowError(f"line {block[0]}: a row begins with a line `== NAME`")
+    return rows
+
+
+def cases_of(name, blocks, known):
+    """The cases of a row: one, or one a line below each `each of`."""
+    if not blocks or blocks[0][1].split()[0] not in ("knot", "seek") or blocks[0][2]:
+        raise RowError(f"{name}: a call is due, of knot or seek")
+    frame, group, made = Case(name, blocks[0][1].split(), []), [None], []
+    for number, line, lines in [*blocks[1:], (0, "each of", [])]:
+        part = PART.fullmatch(line)
+        if not part:
+            raise RowError(f"line {number}: `{line}` is no part of a row")
+        if line == "each of":
+            made += filled(frame, group, len(made), known)
+            frame.wanted, group = [], lines
+        elif line == "input":
+            frame.given = lines
+        elif line == "unreadable input":
+            frame.given = None
+        elif part[1]:
+            frame.files[part[1]] = lines
+        else:
+            frame.wanted.append((line.split()[0], int(part[2] or part[3] or 0), text_of(lines, known)))
+    if not made:
+        raise RowError(f"{name}: nothing is expected")
+    return made
+
+
+def filled(frame, group, count, known):
+    """The cases of one `each of`, or the one of a row that has none."""
+    if not frame.wanted:
+        if group != [None]:
+            raise RowError(f"{frame.name}: nothing is expected below `each of`")
+        return []
+    return [one_case(frame, other, count + place, known) for place, other in enumerate(group, 1)]
+
+
+def one_case(frame, other, place, known):
+    """The case in which this line stands in the place of `...`, or None where there is no such place."""
+    parts = [frame.given or [], *frame.files.values()]
+    if (other is None) == any("..." in lines for lines in parts):
+        raise RowError(f"{frame.name}: a line `...` and parts `each of` stand together")
+
+    def put(lines):
+        return text_of([other if line == "..." else line for line in lines], known)
+
+    given = None if frame.given is None else put(frame.given)
+    name = frame.name if other is None else f"{frame.name}, {place}: {other}"
+    return Case(name, frame.words, given, {path: put(lines) for path, lines in frame.files.items()}, frame.wanted)
+
+
+def all_cases(names):
+    """The cases of these files, or of all."""
+    known, made = constants(), []
+    paths = sorted(os.path.join(folder, name) for folder, _, found in os.walk(ROWS) for name in found if name.endswith(".txt"))
+    subjects = {os.path.relpath(path, ROWS)[:-4]: path for path in paths}
+    for name in names:
+        if name not in subjects:
+            raise RowError(f"there is no file {name}.txt in tests/rows/")
+    for subject, path in subjects.items():
+        if not names or subject in names:
+            try:
+                made += [(subject, case) for name, blocks in rows_of(path) for case in cases_of(name, blocks, known)]
+            except RowError as error:
+                raise RowError(f"tests/rows/{subject}.txt, {error}") from None
+    return made
+
+
+class Runner:
+    """Calls the programs, and counts the calls."""
+
+    def __init__(self, programs):
+        self.programs, self.counter = programs, itertools.count()
+
+    def call(self, words, given, folder=None):
+        next(self.counter)
+        command = [self.programs[words[0]], *words[1:]]
+        if given is not None:
+            done = subprocess.run(command, input=given, capture_output=True, cwd=folder, timeout=PATIENCE, check=False)
+            return Ended(done.returncode, done.stdout, done.stderr)
+        unreadable = os.open("/", os.O_RDONLY)
+        try:
+            done = subprocess.run(command, stdin=unreadable, capture_output=True, cwd=folder, timeout=PATIENCE, check=False)
+        finally:
+            os.close(unreadable)
+        return Ended(done.returncode, done.stdout, done.stderr)
+
+    def call_of(self, case):
+        if not case.files:
+            return self.call(case.words, case.given)
+        with tempfile.TemporaryDirectory(prefix="knot-rows.") as folder:
+            for name, text in case.files.items():
+                with open(os.path.join(folder, name), "wb") as file:
+                    file.write(text)
+            return self.call(case.words, case.given, folder)
+
+    def problems(self, case):
+        """What differs in a case."""
+        try:
+            ended = self.call_of(case)
+            return [problem for part, number, text in case.wanted for problem in getattr(self, f"part_{part}")(case, ended, number, text) if problem]
+        except subprocess.TimeoutExpired:
+            return [f"a call took over {PATIENCE} seconds"]
+
+    def part_answer(self, _case, ended, status, text):
+        return [differs("status", ended.status, status), differs("standard output", ended.text, text)]
+
+    def part_error(self, _case, ended, _number, text):
+        return [differs("standard error", ended.error, text)]
+
+    def part_taken(self, _case, ended, _number, _text):
+        return [None if ended.status in TAKEN else f"the input isn't taken: status {ended.status}, {ended.text!r}"]
+
+    def part_accepted(self, case, ended, _number, _text):
+        ruled = self.call(["knot", "check"], case.given + ended.text)
+        return [differs("status", ended.status, 0), differs("what `check` says of it", ruled.text, b"accepted\n")]
+
+    def part_simplified(self, case, ended, columns, _text):
+        lines = ended.text.splitlines(keepends=True)
+        grid, moves = lines[:2], lines[2:-1]
+        reached = self.call(["knot", "replay"], case.given + b"".join(moves))
+        return [differs("status", ended.status, 0), differs("the last line", lines[-1:], [b"irreducible\n"]),
+                differs("columns", [len(line.split()) - 1 for line in grid], [columns] * 2), differs("the last diagram", reached.text, b"".join(grid))]
+
+    def part_cut(self, case, ended, _number, _text):
+        fronts = [(length, self.call(case.words, case.given[:length])) for length in range(len(case.given))]
+        return [differs(f"cut to {length} bytes: the status", front.status, MALFORMED) if length + 1 < len(case.given)
+                else differs("without its last line feed: the answer", (front.status, front.text), (ended.status, ended.text)) for length, front in fronts]
+
+    def part_altered(self, case, _ended, _number, _text):
+        def altered(place):
+            found = self.call(case.words, case.given[:place] + b"\1" + case.given[place + 1:])
+            due = b"malformed line %d\n" % (case.given[:place].count(b"\n") + 1)
+            return differs(f"altered at byte {place}: the answer", (found.status, found.text), (MALFORMED, due))
+
+        return [altered(place) for place in range(len(case.given))]
+
+
+def differs(what, found, wanted):
+    """What is told of two values that are not the same."""
+    return None if found == wanted else f"{what} is {found!r}, and not {wanted!r}"
+
+
+def program_of(name, path):
+    """The program that is called by a name, built where no path is given."""
+    path = path or os.environ.get(name.upper())
+    if path:
+        if not os.access(path, os.X_OK) or not os.path.isfile(path):
+            raise RowError(f"{path} is no program")
+        return os.path.abspath(path)
+    if subprocess.run([os.path.join(TOP, name), "no-such-job-or-file"], stdin=subprocess.DEVNULL, stdout=subprocess.DEVNULL, check=False).returncode == 127:
+        raise RowError(f"./{name} has no program")
+    return os.path.join(TOP, "crates", name, "out", name)
+
+
+def main():
+    about, _, epilog = __doc__.partition("\n\n")
+    parser = argparse.ArgumentParser(description=about, epilog=epilog, formatter_class=argparse.RawDescriptionHelpFormatter)
+    parser.add_argument("names", nargs="*", metavar="FILE", help="a file of tests/rows/ without its ending; none: all")
+    parser.add_argument("--knot", metavar="PATH", help="the program that is called as knot")
+    parser.add_argument("--seek", metavar="PATH", help="the program that is called as seek")
+    asked = parser.parse_args()
+    try:
+        cases = all_cases(asked.names)
+        used = {case.words[0] for _, case in cases} | {"knot"}
+        runner = Runner({name: program_of(name, getattr(asked, name)) for name in sorted(used)})
+    except RowError as error:
+        print(f"rows.py: {error}", file=sys.stderr)
+        return 2
+    failed = 0
+    with ThreadPoolExecutor(max_workers=os.cpu_count()) as pool:
+        for (subject, case), problems in zip(cases, pool.map(lambda it: runner.problems(it[1]), cases)):
+            if problems:
+                failed += 1
+                print(f"{subject}: {case.name}\n    " + "\n    ".join(problems), flush=True)
+    print(f"{len(cases)} cases, {next(runner.counter)} calls, {failed} different")
+    return 1 if failed or not cases else 0
+
+
+if __name__ == "__main__":
+    sys.exit(main())

@@ -1,0 +1,184 @@
+"""Tests of tests/rows.py: how rows are read, and what is found of them, with a stand-in for knot."""
+import contextlib
+import io
+import os
+import sys
+import unittest
+from unittest import mock
+
+from common import ROOT, scratch
+
+sys.path.insert(0, os.path.join(ROOT, "tests"))
+import rows  # noqa: E402
+
+KNOWN = {"MAX_SIZE": 6}
+
+# A program that takes lines `good`, writes them again as one line, and names the first other one.
+STAND_IN = """#!{python}
+import sys
+if sys.argv[1:] == ["tell"]:
+    print("told", file=sys.stderr)
+    sys.exit(1)
+if sys.argv[1:] == ["sample"]:
+    try:
+        sys.stdin.read()
+    except OSError:
+        sys.exit(0)
+    sys.exit(5)
+if sys.argv[1:] == ["shown"]:
+    sys.stdout.write(open("shown").read())
+    sys.exit(0)
+lines = sys.stdin.buffer.read().split(b"\\n")
+lines = lines[:-1] if lines[-1] == b"" else lines
+for number, line in enumerate(lines, 1):
+    if line != b"good":
+        print(f"malformed line {{number}}")
+        sys.exit(3)
+if not lines:
+    print("malformed line 1")
+    sys.exit(3)
+print("accepted" if sys.argv[1] == "check" else "good")
+"""
+
+# All kinds of answers, of which the last is another one.
+MANY = """# all of them
+
+== one
+knot job
+input
+    good
+
+answer 0
+    good
+
+== none
+knot job
+answer 3
+    malformed line 1
+
+== many
+knot job
+input
+    good
+    ...
+    good
+each of
+    good
+    \\
+taken
+each of
+    bad
+    good\\nbad
+answer 3
+    malformed line 2
+"""
+
+STREAMS = """== told
+knot tell
+answer 1
+error
+    told
+
+== unread
+knot sample
+unreadable input
+taken
+
+== a file
+knot shown
+file shown
+    a
+
+    b
+
+answer 0
+    a
+
+    b
+"""
+
+# What is no row, and a part of what is said of it.
+NO_ROWS = (
+    ("knot job\n", "a row begins with a line"),
+    ("== one\nrun job\ntaken\n", "a call is due"),
+    ("== one\nknot job\n", "nothing is expected"),
+    ("== one\nknot job\ninputs\n    good\ntaken\n", "is no part of a row"),
+    ("== one\nknot job\ninput\n    ...\ntaken\n", "stand together"),
+    ("== one\nknot job\neach of\n    good\ntaken\n", "stand together"),
+    ("== one\nknot job\ninput\n    ...\neach of\n    good\n", "nothing is expected"),
+)
+
+
+class Lines(unittest.TestCase):
+    def test_escapes_stand_for_bytes(self):
+        self.assertEqual(rows.text_of(["a\\tb\\r", "\\xff\\0\\\\", "c\\n\\", "\\"], KNOWN), b"a\tb\r\n\xff\0\\\nc\n")
+        self.assertEqual(rows.text_of(["▷ …"], KNOWN), "▷ …\n".encode())
+
+    def test_numbers_and_copies_are_made(self):
+        self.assertEqual(rows.bytes_of("x \\{0 to MAX_SIZE - 4} \\{MAX_SIZE + 1} \\{3}", KNOWN), b"x 0 1 2 7 3")
+        self.assertEqual(rows.bytes_of('braid 2\\{" 1" x MAX_SIZE - 4}\\{"a\\n" x 2}', KNOWN), b"braid 2 1 1a\na\n")
+
+    def test_what_stands_for_nothing_is_an_error(self):
+        for line in ("\\q", "\\{MIN_SIZE}", "\\{MAX_SIZE * 2}", "\\{}"):
+            self.assertRaises(rows.RowError, rows.bytes_of, line, KNOWN)
+
+
+class Rows(unittest.TestCase):
+    def setUp(self):
+        self.folder = scratch(self)
+        self.stand_in = os.path.join(self.folder, "knot")
+        with open(self.stand_in, "w", encoding="utf-8") as file:
+            file.write(STAND_IN.format(python=sys.executable))
+        os.chmod(self.stand_in, 0o755)
+        os.mkdir(os.path.join(self.folder, "rows"))
+        patch = mock.patch.object(rows, "ROWS", os.path.join(self.folder, "rows"))
+        patch.start()
+        self.addCleanup(patch.stop)
+
+    def found(self, text, *words):
+        """The exit status of the script, and what it prints, where these are all rows."""
+        with open(os.path.join(self.folder, "rows", "some.txt"), "w", encoding="utf-8") as file:
+            file.write(text)
+        said, told = io.StringIO(), io.StringIO()
+        with mock.patch.object(sys, "argv", ["rows.py", "--knot", self.stand_in, *words]):
+            with contextlib.redirect_stdout(said), contextlib.redirect_stderr(told):
+                status = rows.main()
+        return status, said.getvalue() + told.getvalue()
+
+    def test_rows_that_have_what_they_must(self):
+        self.assertEqual(self.found(MANY), (
+            1, "some: many, 4: good\\nbad\n    standard output is b'malformed line 3\\n', and not b'malformed line 2\\n'\n6 cases, 6 calls, 1 different\n"))
+
+    def test_streams_and_files(self):
+        self.assertEqual(self.found(STREAMS), (0, "3 cases, 3 calls, 0 different\n"))
+
+    def test_an_empty_line_within_a_part_counts(self):
+        self.assertEqual(self.found("== one\nknot job\ninput\n    good\n\n    good\n\nanswer 3\n    malformed line 2\n")[0], 0)
+
+    def test_rules(self):
+        # a front of whole lines is no bad one to the stand-in
+        self.assertEqual(self.found("== cut\nknot check\ninput\n    good\n    good\nanswer 0\n    accepted\naltered at each byte\ncut at each byte\n"), (
+            1, "some: cut\n    cut to 4 bytes: the status is 0, and not 3\n    cut to 5 bytes: the status is 0, and not 3\n1 cases, 21 calls, 1 different\n"))
+        self.assertEqual(self.found("== behind\nknot job\ninput\n    good\naccepted behind it\n"), (0, "1 cases, 2 calls, 0 different\n"))
+
+    def test_what_is_no_row_is_refused(self):
+        for text, why in NO_ROWS:
+            status, said = self.found(text)
+            self.assertEqual(status, 2, text)
+            self.assertIn(why, said)
+
+    def test_files_are_named_without_their_ending(self):
+        self.assertEqual(self.found("== one\nknot job\ntaken\n", "other")[0], 2)
+        self.assertEqual(self.found("== none\nknot job\nanswer 3\n    malformed line 1\n", "some"), (0, "1 cases, 1 calls, 0 different\n"))
+
+
+class Tree(unittest.TestCase):
+    def test_the_rows_of_the_tree_are_rows(self):
+        cases = rows.all_cases([])
+        names = [(subject, case.name) for subject, case in cases]
+        self.assertGreater(len(names), 400)
+        self.assertEqual(len(names), len(set(names)))
+
+
+if __name__ == "__main__":
+    unittest.main()
