@@ -1,5 +1,5 @@
 -- Texts of the first and the second version are read as before.
-use Rattle.std.proofs.Common.{◌≡◌, ◌∙◌, ◌&&◌, ℕ, List, [], ◌∷◌, Bool, true, false, Result, Ok, Err, refl, sym, ap, codes}
+use Rattle.std.proofs.Common.{◌≡◌, ◌∙◌, ℕ, List, [], ◌∷◌, Bool, true, false, Result, Ok, Err, refl, sym, ap, codes}
 use Rattle.std.specs.Str.{bytes_eq}
 use Rattle.std.proofs.lemmas.Bool.{and_parts}
 use Rattle.std.proofs.lemmas.Slice.Eq.{bytes_eq-Decides}
@@ -12,9 +12,8 @@ use Rattle.verdict_core.specs.declared.problem.ProblemText.{ProblemText}
 use Rattle.verdict_core.specs.declared.verdict.Verdict.{Verdict}
 use Rattle.knot_text.specs.Verdicts.{version_at, tidy_item, versioned_item, verdict_item}
 use Rattle.knot_text.specs.Shapes.{problem_item, check_in, check_of}
-use Rattle.number_certificates.specs.declared.said.Said.{Said}
 use Rattle.number_certificates.specs.declared.said.Said.TheVariants as said
-use Rattle.number_certificates.specs.Said.{is_third_line, starts_third, has_third, with_verdict, third_of, said_of}
+use Rattle.number_certificates.specs.Said.{is_third_line, starts_third, has_third, with_verdict, said_of}
 
 pub as_before : (bytes : List ℕ) → has_third (problem_item (text_of bytes)) ≡ false → said_of bytes ≡ with_verdict (check_of bytes)
 as_before bytes none = rw none refl

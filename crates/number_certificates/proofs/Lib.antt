@@ -1,3 +1,4 @@
+mod Behind
 pub mod Earlier
 mod WorkedRows
 pub mod PartTexts

@@ -2,10 +2,12 @@
 use Rattle.std.specs.Prelude.{ℕ, ◌&&◌, Bool, false, List, [], ◌∷◌, codes, Result, Ok, Err, if◌then◌else◌}
 use Rattle.std.specs.Str.{bytes_eq}
 use Rattle.text_lines.specs.Lines.{NumberedLine, Text, text_of}
+use Rattle.verdict_core.specs.Diagrams.{columns}
 use Rattle.verdict_core.specs.declared.problem.ProblemText.{ProblemText}
 use Rattle.verdict_core.specs.declared.verdict.Verdict.{Verdict}
 use Rattle.text_items.specs.declared.fault.TextFault.{TextFault}
 use Rattle.text_items.specs.Reading.{◌>>=◌, text_end}
+use Rattle.knot_text.specs.Verdicts.{verdict_item}
 use Rattle.knot_text.specs.Shapes.{problem_item, check_in}
 use Rattle.number_certificates.specs.declared.said.Said.{Said}
 use Rattle.number_certificates.specs.declared.said.Said.TheVariants as said
@@ -42,6 +44,20 @@ abbrev pub with_verdict : Result (ProblemText × Verdict) TextFault → Result (
 with_verdict read = do
   check ← read
   Ok (check.0, said.Verdict check.1)
+
+-- behind a problem stands evidence by numbers, and nothing more
+unfoldable pub third_behind : ProblemText → Text → Result (ProblemText × Said) TextFault
+third_behind problem text = do
+  evidence ← third_item text
+  end ← text_end evidence.1
+  Ok (problem, said.Evidence evidence.0)
+
+-- behind a problem stands a verdict of an earlier version, and nothing more
+unfoldable pub verdict_behind : ProblemText → Text → Result (ProblemText × Said) TextFault
+verdict_behind problem text = do
+  verdict ← verdict_item (columns problem.first) (columns problem.second) text
+  end ← text_end verdict.1
+  Ok (problem, said.Verdict verdict.0)
 
 -- evidence by numbers where that line stands behind the problem, else a verdict as it is read without any third version
 abbrev pub said_in : Text → Result (ProblemText × Said) TextFault

@@ -1,12 +1,9 @@
 //! What `check` reads: a verdict of an earlier version, or evidence by numbers.
-ghost use Rattle.std.specs.Prelude.{◌≡◌, IfOk, IfErr};
-ghost use Rattle.text_lines.specs.Lines.{text_of};
+ghost use Rattle.std.specs.Prelude.{◌≡◌};
 ghost use Rattle.text_items.specs.Reading.{Gives};
-ghost use Rattle.text_items.specs.declared.fault.TextFault.TheVariants as fault;
-ghost use Rattle.knot_text.specs.Shapes.{problem_item};
-ghost use Rattle.number_certificates.specs.Said.{is_third_line, starts_third, has_third, third_of, said_of};
+ghost use Rattle.number_certificates.specs.Said.{is_third_line, starts_third, third_behind, verdict_behind, said_of};
 
-use knot_text::{ProblemText, Verdict, problem_item, read_check};
+use knot_text::{ProblemText, Verdict, problem_item, verdict_item};
 use number_text::{Evidence, third_item};
 use std::alloc::Global;
 use text_items::TextFault;
@@ -20,18 +17,6 @@ pub enum Said {
     Verdict(Verdict),
     /// Evidence by numbers, of the third version.
     Evidence(Evidence),
-}
-
-/// A problem, evidence by numbers behind it, and nothing more.
-#[tactic(auto, unfolding(crate::specs::Said::third_in))]
-fn read_third(alloc: Global, bytes: &[u8]) -> Result<(ProblemText, Said), TextFault>
-    ensures { Gives (λ p. p) result (third_of bytes.now) }
-{
-    let mut lines = Lines::new(bytes);
-    let problem = problem_item(alloc, &mut lines)?;
-    let evidence = third_item(alloc, &mut lines)?;
-    text_end(&mut lines)?;
-    Ok((problem, Said::Evidence(evidence)))
 }
 
 /// Whether a line is `certificate 3`.
@@ -57,27 +42,48 @@ fn starts_third(lines: &mut Lines) -> bool
     }
 }
 
-/// Whether the line `certificate 3` stands behind a problem.
-fn has_third(alloc: Global, bytes: &[u8]) -> Result<bool, TextFault>
-    ensures is { IfOk result (λ b. b ≡ has_third (problem_item (text_of bytes.now))) }
-    ensures fault { IfErr result (λ e. e ≡ fault.OutOfMemory) }
+/// A problem with evidence by numbers behind it, and nothing more.
+#[tactic(auto, unfolding(crate::specs::Said::third_behind))]
+fn third_behind(
+    alloc: Global,
+    problem: ProblemText,
+    lines: &mut Lines,
+) -> Result<(ProblemText, Said), TextFault>
+    ensures { Gives (λ p. p) result (third_behind problem lines.old) }
 {
-    let mut lines = Lines::new(bytes);
-    match problem_item(alloc, &mut lines) {
-        Ok(_) => Ok(starts_third(&mut lines)),
-        Err(TextFault::OutOfMemory) => Err(TextFault::OutOfMemory),
-        Err(_) => Ok(false),
-    }
+    let evidence = third_item(alloc, lines)?;
+    text_end(lines)?;
+    Ok((problem, Said::Evidence(evidence)))
+}
+
+/// A problem with a verdict of an earlier version behind it, and nothing more.
+#[tactic(auto, unfolding(crate::specs::Said::verdict_behind))]
+fn verdict_behind(
+    alloc: Global,
+    problem: ProblemText,
+    lines: &mut Lines,
+) -> Result<(ProblemText, Said), TextFault>
+    ensures { Gives (λ p. p) result (verdict_behind problem lines.old) }
+{
+    let first = problem.first.columns();
+    let second = problem.second.columns();
+    let verdict = verdict_item(alloc, first, second, lines)?;
+    text_end(lines)?;
+    Ok((problem, Said::Verdict(verdict)))
 }
 
 /// A problem, and what is said of its two diagrams: evidence by numbers where the line `certificate 3` stands behind the problem, else what
 /// `read_check` of knot_text reads. Else the fault of the first bad line, or want of memory.
+#[tactic(auto, using(crate::proofs::Behind::fails, crate::proofs::Behind::third, crate::proofs::Behind::earlier))]
 pub fn read_said(alloc: Global, bytes: &[u8]) -> Result<(ProblemText, Said), TextFault>
     ensures { Gives (λ p. p) result (said_of bytes.now) }
 {
-    if has_third(alloc, bytes)? {
-        return read_third(alloc, bytes);
+    let mut lines = Lines::new(bytes);
+    let problem = problem_item(alloc, &mut lines)?;
+    let mut ahead = lines.again();
+    if starts_third(&mut ahead) {
+        third_behind(alloc, problem, &mut lines)
+    } else {
+        verdict_behind(alloc, problem, &mut lines)
     }
-    let (problem, verdict) = read_check(alloc, bytes)?;
-    Ok((problem, Said::Verdict(verdict)))
 }

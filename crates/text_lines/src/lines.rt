@@ -81,8 +81,8 @@ impl<'a> Lines<'a> {
         count + 1
     }
 
-    /// The same lines again.
-    fn again(&self) -> Lines<'a>
+    /// The same lines again, to look ahead. Takes no memory.
+    pub fn again(&self) -> Lines<'a>
         ensures { result ≡ self.now }
     {
         Lines {
