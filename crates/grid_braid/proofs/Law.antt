@@ -38,7 +38,7 @@ colouring_arrives : (t : Table) → IsQuandle t → (d : Diagram) → IsGrid d �
 colouring_arrives t q d grid f c = λ r lt.
     row_arrives t q d grid f c.colours_are.1 (read (strand_colours t d f)) (λ k inside. strand_colour t d f c.colours_are.0 k inside) r lt (c.rows r lt)
 
-feet_colours : (t : Table) → IsQuandle t → (d : Diagram) (f : List ℕ) → AreColours (size d) t.order f
+pub feet_colours : (t : Table) → IsQuandle t → (d : Diagram) (f : List ℕ) → AreColours (size d) t.order f
     → AreColours (length (down_columns d)) t.order (at_feet t d f)
 feet_colours t q d f at =
     let e = strand_stays t q d f at in (
