@@ -1,11 +1,10 @@
 //! The roots of a book, with which it begins.
-ghost use Rattle.std.specs.Prelude.{◌≡◌, ◌<◌, ◌≤◌, ◌++◌, ◌∷◌, [], length, IsTrue, None};
-ghost use Rattle.grid_core.specs.Diagram.{IsGrid, size};
-ghost use Rattle.grid_keys.specs.declared.key.TheConstants.{WORD_COLUMNS};
+ghost use Rattle.std.specs.Prelude.{◌≡◌, ◌<◌, ◌≤◌, ◌++◌, ◌∷◌, [], length, None};
 ghost use Rattle.grid_keys.specs.Key.{key_of};
 ghost use Rattle.search_book.specs.declared.problem.Problem.{Problem};
 ghost use Rattle.search_book.specs.Begin.{opened, root};
 ghost use Rattle.search_book.specs.Entries.{id_of};
+ghost use Rattle.search_book.specs.EntryList.{IsWithin};
 
 use crate::entry::Origin;
 use crate::event::{End, Meeting};
@@ -17,12 +16,10 @@ use grid_keys::{LeastForm, pack};
 pub fn admit_roots(roll: &mut Roll, first: &LeastForm, second: &LeastForm) -> Option<End>
     requires room { 2 ≤ roll.old.room }
     requires none { roll.old.entries ≡ [] }
-    requires first { IsGrid first.now.grid }
-    requires second { IsGrid second.now.grid }
-    requires first_narrow { IsTrue roll.old.narrow → size first.now.grid ≤ WORD_COLUMNS }
-    requires second_narrow { IsTrue roll.old.narrow → size second.now.grid ≤ WORD_COLUMNS }
+    requires first { IsWithin roll.old.columns first.now.grid }
+    requires second { IsWithin roll.old.columns second.now.grid }
     ensures room { roll.new.room ≡ roll.old.room }
-    ensures narrow { roll.new.narrow ≡ roll.old.narrow }
+    ensures columns { roll.new.columns ≡ roll.old.columns }
     ensures opened { (p : Problem)
         → opened p first.now second.now ≡ record { problem = p; entries = roll.new.entries; history = []; end = result } }
 {
@@ -38,8 +35,7 @@ pub fn admit_roots(roll: &mut Roll, first: &LeastForm, second: &LeastForm) -> Op
 /// Admits the root of a side, whose key is new.
 fn admit_root(roll: &mut Roll, side: Side, form: &LeastForm)
     requires room { length roll.old.entries < roll.old.room }
-    requires grid { IsGrid form.now.grid }
-    requires narrow { IsTrue roll.old.narrow → size form.now.grid ≤ WORD_COLUMNS }
+    requires within { IsWithin roll.old.columns form.now.grid }
     requires new { id_of roll.old.entries (key_of form.now.grid) ≡ None }
     ensures { roll.new ≡ record roll.old { entries = roll.old.entries ++ root side form.now ∷ [] } }
 {

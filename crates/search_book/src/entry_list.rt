@@ -1,10 +1,9 @@
 //! The entries in the order of their ids, in little memory.
-ghost use Rattle.std.specs.Prelude.{◌≡◌, ◌<◌, ◌≤◌, ◌↔◌, ◌++◌, ◌∷◌, [], length, IfOk, IfSome, IfNone, IsTrue};
-ghost use Rattle.grid_keys.specs.declared.key.TheConstants.{WORD_COLUMNS};
+ghost use Rattle.std.specs.Prelude.{◌≡◌, ◌<◌, ◌≤◌, ◌++◌, ◌∷◌, [], length, IfOk, IfSome, IfNone};
 ghost use Rattle.grid_keys.specs.Brief.{whole_key};
 ghost use Rattle.search_book.specs.declared.entry.Entry.{Entry};
 ghost use Rattle.search_book.specs.Entries.{StandsAt, at_stage};
-ghost use Rattle.search_book.specs.EntryList.{whole_entry, IsSmall, HasBrief};
+ghost use Rattle.search_book.specs.EntryList.{whole_entry, IsSmall, are_brief, Fits};
 
 use crate::entry::{Entry, Origin, Stage};
 use crate::problem::Side;
@@ -56,8 +55,8 @@ impl BriefEntry {
 /// brief. Contracts see whole entries.
 #[derive(Drop)]
 pub struct EntryList {
-    /// Whether the keys stand in brief; then the list of whole entries is empty, and else the other one.
-    narrow: bool,
+    /// How many columns a diagram has at most. Where all such have brief keys the list of whole entries is empty, and else the other one.
+    columns: u8,
     brief: Vec<BriefEntry>,
     whole: Vec<Entry>,
 }
@@ -65,32 +64,43 @@ pub struct EntryList {
 impl Model for EntryList {
     ghost use Rattle.std.specs.Prelude.{if◌then◌else◌, map, vec_capacity};
     ghost use Rattle.std.specs.List.{All};
-    ghost use Rattle.search_book.specs.EntryList.{EntriesIn, whole_entry, IsSmall};
+    ghost use Rattle.search_book.specs.EntryList.{EntriesIn, whole_entry, IsSmall, are_brief};
 
     ghost Value = { EntriesIn };
 
     ghost view = { λ l. record {
-      narrow = l.narrow;
-      room = if l.narrow then vec_capacity l.brief else vec_capacity l.whole;
-      entries = if l.narrow then map whole_entry l.brief.items else l.whole.items;
+      columns = l.columns;
+      room = if are_brief l.columns then vec_capacity l.brief else vec_capacity l.whole;
+      entries = if are_brief l.columns then map whole_entry l.brief.items else l.whole.items;
     } };
 
     ghost invariant = { λ l. All IsSmall l.brief.items };
 }
 
+/// Whether diagrams of at most so many columns all have brief keys.
+#[inline(always)]
+fn are_brief(columns: u8) -> bool
+    ensures { result ≡ are_brief columns }
+{
+    columns as usize <= WORD_COLUMNS
+}
+
 impl EntryList {
     /// No entry, with room for so many, of diagrams of at most so many columns.
     pub fn reserve(alloc: Global, room: u32, columns: u8) -> Result<EntryList, OutOfMemory>
-        ensures narrow { IfOk result (λ list. IsTrue list.narrow ↔ (columns ≤ WORD_COLUMNS)) }
+        ensures columns { IfOk result (λ list. list.columns ≡ columns) }
         ensures room { IfOk result (λ list. room ≤ list.room) }
         ensures none { IfOk result (λ list. list.entries ≡ []) }
     {
-        let narrow = columns as usize <= WORD_COLUMNS;
-        let (brief_room, whole_room) = if narrow { (room, 0) } else { (0, room) };
+        let (brief_room, whole_room) = if are_brief(columns) {
+            (room, 0)
+        } else {
+            (0, room)
+        };
         let brief = Vec::with_capacity(alloc, brief_room as usize)?;
         let whole = Vec::with_capacity(alloc, whole_room as usize)?;
         Ok(EntryList {
-            narrow,
+            columns,
             brief,
             whole,
         })
@@ -100,7 +110,7 @@ impl EntryList {
     pub fn len(&self) -> usize
         ensures { result ≡ length self.now.entries }
     {
-        if self.narrow {
+        if are_brief(self.columns) {
             self.brief.len()
         } else {
             self.whole.len()
@@ -125,7 +135,7 @@ impl EntryList {
         requires { id < length self.now.entries }
         ensures { StandsAt self.now.entries id result }
     {
-        if self.narrow {
+        if are_brief(self.columns) {
             self.brief[id as usize].whole()
         } else {
             self.whole[id as usize]
@@ -135,10 +145,10 @@ impl EntryList {
     /// Puts an entry behind the others.
     pub fn push(&mut self, entry: Entry)
         requires room { length self.old.entries < self.old.room }
-        requires key { IsTrue self.old.narrow → HasBrief entry.key }
+        requires key { Fits self.old.columns entry.key }
         ensures { self.new ≡ record self.old { entries = self.old.entries ++ entry ∷ [] } }
     {
-        if self.narrow {
+        if are_brief(self.columns) {
             match BriefKey::of(&entry.key) {
                 Some(key) => self.brief.push_reserved(BriefEntry::of(key, &entry)),
                 // Never: each key here has a brief form.
@@ -154,7 +164,7 @@ impl EntryList {
         requires { id < length self.old.entries }
         ensures { (e : Entry) → StandsAt self.old.entries id e → self.new ≡ record self.old { entries = at_stage self.old.entries id e stage } }
     {
-        if self.narrow {
+        if are_brief(self.columns) {
             self.brief[id as usize].stage = stage;
         } else {
             self.whole[id as usize].stage = stage;

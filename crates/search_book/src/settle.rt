@@ -28,11 +28,11 @@ pub fn is_held(held: Option<Held>, asked: Held) -> bool
 /// where it now is.
 pub fn settle_entry(roll: &mut Roll, budget: u32, id: u32, offers: &[Offer]) -> Option<End>
     requires room { budget ≤ roll.old.room }
-    requires fit { All (λ (o : Offer). Fits roll.old.narrow o.key) offers.now }
+    requires fit { All (λ (o : Offer). Fits roll.old.columns o.key) offers.now }
     requires inside { id < length roll.old.entries }
     requires in_flight { (e : Entry) → StandsAt roll.old.entries id e → is_in_flight e ≡ true }
     ensures room { roll.new.room ≡ roll.old.room }
-    ensures narrow { roll.new.narrow ≡ roll.old.narrow }
+    ensures columns { roll.new.columns ≡ roll.old.columns }
     ensures settled { (e : Entry)
         → StandsAt roll.old.entries id e
         → settled_entries budget id e roll.old.entries offers.now ≡ record { entries = roll.new.entries; end = result } }
@@ -59,9 +59,9 @@ enum Weighed {
 /// Takes the offers of an entry in order, and answers why the book is over where one of them ends it.
 fn take_all(roll: &mut Roll, budget: u32, id: u32, side: Side, offers: &[Offer]) -> Option<End>
     requires room { budget ≤ roll.old.room }
-    requires fit { All (λ (o : Offer). Fits roll.old.narrow o.key) offers.now }
+    requires fit { All (λ (o : Offer). Fits roll.old.columns o.key) offers.now }
     ensures room { roll.new.room ≡ roll.old.room }
-    ensures narrow { roll.new.narrow ≡ roll.old.narrow }
+    ensures columns { roll.new.columns ≡ roll.old.columns }
     ensures taken { taken_all budget id side roll.old.entries offers.now
         ≡ record { entries = roll.new.entries; end = result } }
 {
@@ -82,9 +82,9 @@ fn take_all(roll: &mut Roll, budget: u32, id: u32, side: Side, offers: &[Offer])
 /// Takes one offer of an entry: it is passed over, admitted, or ends the book.
 fn take(roll: &mut Roll, budget: u32, id: u32, side: Side, offer: &Offer) -> Weighed
     requires room { budget ≤ roll.old.room }
-    requires fits { Fits roll.old.narrow offer.now.key }
+    requires fits { Fits roll.old.columns offer.now.key }
     ensures room { roll.new.room ≡ roll.old.room }
-    ensures narrow { roll.new.narrow ≡ roll.old.narrow }
+    ensures columns { roll.new.columns ≡ roll.old.columns }
     ensures taken { weighed budget id side roll.old.entries offer.now ≡ record { entries = roll.new.entries; end = end_of id offer.now result } }
 {
     match roll.find(&offer.key) {
@@ -120,7 +120,7 @@ fn finish(roll: &mut Roll, id: u32) -> Option<End>
     requires inside { id < length roll.old.entries }
     requires in_flight { (e : Entry) → StandsAt roll.old.entries id e → is_in_flight e ≡ true }
     ensures room { roll.new.room ≡ roll.old.room }
-    ensures narrow { roll.new.narrow ≡ roll.old.narrow }
+    ensures columns { roll.new.columns ≡ roll.old.columns }
     ensures finished { (e : Entry)
         → StandsAt roll.old.entries id e
         → finished id e roll.old.entries ≡ record { entries = roll.new.entries; end = result } }

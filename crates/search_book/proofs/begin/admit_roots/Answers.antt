@@ -17,7 +17,7 @@ returns-else-same_as-clause-opened c = λ p.
     ap (λ (k : EntriesIn). k.entries) c.admit_root.ensures ∙ ap (λ (es : List Entry). es ++ one ∷ []) c.requires.none in
     let both : c.admit_root-else-same_as.new.roll.entries ≡ one ∷ two ∷ [] =
     ap (λ (k : EntriesIn). k.entries) c.admit_root-else-same_as.ensures ∙ ap (λ (es : List Entry). es ++ two ∷ []) first in
-    opened_apart p c.args.first.now c.args.second.now c.requires.first c.requires.second
+    opened_apart p c.args.first.now c.args.second.now c.requires.first.grid c.requires.second.grid
     (λ same. both_ways c.same_as.result c.if-same_as.false (c.same_as.ensures.1 same))
     ∙ ap (λ (es : List Entry). record { problem = p; entries = es; history = []; end = None }) (sym both)
 
@@ -26,5 +26,5 @@ admit_root-requires-else-same_as-clause-new c =
     let first : c.admit_root.new.roll.entries ≡ root First c.args.first.now ∷ [] =
     ap (λ (k : EntriesIn). k.entries) c.admit_root.ensures ∙ ap (λ (es : List Entry). es ++ root First c.args.first.now ∷ []) c.requires.none in
     ap (λ (es : List Entry). id_of es (key_of c.args.second.now.grid)) first
-    ∙ second_is_new c.args.first.now c.args.second.now c.requires.first c.requires.second
+    ∙ second_is_new c.args.first.now c.args.second.now c.requires.first.grid c.requires.second.grid
     (λ same. both_ways c.same_as.result c.if-same_as.false (c.same_as.ensures.1 same))
