@@ -69,10 +69,10 @@ pub was_searched : (p : Problem) (qs : List NamedQuandle) (workers : ℕ) (told 
     → IsSeparation p.first p.second (first_separating p.first p.second qs) told → told ≡ None
     → AreSimplified p one two → size p.first ≤ p.cap → size p.second ≤ p.cap
     → kept ≡ Some f → IsFinding (searched p one two) f
-    → (workers ≡ 1 → f.stray ≡ None) → ((workers ≡ 1) ⊎ (f.stray ≢ None) → AreInTurn 0 f.book.history)
+    → (workers ≡ 1 → AreInTurn 0 f.book.history)
     → ((e : End) → f.book.end ≡ Some e → Shows f.book e) → IsVerdictAt p one two f.book f.book.end v → JoinsWhereEqual p v
     → IsSearched p qs workers v kept
-was_searched p qs workers told one two f v kept separation none are first_fits second_fits is found no_stray in_turn shows at joins = record {
+was_searched p qs workers told one two f v kept separation none are first_fits second_fits is found in_turn shows at joins = record {
   none_does = none_told p.first p.second qs (subst (IsSeparation p.first p.second (first_separating p.first p.second qs)) none separation);
   one = one;
   two = two;
@@ -80,7 +80,6 @@ was_searched p qs workers told one two f v kept separation none are first_fits s
   finding = f;
   is_kept = is;
   found = found;
-  no_stray = no_stray;
   in_turn = in_turn;
   verdict = at;
   true_within =
@@ -91,10 +90,10 @@ was_searched p qs workers told one two f v kept separation none are first_fits s
 pub made : (p : Problem) (qs : List NamedQuandle) (workers : ℕ) (told : Option Verdict) (one two : Simplified) (f : Finding) (r : Result Decision OutOfMemory)
     → IsSeparation p.first p.second (first_separating p.first p.second qs) told → told ≡ None
     → AreSimplified p one two → size p.first ≤ p.cap → size p.second ≤ p.cap → IsFinding (searched p one two) f
-    → (workers ≡ 1 → f.stray ≡ None) → ((workers ≡ 1) ⊎ (f.stray ≢ None) → AreInTurn 0 f.book.history)
+    → (workers ≡ 1 → AreInTurn 0 f.book.history)
     → ((e : End) → f.book.end ≡ Some e → Shows f.book e) → IfOk r (λ d. d.kept ≡ Some f)
     → IfOk r (λ d. IsVerdictAt p one two f.book f.book.end d.verdict) → IfOk r (λ d. JoinsWhereEqual p d.verdict)
     → IfOk r (λ d. IsSearched p qs workers d.verdict d.kept)
-made p qs workers told one two f (Ok d) separation none are first_fits second_fits found no_stray in_turn shows is at joins =
-    was_searched p qs workers told one two f d.verdict d.kept separation none are first_fits second_fits is found no_stray in_turn shows at joins
-made p qs workers told one two f (Err e) separation none are first_fits second_fits found no_stray in_turn shows is at joins = search rules
+made p qs workers told one two f (Ok d) separation none are first_fits second_fits found in_turn shows is at joins =
+    was_searched p qs workers told one two f d.verdict d.kept separation none are first_fits second_fits is found in_turn shows at joins
+made p qs workers told one two f (Err e) separation none are first_fits second_fits found in_turn shows is at joins = search rules

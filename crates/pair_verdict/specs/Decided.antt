@@ -60,7 +60,7 @@ IsTrueWithin p (UnknownBudget budget) = (budget ≡ p.budget) × HasMoreMembers 
 IsTrueWithin p (UnknownExhausted cap k) = (cap ≡ p.cap) × ((k ≤ p.budget) × (HasMembers (IsReached p.first p.second p.cap) k × (WithinCap p.first p.second p.cap → ⊥)))
 
 -- No listed quandle separates the diagrams. Both were simplified, and a book of the simplified ones was brought to its end by so many
--- workers, and is kept. One worker leaves no stray. Worker 0 took its turns where it was the only one, and where there is a stray.
+-- workers, and is kept. Where there was one worker it took all turns.
 -- What is true within the cap is said of the diagrams as given.
 pub record IsSearched (p : Problem) (quandles : List NamedQuandle) (workers : ℕ) (v : Verdict) (kept : Option Finding) : Type 0 where
   pub none_does : first_separating p.first p.second quandles ≡ None
@@ -70,8 +70,7 @@ pub record IsSearched (p : Problem) (quandles : List NamedQuandle) (workers : �
   pub finding : Finding
   pub is_kept : kept ≡ Some finding
   pub found : IsFinding (searched p one two) finding
-  pub no_stray : workers ≡ 1 → finding.stray ≡ None
-  pub in_turn : (workers ≡ 1) ⊎ (finding.stray ≢ None) → AreInTurn 0 finding.book.history
+  pub in_turn : workers ≡ 1 → AreInTurn 0 finding.book.history
   pub verdict : IsVerdictAt p one two finding.book finding.book.end v
   pub true_within : IsTrueWithin p v
 

@@ -120,7 +120,6 @@ fn search_alone(alloc: Global, problem: &Problem) -> Result<(SimplifiedPair, Fin
     requires { IsBounded problem.now }
     ensures simplified { IfOk result (λ r. AreSimplified problem.now r.0.first r.0.second) }
     ensures finding { IfOk result (λ r. IsFinding (searched problem.now r.0.first r.0.second) r.1) }
-    ensures no_stray { IfOk result (λ r. r.1.stray ≡ None) }
     ensures in_turn { IfOk result (λ r. AreInTurn 0 r.1.book.history) }
     ensures shows { IfOk result (λ r. (end : End) → r.1.book.end ≡ Some end → Shows r.1.book end) }
 {

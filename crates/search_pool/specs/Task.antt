@@ -26,10 +26,10 @@ pub record IsTaskOf (s : State) (worker : ℕ) (task : Task) (t : State) : Type 
   pub cap : task.cap ≡ s.problem.cap
 
 -- what a worker is handed in the state s, and the state t after it
-abbrev pub Hands : State → ℕ → Handed → State → Type 0
-Hands s worker (Work task) t = IsTaskOf s worker task t
-Hands s worker Later t = IsAllClaimed s × (t ≡ s)
-Hands s worker Over t = (s.end ≢ None) × (t ≡ s)
+abbrev pub IsHanded : State → ℕ → Handed → State → Type 0
+IsHanded s worker (Work task) t = IsTaskOf s worker task t
+IsHanded s worker Later t = IsAllClaimed s × (t ≡ s)
+IsHanded s worker Over t = (s.end ≢ None) × (t ≡ s)
 
 -- how many settlements a seat counts for this answer
 abbrev pub counted : Settled → ℕ

@@ -1,5 +1,5 @@
 //! What a worker has in hand between its claims and its settlements.
-ghost use Rattle.std.specs.Prelude.{◌≡◌, Some, None};
+ghost use Rattle.std.specs.Prelude.{◌≡◌, Some, None, All};
 ghost use Rattle.search_pool.specs.Task.{AllowsOffers};
 
 use crate::gate::Gate;
@@ -87,7 +87,10 @@ pub struct Hand {
 
 impl Hand {
     /// Places without tasks.
-    pub fn empty() -> Hand {
+    pub fn empty() -> Hand
+        ensures first { result.first ≡ None }
+        ensures others { All (λ p. p ≡ None) result.others }
+    {
         Hand {
             first: Place::empty(),
             others: [Place::empty(), Place::empty(), Place::empty()],
@@ -95,7 +98,9 @@ impl Hand {
     }
 
     /// Passes the gate for each task and finds its offers.
-    pub fn find_offers<G: Gate>(&mut self, worker: u32, gate: &G) {
+    pub fn find_offers<G: Gate>(&mut self, worker: u32, gate: &G)
+        ensures { self.new ≡ self.old }
+    {
         self.first.find_offers(worker, gate);
         for place in self.others.iter_mut() {
             place.find_offers(worker, gate);

@@ -1,6 +1,14 @@
-//! Holdings of the lock of a shared book.
+//! Holdings of the lock of a shared book. Each makes at most one call of the book.
+ghost use Rattle.std.specs.Prelude.{◌≡◌, ◌≤◌, true};
+ghost use Rattle.std.specs.Sync.Mutex.{mutex_guard_value};
+ghost use Rattle.search_pool.specs.Holding.{IsHolding};
+ghost use Rattle.search_pool.specs.Seats.{SeatState};
+ghost use Rattle.search_pool.specs.Task.{AllowsOffers, Counts};
 
-use crate::locked::Locked;
+use crate::locked::{Handed, Locked, Task, Waking};
+use crate::seat::Seat;
+use crate::shared_problem::OfProblem;
+use next_moves::Offers;
 use std::hint::spin_loop;
 use std::sync::ledger::Ledger;
 use std::sync::{Condvar, Mutex, MutexGuard, Wait};
@@ -11,38 +19,104 @@ const TRIES: u32 = 200;
 /// The most pauses between two tries.
 const MOST_PAUSES: u32 = 128;
 
-/// The right to one claim or one settlement under the lock. A holding comes with one and the call uses it up; only this
-/// file can make one.
+/// The lock of a shared book. What lies under it is reached by a holding alone.
 #[derive(Drop)]
-pub struct OneCall(());
-
-/// Takes the lock. A holding is short, and to be woken takes longer, so a worker that finds the lock taken tries again for a
-/// while: after one pause, and then after twice as many each time, up to the most. Meanwhile the worker that has the lock can let it
-/// go and take it for its next call, with the book still in its processor's cache.
-pub fn hold<'a, R: Wait, L: Ledger, M: Ledger>(
-    rt: &R,
-    lock: &'a Mutex<Locked<L, M>>,
-) -> (MutexGuard<'a, Locked<L, M>>, OneCall) {
-    let mut pauses = 1u32;
-    for _ in 0..TRIES {
-        if let Some(guard) = lock.try_lock() {
-            return (guard, OneCall(()));
-        }
-        for _ in 0..pauses {
-            spin_loop();
-        }
-        pauses = pauses.saturating_add(pauses).min(MOST_PAUSES);
-    }
-    (lock.lock(rt), OneCall(()))
+pub struct BookLock<L: Ledger, M: Ledger, K: OfProblem> {
+    lock: Mutex<Locked<L, M, K>>,
 }
 
-/// Lets the lock go until something changes, and takes it again: another holding.
-pub fn hold_again<'a, R: Wait, L: Ledger, M: Ledger>(
-    rt: &R,
-    changed: &Condvar,
-    guard: MutexGuard<'a, Locked<L, M>>,
-) -> (MutexGuard<'a, Locked<L, M>>, OneCall) {
-    let mut guard = changed.wait(rt, guard);
-    guard.woken();
-    (guard, OneCall(()))
+/// The lock, held, before the call of the holding, which uses the holding up.
+#[derive(Drop)]
+pub struct Holding<'a, L: Ledger, M: Ledger, K: OfProblem> {
+    guard: MutexGuard<'a, Locked<L, M, K>>,
+}
+
+/// The lock, still held, behind the call of its holding.
+#[derive(Drop)]
+pub struct Called<'a, L: Ledger, M: Ledger, K: OfProblem> {
+    guard: MutexGuard<'a, Locked<L, M, K>>,
+}
+
+impl<L: Ledger, M: Ledger, K: OfProblem> BookLock<L, M, K> {
+    /// A free lock.
+    pub fn new(locked: Locked<L, M, K>) -> BookLock<L, M, K> {
+        BookLock {
+            lock: Mutex::new(locked),
+        }
+    }
+
+    /// Takes the lock. A holding is short, and to be woken takes longer, so a worker that finds the lock taken tries again for a
+    /// while: after one pause, and then after twice as many each time, up to the most. Meanwhile the worker that has the lock can let it
+    /// go and take it for its next call, with the book still in its processor's cache.
+    pub fn hold<R: Wait>(&self, rt: &R) -> Holding<'_, L, M, K> {
+        let mut pauses = 1u32;
+        for _ in 0..TRIES {
+            if let Some(guard) = self.lock.try_lock() {
+                return Holding { guard };
+            }
+            for _ in 0..pauses {
+                spin_loop();
+            }
+            pauses = pauses.saturating_add(pauses).min(MOST_PAUSES);
+        }
+        Holding {
+            guard: self.lock.lock(rt),
+        }
+    }
+
+    /// What lies under the lock, which nobody holds.
+    pub fn into_inner(self) -> Locked<L, M, K> {
+        let BookLock { lock } = self;
+        lock.into_inner()
+    }
+}
+
+impl<'a, L: Ledger, M: Ledger, K: OfProblem> Holding<'a, L, M, K> {
+    /// One claim of the book, as `Locked::claim` has it.
+    pub fn claim(self, seat: &mut Seat<L, M>) -> (Handed, Called<'a, L, M, K>)
+        ensures book { IsHolding seat.old.worker (mutex_guard_value self.entry.guard).book (mutex_guard_value result.1.guard).book }
+        ensures work { (task : Task) → result.0 ≡ Handed.Work task → AllowsOffers task }
+        ensures over { result.0 ≡ Handed.Over → seat.new.saw_end ≡ true }
+        ensures worker { seat.new.worker ≡ seat.old.worker }
+        ensures made { seat.new.made ≡ seat.old.made }
+    {
+        let Holding { mut guard } = self;
+        let handed = guard.claim(seat);
+        (handed, Called { guard })
+    }
+
+    /// One settlement of the book, as `Locked::settle` has it.
+    pub fn settle(
+        self,
+        seat: &mut Seat<L, M>,
+        id: u32,
+        offers: &Offers,
+    ) -> (Waking, Called<'a, L, M, K>)
+        ensures book { IsHolding seat.old.worker (mutex_guard_value self.entry.guard).book (mutex_guard_value result.1.guard).book }
+        ensures counts { Counts (mutex_guard_value self.entry.guard).book seat.old.worker id offers.now
+            (mutex_guard_value result.1.guard).book seat.old.made seat.new.made }
+        ensures worker { seat.new.worker ≡ seat.old.worker }
+        ensures made { seat.old.made ≤ seat.new.made }
+        ensures saw_end { seat.new.saw_end ≡ seat.old.saw_end }
+    {
+        let Holding { mut guard } = self;
+        let waking = guard.settle(seat, id, offers);
+        (waking, Called { guard })
+    }
+}
+
+impl<'a, L: Ledger, M: Ledger, K: OfProblem> Called<'a, L, M, K> {
+    /// Lets the lock go until something changes, and takes it again: another holding.
+    pub fn wait<R: Wait>(self, rt: &R, changed: &Condvar) -> Holding<'a, L, M, K> {
+        let Called { guard } = self;
+        let mut guard = changed.wait(rt, guard);
+        guard.woken();
+        Holding { guard }
+    }
+
+    /// Lets the lock go where the worker would wait, but has others to settle.
+    pub fn go_on(self) {
+        let Called { mut guard } = self;
+        guard.woken();
+    }
 }

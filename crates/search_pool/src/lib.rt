@@ -10,6 +10,7 @@ mod many;
 mod searcher;
 mod seat;
 mod shared;
+mod shared_problem;
 
 pub use finding::Finding;
 pub use gate::{Gate, OpenGate};
@@ -17,3 +18,4 @@ pub use many::{MAX_WORKERS, pool};
 pub use searcher::{alone, alone_by};
 pub use seat::Seat;
 pub use shared::SharedBook;
+pub use shared_problem::OfProblem;

@@ -3,13 +3,14 @@ ghost use Rattle.std.specs.Prelude.{◌≡◌, ◌≢◌, ◌<◌, ◌≤◌, �
 ghost use Rattle.search_book.specs.Events.{settlements};
 ghost use Rattle.search_pool.specs.Holding.{IsHolding};
 ghost use Rattle.search_pool.specs.Seats.{SeatState, all_made, how_many_saw_end};
-ghost use Rattle.search_pool.specs.Task.{AllowsOffers, Hands, Counts};
+ghost use Rattle.search_pool.specs.Task.{AllowsOffers, IsHanded, Counts};
 
-use crate::holding::OneCall;
 use crate::seat::Seat;
+use crate::shared_problem::OfProblem;
 use grid_keys::LeastForm;
 use next_moves::Offers;
 use search_book::{Book, Claim, Settled};
+use std::marker::PhantomData;
 use std::sync::ledger::{Book as Tally, Ledger, Share};
 
 /// How many entries that are not settled are plenty: more than all workers have in hand at once, so that none goes without one
@@ -43,24 +44,26 @@ pub enum Waking {
     All,
 }
 
-/// The book, the totals of its two ledgers, what is left of their parts beside the seats, which is nothing, and how many
-/// workers wait for a task. The total of the ledger of settlements is the number of settlements in the history of the
-/// book, and that of the ledger of ends is above 0 only where the book is over.
+/// The book, which is of the problem that the type K stands for, the totals of its two ledgers, what is left of their parts beside the
+/// seats, which is nothing, and how many workers wait for a task. The total of the ledger of settlements is the number of settlements
+/// in the history of the book, and that of the ledger of ends is above 0 only where the book is over.
 #[derive(Drop)]
-pub struct Locked<L: Ledger, M: Ledger> {
+pub struct Locked<L: Ledger, M: Ledger, K: OfProblem> {
     book: Book,
     made_ledger: Tally<L>,
     end_ledger: Tally<M>,
     made_share: Share<L>,
     end_share: Share<M>,
     waiting: u32,
+    of: PhantomData<K>,
     ghost made_share_is_empty: { (made_share.parts ≡ 0) × (made_share.amount ≡ 0) },
     ghost end_share_is_empty: { (end_share.parts ≡ 0) × (end_share.amount ≡ 0) },
     ghost sums: { made_ledger.total ≡ settlements book.history },
     ghost ended: { 0 < end_ledger.total → book.end ≢ None },
+    ghost of_problem: { book.problem ≡ K.problem },
 }
 
-impl<L: Ledger, M: Ledger> Locked<L, M> {
+impl<L: Ledger, M: Ledger, K: OfProblem> Locked<L, M, K> {
     /// A book at its beginning, with two ledgers in which nothing is counted, and all of whose parts the seats hold.
     pub fn new(
         book: Book,
@@ -68,12 +71,14 @@ impl<L: Ledger, M: Ledger> Locked<L, M> {
         end_ledger: Tally<M>,
         made_share: Share<L>,
         end_share: Share<M>,
-    ) -> Locked<L, M>
+    ) -> Locked<L, M, K>
         requires fresh { book.history ≡ [] }
+        requires of_problem { book.problem ≡ K.problem }
         requires made_ledger { made_ledger.total ≡ 0 }
         requires end_ledger { end_ledger.total ≡ 0 }
         requires made_share { (made_share.parts ≡ 0) × (made_share.amount ≡ 0) }
         requires end_share { (end_share.parts ≡ 0) × (end_share.amount ≡ 0) }
+        ensures { result.book ≡ book }
     {
         Locked {
             book,
@@ -82,15 +87,16 @@ impl<L: Ledger, M: Ledger> Locked<L, M> {
             made_share,
             end_share,
             waiting: 0,
+            of: PhantomData,
         }
     }
 
-    /// One claim of the book, the one call of its holding. The seat notes the end, and a worker that finds nothing is
+    /// One claim of the book. The seat notes the end, and a worker that finds nothing is
     /// counted as waiting.
-    #[tactic(auto, using(crate::proofs::Holdings::claim_holds, search_book::proofs::Recorded::claim_keeps_settlements))]
-    pub fn claim(&mut self, _call: OneCall, seat: &mut Seat<L, M>) -> Handed
+    #[tactic(auto, using(crate::proofs::Holdings::claim_holds, crate::proofs::Holdings::claim_keeps_problem, search_book::proofs::Recorded::claim_keeps_settlements))]
+    pub fn claim(&mut self, seat: &mut Seat<L, M>) -> Handed
         ensures book { IsHolding seat.old.worker self.old.book self.new.book }
-        ensures handed { Hands self.old.book seat.old.worker result self.new.book }
+        ensures handed { IsHanded self.old.book seat.old.worker result self.new.book }
         ensures work { (task : Task) → result ≡ Handed.Work task → AllowsOffers task }
         ensures over { result ≡ Handed.Over → seat.new.saw_end ≡ true }
         ensures worker { seat.new.worker ≡ seat.old.worker }
@@ -103,6 +109,7 @@ impl<L: Ledger, M: Ledger> Locked<L, M> {
             made_share: _,
             end_share: _,
             waiting,
+            of: _,
         } = self;
         let cap = book.problem().cap;
         match book.claim(seat.worker()) {
@@ -124,19 +131,15 @@ impl<L: Ledger, M: Ledger> Locked<L, M> {
     }
 
     /// A worker that waited does so no more. No call of the book.
-    pub fn woken(&mut self) {
+    pub fn woken(&mut self)
+        ensures { self.new.book ≡ self.old.book }
+    {
         self.waiting = self.waiting.saturating_sub(1);
     }
 
-    /// One settlement of the book, the one call of its holding, counted by the seat where the offers were taken. Answers
+    /// One settlement of the book, counted by the seat where the offers were taken. Answers
     /// whom it wakes: for each entry that was admitted one of those that wait, and all where the book is over.
-    pub fn settle(
-        &mut self,
-        _call: OneCall,
-        seat: &mut Seat<L, M>,
-        id: u32,
-        offers: &Offers,
-    ) -> Waking
+    pub fn settle(&mut self, seat: &mut Seat<L, M>, id: u32, offers: &Offers) -> Waking
         ensures book { IsHolding seat.old.worker self.old.book self.new.book }
         ensures counts { Counts self.old.book seat.old.worker id offers.now self.new.book seat.old.made seat.new.made }
         ensures worker { seat.new.worker ≡ seat.old.worker }
@@ -150,6 +153,7 @@ impl<L: Ledger, M: Ledger> Locked<L, M> {
             made_share: _,
             end_share: _,
             waiting,
+            of: _,
         } = self;
         let before = book.len();
         settle_counted(book, made_ledger, seat, id, offers);
@@ -160,13 +164,14 @@ impl<L: Ledger, M: Ledger> Locked<L, M> {
         }
     }
 
-    /// The book, with all its seats given back: the number is what their workers made.
+    /// The book, with all its seats given back: the number is what their workers made. It is of the problem that it was of.
     pub fn close(self, seats: Vec<Seat<L, M>>) -> (Book, u64)
         requires all_made_shares { vec_len seats ≡ L.parts }
         requires all_end_shares { vec_len seats ≡ M.parts }
         ensures made { result.1 ≡ all_made seats.items }
         ensures settled { result.1 ≡ settlements result.0.history }
         ensures over { 0 < how_many_saw_end seats.items → result.0.end ≢ None }
+        ensures problem { result.0.problem ≡ K.problem }
     {
         let Locked {
             book,
@@ -175,6 +180,7 @@ impl<L: Ledger, M: Ledger> Locked<L, M> {
             mut made_share,
             mut end_share,
             waiting: _,
+            of: _,
         } = self;
         for seat in seats {
             seat.give_back(&mut made_share, &mut end_share);
@@ -192,7 +198,7 @@ fn is_plenty(book: &Book) -> bool {
 }
 
 /// One settlement of the book, which the seat and the ledger of settlements count where the offers were taken.
-#[tactic(auto, using(crate::proofs::Holdings::settle_holds))]
+#[tactic(auto, using(crate::proofs::Holdings::settle_holds, crate::proofs::Holdings::settle_keeps_problem))]
 fn settle_counted<L: Ledger, M: Ledger>(
     book: &mut Book,
     made_ledger: &mut Tally<L>,
@@ -205,6 +211,7 @@ fn settle_counted<L: Ledger, M: Ledger>(
     ensures counts { Counts book.old seat.old.worker id offers.now book.new seat.old.made seat.new.made }
     ensures sums { made_ledger.new.total ≡ settlements book.new.history }
     ensures over { book.old.end ≢ None → book.new.end ≢ None }
+    ensures problem { book.new.problem ≡ book.old.problem }
     ensures worker { seat.new.worker ≡ seat.old.worker }
     ensures made { seat.old.made ≤ seat.new.made }
     ensures saw_end { seat.new.saw_end ≡ seat.old.saw_end }

@@ -7,28 +7,28 @@ ghost use Rattle.search_pool.specs.Task.{AllowsOffers};
 
 use crate::gate::Gate;
 use crate::hand::{Hand, Place};
-use crate::holding::{hold, hold_again};
+use crate::holding::BookLock;
 use crate::locked::{Handed, Locked, Task, Waking};
 use crate::seat::Seat;
+use crate::shared_problem::OfProblem;
 use memory_core::OutOfMemory;
 use next_moves::Offers;
 use search_book::Book;
 use std::alloc::Global;
 use std::sync::ledger::{Blank, Ledger};
-use std::sync::{Condvar, Mutex, Wait};
+use std::sync::{Condvar, Wait};
 
-/// A book under a lock, for workers in threads of their own. Whenever the lock is free the book is sound and replays its
-/// own history. Each claim and each settlement under the lock makes at most one event, by clause. That a holding of the
-/// lock makes one such call is how the code is written: each call uses up a right of which a holding comes with one, and
-/// `src/holding.rt` alone makes it. Offers are found without the lock. Two ledgers tie the book to its seats: one counts
-/// settlements, and the other the workers that saw the end.
+/// A book under a lock, for workers in threads of their own. It is of the problem that the type K stands for. Whenever the lock is free
+/// the book is sound and replays its own history. Each holding of the lock makes at most one event, by clause: its call, a claim or a
+/// settlement, uses it up, and what lies under the lock is reached by a holding alone. Offers are found without the lock. Two ledgers tie
+/// the book to its seats: one counts settlements, and the other the workers that saw the end.
 #[derive(Drop)]
-pub struct SharedBook<L: Ledger, M: Ledger> {
-    lock: Mutex<Locked<L, M>>,
+pub struct SharedBook<L: Ledger, M: Ledger, K: OfProblem> {
+    lock: BookLock<L, M, K>,
     changed: Condvar,
 }
 
-impl<L: Ledger, M: Ledger> SharedBook<L, M> {
+impl<L: Ledger, M: Ledger, K: OfProblem> SharedBook<L, M, K> {
     /// A book to share, whose history is still empty, with one seat for each of 1 to `MAX_WORKERS` workers, by their
     /// numbers from 0. The two blanks are of the ledger of settlements and of that of ends, which have as many parts as
     /// there are workers. On want of memory, which is the one error, the book is dropped.
@@ -38,8 +38,9 @@ impl<L: Ledger, M: Ledger> SharedBook<L, M> {
         workers: u32,
         made_blank: Blank,
         end_blank: Blank,
-    ) -> Result<(SharedBook<L, M>, Vec<Seat<L, M>>), OutOfMemory>
+    ) -> Result<(SharedBook<L, M, K>, Vec<Seat<L, M>>), OutOfMemory>
         requires fresh { book.history ≡ [] }
+        requires of_problem { book.problem ≡ K.problem }
         requires some { 1 ≤ workers }
         requires most { workers ≤ MAX_WORKERS }
         requires made_blank { (made_blank.name ≡ L.name) × (made_blank.parts ≡ L.parts) × (L.parts ≡ workers) }
@@ -57,7 +58,7 @@ impl<L: Ledger, M: Ledger> SharedBook<L, M> {
             ));
         }
         let shared = SharedBook {
-            lock: Mutex::new(Locked::new(book, made_ledger, end_ledger, made_share, end_share)),
+            lock: BookLock::new(Locked::new(book, made_ledger, end_ledger, made_share, end_share)),
             changed: Condvar::new(),
         };
         Ok((shared, seats))
@@ -137,13 +138,12 @@ impl<L: Ledger, M: Ledger> SharedBook<L, M> {
         ensures worker { seat.new.worker ≡ seat.old.worker }
         ensures made { seat.new.made ≡ seat.old.made }
     {
-        let (mut guard, call) = hold(rt, &self.lock);
-        match guard.claim(call, seat) {
+        let (handed, called) = self.lock.hold(rt).claim(seat);
+        match handed {
             Handed::Work(task) => Some(task),
             Handed::Over => None,
             Handed::Later => {
-                // it has others to settle, so it doesn't wait
-                guard.woken();
+                called.go_on();
                 None
             }
         }
@@ -157,12 +157,13 @@ impl<L: Ledger, M: Ledger> SharedBook<L, M> {
         ensures worker { seat.new.worker ≡ seat.old.worker }
         ensures made { seat.new.made ≡ seat.old.made }
     {
-        let (mut guard, mut call) = hold(rt, &self.lock);
+        let mut holding = self.lock.hold(rt);
         for _ in rt.forever() {
-            match guard.claim(call, seat) {
+            let (handed, called) = holding.claim(seat);
+            match handed {
                 Handed::Work(task) => return Some(task),
                 Handed::Over => return None,
-                Handed::Later => (guard, call) = hold_again(rt, &self.changed, guard),
+                Handed::Later => holding = called.wait(rt, &self.changed),
             }
         }
         unreachable!()
@@ -173,9 +174,8 @@ impl<L: Ledger, M: Ledger> SharedBook<L, M> {
         ensures worker { seat.new.worker ≡ seat.old.worker }
         ensures made { seat.old.made ≤ seat.new.made }
     {
-        let (mut guard, call) = hold(rt, &self.lock);
-        let waking = guard.settle(call, seat, id, offers);
-        drop(guard);
+        let (waking, called) = self.lock.hold(rt).settle(seat, id, offers);
+        drop(called);
         match waking {
             Waking::All => self.changed.notify_all(),
             Waking::Count(count) => {
@@ -188,13 +188,14 @@ impl<L: Ledger, M: Ledger> SharedBook<L, M> {
 
     /// Takes the book back, with all its seats: as many as its ledgers have parts, of which each seat holds one. The
     /// number is what their workers made, and the book has as many settlements. Where one of them saw the end the book
-    /// is over.
+    /// is over. It is of the problem of the book that was shared.
     pub fn close(self, seats: Vec<Seat<L, M>>) -> (Book, u64)
         requires all_made_shares { vec_len seats ≡ L.parts }
         requires all_end_shares { vec_len seats ≡ M.parts }
         ensures made { result.1 ≡ all_made seats.items }
         ensures settled { result.1 ≡ settlements result.0.history }
         ensures over { 0 < how_many_saw_end seats.items → result.0.end ≢ None }
+        ensures problem { result.0.problem ≡ K.problem }
     {
         let SharedBook { lock, changed: _ } = self;
         lock.into_inner().close(seats)

@@ -23,7 +23,6 @@ by_search g c = made c.args.problem c.args.quandles.now c.args.workers _ c.in_ok
     c.in_ok-verdict.ensures.verdict c.in_default.is c.in_ok-pair.ensures c.requires.bounded.first_fits c.requires.bounded.second_fits
     (subst (λ (p : Problem). IsFinding p c.in_ok-finding.finding) c.problem.ensures.problem c.in_ok-finding.ensures.finding)
     (λ one. absurd (c.if-workers-eq1.false one))
-    (λ either. elim either [ inl one ↦ absurd (c.if-workers-eq1.false one) | inr stray ↦ c.in_ok-finding.ensures.in_turn stray ])
     c.in_ok-finding.ensures.shows c.searched.ensures.kept c.searched.ensures.verdict c.searched.ensures.joins
 
 pub returns-clause-decides : goal.returns-clause-decides

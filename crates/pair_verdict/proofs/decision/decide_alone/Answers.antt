@@ -20,8 +20,7 @@ by_search : (c : After-searched) → IfOk c.searched.result (λ d. IsSearched c.
 by_search c = made c.args.problem c.args.quandles.now 1 _ c.in_ok-pair.pair.first c.in_ok-pair.pair.second c.in_ok-pair.finding c.searched.result
     c.in_ok-verdict.ensures.verdict c.in_default.is c.in_ok-pair.ensures.simplified c.requires.first_fits c.requires.second_fits
     c.in_ok-pair.ensures.finding
-    (λ one. c.in_ok-pair.ensures.no_stray)
-    (λ either. c.in_ok-pair.ensures.in_turn)
+    (λ one. c.in_ok-pair.ensures.in_turn)
     c.in_ok-pair.ensures.shows c.searched.ensures.kept c.searched.ensures.verdict c.searched.ensures.joins
 
 pub returns-clause-decides : goal.returns-clause-decides

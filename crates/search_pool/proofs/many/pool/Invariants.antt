@@ -5,3 +5,6 @@ ghosts-run_workers-L-Ledger g a = record { name = a.made_blank.name; parts = a.m
 
 abbrev pub ghosts-run_workers-M-Ledger : goal.ghosts-run_workers-M-Ledger
 ghosts-run_workers-M-Ledger g a = record { name = a.end_blank.name; parts = a.end_blank.parts }
+
+abbrev pub ghosts-run_workers-K-OfProblem : goal.ghosts-run_workers-K-OfProblem
+ghosts-run_workers-K-OfProblem g a = record { problem = a.problem }

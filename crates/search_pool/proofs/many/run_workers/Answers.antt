@@ -1,10 +1,13 @@
 use Rattle.std.proofs.Common.{rules, ◌∙◌, sym}
 use Rattle.search_pool.proofs.SeatLists.{one_saw_end, as_many_seats, written_over}
-use Rattle.search_pool.proofs.Settling.{begun_history}
+use Rattle.search_pool.proofs.Settling.{begun_history, begun_problem}
 use Rattle.search_pool.proofs.many.run_workers.Goals as goal
 
 pub new-requires-clause-fresh : goal.new-requires-clause-fresh
 new-requires-clause-fresh g c = begun_history c.args.problem c.in_ok-book.book c.in_ok-book.ensures
+
+pub new-requires-clause-of_problem : goal.new-requires-clause-of_problem
+new-requires-clause-of_problem g c = begun_problem c.args.problem c.in_ok-book.book c.in_ok-book.ensures ∙ c.requires.of_problem
 
 pub close-requires-clause-all_made_shares : goal.close-requires-clause-all_made_shares
 close-requires-clause-all_made_shares g c =

@@ -15,7 +15,7 @@ use verdict_core::{Listed, QuandleName, Verdict};
 /// The size of the greatest diagrams, and the cap.
 const CAP: u8 = 4;
 
-/// Whether the decision of many workers on a pair is of the kind and with the number of that of one, without a stray. The
+/// Whether the decision of many workers on a pair is of the kind and with the number of that of one. The
 /// moves may be others, but they join the pair.
 fn agrees(one: &Decision, many: &Decision, first: &Grid, second: &Grid) -> bool {
     let alike = match (&one.verdict, &many.verdict) {
@@ -30,7 +30,7 @@ fn agrees(one: &Decision, many: &Decision, first: &Grid, second: &Grid) -> bool 
         _ => false,
     };
     match &many.kept {
-        Some(finding) => alike && finding.stray.is_none(),
+        Some(_finding) => alike,
         None => false,
     }
 }

@@ -117,7 +117,6 @@ fn two_workers_are_between_claim_and_settlement_at_once(rt: HostRuntime) -> Resu
     };
     assert_eq!(rt; gate.met.load(Ordering::SeqCst), 1);
     assert_eq!(rt; gate.in_vain.load(Ordering::SeqCst), 0);
-    assert!(rt; finding.stray.is_none());
     assert_eq!(rt; finding.book.end(), Some(End::Exhausted));
     assert_eq!(rt; finding.settled, u64::from(finding.book.len()));
     let (of_first, of_others) = claims(finding.book.history());
@@ -152,7 +151,6 @@ fn eight_workers_are_between_claim_and_settlement_at_once(rt: HostRuntime) -> Re
     };
     assert_eq!(rt; gate.met.load(Ordering::SeqCst), 7);
     assert_eq!(rt; gate.in_vain.load(Ordering::SeqCst), 0);
-    assert!(rt; finding.stray.is_none());
     assert_eq!(rt; most_in_flight(finding.book.history()), 8);
     assert!(rt; are_of(finding.book.history(), 8));
     Ok(())
@@ -179,7 +177,6 @@ fn eight_workers_meet_from_the_trefoil_and_its_reverse(rt: HostRuntime) -> Resul
         return Err(Fail::from("no memory"));
     };
     assert!(rt; matches!(finding.book.end(), Some(End::Met(Meeting::Offered { .. }))));
-    assert!(rt; finding.stray.is_none());
     Ok(())
 }
 
@@ -190,7 +187,6 @@ fn one_worker_has_four_entries_in_hand_where_there_is_plenty(rt: HostRuntime) ->
         return Err(Fail::from("no memory"));
     };
     assert!(rt; matches!(finding.book.end(), Some(End::Spent { .. })));
-    assert!(rt; finding.stray.is_none());
     assert_eq!(rt; most_in_flight(finding.book.history()), 4);
     Ok(())
 }
