@@ -1,9 +1,13 @@
 //! What is told of a call, as a sentence.
+ghost use Rattle.std.specs.Prelude.{◌≡◌, ◌≢◌, IfSome, IsSome, None};
+ghost use Rattle.decision_core.specs.Status.{IsOfDefinedAnswer, IsOfAnswer};
+ghost use Rattle.knot_jobs.specs.Words.{texts_of, Asks};
+ghost use Rattle.knot_tells.specs.Told.{IsOf, IsOfInput};
 
 use crate::lines::{Named, has_line, named_in};
 use crate::shapes::shape_of;
 use crate::words::{BadWords, JOBS, bad_words};
-use knot_jobs::{Job, Status, read_words};
+use knot_jobs::{Asked, Job, Status, read_words};
 use knot_ports::{StdSink, StdSource};
 use seek_faults::{Reason, Shown, reason_in};
 use std::alloc::Global;
@@ -31,7 +35,9 @@ pub enum Sentence<'a> {
 }
 
 /// The job that is asked for, if it reads an input.
-pub fn reading(alloc: Global, words: &[String]) -> Option<Job> {
+pub fn reading(alloc: Global, words: &[String]) -> Option<Job>
+    ensures { IfSome result (λ job. (asked : Asked) × Asks (texts_of words.now) asked × (asked.job ≡ job) × (job ≢ Job.Sample)) }
+{
     match read_words(alloc, words) {
         Ok(asked) if asked.job != Job::Sample => Some(asked.job),
         Ok(_) | Err(_) => None,
@@ -46,7 +52,11 @@ pub fn sentence_of<'a, R: Read + Drop, W: Write + Drop>(
     status: Status,
     source: &'a StdSource<R>,
     sink: &'a StdSink<W>,
-) -> Option<Sentence<'a>> {
+) -> Option<Sentence<'a>>
+    ensures told { IfSome result (λ s. IsOf status s) }
+    ensures silent { IsOfDefinedAnswer status → result ≡ None }
+    ensures some { (IsOfAnswer status → ⊥) → IsSome result }
+{
     match status {
         Status::Done | Status::Unknown | Status::Rejected => None,
         Status::Usage => match bad_words(files, alloc, words) {
@@ -73,7 +83,9 @@ fn line_sentence<'a, R: Read + Drop, W: Write + Drop>(
     is_limit: bool,
     source: &'a StdSource<R>,
     sink: &StdSink<W>,
-) -> Option<Sentence<'a>> {
+) -> Option<Sentence<'a>>
+    ensures { IfSome result (λ s. IsOfInput is_limit s) }
+{
     let line = match named_in(sink.front())? {
         Named::Bytes => return Some(Sentence::Long),
         Named::Line(line) => line,

@@ -1,5 +1,5 @@
 //! Whether a text is one diagram.
-ghost use Rattle.std.specs.Prelude.{◌≡◌};
+ghost use Rattle.std.specs.Prelude.{◌≡◌, ◌≢◌, ℕ, IfSome, IfNone};
 ghost use Rattle.text_lines.specs.Lines.{text_of};
 ghost use Rattle.seek_faults.specs.Alone.{nothing_more, one_line_more, one_diagram};
 
@@ -19,7 +19,10 @@ pub enum NotOne {
 
 impl NotOne {
     /// The line that is one too many.
-    pub fn line(self) -> Option<usize> {
+    pub fn line(self) -> Option<usize>
+        ensures some { IfSome result (λ line. self ≡ NotOne.More line) }
+        ensures none { IfNone result ((line : ℕ) → self ≢ NotOne.More line) }
+    {
         match self {
             NotOne::Nothing | NotOne::Half => None,
             NotOne::More { line } => Some(line),

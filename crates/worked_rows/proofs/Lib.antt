@@ -1,0 +1,5 @@
+mod Rewritten
+mod Loops
+mod NamedEdges
+mod TryParts
+mod WorkedRows

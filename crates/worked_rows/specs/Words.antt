@@ -1,0 +1,6 @@
+-- Braid words by their parts.
+use Rattle.std.specs.Prelude.{ℕ, ℤ, List}
+use Rattle.braid_core.specs.Braid.{Word}
+
+abbrev pub word : ℕ → List ℤ → Word
+word m letters = record { strands = m; letters = letters }
