@@ -5,7 +5,6 @@ use Rattle.std.proofs.lemmas.Bool.{cases_lt}
 use Rattle.std.proofs.lemmas.List.{append-nil, take_at, take_all, length-take-le}
 use Rattle.search_pool.specs.declared.finding.Finding.{Finding}
 use Rattle.knot_jobs.specs.declared.reply.Reply.{Reply}
-use Rattle.knot_jobs.specs.declared.words.Job.{Job}
 use Rattle.knot_jobs.specs.declared.words.Asked.{Asked}
 use Rattle.knot_jobs.specs.declared.words.WordsFault.{WordsFault}
 use Rattle.knot_jobs.specs.declared.words.WordsFault.TheVariants as bad_words
@@ -19,7 +18,7 @@ use Rattle.knot_jobs.specs.Jobs.Decide.{with_workers}
 use Rattle.knot_jobs.specs.Answer.{limit_of, part_for, leaves_no_choice, IsOver, IsWithin, AnswersText, Answers}
 use Rattle.knot_jobs.specs.Call.{Call, Change, IsUntouched, Failed, TakesAll, Comes, Loses}
 use Rattle.knot_jobs.specs.Ending.{usage_line, IsReplyTo, IsAnswered, IsMisused, IsDue, IsCutOff, LosesInput, Writes, Ends}
-use Rattle.knot_jobs.specs.Truth.{IsTrueReply, TellsOnlyTruth}
+use Rattle.knot_jobs.specs.Truth.{IsTrueReply, IsTrueOf, TellsOnlyTruth, Goes}
 use Rattle.knot_jobs.specs.Delivered.{IsWritten, IsDelivered, IsRefused, IsWithoutReply, IsEnded}
 use Rattle.knot_jobs.proofs.AskedOnce.{asked_once, never_both}
 use Rattle.knot_jobs.proofs.OneAnswer.{answer_status, answers_once, not_decide, by_so_many, not_over}
@@ -35,18 +34,25 @@ usage_ends call s refused source written =
     ]
 
 -- the words are refused, or memory is wanting for them
-pub refused_ends : (call : Call) (fault : WordsFault) (s : Status) (kept : Option Finding) → (fault ≡ bad_words.Usage → AsksNothing call.words)
+refused_ends : (call : Call) (fault : WordsFault) (s : Status) (kept : Option Finding) → (fault ≡ bad_words.Usage → AsksNothing call.words)
     → IsUntouched call.source → IsRefused fault call.sink s → kept ≡ None → Ends call s kept
 refused_ends call bad_words.Usage s kept usage source refused none =
     subst (λ k. Ends call s k) (sym none) (usage_ends call s (usage refl) source refused)
 refused_ends call bad_words.OutOfMemory s kept usage source refused none =
     subst (λ z. Ends call z kept) (sym refused.0) ((inl source, refused.1), none)
 
-pub refused_truth : (call : Call) (fault : WordsFault) (s : Status) → (fault ≡ bad_words.Usage → AsksNothing call.words) → IsRefused fault call.sink s
+refused_truth : (call : Call) (fault : WordsFault) (s : Status) → (fault ≡ bad_words.Usage → AsksNothing call.words) → IsRefused fault call.sink s
     → TellsOnlyTruth call s
 refused_truth call bad_words.Usage s usage refused = λ asked asks done. absurd (never_both call.words asked asks (usage refl))
 refused_truth call bad_words.OutOfMemory s usage refused = λ asked asks done.
     absurd (let wrong : status.OutOfMemory ≡ status.Done = sym refused.0 ∙ done in cc)
+
+pub refused_goes : (call : Call) (fault : WordsFault) (s : Status) (kept : Option Finding) → (fault ≡ bad_words.Usage → AsksNothing call.words)
+    → IsUntouched call.source → IsRefused fault call.sink s → kept ≡ None → Goes call s kept
+refused_goes call fault s kept usage source refused none = record {
+  ends = refused_ends call fault s kept usage source refused none;
+  truth = refused_truth call fault s usage refused;
+}
 
 -- ---- an answer that was written
 
@@ -118,10 +124,6 @@ tells_truth call asked reply s kept asks delivered claim = λ other asks' done.
 
 -- ---- a reply, or none
 
--- what the reply to this input says is true
-abbrev pub IsTrueOf : Job → Change → Reply → Type 0
-IsTrueOf job source reply = (bytes : List ℕ) × (TakesAll (limit_of job) source bytes × IsTrueReply job bytes reply.text)
-
 loses : (call : Call) (asked : Asked) (more : ℕ) → Asks call.words asked → Loses (limit_of asked.job) more call.source → LosesInput call more
 loses call asked more asks lost = record { asked = asked; asks = asks; lost = lost }
 
@@ -153,19 +155,28 @@ tells_by call asked (Err e) s kept asks claim without ended = λ other asks' don
 ]
 
 -- of what was asked for, with as many workers as search
-pub reply_ends : (call : Call) (asked done : Asked) (reply : Result Reply Status) (s : Status) (kept : Option Finding) → Asks call.words asked
+reply_ends : (call : Call) (asked done : Asked) (reply : Result Reply Status) (s : Status) (kept : Option Finding) → Asks call.words asked
     → done ≡ with_workers call.searching asked → IfOk reply (λ r. IsReplyTo done call.source r)
     → IfErr reply (λ e. IsWithoutReply (limit_of done.job) call.source e) → IsEnded call.sink reply s kept → Ends call s kept
 reply_ends call asked done reply s kept asks same answer without ended =
     ends_by call asked reply s kept asks (subst (λ (x : Asked). IfOk reply (λ r. IsReplyTo x call.source r)) same answer)
     (subst (λ (x : Asked). IfErr reply (λ e. IsWithoutReply (limit_of x.job) call.source e)) same without) ended
 
-pub reply_tells_truth : (call : Call) (asked done : Asked) (reply : Result Reply Status) (s : Status) (kept : Option Finding) → Asks call.words asked
+reply_tells_truth : (call : Call) (asked done : Asked) (reply : Result Reply Status) (s : Status) (kept : Option Finding) → Asks call.words asked
     → done ≡ with_workers call.searching asked → IfOk reply (λ r. r.status ≡ status.Done → IsTrueOf done.job call.source r)
     → IfErr reply (λ e. IsWithoutReply (limit_of done.job) call.source e) → IsEnded call.sink reply s kept → TellsOnlyTruth call s
 reply_tells_truth call asked done reply s kept asks same claim without ended =
     tells_by call asked reply s kept asks (subst (λ (x : Asked). IfOk reply (λ r. r.status ≡ status.Done → IsTrueOf x.job call.source r)) same claim)
     (subst (λ (x : Asked). IfErr reply (λ e. IsWithoutReply (limit_of x.job) call.source e)) same without) ended
+
+pub reply_goes : (call : Call) (asked done : Asked) (reply : Result Reply Status) (s : Status) (kept : Option Finding) → Asks call.words asked
+    → done ≡ with_workers call.searching asked → IfOk reply (λ r. IsReplyTo done call.source r)
+    → IfOk reply (λ r. r.status ≡ status.Done → IsTrueOf done.job call.source r)
+    → IfErr reply (λ e. IsWithoutReply (limit_of done.job) call.source e) → IsEnded call.sink reply s kept → Goes call s kept
+reply_goes call asked done reply s kept asks same answer claim without ended = record {
+  ends = reply_ends call asked done reply s kept asks same answer without ended;
+  truth = reply_tells_truth call asked done reply s kept asks same claim without ended;
+}
 
 -- ---- one outcome
 

@@ -24,6 +24,7 @@ use Rattle.clap.proofs.CallerReads.{signed_reads}
 use Rattle.clap.proofs.SimpleLemmas.{HasPlainFields, is_false, is_nil, plain_fields}
 use Rattle.clap.proofs.TakesLemmas.{each_rule}
 use Rattle.clap.proofs.WalkLemmas.{both, one_text-rows}
+use Rattle.search_book.specs.declared.problem.TheConstants.{MAX_BUDGET}
 use Rattle.knot_jobs.specs.Matched.{AreMatchesBy}
 use Rattle.knot_jobs.specs.Words.{budget_rule, job_rule, knot_app, number_given, number_of, seed_rule, spare_rule, workers_rule}
 use Rattle.knot_jobs.proofs.OptionReads.{IsOption, option_reads}
@@ -155,9 +156,9 @@ module _ (m : ArgMatches) (h : AreMatchesBy knot_app m) where
   workers_text =
       text_at 1 an_arg (parser.Signed (pos 1) (pos 64)) (codes "workers") (omega arith) refl (option_at 1 an_arg _ (omega arith) refl refl refl refl)
 
-  budget_text : (t : Text) × (one_text (found_of m) (codes "budget") ≡ Some (without_minus t)) × IsSignedIn (pos 2) (pos 500000) t
+  budget_text : (t : Text) × (one_text (found_of m) (codes "budget") ≡ Some (without_minus t)) × IsSignedIn (pos 2) (pos MAX_BUDGET) t
   budget_text =
-      text_at 2 an_arg (parser.Signed (pos 2) (pos 500000)) (codes "budget") (omega arith) refl (option_at 2 an_arg _ (omega arith) refl refl refl refl)
+      text_at 2 an_arg (parser.Signed (pos 2) (pos MAX_BUDGET)) (codes "budget") (omega arith) refl (option_at 2 an_arg _ (omega arith) refl refl refl refl)
 
   spare_text : (t : Text) × (one_text (found_of m) (codes "spare") ≡ Some (without_minus t)) × IsSignedIn (pos 0) (pos 4) t
   spare_text =
@@ -212,8 +213,8 @@ module _ (m : ArgMatches) (h : AreMatchesBy knot_app m) where
   pub workers_read : IsRead m (codes "workers") 32 (λ n. (1 ≤ n) × (n ≤ 64))
   workers_read = signed_read m (codes "workers") 32 1 64 (omega arith) (workers_text m h)
 
-  pub budget_read : IsRead m (codes "budget") 32 (λ n. (2 ≤ n) × (n ≤ 500000))
-  budget_read = signed_read m (codes "budget") 32 2 500000 (omega arith) (budget_text m h)
+  pub budget_read : IsRead m (codes "budget") 32 (λ n. (2 ≤ n) × (n ≤ MAX_BUDGET))
+  budget_read = signed_read m (codes "budget") 32 2 MAX_BUDGET (omega arith) (budget_text m h)
 
   pub spare_read : IsRead m (codes "spare") 8 (λ n. (0 ≤ n) × (n ≤ 4))
   spare_read = signed_read m (codes "spare") 8 0 4 (omega arith) (spare_text m h)

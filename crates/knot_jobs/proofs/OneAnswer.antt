@@ -17,7 +17,7 @@ use Rattle.knot_jobs.specs.declared.reply.Reply.{Reply}
 use Rattle.knot_jobs.specs.declared.words.Job.{Job}
 use Rattle.knot_jobs.specs.declared.words.Job.TheVariants.{Decide, Simplify, Sample, Plain}
 use Rattle.knot_jobs.specs.declared.words.Asked.{Asked}
-use Rattle.knot_jobs.specs.Reply.{without_search, plain_of, AnswersRead}
+use Rattle.knot_jobs.specs.Reply.{without_search, plain_of, RepliesRead}
 use Rattle.knot_jobs.specs.Jobs.Decide.{verdict_status, with_workers}
 use Rattle.knot_jobs.specs.Answer.{limit_of, IsOver, IsWithin, task_of, leaves_no_choice, IsInShape, IsBeyondColumns, Answers}
 
@@ -54,7 +54,7 @@ beyond_status (Plain job) r a = too_wide_status job (plain_of r) a
 beyond_status job r a = absurd a
 
 read_status : {A : Type 0} (job : Job) (answers : A → Reply → Type 0) (read : Result A TextFault) (r : Reply)
-    → ((i : A) → answers i r → IsDefined job r) → AnswersRead answers read r → IsOfAnswer r.status
+    → ((i : A) → answers i r → IsDefined job r) → RepliesRead answers read r → IsOfAnswer r.status
 read_status job answers (Ok i) r each a = elim (each i a) [ inl defined ↦ inl defined | inr wide ↦ inr (inr (beyond_status job r wide)) ]
 read_status job answers (Err (bad.Malformed n)) r each a = inr (inl (ap status_of a.1))
 read_status job answers (Err (bad.Limit n)) r each a = inr (inr (ap status_of a.1))
@@ -78,7 +78,7 @@ replies_once Sample asked fixed i r r' one two = same_plainly r r' one.0 two.0 (
 replies_once (Plain job) asked fixed i r r' one two = same_plainly r r' one.0 two.0 (plain_once job fixed i (plain_of r) (plain_of r') one.1 two.1)
 
 read_once : {A : Type 0} (answers : A → Reply → Type 0) (read : Result A TextFault) (r r' : Reply)
-    → ((i : A) → answers i r → answers i r' → r ≡ r') → AnswersRead answers read r → AnswersRead answers read r' → r ≡ r'
+    → ((i : A) → answers i r → answers i r' → r ≡ r') → RepliesRead answers read r → RepliesRead answers read r' → r ≡ r'
 read_once answers (Ok i) r r' each one two = each i one two
 read_once answers (Err (bad.Malformed n)) r r' each one two = same_plainly r r' one.0 two.0 (one.1 ∙ sym two.1)
 read_once answers (Err (bad.Limit n)) r r' each one two = same_plainly r r' one.0 two.0 (one.1 ∙ sym two.1)
@@ -110,8 +110,8 @@ not_decide job fixed is = let wrong : false ≡ true = subst (λ (j : Job). leav
 
 -- and how many workers search makes nothing else of it
 read_by_so_many : (job : Job) (searching : ℕ → ℕ) (asked : Asked) (bytes : List ℕ) (r : Reply) → (job ≡ Decide → ⊥)
-    → AnswersRead (task_of job (with_workers searching asked)).Replies ((task_of job (with_workers searching asked)).read bytes) r
-    → AnswersRead (task_of job asked).Replies ((task_of job asked).read bytes) r
+    → RepliesRead (task_of job (with_workers searching asked)).Replies ((task_of job (with_workers searching asked)).read bytes) r
+    → RepliesRead (task_of job asked).Replies ((task_of job asked).read bytes) r
 read_by_so_many Decide searching asked bytes r other a = absurd (other refl)
 read_by_so_many Simplify searching asked bytes r other a = a
 read_by_so_many Sample searching asked bytes r other a = a
@@ -146,7 +146,7 @@ never_memory Sample asked fixed bytes is = let wrong = is in cc
 never_memory (Plain job) asked fixed bytes is = plain_memory job fixed bytes is
 
 some_read : {A : Type 0} (answers : A → Reply → Type 0) (read : Result A TextFault) → (read ≡ Err bad.OutOfMemory → ⊥)
-    → ((i : A) → read ≡ Ok i → SomeReply (answers i)) → SomeReply (AnswersRead answers read)
+    → ((i : A) → read ≡ Ok i → SomeReply (answers i)) → SomeReply (RepliesRead answers read)
 some_read answers (Ok i) never each = each i refl
 some_read answers (Err (bad.Malformed n)) never each = (without_search (plain_reply status.Malformed (malformed_line n)), (refl, (refl, refl)))
 some_read answers (Err (bad.Limit n)) never each = (without_search (plain_reply status.Limit (limit_line n)), (refl, (refl, refl)))
@@ -164,7 +164,7 @@ some_answer asked bytes fixed = elim (over_or_within (limit_of asked.job) bytes)
 -- ---- an input of the job's shape
 
 ok_defined : {A : Type 0} (job : Job) (answers : A → Reply → Type 0) (read : Result A TextFault) (r : Reply)
-    → ((i : A) → answers i r → IsDefined job r) → IsOk read → AnswersRead answers read r → IsDefined job r
+    → ((i : A) → answers i r → IsDefined job r) → IsOk read → RepliesRead answers read r → IsDefined job r
 ok_defined job answers (Ok i) r each ok a = each i a
 ok_defined job answers (Err e) r each ok a = absurd (let wrong = ok in cc)
 

@@ -2,19 +2,19 @@
 use Rattle.std.proofs.Common.{◌≡◌, ℕ, List, Result, Ok, Err, refl, sym, subst}
 use Rattle.text_items.specs.declared.fault.TextFault.{TextFault}
 use Rattle.plain_jobs.specs.declared.reply.PlainReply.{PlainReply}
-use Rattle.plain_jobs.specs.Reply.{AnswersRead as ReadPlainly}
+use Rattle.plain_jobs.specs.Reply.{AnswersRead}
 use Rattle.knot_jobs.specs.declared.reply.Reply.{Reply}
 use Rattle.knot_jobs.specs.declared.words.Job.{Job}
 use Rattle.knot_jobs.specs.declared.words.Asked.{Asked}
-use Rattle.knot_jobs.specs.Reply.{without_search, plainly, AnswersRead}
+use Rattle.knot_jobs.specs.Reply.{without_search, plainly, RepliesRead}
 use Rattle.knot_jobs.specs.Answer.{task_of, AnswersText}
 
 -- by its own job
 abbrev pub AnswersAs : Job → Asked → List ℕ → Reply → Type 0
-AnswersAs job asked bytes reply = AnswersRead (task_of job asked).Replies ((task_of job asked).read bytes) reply
+AnswersAs job asked bytes reply = RepliesRead (task_of job asked).Replies ((task_of job asked).read bytes) reply
 
-pub read_plainly : {A : Type 0} (answers : A → PlainReply → Type 0) (read : Result A TextFault) (plain : PlainReply) → ReadPlainly answers read plain
-    → AnswersRead (plainly answers) read (without_search plain)
+pub read_plainly : {A : Type 0} (answers : A → PlainReply → Type 0) (read : Result A TextFault) (plain : PlainReply) → AnswersRead answers read plain
+    → RepliesRead (plainly answers) read (without_search plain)
 read_plainly answers (Ok i) plain a = (refl, a)
 read_plainly answers (Err fault) plain a = (refl, a)
 

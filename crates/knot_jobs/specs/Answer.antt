@@ -12,7 +12,7 @@ use Rattle.knot_jobs.specs.declared.reply.Reply.{Reply}
 use Rattle.knot_jobs.specs.declared.words.Job.{Job}
 use Rattle.knot_jobs.specs.declared.words.Job.TheVariants.{Decide, Simplify, Sample, Plain}
 use Rattle.knot_jobs.specs.declared.words.Asked.{Asked}
-use Rattle.knot_jobs.specs.Reply.{without_search, plain_of, plainly, AnswersRead}
+use Rattle.knot_jobs.specs.Reply.{without_search, plain_of, plainly, RepliesRead}
 use Rattle.knot_jobs.specs.Jobs.Decide.{AnswersDecide}
 use Rattle.knot_jobs.specs.Jobs.Simplify.{AnswersSimplify}
 use Rattle.knot_jobs.specs.Jobs.Sample.{AnswersSample}
@@ -76,7 +76,7 @@ IsBeyondColumns job reply = ⊥
 
 -- what the job that is asked for replies to bytes within its limit
 abbrev pub AnswersText : Asked → List ℕ → Reply → Type 0
-AnswersText asked bytes reply = AnswersRead (task_of asked.job asked).Replies ((task_of asked.job asked).read bytes) reply
+AnswersText asked bytes reply = RepliesRead (task_of asked.job asked).Replies ((task_of asked.job asked).read bytes) reply
 
 -- and to the bytes of any input
 abbrev pub Answers : Asked → List ℕ → Reply → Type 0

@@ -18,6 +18,6 @@ abbrev pub plainly : {A : Type 0} → (A → PlainReply → Type 0) → A → Re
 plainly answers input reply = (reply.kept ≡ None) × answers input (plain_of reply)
 
 -- what was read is answered by the job, and a first bad line by the plain reply that names it
-abbrev pub AnswersRead : {A : Type 0} → (A → Reply → Type 0) → Result A TextFault → Reply → Type 0
-AnswersRead answers (Ok input) reply = answers input reply
-AnswersRead answers (Err fault) reply = plainly IsFaultReply fault reply
+abbrev pub RepliesRead : {A : Type 0} → (A → Reply → Type 0) → Result A TextFault → Reply → Type 0
+RepliesRead answers (Ok input) reply = answers input reply
+RepliesRead answers (Err fault) reply = plainly IsFaultReply fault reply

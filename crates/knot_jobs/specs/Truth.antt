@@ -1,5 +1,5 @@
 -- What the texts of calls are worth that end with `Done`: a verdict that `decide` writes, and what plain jobs say.
-use Rattle.std.specs.Prelude.{◌≡◌, ℕ, List}
+use Rattle.std.specs.Prelude.{◌≡◌, ℕ, List, Option}
 use Rattle.std.specs.Io.KnownBytes.{Appends}
 use Rattle.cert_check.specs.declared.ruling.Ruling.TheVariants.{Accepted}
 use Rattle.decision_core.specs.declared.status.Status.{Status}
@@ -10,12 +10,15 @@ use Rattle.plain_jobs.specs.Lines.{ruling_line}
 use Rattle.plain_jobs.specs.Reply.{done}
 use Rattle.plain_jobs.specs.Job.{AnswersPlainly}
 use Rattle.plain_jobs.specs.Truth.{IsTrueText}
+use Rattle.search_pool.specs.declared.finding.Finding.{Finding}
+use Rattle.knot_jobs.specs.declared.reply.Reply.{Reply}
 use Rattle.knot_jobs.specs.declared.words.Asked.{Asked}
 use Rattle.knot_jobs.specs.declared.words.Job.{Job}
 use Rattle.knot_jobs.specs.declared.words.Job.TheVariants.{Decide, Plain}
 use Rattle.knot_jobs.specs.Words.{Asks}
 use Rattle.knot_jobs.specs.Answer.{limit_of, IsWithin}
-use Rattle.knot_jobs.specs.Call.{Call, TakesAll}
+use Rattle.knot_jobs.specs.Call.{Call, Change, TakesAll}
+use Rattle.knot_jobs.specs.Ending.{Ends}
 
 -- ---- a verdict that was written
 
@@ -38,7 +41,16 @@ IsTrueReply Decide bytes text = IsCheckedDecision bytes text
 IsTrueReply (Plain job) bytes text = IsTrueText job bytes text
 IsTrueReply job bytes text = Unit {0}
 
+-- what a reply says of the whole input is true
+abbrev pub IsTrueOf : Job → Change → Reply → Type 0
+IsTrueOf job source reply = (bytes : List ℕ) × (TakesAll (limit_of job) source bytes × IsTrueReply job bytes reply.text)
+
 -- where a call ended with Done, its text was written, and what it says of the whole input is true
 abbrev pub TellsOnlyTruth : Call → Status → Type 0
 TellsOnlyTruth call s = (asked : Asked) → Asks call.words asked → s ≡ status.Done → (bytes : List ℕ) × ((text : List ℕ)
     × (TakesAll (limit_of asked.job) call.source bytes × (Appends call.sink.before call.sink.after text × IsTrueReply asked.job bytes text)))
+
+-- how a call goes that has this status and keeps this search: it ends as is due, and tells only truth
+pub record Goes (call : Call) (s : Status) (kept : Option Finding) : Type 0 where
+  pub ends : Ends call s kept
+  pub truth : TellsOnlyTruth call s

@@ -9,6 +9,7 @@ use Rattle.clap.specs.Faults.{fault_of}
 use Rattle.clap.specs.declared.builder.action.ArgAction.TheVariants.{Set}
 use Rattle.clap.specs.declared.builder.value_parser.ValueParser.{ValueParser}
 use Rattle.clap.specs.declared.builder.value_parser.ValueParser.TheVariants as parser
+use Rattle.search_book.specs.declared.problem.TheConstants.{MAX_BUDGET}
 use Rattle.knot_jobs.specs.declared.words.Asked.{Asked}
 use Rattle.knot_jobs.specs.declared.words.Job.{Job}
 use Rattle.knot_jobs.specs.declared.words.Job.TheVariants.{Decide, Simplify, Sample, Plain}
@@ -34,7 +35,7 @@ abbrev pub workers_rule : Rule
 workers_rule = number_rule (codes "workers") (parser.Signed (pos 1) (pos 64)) (codes "1")
 
 abbrev pub budget_rule : Rule
-budget_rule = number_rule (codes "budget") (parser.Signed (pos 2) (pos 500000)) (codes "20000")
+budget_rule = number_rule (codes "budget") (parser.Signed (pos 2) (pos MAX_BUDGET)) (codes "20000")
 
 abbrev pub spare_rule : Rule
 spare_rule = number_rule (codes "spare") (parser.Signed (pos 0) (pos 4)) (codes "1")
@@ -106,5 +107,5 @@ AsksNothing words = AreTaken words → (job : Job) → job_given words ≢ Some 
 -- each number lies between its bounds; a seed has 64 bits and no other bound
 pub record IsWithinBounds (asked : Asked) : Type 0 where
   pub workers : (1 ≤ asked.workers) × (asked.workers ≤ 64)
-  pub budget : (2 ≤ asked.budget) × (asked.budget ≤ 500000)
+  pub budget : (2 ≤ asked.budget) × (asked.budget ≤ MAX_BUDGET)
   pub spare : asked.spare ≤ 4

@@ -4,8 +4,8 @@ ghost use Rattle.knot_jobs.specs.Words.{texts_of, Asks, AsksNothing, IsWithinBou
 ghost use Rattle.knot_jobs.specs.Answer.{limit_of, IsOver, IsWithin};
 ghost use Rattle.knot_jobs.specs.Jobs.Decide.{as_many_as_asked, only_one, with_workers};
 ghost use Rattle.knot_jobs.specs.Call.{call_of, change_of, IsUntouched, TakesAll, TakesTooMuch, Loses};
-ghost use Rattle.knot_jobs.specs.Ending.{Ends, IsReplyTo};
-ghost use Rattle.knot_jobs.specs.Truth.{TellsOnlyTruth, IsTrueReply};
+ghost use Rattle.knot_jobs.specs.Ending.{IsReplyTo};
+ghost use Rattle.knot_jobs.specs.Truth.{IsTrueOf, Goes};
 ghost use Rattle.knot_jobs.specs.Delivered.{IsRefused, IsWithoutReply, IsWritten, IsDelivered, IsEnded};
 
 use crate::answer::{answer, answer_alone};
@@ -28,7 +28,7 @@ const USAGE: &[u8] = b"usage: knot JOB [--workers W] [--budget B] [--spare S] [-
 /// source is not called, and neither is it for `sample`. An input of more bytes than the job's limit (33,554,432 for `check`, else
 /// 1,048,576) ends in `Limit`, one with a bad line in `Malformed` or `Limit` by its first bad line. Every other ends as the job
 /// answers it: `Done`, `Unknown` where `decide` finds no evidence, `Rejected`, or `Limit` where `grid` has a code that no diagram of
-/// 48 columns was drawn for. The whole answer is made before the first write, so `ReadFault` and `OutOfMemory` write nothing;
+/// at most `MAX_SIZE` columns was drawn for. The whole answer is made before the first write, so `ReadFault` and `OutOfMemory` write nothing;
 /// `WriteFault` has written a front of what was due. Faults come only where the source's or sink's own count of faults rose. Where
 /// `decide` or `check` ends with `Done`, what the verdict says is true, and evidence by numbers or linking numbers holds; where
 /// `linking` or `weights` writes `different`, no list of moves joins the two; and where `braidcheck` ends with `Done`, no quandle
@@ -47,12 +47,9 @@ pub fn run<R: Threads + Wait + Sync, S: Source, K: Sink, G: Gate + Sync>(
     gate: &G,
     kept: &mut Option<Finding>,
 ) -> Status
-    ensures ends { Ends (call_of (texts_of words.now) as_many_as_asked
+    ensures goes { Goes (call_of (texts_of words.now) as_many_as_asked
         (change_of S.left S.faults source.old source.new)
         (change_of K.held K.faults sink.old sink.new)) result kept.new }
-    ensures truth { TellsOnlyTruth (call_of (texts_of words.now) as_many_as_asked
-        (change_of S.left S.faults source.old source.new)
-        (change_of K.held K.faults sink.old sink.new)) result }
     ensures reads { S.faults source.old ≤ S.faults source.new }
     ensures writes { K.faults sink.old ≤ K.faults sink.new }
 {
@@ -73,12 +70,9 @@ pub fn run_alone<S: Source, K: Sink>(
     sink: &mut K,
     kept: &mut Option<Finding>,
 ) -> Status
-    ensures ends { Ends (call_of (texts_of words.now) only_one
+    ensures goes { Goes (call_of (texts_of words.now) only_one
         (change_of S.left S.faults source.old source.new)
         (change_of K.held K.faults sink.old sink.new)) result kept.new }
-    ensures truth { TellsOnlyTruth (call_of (texts_of words.now) only_one
-        (change_of S.left S.faults source.old source.new)
-        (change_of K.held K.faults sink.old sink.new)) result }
     ensures reads { S.faults source.old ≤ S.faults source.new }
     ensures writes { K.faults sink.old ≤ K.faults sink.new }
 {
@@ -136,8 +130,7 @@ fn answer_source<R: Threads + Wait + Sync, S: Source, G: Gate + Sync>(
     requires bounds { IsWithinBounds asked.now }
     ensures answer { IfOk result (λ reply. IsReplyTo asked.now (change_of S.left S.faults source.old source.new) reply) }
     ensures claim { IfOk result (λ reply. reply.status ≡ Status.Done
-        → (bytes : List ℕ) × (TakesAll (limit_of asked.now.job) (change_of S.left S.faults source.old source.new) bytes
-        × IsTrueReply asked.now.job bytes reply.text)) }
+        → IsTrueOf asked.now.job (change_of S.left S.faults source.old source.new) reply) }
     ensures without { IfErr result (λ s. IsWithoutReply (limit_of asked.now.job) (change_of S.left S.faults source.old source.new) s) }
     ensures count { S.faults source.old ≤ S.faults source.new }
 {
@@ -158,8 +151,7 @@ fn answer_source_alone<S: Source>(
     requires one { asked.now.workers ≡ 1 }
     ensures answer { IfOk result (λ reply. IsReplyTo asked.now (change_of S.left S.faults source.old source.new) reply) }
     ensures claim { IfOk result (λ reply. reply.status ≡ Status.Done
-        → (bytes : List ℕ) × (TakesAll (limit_of asked.now.job) (change_of S.left S.faults source.old source.new) bytes
-        × IsTrueReply asked.now.job bytes reply.text)) }
+        → IsTrueOf asked.now.job (change_of S.left S.faults source.old source.new) reply) }
     ensures without { IfErr result (λ s. IsWithoutReply (limit_of asked.now.job) (change_of S.left S.faults source.old source.new) s) }
     ensures count { S.faults source.old ≤ S.faults source.new }
 {

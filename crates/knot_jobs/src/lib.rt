@@ -12,5 +12,4 @@ mod words;
 pub use call::{run, run_alone};
 pub use decision_core::Status;
 pub use plain_jobs::PlainJob;
-pub use walk_samples::sample_walk;
 pub use words::{Asked, Job, WordsFault, read_words};

@@ -11,6 +11,7 @@ use clap::builder::ValueParser;
 use clap::error::ErrorKind;
 use clap::{Arg, ArgAction, ArgMatches, Command};
 use plain_jobs::PlainJob;
+use search_book::MAX_BUDGET;
 use std::alloc::{AllocError, Global};
 use std::str::FromStr;
 
@@ -33,7 +34,7 @@ pub struct Asked {
     pub job: Job,
     /// How many workers search, 1 to 64.
     pub workers: u32,
-    /// How many diagrams the search may admit, and how many members a listing of `simplify` may have, 2 to 500,000.
+    /// How many diagrams the search may admit, and how many members a listing of `simplify` may have, 2 to `MAX_BUDGET`.
     pub budget: u32,
     /// How much the search may grow beyond the larger diagram, 0 to 4.
     pub spare: u8,
@@ -84,12 +85,15 @@ fn workers_arg<'a>(alloc: Global) -> Arg<'a>
     number_arg(alloc, "workers", parser, "1")
 }
 
+/// `MAX_BUDGET`, as `clap` takes the bounds of numbers.
+const MOST_ENTRIES: i64 = MAX_BUDGET as i64;
+
 /// How many entries.
 fn budget_arg<'a>(alloc: Global) -> Arg<'a>
     ensures rule { rule_of result ≡ budget_rule }
     ensures local { result.global ≡ false }
 {
-    let parser = clap::value_parser!(u32).range(2..=500_000);
+    let parser = clap::value_parser!(u32).range(2..=MOST_ENTRIES);
     number_arg(alloc, "budget", parser, "20000")
 }
 
@@ -209,7 +213,7 @@ where
 
 /// What the words ask for: a job and its options. `words[0]` is the program's name, whatever it is.
 /// `Usage` comes where `clap` refuses the words for another cause than memory, a request for help among them, or where
-/// they name none of the jobs, and nowhere else. `OutOfMemory` may come at any words.
+/// they name none of the jobs, and nowhere else. No clause says when `OutOfMemory` comes: it may at any words.
 pub fn read_words(alloc: Global, words: &[String]) -> Result<Asked, WordsFault>
     ensures asked { IfOk result (λ asked. Asks (texts_of words.now) asked) }
     ensures bounds { IfOk result IsWithinBounds }

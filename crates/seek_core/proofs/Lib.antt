@@ -8,3 +8,4 @@ mod Separated
 mod Texts
 mod WholeLines
 mod SaidInTurn
+mod LinesInTurn

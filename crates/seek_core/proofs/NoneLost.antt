@@ -18,10 +18,10 @@ use Rattle.verdict_core.proofs.Named.{IsNamedSo, named_so}
 use Rattle.knot_text.specs.Printed.{HasQuandleText}
 use Rattle.knot_text.specs.Shapes.{problem_of}
 use Rattle.pair_verdict.specs.Separates.{separates, first_separating}
-use Rattle.seek_core.specs.Candidates.{fits_both, same_name, is_named, fitting, IsUnlisted, candidates}
+use Rattle.seek_core.specs.Candidates.{fits_diagrams, same_name, is_named, fitting, IsUnlisted, candidates}
 use Rattle.seek_core.specs.Formulas.{quandles_named, formula_names, formula_quandles}
 use Rattle.seek_core.specs.declared.answer.Tried.{Tried}
-use Rattle.seek_core.specs.Answers.{WasTriedInVain}
+use Rattle.seek_core.specs.Answers.{QuandlesTriedInVain}
 
 -- ---- the first of those that a filter keeps
 
@@ -86,7 +86,7 @@ named_each (n ∷ names) = named_by names n (quandle_named n) refl (named_each n
 abbrev Separates : Diagram → Diagram → NamedQuandle → Bool
 Separates d e q = separates d e q.table
 
-unfit : (d e : Diagram) (q : NamedQuandle) → fits_both d e q ≡ false → separates d e q.table ≡ false
+unfit : (d e : Diagram) (q : NamedQuandle) → fits_diagrams d e q ≡ false → separates d e q.table ≡ false
 unfit d e q is = and_left (fits q.table d && fits q.table e) (not (length (colourings q.table d) == length (colourings q.table e))) is
 
 -- a quandle that is called like a listed one, of which none separates the diagrams
@@ -104,41 +104,41 @@ tried_before d e (r ∷ rs) q so names none is =
 
 passed_over : (d e : Diagram) (listed : List NamedQuandle) (q : NamedQuandle) → IsNamedSo q.name q
     → AllByRecursion (λ (r : NamedQuandle). Names r.name r.table) listed → AllByRecursion (λ (r : NamedQuandle). Separates d e r ≡ false) listed
-    → Loses (Separates d e) (λ (r : NamedQuandle). fits_both d e r && not (is_named listed r.name)) q
+    → Loses (Separates d e) (λ (r : NamedQuandle). fits_diagrams d e r && not (is_named listed r.name)) q
 passed_over d e listed q so names none lost =
-    elim (and_cases (fits_both d e q) (not (is_named listed q.name)) lost) [
+    elim (and_cases (fits_diagrams d e q) (not (is_named listed q.name)) lost) [
       | inl wide ↦ unfit d e q wide
       | inr called ↦ tried_before d e listed q so names none (not-false (is_named listed q.name) called)
     ]
 
 all_passed_over : (d e : Diagram) (listed qs : List NamedQuandle) → AllByRecursion (λ (q : NamedQuandle). IsNamedSo q.name q) qs
     → AllByRecursion (λ (r : NamedQuandle). Names r.name r.table) listed → AllByRecursion (λ (r : NamedQuandle). Separates d e r ≡ false) listed
-    → AllByRecursion (Loses (Separates d e) (λ (r : NamedQuandle). fits_both d e r && not (is_named listed r.name))) qs
+    → AllByRecursion (Loses (Separates d e) (λ (r : NamedQuandle). fits_diagrams d e r && not (is_named listed r.name))) qs
 all_passed_over d e listed [] so names none = search rules
 all_passed_over d e listed (q ∷ qs) so names none =
     (passed_over d e listed q so.0 names none, all_passed_over d e listed qs so.1 names none)
 
-unfit_passed_over : (d e : Diagram) (q : NamedQuandle) → Loses (Separates d e) (λ (r : NamedQuandle). fits_both d e r && not (is_named [] r.name)) q
+unfit_passed_over : (d e : Diagram) (q : NamedQuandle) → Loses (Separates d e) (λ (r : NamedQuandle). fits_diagrams d e r && not (is_named [] r.name)) q
 unfit_passed_over d e q lost =
-    elim (and_cases (fits_both d e q) true lost) [
+    elim (and_cases (fits_diagrams d e q) true lost) [
       | inl wide ↦ unfit d e q wide
       | inr wrong ↦ absurd (let no : true ≡ false = wrong in cc)
     ]
 
 all_unfit_passed_over : (d e : Diagram) (qs : List NamedQuandle)
-    → AllByRecursion (Loses (Separates d e) (λ (r : NamedQuandle). fits_both d e r && not (is_named [] r.name))) qs
+    → AllByRecursion (Loses (Separates d e) (λ (r : NamedQuandle). fits_diagrams d e r && not (is_named [] r.name))) qs
 all_unfit_passed_over d e [] = search rules
 all_unfit_passed_over d e (q ∷ qs) = (unfit_passed_over d e q, all_unfit_passed_over d e qs)
 
 -- ---- so the first is the same
 
 first_listed : (d e : Diagram) (listed : List NamedQuandle) → first_separating d e (fitting d e [] listed) ≡ first_separating d e listed
-first_listed d e listed = find_kept (Separates d e) (λ (r : NamedQuandle). fits_both d e r && not (is_named [] r.name)) listed (all_unfit_passed_over d e listed)
+first_listed d e listed = find_kept (Separates d e) (λ (r : NamedQuandle). fits_diagrams d e r && not (is_named [] r.name)) listed (all_unfit_passed_over d e listed)
 
 first_by_formula : (d e : Diagram) (listed : List NamedQuandle) → AllByRecursion (λ (r : NamedQuandle). Names r.name r.table) listed
     → first_separating d e listed ≡ None → first_separating d e (fitting d e listed formula_quandles) ≡ first_separating d e formula_quandles
 first_by_formula d e listed names none =
-    find_kept (Separates d e) (λ (r : NamedQuandle). fits_both d e r && not (is_named listed r.name)) formula_quandles
+    find_kept (Separates d e) (λ (r : NamedQuandle). fits_diagrams d e r && not (is_named listed r.name)) formula_quandles
     (all_passed_over d e listed formula_quandles (named_each formula_names) names (none_passes (Separates d e) listed none))
 
 first_both : (d e : Diagram) (listed : List NamedQuandle) (o : Option NamedQuandle) → first_separating d e listed ≡ o
@@ -182,7 +182,7 @@ none_by_formula d e listed names none =
     none_separates d e formula_quandles (none_of_back (first_separating d e listed) (first_separating d e formula_quandles) parts)
 
 -- the diagrams of a problem
-pub none_of_problem : (bytes : List ℕ) (tried : Tried) (p : ProblemText) → WasTriedInVain bytes tried → problem_of bytes ≡ Ok p
+pub none_of_problem : (bytes : List ℕ) (tried : Tried) (p : ProblemText) → QuandlesTriedInVain bytes tried → problem_of bytes ≡ Ok p
     → first_separating (grid_of p.first) (grid_of p.second) (candidates (grid_of p.first) (grid_of p.second) p.quandles) ≡ None
 none_of_problem bytes tried p was read =
     let same : was.problem ≡ p = let e = sym was.read ∙ read in cc in
@@ -211,13 +211,13 @@ not_so_called (r ∷ rs) n is =
     )
 
 abbrev Keeps : Diagram → Diagram → List NamedQuandle → NamedQuandle → Bool
-Keeps d e others q = fits_both d e q && not (is_named others q.name)
+Keeps d e others q = fits_diagrams d e q && not (is_named others q.name)
 
 abbrev FitsBoth : Diagram → Diagram → NamedQuandle → Type 0
 FitsBoth d e q = (fits q.table d ≡ true) × (fits q.table e ≡ true)
 
 fit_kept : (d e : Diagram) (others : List NamedQuandle) (q : NamedQuandle) → Keeps d e others q ≡ true → FitsBoth d e q
-fit_kept d e others q kept = and_parts (fits q.table d) (fits q.table e) (and_parts (fits_both d e q) (not (is_named others q.name)) kept).0
+fit_kept d e others q kept = and_parts (fits q.table d) (fits q.table e) (and_parts (fits_diagrams d e q) (not (is_named others q.name)) kept).0
 
 fit_each : (d e : Diagram) (others qs : List NamedQuandle) → All (FitsBoth d e) (fitting d e others qs)
 fit_each d e others qs =
@@ -234,7 +234,7 @@ IsKnown listed q = Contains listed q ⊎ IsUnlisted listed q
 
 unlisted : (d e : Diagram) (listed : List NamedQuandle) (q : NamedQuandle) → Keeps d e listed q ≡ true → All (λ (r : NamedQuandle). r.name ≢ q.name) listed
 unlisted d e listed q kept =
-    let free = not-true (is_named listed q.name) (and_parts (fits_both d e q) (not (is_named listed q.name)) kept).1 in
+    let free = not-true (is_named listed q.name) (and_parts (fits_diagrams d e q) (not (is_named listed q.name)) kept).1 in
     All-from_recursion (λ (r : NamedQuandle). r.name ≢ q.name) listed (not_so_called listed q.name free)
 
 known_listed : (d e : Diagram) (listed : List NamedQuandle) → All (IsKnown listed) (fitting d e [] listed)

@@ -28,7 +28,7 @@ use Rattle.seek_core.specs.Formulas.{formula_quandles}
 use Rattle.seek_core.specs.declared.finding.Search.{Search}
 use Rattle.seek_core.specs.declared.answer.Tried.{Tried}
 use Rattle.seek_core.specs.Found.{IsVerdictBy, IsFoundWhere, IsSearchOn, IsSearchOf, IsFindingOf}
-use Rattle.seek_core.specs.Answers.{WasTriedInVain, WereTriedInVain}
+use Rattle.seek_core.specs.Answers.{QuandlesTriedInVain, BlocksTriedInVain}
 use Rattle.seek_core.proofs.ByFormula.{formula_texts}
 use Rattle.seek_core.proofs.GivenTexts.{by_written}
 
@@ -116,7 +116,7 @@ linking_none d e s blocks none = by (told_by_linking d e) refl none
 
 pub in_vain_of : (bytes : List ℕ) (p : ProblemText) (blocks : List Block) (s : Search) (tried : Tried) → problem_of bytes ≡ Ok p
     → tried.columns ≡ (columns p.first, columns p.second) → tried.quandles ≡ s.quandles.items → tried.blocks ≡ s.blocks → s.said ≡ None
-    → IsSearchOf p blocks s → WasTriedInVain bytes tried × WereTriedInVain bytes blocks tried
+    → IsSearchOf p blocks s → QuandlesTriedInVain bytes tried × BlocksTriedInVain bytes blocks tried
 in_vain_of bytes p blocks s tried read wide same fitting none search =
     let d = grid_of p.first in
     let e = grid_of p.second in

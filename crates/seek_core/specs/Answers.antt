@@ -48,7 +48,7 @@ Decides bytes text = IsDecision bytes text ⊎ IsEvidenceOn bytes text
 
 -- the bytes are a problem whose diagrams have so many columns. Their linking numbers agree, these quandles were tried on them, and none of these
 -- separates them
-pub record WasTriedInVain (bytes : List ℕ) (tried : Tried) : Type 0 where
+pub record QuandlesTriedInVain (bytes : List ℕ) (tried : Tried) : Type 0 where
   pub problem : ProblemText
   pub read : problem_of bytes ≡ Ok problem
   pub wide : tried.columns ≡ (columns problem.first, columns problem.second)
@@ -57,7 +57,7 @@ pub record WasTriedInVain (bytes : List ℕ) (tried : Tried) : Type 0 where
   pub in_vain : first_separating (grid_of problem.first) (grid_of problem.second) tried.quandles ≡ None
 
 -- so many of the blocks fit plans of both diagrams of a problem, and none of these tells the diagrams apart
-pub record WereTriedInVain (bytes : List ℕ) (blocks : List Block) (tried : Tried) : Type 0 where
+pub record BlocksTriedInVain (bytes : List ℕ) (blocks : List Block) (tried : Tried) : Type 0 where
   pub problem : ProblemText
   pub read : problem_of bytes ≡ Ok problem
   pub seeds : SeedPair
@@ -68,7 +68,7 @@ pub record WereTriedInVain (bytes : List ℕ) (blocks : List Block) (tried : Tri
 -- a text decides the input; what is said to have been tried was, in vain; and a line is called bad where it is the first bad one
 abbrev pub IsTrueAnswer : List ℕ → List Block → Answer → Type 0
 IsTrueAnswer bytes blocks (answer.Decided text) = Decides bytes text
-IsTrueAnswer bytes blocks (answer.NotFound tried) = WasTriedInVain bytes tried × WereTriedInVain bytes blocks tried
+IsTrueAnswer bytes blocks (answer.NotFound tried) = QuandlesTriedInVain bytes tried × BlocksTriedInVain bytes blocks tried
 IsTrueAnswer bytes blocks (answer.Malformed line) = problem_of bytes ≡ Err (bad.Malformed line)
 IsTrueAnswer bytes blocks (answer.Limit line) = problem_of bytes ≡ Err (bad.Limit line)
 
@@ -82,7 +82,7 @@ WritesDecision bytes before after = (text : List ℕ) × (Decides bytes text × 
 -- nothing else
 abbrev pub Ends : List ℕ → Option (List ℕ) → Option (List ℕ) → Ending → Type 0
 Ends bytes before after ending.Done = WritesDecision bytes before after
-Ends bytes before after (ending.NotFound tried) = WasTriedInVain bytes tried × Keeps before after
+Ends bytes before after (ending.NotFound tried) = QuandlesTriedInVain bytes tried × Keeps before after
 Ends bytes before after (ending.Malformed line) = (problem_of bytes ≡ Err (bad.Malformed line)) × Keeps before after
 Ends bytes before after (ending.Limit line) = (problem_of bytes ≡ Err (bad.Limit line)) × Keeps before after
 Ends bytes before after ending.TooLong = (MAX_INPUT < length bytes) × Keeps before after

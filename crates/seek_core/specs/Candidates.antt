@@ -9,8 +9,8 @@ use Rattle.verdict_core.specs.Names.{NamedQuandle}
 use Rattle.seek_core.specs.Formulas.{formula_quandles}
 
 -- both diagrams have few enough choices of colours
-abbrev pub fits_both : Diagram → Diagram → NamedQuandle → Bool
-fits_both d e q = fits q.table d && fits q.table e
+abbrev pub fits_diagrams : Diagram → Diagram → NamedQuandle → Bool
+fits_diagrams d e q = fits q.table d && fits q.table e
 
 abbrev pub same_name : QuandleName → QuandleName → Bool
 same_name (name.Trivial n) (name.Trivial m) = n == m
@@ -26,7 +26,7 @@ is_named quandles name = list_any (λ (q : NamedQuandle). same_name q.name name)
 
 -- of these quandles those that fit both diagrams and are called like none of the others
 abbrev pub fitting : Diagram → Diagram → List NamedQuandle → List NamedQuandle → List NamedQuandle
-fitting d e others quandles = filter (λ (q : NamedQuandle). fits_both d e q && not (is_named others q.name)) quandles
+fitting d e others quandles = filter (λ (q : NamedQuandle). fits_diagrams d e q && not (is_named others q.name)) quandles
 
 -- those of a problem, and then those by formula that are not among them
 abbrev pub candidates : Diagram → Diagram → List NamedQuandle → List NamedQuandle

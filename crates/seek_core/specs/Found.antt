@@ -22,6 +22,7 @@ use Rattle.number_search.specs.declared.seed_pair.SeedPair.{SeedPair}
 use Rattle.number_search.specs.Told.{ArePlansOf, fits_both, told_apart}
 use Rattle.seek_core.specs.declared.finding.Search.{Search}
 use Rattle.seek_core.specs.Candidates.{candidates}
+use Rattle.seek_core.specs.Pairs.{SeededPair}
 
 -- the verdict `equal`, with a tidy list of moves that joins the diagrams
 pub record IsEqualBy (d e : Diagram) (v : Verdict) : Type 0 where
@@ -46,6 +47,15 @@ abbrev pub IsFoundWhere : Diagram → Diagram → Option NamedQuandle → Option
 IsFoundWhere d e quandle evidence (Some (said.Verdict v)) = IsVerdictBy d e quandle v
 IsFoundWhere d e quandle evidence (Some (said.Evidence x)) = evidence ≡ Some x
 IsFoundWhere d e quandle evidence None = (quandle ≡ None) × (evidence ≡ None)
+
+-- such a verdict on a pair of diagrams by the first of these quandles that separates them, or none
+abbrev pub IsVerdictOn : SeededPair → List NamedQuandle → Option Verdict → Type 0
+IsVerdictOn p quandles o = IsVerdictWhere p.first p.second (first_separating p.first p.second quandles) o
+
+-- what is found of a pair of diagrams by these quandles, these blocks, and moves
+abbrev pub IsFoundOn : SeededPair → List NamedQuandle → List Block → Option Said → Type 0
+IsFoundOn p quandles blocks o =
+    IsFoundWhere p.first p.second (first_separating p.first p.second quandles) (told_apart p.first p.second p.seeds blocks) o
 
 -- what a search on two diagrams and listed quandles tried, with so many of the blocks that fit plans of both diagrams, and what it found
 pub record IsSearchOn (d e : Diagram) (listed : List NamedQuandle) (blocks : List Block) (s : Search) : Type 0 where

@@ -1,5 +1,6 @@
 pub mod Formulas
 pub mod Candidates
+pub mod Pairs
 pub mod Found
 pub mod Parts
 pub mod Given

@@ -2,7 +2,7 @@
 ghost use Rattle.std.specs.Prelude.{◌≡◌, [], ◌∷◌, ◌++◌, IfOk, OnOk};
 ghost use Rattle.std.specs.List.{All};
 ghost use Rattle.knot_text.specs.Printed.{HasQuandleText};
-ghost use Rattle.seek_core.specs.Candidates.{fits_both, is_named, fitting, candidates};
+ghost use Rattle.seek_core.specs.Candidates.{fits_diagrams, is_named, fitting, candidates};
 
 use crate::formulas::formula_quandles;
 use colour_list::fits;
@@ -55,15 +55,15 @@ fn push_if_fitting(
 ) -> Result<(), OutOfMemory>
     ensures { OnOk result (tried.new.items ≡ tried.old.items ++ fitting first.now second.now others.now (listed.now ∷ [])) }
 {
-    if fits_both(first, second, listed) && !is_named(others, listed.name()) {
+    if fits_diagrams(first, second, listed) && !is_named(others, listed.name()) {
         tried.push(listed.copy())?;
     }
     Ok(())
 }
 
 /// Whether a quandle fits both diagrams.
-fn fits_both(first: &Grid, second: &Grid, listed: &Listed) -> bool
-    ensures { result ≡ fits_both first.now second.now listed.now }
+fn fits_diagrams(first: &Grid, second: &Grid, listed: &Listed) -> bool
+    ensures { result ≡ fits_diagrams first.now second.now listed.now }
 {
     let quandle = listed.quandle();
     let _order = quandle.order();

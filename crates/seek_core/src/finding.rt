@@ -1,21 +1,17 @@
 //! The search for what can be said of two diagrams: in rounds, by cost and yield.
-ghost use Rattle.std.specs.Prelude.{◌≡◌, ◌++◌, None, IfOk, IfSome};
+ghost use Rattle.std.specs.Prelude.{IfOk, IfSome};
 ghost use Rattle.std.specs.List.{All};
 ghost use Rattle.knot_text.specs.Printed.{HasQuandleText};
-ghost use Rattle.number_search.specs.Told.{ArePlansOf, told_apart};
-ghost use Rattle.pair_verdict.specs.Separates.{first_separating};
-ghost use Rattle.seek_core.specs.Found.{IsEqualBy, IsVerdictWhere, IsFoundWhere, IsSearchOf, IsFindingOf};
+ghost use Rattle.seek_core.specs.Found.{IsVerdictOn, IsFoundOn, IsSearchOf, IsFindingOf};
 
 use crate::blocks::Blocks;
 use crate::bounds::{Bounds, SHORT_STEPS};
 use crate::candidates::candidates;
-use crate::separating::first_separation;
-use grid_canon::tidy;
-use grid_core::Grid;
-use meeting_walks::{Watch, find_joining_by};
-use memory_core::{Items, OutOfMemory};
+use crate::pair::Pair;
+use meeting_walks::Watch;
+use memory_core::OutOfMemory;
 use number_certificates::Said;
-use number_search::{SeedPair, count_fitting, tell_apart_by_blocks, tell_apart_by_linking};
+use number_search::{SeedPair, count_fitting};
 use number_text::Block;
 use std::alloc::Global;
 use std::thread::Threads;
@@ -64,17 +60,8 @@ pub fn find<R: Threads + Sync, W: Watch>(
     let quandles = candidates(alloc, &first, &second, problem.quandles.as_slice())?;
     let seeds = SeedPair::of(alloc, &first, &second)?;
     let given = blocks.as_slice();
-    let said = said_of(
-        rt,
-        alloc,
-        &first,
-        &second,
-        &seeds,
-        quandles.as_slice(),
-        given,
-        bounds,
-        watch,
-    )?;
+    let pair = Pair::new(&first, &second, &seeds);
+    let said = said_of(rt, alloc, &pair, quandles.as_slice(), given, bounds, watch)?;
     Ok(Search {
         said,
         quandles,
@@ -86,24 +73,21 @@ pub fn find<R: Threads + Sync, W: Watch>(
 fn said_of<R: Threads + Sync, W: Watch>(
     rt: &R,
     alloc: Global,
-    first: &Grid,
-    second: &Grid,
-    seeds: &SeedPair,
+    pair: &Pair,
     quandles: &[Listed],
     blocks: &[Block],
     bounds: Bounds,
     watch: &mut W,
 ) -> Result<Option<Said>, OutOfMemory>
-    requires plans { ArePlansOf first.now second.now seeds.now }
-    requires texts { All HasQuandleText quandles.now }
-    ensures { IfOk result (λ o. IsFoundWhere first.now second.now (first_separating first.now second.now quandles.now) (told_apart first.now second.now seeds.now blocks.now) o) }
+    requires { All HasQuandleText quandles.now }
+    ensures { IfOk result (λ o. IsFoundOn pair.now quandles.now blocks.now o) }
 {
     let (front, others) = quandles.split_at(FIRST_QUANDLES.min(quandles.len()));
-    let told = told_first(alloc, first, second, seeds, front, blocks)?;
+    let told = told_first(alloc, pair, front, blocks)?;
     if told.is_some() {
         return Ok(told);
     }
-    match verdict_on(rt, alloc, first, second, seeds, others, bounds, watch)? {
+    match verdict_on(rt, alloc, pair, others, bounds, watch)? {
         Some(verdict) => Ok(Some(Said::Verdict(verdict))),
         None => Ok(None),
     }
@@ -112,22 +96,19 @@ fn said_of<R: Threads + Sync, W: Watch>(
 /// What tells two diagrams apart in the first three rounds: linking numbers, the first quandles, and blocks.
 fn told_first(
     alloc: Global,
-    first: &Grid,
-    second: &Grid,
-    seeds: &SeedPair,
+    pair: &Pair,
     quandles: &[Listed],
     blocks: &[Block],
 ) -> Result<Option<Said>, OutOfMemory>
-    requires plans { ArePlansOf first.now second.now seeds.now }
-    ensures { IfOk result (λ o. IsFoundWhere first.now second.now (first_separating first.now second.now quandles.now) (told_apart first.now second.now seeds.now blocks.now) o) }
+    ensures { IfOk result (λ o. IsFoundOn pair.now quandles.now blocks.now o) }
 {
-    if let Some(evidence) = tell_apart_by_linking(alloc, first, second)? {
+    if let Some(evidence) = pair.told_by_linking(alloc)? {
         return Ok(Some(Said::Evidence(evidence)));
     }
-    if let Some(verdict) = first_separation(alloc, first, second, seeds, quandles)? {
+    if let Some(verdict) = pair.separation(alloc, quandles)? {
         return Ok(Some(Said::Verdict(verdict)));
     }
-    match tell_apart_by_blocks(alloc, first, second, seeds, blocks)? {
+    match pair.told_by_blocks(alloc, blocks)? {
         Some(evidence) => Ok(Some(Said::Evidence(evidence))),
         None => Ok(None),
     }
@@ -138,49 +119,24 @@ fn told_first(
 fn verdict_on<R: Threads + Sync, W: Watch>(
     rt: &R,
     alloc: Global,
-    first: &Grid,
-    second: &Grid,
-    seeds: &SeedPair,
+    pair: &Pair,
     quandles: &[Listed],
     bounds: Bounds,
     watch: &mut W,
 ) -> Result<Option<Verdict>, OutOfMemory>
-    requires plans { ArePlansOf first.now second.now seeds.now }
-    requires texts { All HasQuandleText quandles.now }
-    ensures { IfOk result (λ o. IsVerdictWhere first.now second.now (first_separating first.now second.now quandles.now) o) }
+    requires { All HasQuandleText quandles.now }
+    ensures { IfOk result (λ o. IsVerdictOn pair.now quandles.now o) }
 {
-    let joined = equal(rt, alloc, first, second, bounds.short(), watch)?;
+    let joined = pair.joining(rt, alloc, bounds.short(), watch)?;
     if joined.is_some() {
         return Ok(joined);
     }
-    let told = first_separation(alloc, first, second, seeds, quandles)?;
+    let told = pair.separation(alloc, quandles)?;
     if told.is_some() {
         return Ok(told);
     }
     if bounds.walks.steps <= SHORT_STEPS {
         return Ok(None);
     }
-    equal(rt, alloc, first, second, bounds, watch)
-}
-
-/// The verdict `equal` by a tidy list of moves, if the walks find a list. It joins the diagrams as given: the list that was found was made
-/// move by move at the end.
-fn equal<R: Threads + Sync, W: Watch>(
-    rt: &R,
-    alloc: Global,
-    first: &Grid,
-    second: &Grid,
-    bounds: Bounds,
-    watch: &mut W,
-) -> Result<Option<Verdict>, OutOfMemory>
-    ensures { IfOk result (λ o. IfSome o (λ v. IsEqualBy first.now second.now v)) }
-{
-    let Bounds { walks, workers } = bounds;
-    match find_joining_by(rt, alloc, first, second, walks, workers, watch)? {
-        Some(moves) => {
-            let list = tidy(alloc, first, moves.as_slice())?;
-            Ok(Some(Verdict::Equal(Items::from_vec(list))))
-        }
-        None => Ok(None),
-    }
+    pair.joining(rt, alloc, bounds, watch)
 }

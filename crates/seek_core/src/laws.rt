@@ -9,6 +9,7 @@ ghost use Rattle.verdict_core.specs.declared.problem.ProblemText.{ProblemText};
 ghost use Rattle.verdict_core.specs.Diagrams.{grid_of};
 ghost use Rattle.verdict_core.specs.Names.{NamedQuandle, Names};
 ghost use Rattle.pair_verdict.specs.Separates.{separates, first_separating};
+ghost use Rattle.text_lines.specs.Lines.{text_of};
 ghost use Rattle.knot_text.specs.Printed.{HasQuandleText};
 ghost use Rattle.knot_text.specs.Shapes.{problem_of};
 ghost use Rattle.knot_text.specs.WrittenThere.{said_by};
@@ -18,10 +19,10 @@ ghost use Rattle.number_text.specs.declared.blocks.Block.{Block};
 ghost use Rattle.number_check.specs.Holds.{numbers_by};
 ghost use Rattle.number_search.specs.declared.seed_pair.SeedPair.{SeedPair};
 ghost use Rattle.number_search.specs.Told.{ArePlansOf, fits_both};
-ghost use Rattle.seek_core.specs.Answers.{WasTriedInVain, WereTriedInVain};
+ghost use Rattle.seek_core.specs.Answers.{QuandlesTriedInVain, BlocksTriedInVain};
 ghost use Rattle.seek_core.specs.Candidates.{IsUnlisted, candidates};
 ghost use Rattle.seek_core.specs.Formulas.{formula_quandles, HaveOwnTables, HaveTable, IsFactor, IsByFormula};
-ghost use Rattle.seek_core.specs.Parts.{joined};
+ghost use Rattle.seek_core.specs.Parts.{joined, lines_in_turn};
 
 use crate::answer::Tried;
 use decision_core::laws::a_verdict_that_holds_is_a_decision;
@@ -73,11 +74,11 @@ pub fn where_no_candidate_separates_no_quandle_does()
 /// Where an input was tried in vain, neither a quandle of its problem nor one by formula separates its diagrams.
 pub fn what_was_tried_in_vain_no_quandle_separates()
     ensures listed { (bytes : List ℕ) (tried : Tried) (problem : ProblemText)
-        → WasTriedInVain bytes tried
+        → QuandlesTriedInVain bytes tried
         → problem_of bytes ≡ Ok problem
         → All (λ (q : NamedQuandle). separates (grid_of problem.first) (grid_of problem.second) q.table ≡ false) problem.quandles }
     ensures by_formula { (bytes : List ℕ) (tried : Tried) (problem : ProblemText)
-        → WasTriedInVain bytes tried
+        → QuandlesTriedInVain bytes tried
         → problem_of bytes ≡ Ok problem
         → All (λ (q : NamedQuandle). separates (grid_of problem.first) (grid_of problem.second) q.table ≡ false) formula_quandles }
 {
@@ -88,12 +89,12 @@ pub fn what_was_tried_in_vain_no_quandle_separates()
 /// of both diagrams they have the same numbers of colourings.
 pub fn what_was_tried_in_vain_no_numbers_tell_apart()
     ensures linking { (bytes : List ℕ) (tried : Tried) (problem : ProblemText)
-        → WasTriedInVain bytes tried
+        → QuandlesTriedInVain bytes tried
         → problem_of bytes ≡ Ok problem
         → (length (components (grid_of problem.first)) ≡ length (components (grid_of problem.second)))
         × (linking (grid_of problem.first) ≡ linking (grid_of problem.second)) }
     ensures blocks { (bytes : List ℕ) (blocks : List Block) (tried : Tried) (problem : ProblemText)
-        → WereTriedInVain bytes blocks tried
+        → BlocksTriedInVain bytes blocks tried
         → problem_of bytes ≡ Ok problem
         → (s : SeedPair) × ArePlansOf (grid_of problem.first) (grid_of problem.second) s
         × All (λ (b : Block). fits_both s b ≡ true → numbers_by b (grid_of problem.first) ≡ numbers_by b (grid_of problem.second)) blocks }
@@ -110,4 +111,10 @@ pub fn a_candidate_is_listed_or_by_formula()
 /// Put together the parts say what each of them says, in their order: lines do not run into each other.
 pub fn joined_parts_say_what_each_says()
     ensures { (parts : List (List ℕ)) → said_by (joined parts) ≡ flat_map said_by parts }
+{}
+
+/// Put together the parts have the lines of each of them, in their order. The number of a line is that in its part and the number of lines of
+/// the parts before, as `place` counts them.
+pub fn joined_parts_have_the_lines_of_each()
+    ensures { (parts : List (List ℕ)) → (text_of (joined parts)).lines ≡ lines_in_turn 0 parts }
 {}

@@ -11,6 +11,7 @@ mod ending;
 mod finding;
 mod formulas;
 pub mod laws;
+mod pair;
 mod parts;
 mod separating;
 
@@ -20,4 +21,4 @@ pub use bounds::{Bounds, SHORT_STEPS};
 pub use ending::{Ending, run};
 pub use finding::{FIRST_QUANDLES, Search, find};
 pub use formulas::formula_quandles;
-pub use parts::join_parts;
+pub use parts::{join_parts, place};

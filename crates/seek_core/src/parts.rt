@@ -1,13 +1,14 @@
 //! A problem that comes in parts.
-ghost use Rattle.std.specs.Prelude.{◌≡◌, IfOk, OnOk};
-ghost use Rattle.text_lines.specs.Lines.{are_whole_lines};
+ghost use Rattle.std.specs.Prelude.{◌≡◌, [], IfOk, IfSome, IfNone, OnOk};
+ghost use Rattle.text_lines.specs.Lines.{are_whole_lines, line_count};
 ghost use Rattle.decision_core.specs.Decision.{put_behind};
-ghost use Rattle.seek_core.specs.Parts.{joined};
+ghost use Rattle.seek_core.specs.Parts.{joined, StandsIn};
 
 use memory_core::{Items, OutOfMemory};
 use std::alloc::Global;
+use text_lines::Lines;
 
-/// The parts one behind the other, each from the beginning of a line on.
+/// The parts one behind the other, each from the beginning of a line on. Want of memory is the only error.
 pub fn join_parts(alloc: Global, parts: &[Items<u8>]) -> Result<Vec<u8>, OutOfMemory>
     ensures { IfOk result (λ whole. whole.items ≡ joined parts.now) }
 {
@@ -16,6 +17,31 @@ pub fn join_parts(alloc: Global, parts: &[Items<u8>]) -> Result<Vec<u8>, OutOfMe
         put_behind(&mut whole, part.as_slice())?;
     }
     Ok(whole)
+}
+
+/// Where a line of the parts, one behind the other, stands: which part it is in, counted from 0, and its number there; lines are counted from 1.
+/// One behind the last line stands behind those of the last part. None comes where there are no parts. Takes no memory.
+pub fn place(parts: &[Items<u8>], line: usize) -> Option<(usize, usize)>
+    ensures some { IfSome result (λ at. StandsIn parts.now line at.0 at.1) }
+    ensures none { IfNone result (parts.now ≡ []) }
+{
+    let count = parts.len();
+    let mut left = line;
+    for part in 0..count {
+        let lines = line_count(parts[part].as_slice());
+        if left <= lines || part + 1 == count {
+            return Some((part, left));
+        }
+        left -= lines;
+    }
+    None
+}
+
+/// How many lines there are, of which the last may lack its line feed.
+fn line_count(bytes: &[u8]) -> usize
+    ensures { result ≡ line_count bytes.now }
+{
+    Lines::new(bytes).ending() - 1
 }
 
 /// Appends a part, behind a line feed where the last line lacks one.

@@ -5,7 +5,7 @@ ghost use Rattle.verdict_core.specs.Evidence.{Claims, Holds, HasEvidence, IsTidy
 ghost use Rattle.pair_verdict.specs.Decided.{Decides};
 ghost use Rattle.knot_text.specs.Shapes.{problem_of};
 ghost use Rattle.knot_jobs.specs.Words.{IsWithinBounds};
-ghost use Rattle.knot_jobs.specs.Reply.{AnswersRead};
+ghost use Rattle.knot_jobs.specs.Reply.{RepliesRead};
 ghost use Rattle.knot_jobs.specs.Jobs.Decide.{problem_for, verdict_status, AnswersDecide};
 ghost use Rattle.knot_jobs.specs.Truth.{IsCheckedDecision};
 
@@ -32,7 +32,7 @@ pub(crate) fn answer<R: Threads + Wait + Sync, G: Gate + Sync>(
     gate: &G,
 ) -> Result<Reply, AllocError>
     requires bounds { IsWithinBounds asked.now }
-    ensures answer { IfOk result (λ reply. AnswersRead (AnswersDecide asked.now) (problem_of bytes.now) reply) }
+    ensures answer { IfOk result (λ reply. RepliesRead (AnswersDecide asked.now) (problem_of bytes.now) reply) }
     ensures claim { IfOk result (λ reply. reply.status ≡ Status.Done → IsCheckedDecision bytes.now reply.text) }
 {
     match read_problem(alloc, bytes) {
@@ -50,7 +50,7 @@ pub(crate) fn answer<R: Threads + Wait + Sync, G: Gate + Sync>(
 pub(crate) fn answer_alone(alloc: Global, asked: &Asked, bytes: &[u8]) -> Result<Reply, AllocError>
     requires bounds { IsWithinBounds asked.now }
     requires one { asked.now.workers ≡ 1 }
-    ensures answer { IfOk result (λ reply. AnswersRead (AnswersDecide asked.now) (problem_of bytes.now) reply) }
+    ensures answer { IfOk result (λ reply. RepliesRead (AnswersDecide asked.now) (problem_of bytes.now) reply) }
     ensures claim { IfOk result (λ reply. reply.status ≡ Status.Done → IsCheckedDecision bytes.now reply.text) }
 {
     match read_problem(alloc, bytes) {

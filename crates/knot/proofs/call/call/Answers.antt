@@ -5,6 +5,6 @@ returns g c = record {
   status = c.run-status.result;
   number = c.exit_code.ensures;
   kept = c.run-status.new.kept;
-  ends = c.run-status.ensures.ends;
-  truth = c.run-status.ensures.truth;
+  ends = c.run-status.ensures.goes.ends;
+  truth = c.run-status.ensures.goes.truth;
 }
