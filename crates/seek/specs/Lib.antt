@@ -1,0 +1,4 @@
+pub mod Failure
+pub mod Blocks
+pub mod Search
+pub mod Exit

@@ -1,4 +1,5 @@
-//! Which files are read: whether standard input is among them, and whether one is written too.
+//! Whether a file that is read is written too.
+ghost use Rattle.std.specs.Prelude.{IfSome, IsSome};
 
 use seek_words::{Asked, Diagrams, Given};
 use std::fs;
@@ -6,7 +7,9 @@ use std::os::unix::fs::MetadataExt;
 
 /// The first of the files that are read that is the one that is written, under whichever names; None without one. Devices and pipes may
 /// be both.
-pub(crate) fn read_and_written<'a>(rt: &HostRuntime, asked: &Asked<'a>) -> Option<&'a str> {
+pub(crate) fn read_and_written<'a>(rt: &HostRuntime, asked: &Asked<'a>) -> Option<&'a str>
+    ensures { IfSome result (λ name. IsSome asked.now.out) }
+{
     let (device, number) = file_at(rt, asked.out?)?;
     let is_it = |path: &str| file_at(rt, path) == Some((device, number));
     for given in diagrams_of(asked) {
@@ -23,23 +26,6 @@ pub(crate) fn read_and_written<'a>(rt: &HostRuntime, asked: &Asked<'a>) -> Optio
         }
     }
     None
-}
-
-/// Whether standard input is read.
-pub(crate) fn reads_input(asked: &Asked) -> bool {
-    let [first, second] = diagrams_of(asked);
-    is_input(first)
-        || is_input(second)
-        || asked.quandles.contains(&"-")
-        || asked.weights.contains(&"-")
-}
-
-/// Whether a diagram is read from standard input.
-fn is_input(given: Given) -> bool {
-    match given {
-        Given::File(path) | Given::Code(path) => path == "-",
-        Given::Braid(_) => false,
-    }
 }
 
 /// The diagrams that are given, twice where they are one problem.

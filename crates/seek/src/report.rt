@@ -1,27 +1,34 @@
 //! What is told on standard error.
 ghost use Rattle.std.specs.Prelude.{◌≡◌, ◌≢◌};
 ghost use Rattle.decision_core.specs.declared.status.Status.TheVariants as status;
+ghost use Rattle.seek_core.specs.declared.ending.Ending.TheVariants as end;
 ghost use Rattle.seek_core.specs.Answers.{ending_status};
+ghost use Rattle.seek.specs.Failure.{failure_status};
 
-use crate::failure::{Failure, OUTPUT};
-use crate::parts::Parts;
+use crate::failure::Failure;
 use decision_core::Status;
-use seek_core::{Ending, Tried, join_parts};
+use seek_core::{Ending, Tried, join_parts, place};
 use seek_faults::{BraidReason, Reason, reason_at};
+use seek_parts::{PartFault, Parts};
 use seek_words::{Asked, Talk};
 use std::fmt;
 use verdict_core::{Listed, QuandleName};
 
-/// Tells how a call of `run` ended that found nothing, or failed: the status, which is 0 only where it is done. The first worker has
-/// made so many steps.
+/// What an input without parts is called in messages.
+const INPUT: &str = "the problem";
+
+/// Tells how a search ended, where that is not with a verdict: the status. The first worker has made so many steps; where the sink failed,
+/// it was by this failure.
 pub(crate) fn tell_ending(
     rt: &HostRuntime,
     asked: &Asked,
     parts: &Parts,
     ending: &Ending,
     made: u64,
+    failure: &Failure,
 ) -> Status
-    ensures { result ≡ status.Done → ending_status ending.now ≡ status.Done }
+    requires { ending.now ≡ end.WriteFault → failure_status failure.now ≡ status.WriteFault }
+    ensures { result ≡ ending_status ending.now }
 {
     match ending {
         Ending::Done => Status::Done,
@@ -41,40 +48,35 @@ pub(crate) fn tell_ending(
         Ending::Malformed { line } | Ending::Limit { line } => {
             tell_line(rt, parts, *line, ending.status())
         }
-        Ending::TooLong => tell(
-            rt,
-            &Failure::Long {
-                name: parts.last_name(),
-            },
-        ),
-        Ending::WriteFault => tell(
-            rt,
-            &Failure::Write {
-                name: OUTPUT,
-                error: None,
-            },
-        ),
+        Ending::TooLong => {
+            let name = parts.last_name().unwrap_or(INPUT);
+            tell(rt, &Failure::Part(PartFault::Long { name }))
+        }
+        Ending::WriteFault => tell(rt, failure),
         Ending::OutOfMemory => tell(rt, &Failure::OutOfMemory),
     }
 }
 
 /// Tells what went wrong: the status.
 pub(crate) fn tell(rt: &HostRuntime, failure: &Failure) -> Status
-    ensures { result ≢ status.Done }
+    ensures is { result ≡ failure_status failure.now }
+    ensures failed { result ≢ status.Done }
 {
     let _told = eprintln!(rt; "seek: {failure}");
     failure.status()
 }
 
-/// Tells why a line is bad: the status.
+/// Tells why a line is bad: the status. Where memory is wanting for the reason, the line is told without one.
 fn tell_line(rt: &HostRuntime, parts: &Parts, at: usize, kind: Status) -> Status
-    requires { kind ≢ status.Done }
-    ensures { result ≢ status.Done }
+    ensures { result ≡ kind }
 {
-    let Ok(problem) = join_parts(rt.alloc(), parts.bytes()) else {
-        return tell(rt, &Failure::OutOfMemory);
+    let (name, line) = place_of(parts, at);
+    let Ok(problem) = join_parts(rt.alloc(), parts.texts()) else {
+        let _told = eprintln!(rt;
+            "seek: {name}, line {line} is bad, and there is not enough memory to say why"
+        );
+        return kind;
     };
-    let (name, line) = parts.place(at);
     let reason = reason_at(problem.as_slice(), at);
     let form = if name.ends_with("--braid") && is_of_form(reason) {
         BRAID_FORM
@@ -83,6 +85,14 @@ fn tell_line(rt: &HostRuntime, parts: &Parts, at: usize, kind: Status) -> Status
     };
     let _told = eprintln!(rt; "seek: {name}, line {line}: {reason}{form}");
     kind
+}
+
+/// The name of the part in which a line of the input stands, and the line's number there.
+fn place_of<'a>(parts: &Parts<'a>, at: usize) -> (&'a str, usize) {
+    match place(parts.texts(), at) {
+        Some((part, line)) => (parts.name(part).unwrap_or(INPUT), line),
+        None => (INPUT, at),
+    }
 }
 
 /// What is said of a braid among the words that has another form.

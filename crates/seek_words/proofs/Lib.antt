@@ -1,2 +1,3 @@
 mod WorkedWords
 mod Shown
+mod Named

@@ -5,6 +5,14 @@ use Rattle.clap.specs.Walk.{Text}
 use Rattle.clap.specs.declared.parser.matches.ArgMatches.{ArgMatches}
 use Rattle.seek_words.specs.Words.{number_of}
 use Rattle.seek_words.specs.declared.asked.Numbers.{Numbers}
+use Rattle.seek_words.specs.declared.given.Way.{Way}
+use Rattle.seek_words.specs.declared.given.Way.TheVariants.{File, Braid, Code}
+
+-- the argument by which a diagram is given so
+abbrev pub way_name : Way → Text
+way_name File = codes "FILE"
+way_name Braid = codes "braid"
+way_name Code = codes "pd"
 
 -- the number of this name
 abbrev pub HasNumber : ArgMatches → Text → ℕ → Type 0

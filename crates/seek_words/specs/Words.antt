@@ -1,5 +1,7 @@
 -- What the words of a command line ask of the seeker, by `clap`'s meaning of one simple command: two lists, the files among them, and options.
-use Rattle.std.specs.Prelude.{◌≡◌, ◌⊎◌, ◌^◌, ◌-◌, ℕ, List, [], ◌∷◌, Option, Some, true, codes, pos, map, option_map, unwrap_or, string_bytes, String}
+use Rattle.std.specs.Prelude.{◌≡◌, ◌⊎◌, ◌++◌, ◌+◌, ◌^◌, ◌-◌, IsPermutation, ℕ, Bool, true, false, List, [], ◌∷◌, Option, Some, if◌then◌else◌}
+use Rattle.std.specs.Prelude.{codes, pos, map, count_by, option_map, unwrap_or, string_bytes, String}
+use Rattle.std.specs.Str.{bytes_eq}
 use Rattle.std.specs.Str.Parse.{digits_value, without_leading_plus}
 use Rattle.std.specs.declared.alloc.Global.{Global}
 use Rattle.clap.specs.Walk.{Row, Rule, Text, first_of, one_of, all_of}
@@ -12,6 +14,10 @@ use Rattle.clap.specs.declared.builder.action.ArgAction.TheVariants.{Set, SetTru
 use Rattle.clap.specs.declared.builder.value_parser.ValueParser.{ValueParser}
 use Rattle.clap.specs.declared.builder.value_parser.ValueParser.TheVariants as parser
 use Rattle.seek_words.specs.declared.asked.Asked.{Asked}
+use Rattle.seek_words.specs.declared.given.Given.{Given}
+use Rattle.seek_words.specs.declared.given.Given.TheVariants.{File, Braid, Code}
+use Rattle.seek_words.specs.declared.given.Diagrams.{Diagrams}
+use Rattle.seek_words.specs.declared.given.Diagrams.TheVariants.{Problem, Pair}
 use Rattle.seek_words.specs.declared.asked.Talk.{Talk}
 use Rattle.seek_words.specs.declared.asked.Talk.TheVariants.{Quiet, Terminal, Progress}
 
@@ -83,6 +89,31 @@ texts_of words = map (λ w. string_bytes w) words
 abbrev pub number_of : Text → ℕ
 number_of text = digits_value 10 (without_leading_plus text)
 
+-- a diagram as words give it: the name of the argument, and its text
+pub record Named : Type 0 where
+  pub way : Text
+  pub text : Text
+
+abbrev pub named : Given → Named
+named (File path) = record { way = codes "FILE"; text = path.now }
+named (Braid word) = record { way = codes "braid"; text = word.now }
+named (Code path) = record { way = codes "pd"; text = path.now }
+
+-- those that the words give by this argument
+abbrev pub named_by : Text → List Row → List Named
+named_by way rows = map (λ text. record { way = way; text = text }) (unwrap_or (all_of way rows) [])
+
+abbrev pub all_named : List Row → List Named
+all_named rows = named_by (codes "FILE") rows ++ named_by (codes "braid") rows ++ named_by (codes "pd") rows
+
+-- the diagrams are those that the words give, in an order that is left open: two, or a problem in a file, which is standard input where they
+-- give none
+abbrev pub AreNamedBy : List Named → Diagrams → Type 0
+AreNamedBy all (Problem one) =
+    (IsPermutation all (named one ∷ []) × ((named one).way ≡ codes "FILE"))
+    ⊎ ((all ≡ []) × (named one ≡ record { way = codes "FILE"; text = codes "-" }))
+AreNamedBy all (Pair first second) = IsPermutation all (named first ∷ named second ∷ [])
+
 -- what is told on standard error, by what the words give of `--quiet` and `--progress`, of which the first decides
 pub record IsTalkBy (quiet progress : Option Text) (talk : Talk) : Type 0 where
   pub silent : quiet ≡ Some (codes "true") → talk ≡ Quiet
@@ -94,8 +125,9 @@ pub record AreWeightsBy (none : Option Text) (given files : List Text) : Type 0 
   pub dropped : none ≡ Some (codes "true") → files ≡ []
   pub kept : none ≡ Some (codes "false") → files ≡ given
 
--- these matches ask for this, but for the diagrams: what the words give of each option, and else its default
+-- these matches ask for this: the diagrams in some order, and what the words give of each option, and else its default
 pub record AsksBy (rows : List Row) (asked : Asked) : Type 0 where
+  pub diagrams : AreNamedBy (all_named rows) asked.diagrams
   pub quandles : map (λ s. s.now) asked.quandles.items ≡ unwrap_or (all_of (codes "quandles") rows) []
   pub weights : AreWeightsBy (one_of (codes "no-weights") rows) (unwrap_or (all_of (codes "weights") rows) []) (map (λ s. s.now) asked.weights.items)
   pub out : option_map (λ s. s.now) asked.out ≡ first_of (codes "out") rows
@@ -118,3 +150,24 @@ IsShown k = (k ≡ DisplayHelp) ⊎ (k ≡ DisplayVersion)
 -- the words ask for the help or the version
 abbrev pub AskForText : List Text → Type 0
 AskForText words = IsAmong DisplayHelp (fault_of seek_app words) ⊎ IsAmong DisplayVersion (fault_of seek_app words)
+
+-- ---- standard input
+
+-- the path of standard input
+abbrev pub is_input : Text → Bool
+is_input path = bytes_eq path (codes "-")
+
+-- what is given is read from there
+abbrev pub is_input_given : Given → Bool
+is_input_given (File path) = is_input path.now
+is_input_given (Braid word) = false
+is_input_given (Code path) = is_input path.now
+
+abbrev pub diagram_inputs : Diagrams → ℕ
+diagram_inputs (Problem one) = if is_input_given one then 1 else 0
+diagram_inputs (Pair first second) = (if is_input_given first then 1 else 0) + (if is_input_given second then 1 else 0)
+
+-- for how many of the files that are asked for standard input is read
+abbrev pub inputs_read : Asked → ℕ
+inputs_read asked = diagram_inputs asked.diagrams
+    + (count_by (λ s. is_input s.now) asked.quandles.items + count_by (λ s. is_input s.now) asked.weights.items)

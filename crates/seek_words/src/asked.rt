@@ -1,16 +1,17 @@
 //! What the words ask for.
-ghost use Rattle.std.specs.Prelude.{◌≡◌, [], map, unwrap_or, IfOk, IfErr, IfSome, codes};
+ghost use Rattle.std.specs.Prelude.{◌≡◌, ◌≤◌, [], map, unwrap_or, IfOk, IfErr, IfSome, codes};
 ghost use Rattle.clap.specs.Matches.{found_of, one_text};
 ghost use Rattle.clap.specs.Simple.{matches_of};
 ghost use Rattle.clap.specs.Values.{kind_of};
 ghost use Rattle.clap.specs.Walk.{rows_of, all_of};
 ghost use Rattle.seek_words.specs.Matched.{AreNumbersOf};
-ghost use Rattle.seek_words.specs.Words.{texts_of, seek_app, AreWeightsBy, IsTalkBy, AsksBy, Asks, IsShown, AskForText};
+ghost use Rattle.seek_words.specs.Words.{texts_of, seek_app, all_named, AreNamedBy, AreWeightsBy, IsTalkBy, AsksBy, Asks, IsShown, AskForText, inputs_read};
 
 use crate::command::{
     NO_WEIGHTS, OUT, PROGRESS, QUANDLES, QUIET, ROOM, SEED, STEPS, WEIGHTS, WORKERS, command,
 };
 use crate::given::{Diagrams, diagrams_of};
+use crate::inputs::reads_input_once;
 use clap::error::ErrorKind;
 use clap::{ArgMatches, Error};
 use std::alloc::{AllocError, Global};
@@ -21,6 +22,10 @@ const TWO: &str =
 
 /// What is said of an option whose number can't be read.
 const NO_NUMBER: &str = "an option has a number that can't be read";
+
+/// What is said of words by which standard input would be read twice.
+const ONCE: &str =
+    "standard input would be read twice: `-` stands for one file only, and a problem that isn't named is read from there too";
 
 /// What is told on standard error beside what is wrong.
 #[derive(Clone, Copy, Debug, PartialEq, Eq)]
@@ -60,10 +65,11 @@ struct Numbers {
     workers: u32,
 }
 
-/// What the words ask for, or the text for whoever wrote them: what is wrong with them, the help, or the version. `words[0]` is the
-/// program's name.
+/// What the words ask for, by which standard input is read once at most. Else the text for whoever wrote them: what is wrong with them,
+/// the help, or the version. `words[0]` is the program's name.
 pub fn read_words<'a>(alloc: Global, words: &'a [String]) -> Result<Asked<'a>, Error>
     ensures asks { IfOk result (λ asked. Asks (texts_of words.entry.now) asked) }
+    ensures once { IfOk result (λ asked. inputs_read asked ≤ 1) }
     ensures shown { IfErr result (λ e. IsShown (kind_of e) → AskForText (texts_of words.entry.now)) }
 {
     let matches = parse(alloc, words)?;
@@ -82,6 +88,7 @@ fn parse<'a>(alloc: Global, words: &'a [String]) -> Result<ArgMatches<'a>, Error
 fn asked_by<'a>(alloc: Global, matches: &ArgMatches<'a>) -> Result<Asked<'a>, Error>
     ensures refused { IfErr result (λ e. IsShown (kind_of e) → ⊥) }
     ensures asks { IfOk result (λ asked. AsksBy (rows_of (found_of matches.now)) asked) }
+    ensures once { IfOk result (λ asked. inputs_read asked ≤ 1) }
 {
     let Some(diagrams) = diagrams_of(alloc, matches)? else {
         return Err(refusal(alloc, TWO)?);
@@ -89,7 +96,11 @@ fn asked_by<'a>(alloc: Global, matches: &ArgMatches<'a>) -> Result<Asked<'a>, Er
     let Some(numbers) = numbers_of(matches) else {
         return Err(refusal(alloc, NO_NUMBER)?);
     };
-    Ok(asked_with(alloc, matches, diagrams, numbers)?)
+    let asked = asked_with(alloc, matches, diagrams, numbers)?;
+    if !reads_input_once(&asked) {
+        return Err(refusal(alloc, ONCE)?);
+    }
+    Ok(asked)
 }
 
 /// The same with diagrams and numbers that were read.
@@ -99,7 +110,8 @@ fn asked_with<'a>(
     diagrams: Diagrams<'a>,
     numbers: Numbers,
 ) -> Result<Asked<'a>, AllocError>
-    requires { AreNumbersOf matches.now numbers }
+    requires numbers { AreNumbersOf matches.now numbers }
+    requires diagrams { AreNamedBy (all_named (rows_of (found_of matches.now))) diagrams }
     ensures { IfOk result (λ asked. AsksBy (rows_of (found_of matches.now)) asked) }
 {
     let quandles = values_of(alloc, matches, QUANDLES)?;
@@ -128,8 +140,8 @@ fn weights_of<'a>(alloc: Global, matches: &ArgMatches<'a>) -> Result<Vec<&'a str
     values_of(alloc, matches, WEIGHTS)
 }
 
-/// The values of an option that may be given often.
-fn values_of<'a>(
+/// The values of an argument that may be given often.
+pub(crate) fn values_of<'a>(
     alloc: Global,
     matches: &ArgMatches<'a>,
     name: &str,

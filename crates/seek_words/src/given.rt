@@ -1,5 +1,11 @@
 //! The diagrams that the words name.
+ghost use Rattle.std.specs.Prelude.{◌≡◌, ◌++◌, map, IfOk, IfSome, OnOk};
+ghost use Rattle.clap.specs.Matches.{found_of};
+ghost use Rattle.clap.specs.Walk.{rows_of};
+ghost use Rattle.seek_words.specs.Matched.{way_name};
+ghost use Rattle.seek_words.specs.Words.{named, named_by, all_named, AreNamedBy};
 
+use crate::asked::values_of;
 use crate::command::{BRAID, CODE, FILES};
 use clap::ArgMatches;
 use std::alloc::{AllocError, Global};
@@ -29,13 +35,22 @@ pub enum Diagrams<'a> {
 pub(crate) fn diagrams_of<'a>(
     alloc: Global,
     matches: &ArgMatches<'a>,
-) -> Result<Option<Diagrams<'a>>, AllocError> {
+) -> Result<Option<Diagrams<'a>>, AllocError>
+    ensures { IfOk result (λ o. IfSome o (λ d. AreNamedBy (all_named (rows_of (found_of matches.now))) d)) }
+{
     let mut placed = Vec::new(alloc);
-    push_placed(&mut placed, matches, FILES, Way::File)?;
-    push_placed(&mut placed, matches, BRAID, Way::Braid)?;
-    push_placed(&mut placed, matches, CODE, Way::Code)?;
+    push_placed(alloc, &mut placed, matches, Way::File)?;
+    push_placed(alloc, &mut placed, matches, Way::Braid)?;
+    push_placed(alloc, &mut placed, matches, Way::Code)?;
     placed.sort_unstable_by_key(|one| one.place);
-    Ok(match placed.as_slice() {
+    Ok(diagrams_among(placed.as_slice()))
+}
+
+/// The diagrams of these and no more, in this order; None where they are too few or too many.
+fn diagrams_among<'a>(placed: &[Placed<'a>]) -> Option<Diagrams<'a>>
+    ensures { IfSome result (λ d. AreNamedBy (map (λ p. named p.given) placed.now) d) }
+{
+    match placed {
         [] => Some(Diagrams::Problem(Given::File("-"))),
         [one] => match one.given {
             Given::File(_) => Some(Diagrams::Problem(one.given)),
@@ -43,7 +58,7 @@ pub(crate) fn diagrams_of<'a>(
         },
         [first, second] => Some(Diagrams::Pair(first.given, second.given)),
         _ => None,
-    })
+    }
 }
 
 /// A diagram, and its place among the words.
@@ -61,26 +76,43 @@ enum Way {
     Code,
 }
 
-/// Appends the values of an argument with their places.
+impl Way {
+    /// The name of the argument.
+    fn name(self) -> &'static str
+        ensures { result.now ≡ way_name self }
+    {
+        match self {
+            Way::File => FILES,
+            Way::Braid => BRAID,
+            Way::Code => CODE,
+        }
+    }
+}
+
+/// Appends the values of an argument with their places. One without a place, which `clap` doesn't give, stands last.
 fn push_placed<'a>(
+    alloc: Global,
     placed: &mut Vec<Placed<'a>>,
     matches: &ArgMatches<'a>,
-    name: &str,
     way: Way,
-) -> Result<(), AllocError> {
-    let values = matches.get_strs(name).unwrap_or(&[]);
-    let places = matches.indices_of(name).unwrap_or(&[]);
-    for (value, place) in values.iter().zip(places) {
-        placed.push(Placed {
-            place: *place,
-            given: as_given(*value, way),
-        })?;
+) -> Result<(), AllocError>
+    ensures { OnOk result (map (λ p. named p.given) placed.new.items
+        ≡ map (λ p. named p.given) placed.old.items ++ named_by (way_name way) (rows_of (found_of matches.now))) }
+{
+    let values = values_of(alloc, matches, way.name())?;
+    let places = matches.indices_of(way.name()).unwrap_or(&[]);
+    for at in 0..values.len() {
+        let place = places.get(at).copied().unwrap_or(usize::MAX);
+        let given = as_given(values[at], way);
+        placed.push(Placed { place, given })?;
     }
     Ok(())
 }
 
 /// A value as a diagram.
-fn as_given<'a>(value: &'a str, way: Way) -> Given<'a> {
+fn as_given<'a>(value: &'a str, way: Way) -> Given<'a>
+    ensures { named result ≡ record { way = way_name way; text = value.entry.now } }
+{
     match way {
         Way::File => Given::File(value),
         Way::Braid => Given::Braid(value),

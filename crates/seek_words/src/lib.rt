@@ -4,6 +4,7 @@
 mod asked;
 mod command;
 mod given;
+mod inputs;
 mod limits;
 
 pub use asked::{Asked, Talk, read_words};

@@ -1,4 +1,6 @@
-//! A file a crate.
+//! A file a crate, and two of seek_core.
 mod files;
+mod given;
+mod parts;
 mod sought;
 mod words;

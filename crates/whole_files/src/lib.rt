@@ -2,10 +2,14 @@
 //! Each step may fail, and then the place is as it was.
 #![tactic(auto)]
 
+mod disk;
 mod place;
+mod places;
 mod put;
 mod text;
 
+pub use disk::DiskPlaces;
 pub use place::Place;
+pub use places::Places;
 pub use put::{put_whole, try_place};
 pub use text::TextSink;

@@ -3,9 +3,9 @@ ghost use Rattle.std.specs.Prelude.{◌≡◌, Some, option_map};
 
 use knot_ports::give_all;
 use std::alloc::Global;
-use std::io;
 use std::test::Fail;
-use whole_files::{Place, TextSink, put_whole, try_place};
+use std::{fs, io};
+use whole_files::{DiskPlaces, Place, Places, TextSink, put_whole, try_place};
 
 /// The place has these bytes, if any. One call fails, counted from 0 over all steps, and each write takes three bytes at most.
 #[derive(Drop)]
@@ -130,6 +130,29 @@ fn a_file_is_put_whole_or_not_at_all(rt: HostRuntime) -> Result<(), Fail> {
     assert_eq!(rt; bytes.as_slice(), TEXT);
     assert!(rt; is_done);
     assert!(rt; !is_there);
+    Ok(())
+}
+
+const FOLDER: &str = "whole_files_test";
+
+const PATH: &str = "whole_files_test/place";
+
+/// On disk a text is put where nothing stands, and then another where it stands. The folder has no other file then, or it would not be
+/// removed.
+#[test]
+fn a_text_is_put_on_disk(rt: HostRuntime) -> Result<(), Fail> {
+    let _gone = fs::remove_dir_all(&rt, FOLDER);
+    fs::create_dir(&rt, FOLDER)?;
+    let mut places = DiskPlaces::new(&rt);
+    for text in [OLD, TEXT] {
+        places.try_path(PATH)?;
+        places.put(PATH, text)?;
+        assert_eq!(rt; fs::read(&rt, PATH)?.as_slice(), text);
+    }
+    fs::remove_file(&rt, PATH)?;
+    fs::remove_dir(&rt, FOLDER)?;
+    assert!(rt; places.try_path(PATH).is_err());
+    assert!(rt; places.put(PATH, TEXT).is_err());
     Ok(())
 }
 

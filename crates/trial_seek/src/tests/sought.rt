@@ -1,10 +1,11 @@
 //! What is found of worked problems, and how calls end.
+use super::parts::part;
 use decision_core::Status;
 use knot_ports::MemSink;
 use meeting_walks::Unwatched;
 use memory_core::Items;
 use number_certificates::{Said, read_said};
-use seek_core::{Answer, Blocks, Bounds, Ending, answer_to, formula_quandles, join_parts, run};
+use seek_core::{Answer, Blocks, Bounds, Ending, answer_to, formula_quandles, run};
 use std::alloc::Global;
 use std::test::Fail;
 use std::thread::Threads;
@@ -249,27 +250,4 @@ fn run_on<R: Threads + Sync>(
     let parts = [part(alloc, bytes)?];
     let blocks = Blocks::new(alloc);
     Ok(run(rt, alloc, &parts, &blocks, bounds, sink, &mut Unwatched))
-}
-
-fn part(alloc: Global, bytes: &[u8]) -> Result<Items<u8>, Fail> {
-    Ok(Items::from_vec(Vec::from_slice(alloc, bytes)?))
-}
-
-#[test]
-fn parts_begin_with_a_line(rt: HostRuntime) -> Result<(), Fail> {
-    let rows: [(&[&[u8]], &[u8]); 4] = [
-        (&[], b""),
-        (&[b"a\n", b"b"], b"a\nb"),
-        (&[b"a", b"b\n", b"c"], b"a\nb\nc"),
-        (&[b"", b"a\n\n", b"", b"b"], b"a\n\nb"),
-    ];
-    for (texts, expected) in rows {
-        let mut parts = Vec::new(rt.alloc());
-        for text in texts {
-            parts.push(part(rt.alloc(), *text)?)?;
-        }
-        let whole = join_parts(rt.alloc(), parts.as_slice())?;
-        assert_eq!(rt; whole.as_slice(), expected);
-    }
-    Ok(())
 }

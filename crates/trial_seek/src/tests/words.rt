@@ -121,13 +121,15 @@ fn no_weights_are_tried_where_none_are_wanted(rt: HostRuntime) -> Result<(), Fai
 
 #[test]
 fn other_words_are_refused_in_words(rt: HostRuntime) -> Result<(), Fail> {
-    let rows: [(&[&str], i32, &str); 6] = [
+    let rows: [(&[&str], i32, &str); 8] = [
         (&["--help"], 0, "seek --braid"),
         (&["--version"], 0, "seek 1.0"),
         (&["--braid", "1"], 2, "two diagrams are compared"),
         (&["--workers", "65"], 2, "65 is not in 1..=64"),
         (&["--seed", "x"], 2, "invalid digit"),
         (&["--colour"], 2, "unexpected argument '--colour'"),
+        (&["a", "-", "--quandles", "-"], 2, "would be read twice"),
+        (&["--weights", "-"], 2, "would be read twice"),
     ];
     for (line, code, part) in rows {
         let list = words(rt.alloc(), line)?;

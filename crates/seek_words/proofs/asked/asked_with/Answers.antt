@@ -15,13 +15,14 @@ returns c =
     let progress = one_text-rows f (codes "progress") in
     let told = subst (λ o. IsTalkBy (one_text f (codes "quiet")) o c.talk_of.result) progress c.talk_of.ensures in
     record {
+      diagrams = c.requires.diagrams;
       quandles = search rules;
       weights = subst (λ o. AreWeightsBy o (unwrap_or (all_of (codes "weights") (rows_of f)) []) (map (λ s. s.now) c.in_ok-weights.weights.items))
           (one_text-rows f (codes "no-weights")) c.in_ok-weights.ensures;
       out = c.get_str.ensures ∙ first_value-rows f (codes "out");
-      seed = subst (λ o. option_map number_of o ≡ Some n.seed) (one_text-rows f (codes "seed")) c.requires.seed;
-      steps = subst (λ o. option_map number_of o ≡ Some n.steps) (one_text-rows f (codes "steps")) c.requires.steps;
-      room = subst (λ o. option_map number_of o ≡ Some n.room) (one_text-rows f (codes "room")) c.requires.room;
-      workers = subst (λ o. option_map number_of o ≡ Some n.workers) (one_text-rows f (codes "workers")) c.requires.workers;
+      seed = subst (λ o. option_map number_of o ≡ Some n.seed) (one_text-rows f (codes "seed")) c.requires.numbers.seed;
+      steps = subst (λ o. option_map number_of o ≡ Some n.steps) (one_text-rows f (codes "steps")) c.requires.numbers.steps;
+      room = subst (λ o. option_map number_of o ≡ Some n.room) (one_text-rows f (codes "room")) c.requires.numbers.room;
+      workers = subst (λ o. option_map number_of o ≡ Some n.workers) (one_text-rows f (codes "workers")) c.requires.numbers.workers;
       talk = subst (λ o. IsTalkBy o (one_of (codes "progress") (rows_of f)) c.talk_of.result) quiet told;
     }

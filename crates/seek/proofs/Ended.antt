@@ -1,0 +1,68 @@
+-- What the exit status 0 says.
+use Rattle.std.proofs.Common.{◌≡◌, ◌⊎◌, ◌∙◌, inl, inr, ℕ, List, Option, Some, None, refl, sym, arith}
+use Rattle.std.specs.Borrow.{Bor}
+use Rattle.clap.specs.Walk.{Text}
+use Rattle.decision_core.specs.declared.status.Status.{Status}
+use Rattle.decision_core.specs.declared.status.Status.TheVariants as status
+use Rattle.decision_core.specs.Status.{status_number}
+use Rattle.seek_words.specs.Words.{AskForText}
+use Rattle.seek_words.specs.declared.asked.Asked.{Asked}
+use Rattle.seek_parts.specs.Parts.{Told, ArePartsOf, all_due}
+use Rattle.seek_parts.proofs.NeverDone.{never_done, text_never_done}
+use Rattle.number_text.specs.declared.blocks.Block.{Block}
+use Rattle.seek.specs.declared.failure.Failure.{Failure}
+use Rattle.seek.specs.declared.failure.Failure.TheVariants as failure
+use Rattle.seek.specs.Failure.{failure_status}
+use Rattle.seek.specs.Exit.{Outside, IsSoughtTo, EndsOn, EndsBy, EndsCall, IsWrittenTo, IsAnswered}
+use Rattle.seek.proofs.Found.{written_where_done}
+
+-- only Done has the number 0
+pub only_zero : (s : Status) → status_number s ≡ 0 → s ≡ status.Done
+only_zero status.Done is = refl
+only_zero status.Unknown is = absurd (omega (arith, is))
+only_zero status.Usage is = absurd (omega (arith, is))
+only_zero status.Malformed is = absurd (omega (arith, is))
+only_zero status.Limit is = absurd (omega (arith, is))
+only_zero status.ReadFault is = absurd (omega (arith, is))
+only_zero status.WriteFault is = absurd (omega (arith, is))
+only_zero status.OutOfMemory is = absurd (omega (arith, is))
+only_zero status.Rejected is = absurd (omega (arith, is))
+
+failed : (f : Failure) → failure_status f ≡ status.Done → ⊥
+failed (failure.Part fault) is = never_done fault is
+failed (failure.Blocks name fault) is = text_never_done fault is
+failed (failure.ReadAndWritten name) is = cc
+failed (failure.Write name error) is = cc
+failed failure.OutOfMemory is = cc
+
+written : (out : Option (Bor (List ℕ))) (bytes : List ℕ) (blocks : List Block) (old new : Outside) (s : Status) → IsSoughtTo out bytes blocks old new s
+    → s ≡ status.Done → IsWrittenTo out bytes old new
+written None bytes blocks old new s (sought, kept) done = written_where_done bytes blocks old.output new.output s sought done
+written (Some path) bytes blocks old new s (inl (is, puts), kept) done = puts
+written (Some path) bytes blocks old new s (inr (same, inl fault), kept) done = cc
+written (Some path) bytes blocks old new s (inr (same, inr (not_done, sought)), kept) done = absurd (not_done done)
+
+-- a call that has the parts of what is asked ends as one that does it
+pub on_parts : (told : Told) (asked : Asked) (parts : List (List ℕ)) (old new : Outside) (s : Status) → ArePartsOf told (all_due asked) parts
+    → EndsOn told asked parts old new s → EndsBy told asked old new s
+on_parts told asked parts old new s are (inl ends) = inl record { parts = parts; are = are; ends = ends }
+on_parts told asked parts old new s are (inr without) = inr (inr (inl without))
+
+-- a call that is done has answered its words, or they ask for the help or the version
+pub answered : (told : Told) (words : List Text) (old new : Outside) (s : Status) → EndsCall told words old new s → s ≡ status.Done
+    → AskForText words ⊎ IsAnswered told words old new
+answered told words old new s (inr (inl shown)) done = inl shown.asks
+answered told words old new s (inr (inr refused)) done = elim refused.status_is [ inl is ↦ cc | inr is ↦ cc ]
+answered told words old new s (inl asked) done = inr (
+    elim asked.ends [
+      | inl by ↦ record {
+        asked = asked.asked;
+        asks = asked.asks;
+        parts = by.parts;
+        are = by.are;
+        written = written asked.asked.out _ by.ends.blocks old new s by.ends.sought done;
+      }
+      | inr (inl by) ↦ absurd (never_done by.fault (sym by.status_is ∙ done))
+      | inr (inr (inl by)) ↦ absurd (failed by.failure (sym by.status_is ∙ done))
+      | inr (inr (inr by)) ↦ cc
+    ])

@@ -1,0 +1,3 @@
+mod BlocksGiven
+mod Found
+mod Ended

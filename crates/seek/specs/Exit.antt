@@ -1,0 +1,123 @@
+-- How a call ends, and what its exit status says of the words, of the parts of the input, and of what was written.
+use Rattle.std.specs.Prelude.{◌≡◌, ◌⊎◌, ℕ, List, Option, Some, None, IsSome}
+use Rattle.std.specs.Borrow.{Bor}
+use Rattle.std.specs.Io.KnownBytes.{Keeps}
+use Rattle.std.specs.Process.{exit_status}
+use Rattle.std.specs.declared.process.ExitCode.{ExitCode}
+use Rattle.clap.specs.Walk.{Text}
+use Rattle.whole_files.specs.Places.{Standing}
+use Rattle.decision_core.specs.declared.status.Status.{Status}
+use Rattle.decision_core.specs.declared.status.Status.TheVariants as status
+use Rattle.decision_core.specs.Status.{status_number}
+use Rattle.seek_core.specs.Answers.{WritesDecision}
+use Rattle.seek_core.specs.Parts.{joined}
+use Rattle.seek_words.specs.declared.asked.Asked.{Asked}
+use Rattle.seek_words.specs.Words.{Asks, AskForText}
+use Rattle.seek_parts.specs.declared.fault.PartFault.{PartFault}
+use Rattle.seek_parts.specs.Parts.{Told, ArePartsOf, all_due}
+use Rattle.seek_parts.specs.Fault.{IsFaultOf, fault_status}
+use Rattle.number_text.specs.declared.blocks.Block.{Block}
+use Rattle.seek.specs.declared.failure.Failure.{Failure}
+use Rattle.seek.specs.Failure.{failure_status}
+use Rattle.seek.specs.Blocks.{AreBlocksOf, IsBlocksFailure}
+use Rattle.seek.specs.Search.{IsSoughtWith, PutsDecision, IsSoughtAt}
+
+-- what a call may change, as far as it is told: what standard output holds, and what stands at each path
+pub record Outside : Type 0 where
+  pub output : Option (List ℕ)
+  pub files : Option Standing
+
+pub record IsUntouched (old new : Outside) : Type 0 where
+  pub output : Keeps old.output new.output
+  pub files : new.files ≡ old.files
+
+-- ---- what words ask for, and how a call ends that does it
+
+-- a verdict on the input was sought, to be written to standard output, or to the file that the words name
+abbrev pub IsSoughtTo : Option (Bor (List ℕ)) → List ℕ → List Block → Outside → Outside → Status → Type 0
+IsSoughtTo None bytes blocks old new s = IsSoughtWith bytes blocks old.output new.output s × (new.files ≡ old.files)
+IsSoughtTo (Some path) bytes blocks old new s = IsSoughtAt bytes blocks old.files new.files path.now s × Keeps old.output new.output
+
+-- on these parts a verdict was sought, by the blocks of the files that are asked too
+pub record EndsWithBlocks (told : Told) (asked : Asked) (parts : List (List ℕ)) (old new : Outside) (s : Status) : Type 0 where
+  pub blocks : List Block
+  pub given : AreBlocksOf told asked.weights.items blocks
+  pub sought : IsSoughtTo asked.out (joined parts) blocks old new s
+
+-- a file of blocks can't be had
+pub record EndsWithoutBlocks (told : Told) (asked : Asked) (old new : Outside) (s : Status) : Type 0 where
+  pub failure : Failure
+  pub is : IsBlocksFailure told asked.weights.items failure
+  pub status_is : s ≡ failure_status failure
+  pub untouched : IsUntouched old new
+
+-- how a call ends that has these parts
+abbrev pub EndsOn : Told → Asked → List (List ℕ) → Outside → Outside → Status → Type 0
+EndsOn told asked parts old new s = EndsWithBlocks told asked parts old new s ⊎ EndsWithoutBlocks told asked old new s
+
+-- on the parts of what is asked a verdict was sought
+pub record EndsSought (told : Told) (asked : Asked) (old new : Outside) (s : Status) : Type 0 where
+  pub parts : List (List ℕ)
+  pub are : ArePartsOf told (all_due asked) parts
+  pub ends : EndsWithBlocks told asked parts old new s
+
+-- a part of what is asked can't be had
+pub record EndsUnread (told : Told) (asked : Asked) (old new : Outside) (s : Status) : Type 0 where
+  pub fault : PartFault
+  pub is : IsFaultOf told (all_due asked) fault
+  pub status_is : s ≡ fault_status fault
+  pub untouched : IsUntouched old new
+
+-- a file would be read and written
+pub record EndsClashing (asked : Asked) (old new : Outside) (s : Status) : Type 0 where
+  pub out : IsSome asked.out
+  pub status_is : s ≡ status.Usage
+  pub untouched : IsUntouched old new
+
+abbrev pub EndsBy : Told → Asked → Outside → Outside → Status → Type 0
+EndsBy told asked old new s =
+    EndsSought told asked old new s
+    ⊎ (EndsUnread told asked old new s ⊎ (EndsWithoutBlocks told asked old new s ⊎ EndsClashing asked old new s))
+
+-- ---- all words
+
+-- the words ask for this, and the call ends as one that does it
+pub record EndsAsked (told : Told) (words : List Text) (old new : Outside) (s : Status) : Type 0 where
+  pub asked : Asked
+  pub asks : Asks words asked
+  pub ends : EndsBy told asked old new s
+
+-- the words ask for the help or the version
+pub record EndsShown (words : List Text) (old new : Outside) (s : Status) : Type 0 where
+  pub asks : AskForText words
+  pub status_is : (s ≡ status.Done) ⊎ (s ≡ status.WriteFault)
+  pub untouched : IsUntouched old new
+
+-- the words are refused, or memory was wanting for them
+pub record EndsRefused (old new : Outside) (s : Status) : Type 0 where
+  pub status_is : (s ≡ status.Usage) ⊎ (s ≡ status.OutOfMemory)
+  pub untouched : IsUntouched old new
+
+abbrev pub EndsCall : Told → List Text → Outside → Outside → Status → Type 0
+EndsCall told words old new s = EndsAsked told words old new s ⊎ (EndsShown words old new s ⊎ EndsRefused old new s)
+
+-- the exit status is the number of a status by which such a call ends
+pub record IsExitOf (told : Told) (words : List Text) (old new : Outside) (exit : ExitCode) : Type 0 where
+  pub ended : Status
+  pub number : exit_status exit ≡ status_number ended
+  pub ends : EndsCall told words old new ended
+
+-- ---- the exit status 0
+
+-- a text that decides the input was written: to standard output, or to a file with no more and no less at the path that the words name
+abbrev pub IsWrittenTo : Option (Bor (List ℕ)) → List ℕ → Outside → Outside → Type 0
+IsWrittenTo None bytes old new = WritesDecision bytes old.output new.output
+IsWrittenTo (Some path) bytes old new = PutsDecision bytes old.files new.files path.now
+
+-- the words are answered by a decision on the parts of what they ask
+pub record IsAnswered (told : Told) (words : List Text) (old new : Outside) : Type 0 where
+  pub asked : Asked
+  pub asks : Asks words asked
+  pub parts : List (List ℕ)
+  pub are : ArePartsOf told (all_due asked) parts
+  pub written : IsWrittenTo asked.out (joined parts) old new

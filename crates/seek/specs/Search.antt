@@ -1,0 +1,38 @@
+-- How a search ends whose verdict is written: to a sink, or to a file at a path.
+use Rattle.std.specs.Prelude.{◌≡◌, ◌≢◌, ◌⊎◌, ℕ, List, [], Option, Some, None}
+use Rattle.whole_files.specs.Places.{Standing, PutsAt}
+use Rattle.decision_core.specs.declared.status.Status.{Status}
+use Rattle.decision_core.specs.declared.status.Status.TheVariants as status
+use Rattle.seek_core.specs.declared.ending.Ending.{Ending}
+use Rattle.number_text.specs.declared.blocks.Block.{Block}
+use Rattle.seek_core.specs.declared.answer.Tried.{Tried}
+use Rattle.seek_core.specs.declared.ending.Ending.TheVariants.{NotFound}
+use Rattle.seek_core.specs.Answers.{Ends, WritesDecision, BlocksTriedInVain, ending_status}
+
+-- a search ended so: what was held before and is held after is as this ending says, and so are the blocks that were tried in vain
+pub record EndsSearch (bytes : List ℕ) (blocks : List Block) (before after : Option (List ℕ)) (ending : Ending) : Type 0 where
+  pub ends : Ends bytes before after ending
+  pub vain : (tried : Tried) → ending ≡ NotFound tried → BlocksTriedInVain bytes blocks tried
+
+-- the status is that of an ending by which the search ended
+pub record IsSoughtWith (bytes : List ℕ) (blocks : List Block) (before after : Option (List ℕ)) (s : Status) : Type 0 where
+  pub ending : Ending
+  pub status_is : s ≡ ending_status ending
+  pub ends : EndsSearch bytes blocks before after ending
+
+-- a text that decides the input: a sink that held nothing holds it once it is written
+abbrev pub IsDecisionText : List ℕ → List ℕ → Type 0
+IsDecisionText bytes text = WritesDecision bytes (Some []) (Some text)
+
+-- a file with a text that decides the input was put at the path
+abbrev pub PutsDecision : List ℕ → Option Standing → Option Standing → List ℕ → Type 0
+PutsDecision bytes before after path = (text : List ℕ) × (IsDecisionText bytes text × PutsAt before after path text)
+
+-- no decision was put: the file can't be written, or the search ended without one, of which nothing was written
+abbrev pub IsUnput : List ℕ → List Block → Status → Type 0
+IsUnput bytes blocks s = (s ≡ status.WriteFault) ⊎ ((s ≢ status.Done) × IsSoughtWith bytes blocks None None s)
+
+-- the file at the path is whole, and decides the input, where the call is done; and else what stands at each path is as it was
+abbrev pub IsSoughtAt : List ℕ → List Block → Option Standing → Option Standing → List ℕ → Status → Type 0
+IsSoughtAt bytes blocks before after path s =
+    ((s ≡ status.Done) × PutsDecision bytes before after path) ⊎ ((after ≡ before) × IsUnput bytes blocks s)

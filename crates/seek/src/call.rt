@@ -1,0 +1,165 @@
+//! A call over any files, places and writer: what the words ask for, with a status as the exit status, and a sentence where something is
+//! wrong.
+ghost use Rattle.std.specs.Prelude.{◌≡◌, ◌⊎◌};
+ghost use Rattle.std.specs.Process.{exit_status};
+ghost use Rattle.clap.specs.Values.{kind_of};
+ghost use Rattle.decision_core.specs.declared.status.Status.TheVariants as status;
+ghost use Rattle.seek_core.specs.Parts.{joined};
+ghost use Rattle.seek_words.specs.Words.{texts_of, IsShown, AskForText};
+ghost use Rattle.seek.specs.Exit.{Outside, IsSoughtTo, EndsOn, EndsBy, EndsCall, IsExitOf, IsAnswered};
+
+use crate::blocks::read_blocks;
+use crate::clash::read_and_written;
+use crate::failure::{Failure, OUTPUT};
+use crate::report::tell;
+use crate::search::{seek_at, seek_to};
+use clap::error::ErrorKind;
+use decision_core::Status;
+use knot_ports::StdSink;
+use seek_core::Blocks;
+use seek_parts::{Parts, Texts};
+use seek_words::{Asked, Talk, option_bounds, read_words};
+use std::io;
+use std::io::{IsTerminal, Write};
+use std::process::ExitCode;
+use std::thread::Threads;
+use whole_files::Places;
+
+/// Does what the words ask for, with workers in threads of the second runtime, tells what is wrong, and answers the exit status: that of
+/// a status with which such a call ends. It is 0 only where the words are answered by a decision, or ask for the help or the version.
+pub(crate) fn call<R: Threads + Sync, F: Texts, P: Places, W: Write + Drop>(
+    rt: &HostRuntime,
+    threads: &R,
+    words: &[String],
+    files: &F,
+    places: &mut P,
+    output: &mut StdSink<W>,
+) -> ExitCode
+    ensures exit { IsExitOf (F.told files.now) (texts_of words.now)
+        (record { output = W.contents output.old.port; files = P.standing places.old })
+        (record { output = W.contents output.new.port; files = P.standing places.new }) result }
+    ensures done { exit_status result ≡ 0 → AskForText (texts_of words.now) ⊎ IsAnswered (F.told files.now) (texts_of words.now)
+        (record { output = W.contents output.old.port; files = P.standing places.old })
+        (record { output = W.contents output.new.port; files = P.standing places.new }) }
+{
+    answer(rt, threads, words, files, places, output).exit_code()
+}
+
+/// The same: the status. Words that are refused are answered by `clap`, as is a request for help.
+fn answer<R: Threads + Sync, F: Texts, P: Places, W: Write + Drop>(
+    rt: &HostRuntime,
+    threads: &R,
+    words: &[String],
+    files: &F,
+    places: &mut P,
+    output: &mut StdSink<W>,
+) -> Status
+    ensures { EndsCall (F.told files.now) (texts_of words.now)
+        (record { output = W.contents output.old.port; files = P.standing places.old })
+        (record { output = W.contents output.new.port; files = P.standing places.new }) result }
+{
+    match read_words(rt.alloc(), words) {
+        Ok(asked) => seek(rt, threads, &asked, files, places, output),
+        Err(error) => answer_words(rt, &error),
+    }
+}
+
+/// Prints the text of `clap`: what is wrong with the words, the help, or the version. The status is that of refused words, but of the
+/// last two.
+fn answer_words(rt: &HostRuntime, error: &clap::Error) -> Status
+    ensures { (IsShown (kind_of error.now) × ((result ≡ status.Done) ⊎ (result ≡ status.WriteFault)))
+        ⊎ ((result ≡ status.Usage) ⊎ (result ≡ status.OutOfMemory)) }
+{
+    let printed = error.print(rt);
+    match error.kind() {
+        ErrorKind::DisplayHelp | ErrorKind::DisplayVersion => printed_status(rt, printed),
+        ErrorKind::OutOfMemory => Status::OutOfMemory,
+        _ => {
+            if let Ok(Some(bounds)) = option_bounds(rt.alloc(), error) {
+                let _told = eprintln!(rt; "seek: {bounds}");
+            }
+            Status::Usage
+        }
+    }
+}
+
+/// The status of a text that was to be printed.
+fn printed_status(rt: &HostRuntime, printed: io::Result<()>) -> Status
+    ensures { (result ≡ status.Done) ⊎ (result ≡ status.WriteFault) }
+{
+    match printed {
+        Ok(()) => Status::Done,
+        Err(error) => tell(
+            rt,
+            &Failure::Write {
+                name: OUTPUT,
+                error: Some(error),
+            },
+        ),
+    }
+}
+
+/// Reads the parts and the blocks of what is asked, seeks a verdict on them, and writes it: to the sink, if the words name no file for it.
+fn seek<R: Threads + Sync, F: Texts, P: Places, W: Write + Drop>(
+    rt: &HostRuntime,
+    threads: &R,
+    asked: &Asked,
+    files: &F,
+    places: &mut P,
+    output: &mut StdSink<W>,
+) -> Status
+    ensures { EndsBy (F.told files.now) asked.now
+        (record { output = W.contents output.old.port; files = P.standing places.old })
+        (record { output = W.contents output.new.port; files = P.standing places.new }) result }
+{
+    if let Some(name) = read_and_written(rt, asked) {
+        return tell(rt, &Failure::ReadAndWritten { name });
+    }
+    if asked.talk != Talk::Quiet && asked.reads_input() && rt.stdin().is_terminal() {
+        let _told = eprintln!(rt; "seek: standard input is read, up to its end (Ctrl-D)");
+    }
+    match Parts::read(rt.alloc(), files, asked) {
+        Ok(parts) => seek_on(rt, threads, &parts, asked, files, places, output),
+        Err(fault) => tell(rt, &Failure::Part(fault)),
+    }
+}
+
+/// Reads the blocks of what is asked, seeks a verdict on the parts, and writes it there.
+fn seek_on<R: Threads + Sync, F: Texts, P: Places, W: Write + Drop>(
+    rt: &HostRuntime,
+    threads: &R,
+    parts: &Parts,
+    asked: &Asked,
+    files: &F,
+    places: &mut P,
+    output: &mut StdSink<W>,
+) -> Status
+    ensures { EndsOn (F.told files.now) asked.now parts.now.texts
+        (record { output = W.contents output.old.port; files = P.standing places.old })
+        (record { output = W.contents output.new.port; files = P.standing places.new }) result }
+{
+    match read_blocks(rt.alloc(), files, asked) {
+        Ok(blocks) => seek_by(rt, threads, parts, &blocks, asked, places, output),
+        Err(failure) => tell(rt, &failure),
+    }
+}
+
+/// Seeks a verdict on the parts, by the blocks too, and writes it there.
+fn seek_by<R: Threads + Sync, P: Places, W: Write + Drop>(
+    rt: &HostRuntime,
+    threads: &R,
+    parts: &Parts,
+    blocks: &Blocks,
+    asked: &Asked,
+    places: &mut P,
+    output: &mut StdSink<W>,
+) -> Status
+    ensures { IsSoughtTo asked.now.out (joined parts.now.texts) blocks.now
+        (record { output = W.contents output.old.port; files = P.standing places.old })
+        (record { output = W.contents output.new.port; files = P.standing places.new }) result }
+{
+    match asked.out {
+        None => seek_to(rt, threads, parts, blocks, asked, output),
+        Some(path) => seek_at(rt, threads, parts, blocks, asked, places, path),
+    }
+}

@@ -1,0 +1,158 @@
+//! A verdict on the parts of an input is sought and written: to a writer that is lent, or to a file at a path, whole or not at all.
+ghost use Rattle.std.specs.Prelude.{◌≡◌, ◌≢◌, ◌⊎◌, [], None, Some, IfOk, IfErr};
+ghost use Rattle.decision_core.specs.declared.status.Status.TheVariants as status;
+ghost use Rattle.seek_core.specs.Parts.{joined};
+ghost use Rattle.whole_files.specs.Places.{PutsAt};
+ghost use Rattle.seek.specs.Search.{EndsSearch, IsSoughtWith, IsDecisionText, IsSoughtAt};
+
+use crate::failure::{Failure, OUTPUT};
+use crate::progress::Teller;
+use crate::report::{tell, tell_ending};
+use decision_core::Status;
+use knot_ports::{Sink, StdSink};
+use seek_core::{Blocks, Bounds, Ending, run};
+use seek_parts::Parts;
+use seek_words::Asked;
+use std::io;
+use std::io::Write;
+use std::thread::Threads;
+use whole_files::{Places, TextSink};
+
+/// Seeks a verdict on the parts, writes it to the sink over standard output, and tells how that ended: the status.
+pub(crate) fn seek_to<R: Threads + Sync, W: Write + Drop>(
+    rt: &HostRuntime,
+    threads: &R,
+    parts: &Parts,
+    blocks: &Blocks,
+    asked: &Asked,
+    sink: &mut StdSink<W>,
+) -> Status
+    ensures { IsSoughtWith (joined parts.now.texts) blocks.now (W.contents sink.old.port) (W.contents sink.new.port) result }
+{
+    let mut teller = Teller::new(rt, asked.talk);
+    let ending = run_told(rt, threads, parts, blocks, asked, sink, &mut teller);
+    let failure = Failure::Write {
+        name: OUTPUT,
+        error: sink.take_error(),
+    };
+    tell_ending(rt, asked, parts, &ending, teller.steps(), &failure)
+}
+
+/// Seeks a verdict on the parts, puts it in a file at a path, whole or not at all, and tells how that ended: the status.
+pub(crate) fn seek_at<R: Threads + Sync, P: Places>(
+    rt: &HostRuntime,
+    threads: &R,
+    parts: &Parts,
+    blocks: &Blocks,
+    asked: &Asked,
+    places: &mut P,
+    path: &str,
+) -> Status
+    ensures { IsSoughtAt (joined parts.now.texts) blocks.now (P.standing places.old) (P.standing places.new) path.now result }
+{
+    if let Err(error) = places.try_path(path) {
+        return tell_unwritten(rt, path, error);
+    }
+    match find_text(rt, threads, parts, blocks, asked) {
+        Ok(text) => put_text(rt, places, path, text.bytes()),
+        Err(status) => status,
+    }
+}
+
+/// The text of a verdict on the parts; the error is the status of a search that finds none, which is told.
+fn find_text<R: Threads + Sync>(
+    rt: &HostRuntime,
+    threads: &R,
+    parts: &Parts,
+    blocks: &Blocks,
+    asked: &Asked,
+) -> Result<TextSink, Status>
+    ensures found { IfOk result (λ text. IsDecisionText (joined parts.now.texts) text.bytes) }
+    ensures none { IfErr result (λ s. s ≢ status.Done) }
+    ensures sought { IfErr result (λ s. IsSoughtWith (joined parts.now.texts) blocks.now None None s) }
+{
+    let mut text = TextSink::new(rt.alloc());
+    let mut teller = Teller::new(rt, asked.talk);
+    match run_told(rt, threads, parts, blocks, asked, &mut text, &mut teller) {
+        Ending::Done => Ok(text),
+        Ending::WriteFault => Err(tell(rt, &Failure::OutOfMemory)),
+        ending => Err(tell_ending(
+            rt,
+            asked,
+            parts,
+            &ending,
+            teller.steps(),
+            &Failure::OutOfMemory,
+        )),
+    }
+}
+
+/// Puts a text in a file at a path, or tells that it can't be written: the status.
+fn put_text<P: Places>(rt: &HostRuntime, places: &mut P, path: &str, text: &[u8]) -> Status
+    ensures whole { result ≡ status.Done → PutsAt (P.standing places.old) (P.standing places.new) path.now text.now }
+    ensures none { result ≢ status.Done → P.standing places.new ≡ P.standing places.old }
+    ensures told { (result ≡ status.Done) ⊎ ((result ≡ status.WriteFault) ⊎ (result ≡ status.OutOfMemory)) }
+{
+    match places.put(path, text) {
+        Ok(()) => Status::Done,
+        Err(error) => tell_unwritten(rt, path, error),
+    }
+}
+
+/// Tells that a file can't be written: the status.
+fn tell_unwritten(rt: &HostRuntime, path: &str, error: io::Error) -> Status
+    ensures { (result ≡ status.WriteFault) ⊎ (result ≡ status.OutOfMemory) }
+{
+    if error.kind() == io::ErrorKind::OutOfMemory {
+        return tell(rt, &Failure::OutOfMemory);
+    }
+    tell(
+        rt,
+        &Failure::Write {
+            name: path,
+            error: Some(error),
+        },
+    )
+}
+
+/// Seeks a verdict, writes it to the sink, and tells how far the search is.
+fn run_told<R: Threads + Sync, K: Sink>(
+    rt: &HostRuntime,
+    threads: &R,
+    parts: &Parts,
+    blocks: &Blocks,
+    asked: &Asked,
+    sink: &mut K,
+    teller: &mut Teller,
+) -> Ending
+    ensures { EndsSearch (joined parts.now.texts) blocks.now (K.held sink.old) (K.held sink.new) result }
+{
+    let ending = run(
+        threads,
+        rt.alloc(),
+        parts.texts(),
+        blocks,
+        bounds_of(asked),
+        sink,
+        teller,
+    );
+    teller.end();
+    ending
+}
+
+/// What bounds the search.
+fn bounds_of(asked: &Asked) -> Bounds
+    ensures seed { result.walks.seed ≡ asked.now.seed }
+    ensures steps { result.walks.steps ≡ asked.now.steps }
+    ensures room { result.walks.room ≡ asked.now.room }
+    ensures workers { result.workers ≡ asked.now.workers }
+{
+    Bounds {
+        walks: meeting_walks::Bounds {
+            seed: asked.seed,
+            steps: asked.steps,
+            room: asked.room as usize,
+        },
+        workers: asked.workers,
+    }
+}

@@ -1,0 +1,86 @@
+//! Where the texts of files are read.
+ghost use Rattle.std.specs.Prelude.{◌≡◌, ◌<◌, ◌≤◌, ℕ, List, Option, None, length, vec_len, IfOk, IfErr, IfSome};
+ghost use Rattle.decision_core.specs.declared.limits.TheConstants.{MAX_INPUT};
+ghost use Rattle.seek_parts.specs.Fault.{IsUnread};
+
+use crate::fault::PartFault;
+use decision_core::MAX_INPUT;
+use knot_ports::{ReadEnd, StdSource, read_all};
+use std::alloc::Global;
+use std::fs;
+use std::io::Read;
+
+/// Gives the texts of files by their paths.
+pub trait Texts {
+    /// The bytes of the file of a path, or `None` where they aren't told.
+    ghost told: { Self → List ℕ → Option (List ℕ) };
+
+    /// All bytes of the file of a path, `MAX_INPUT` at most, which is called by this name where it can't be read. Else it was not read, is
+    /// too long, or memory was wanting.
+    fn text<'a>(
+        &self,
+        alloc: Global,
+        path: &'a str,
+        name: &'a str,
+    ) -> Result<Vec<u8>, PartFault<'a>>
+        ensures text { IfOk result (λ v. IfSome (told self.now path.entry.now) (λ bytes. v.items ≡ bytes)) }
+        ensures within { IfOk result (λ v. vec_len v ≤ MAX_INPUT) }
+        ensures fault { IfErr result (λ f. IsUnread (told self.now path.entry.now) f) };
+}
+
+/// The system's files, of which it tells a contract nothing; `-` is standard input.
+#[derive(Clone, Copy)]
+pub struct SystemTexts<'r> {
+    rt: &'r HostRuntime,
+}
+
+impl<'r> SystemTexts<'r> {
+    /// The files of the system of a runtime.
+    pub fn new(rt: &'r HostRuntime) -> SystemTexts<'r> {
+        SystemTexts { rt }
+    }
+}
+
+impl<'r> Texts for SystemTexts<'r> {
+    ghost told = { λ s path. None };
+
+    fn text<'a>(
+        &self,
+        alloc: Global,
+        path: &'a str,
+        name: &'a str,
+    ) -> Result<Vec<u8>, PartFault<'a>> {
+        if path == "-" {
+            return read_whole(alloc, name, self.rt.stdin());
+        }
+        match fs::open(self.rt, path) {
+            Ok(file) => read_whole(alloc, name, file),
+            Err(error) => Err(PartFault::Read {
+                name,
+                error: Some(error),
+            }),
+        }
+    }
+}
+
+/// All bytes that a reader gives, `MAX_INPUT` at most: those that remain in it, where std tells them.
+fn read_whole<'a, R: Read + Drop>(
+    alloc: Global,
+    name: &'a str,
+    reader: R,
+) -> Result<Vec<u8>, PartFault<'a>>
+    ensures whole { IfOk result (λ v. IfSome (R.remaining reader) (λ bytes. v.items ≡ bytes)) }
+    ensures within { IfOk result (λ v. vec_len v ≤ MAX_INPUT) }
+    ensures fault { IfErr result (λ f. IsUnread (R.remaining reader) f) }
+{
+    let mut source = StdSource::new(alloc, reader, 0);
+    match read_all(alloc, &mut source, MAX_INPUT) {
+        Ok(bytes) => Ok(bytes),
+        Err(ReadEnd::TooLong) => Err(PartFault::Long { name }),
+        Err(ReadEnd::Fault) => Err(PartFault::Read {
+            name,
+            error: source.into_error(),
+        }),
+        Err(ReadEnd::OutOfMemory) => Err(PartFault::OutOfMemory),
+    }
+}

@@ -1,0 +1,146 @@
+//! Parts of files in memory.
+ghost use Rattle.std.specs.Prelude.{◌≡◌, Some, codes, if◌then◌else◌};
+ghost use Rattle.std.specs.Str.{bytes_eq};
+
+use decision_core::{MAX_INPUT, Status};
+use seek_parts::{PartFault, Parts, Texts};
+use seek_words::{Asked, Diagrams, Given, Talk};
+use std::alloc::Global;
+use std::test::Fail;
+
+/// The file "a" has the first bytes, and every other file the second.
+#[derive(Clone, Copy)]
+struct TwoTexts<'t> {
+    first: &'t [u8],
+    second: &'t [u8],
+}
+
+impl<'t> TwoTexts<'t> {
+    /// The bytes of a file.
+    fn bytes_of(&self, path: &str) -> &'t [u8]
+        ensures { result.now ≡ (if bytes_eq path.now (codes "a") then self.now.first.now else self.now.second.now) }
+    {
+        if path == "a" { self.first } else { self.second }
+    }
+}
+
+impl<'t> Texts for TwoTexts<'t> {
+    ghost told = { λ t path. Some (if bytes_eq path (codes "a") then t.first.now else t.second.now) };
+
+    fn text<'a>(
+        &self,
+        alloc: Global,
+        path: &'a str,
+        name: &'a str,
+    ) -> Result<Vec<u8>, PartFault<'a>> {
+        let bytes = self.bytes_of(path);
+        if bytes.len() > MAX_INPUT {
+            return Err(PartFault::Long { name });
+        }
+        match Vec::from_slice(alloc, bytes) {
+            Ok(text) => Ok(text),
+            Err(_) => Err(PartFault::OutOfMemory),
+        }
+    }
+}
+
+/// What asks for these diagrams, with quandles from the file "a".
+fn asked_for<'a>(alloc: Global, diagrams: Diagrams<'a>) -> Result<Asked<'a>, Fail> {
+    Ok(Asked {
+        diagrams,
+        quandles: vec![in alloc; "a"]?,
+        weights: Vec::new(alloc),
+        out: None,
+        seed: 1,
+        steps: 1,
+        room: 1,
+        workers: 1,
+        talk: Talk::Quiet,
+    })
+}
+
+const HOPF: &[u8] = b"x 0 1 2 3\no 2 3 0 1\n";
+
+const COMMENTED: &[u8] = b"# a braid\n\nbraid 2 1 1";
+
+#[test]
+fn parts_stand_in_the_order_of_what_is_given(rt: HostRuntime) -> Result<(), Fail> {
+    let files = TwoTexts {
+        first: HOPF,
+        second: COMMENTED,
+    };
+    let asked = asked_for(
+        rt.alloc(),
+        Diagrams::Pair(Given::File("b"), Given::Braid("2 1 1")),
+    )?;
+    let Ok(parts) = Parts::read(rt.alloc(), &files, &asked) else {
+        return Err(Fail::from("the parts can't be had"));
+    };
+    let texts = parts.texts();
+    assert_eq!(rt; texts.len(), 3);
+    assert_eq!(rt; texts[0].as_slice(), COMMENTED);
+    assert_eq!(rt; texts[1].as_slice(), b"braid 2 1 1".as_slice());
+    assert_eq!(rt; texts[2].as_slice(), HOPF);
+    for (part, name) in [(0, "b"), (1, "--braid"), (2, "a")] {
+        assert_eq!(rt; parts.name(part), Some(name));
+    }
+    assert_eq!(rt; parts.name(3), None);
+    assert_eq!(rt; parts.last_name(), Some("a"));
+    Ok(())
+}
+
+#[test]
+fn a_code_is_drawn(rt: HostRuntime) -> Result<(), Fail> {
+    let files = TwoTexts {
+        first: HOPF,
+        second: b"loops 1\n",
+    };
+    let asked = asked_for(
+        rt.alloc(),
+        Diagrams::Pair(Given::Code("b"), Given::File("a")),
+    )?;
+    let Ok(parts) = Parts::read(rt.alloc(), &files, &asked) else {
+        return Err(Fail::from("the parts can't be had"));
+    };
+    let drawn = parts.texts()[0].as_slice();
+    assert!(rt; drawn == b"x 0 1\no 1 0\n".as_slice() || drawn == b"x 1 0\no 0 1\n".as_slice());
+    Ok(())
+}
+
+/// The sentence and the status of each fault. The first file is a grid without its Os, the second the code of an edge that stands once.
+#[test]
+fn faults_are_told(rt: HostRuntime) -> Result<(), Fail> {
+    let files = TwoTexts {
+        first: b"x 0 1\n",
+        second: b"X[1,2,3,4]\n",
+    };
+    let braid = Given::Braid("1");
+    let rows = [
+        (
+            Given::File("a"),
+            Status::Malformed,
+            "a: it ends before the line `o ..` of its diagram",
+        ),
+        (
+            Given::Code("b"),
+            Status::Malformed,
+            "b: edge 1 does not stand exactly twice",
+        ),
+        (
+            Given::Code("a"),
+            Status::Malformed,
+            "a, line 1 is not what is due in a planar diagram code",
+        ),
+    ];
+    for (given, status, sentence) in rows {
+        let asked = asked_for(rt.alloc(), Diagrams::Pair(braid, given))?;
+        match Parts::read(rt.alloc(), &files, &asked) {
+            Ok(_) => return Err(Fail::from("the parts were read")),
+            Err(fault) => {
+                assert_eq!(rt; fault.status(), status);
+                assert_eq!(rt; format!(in rt.alloc(); "{fault}")?.as_str(), sentence);
+            }
+        }
+    }
+    Ok(())
+}
