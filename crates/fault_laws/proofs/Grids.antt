@@ -118,10 +118,12 @@ module _ (d : Diagram) where
     where
       by : (kind : Kind) → size d ≤ row_of kind d c → ⊥
       by Cross le =
-          let below = leb-false (length d.x) (slice_index d.x c) (or_parts (nat_le (length d.x) (slice_index d.x c)) (nat_le (length d.x) (slice_index d.o c)) e).0 in
+          let parts = or_parts (nat_le (length d.x) (slice_index d.x c)) (nat_le (length d.x) (slice_index d.o c)) e in
+          let below = leb-false (length d.x) (slice_index d.x c) parts.0 in
           absurd (omega (arith, le, below))
       by Ring le =
-          let below = leb-false (length d.x) (slice_index d.o c) (or_parts (nat_le (length d.x) (slice_index d.x c)) (nat_le (length d.x) (slice_index d.o c)) e).1 in
+          let parts = or_parts (nat_le (length d.x) (slice_index d.x c)) (nat_le (length d.x) (slice_index d.o c)) e in
+          let below = leb-false (length d.x) (slice_index d.o c) parts.1 in
           absurd (omega (arith, le, below))
 
   repeat_fails : (c : ℕ) → c < size d → has_repeat c ≡ true → IsGridFault d (Repeat c)

@@ -95,7 +95,8 @@ triple_to a b c some_a some_b is =
     (subst (λ (z : ℤ). 1 ≤ unsigned_abs z) is.between some_b) is.beside in
     let tests : (one_sign a b ≡ true) × (are_beside (unsigned_abs a) (unsigned_abs b) ≡ true) =
     subst (λ (z : ℤ). (one_sign z b ≡ true) × (are_beside (unsigned_abs z) (unsigned_abs b) ≡ true)) (sym is.here)
-    (subst (λ (z : ℤ). (one_sign (crossing is.first is.positive) z ≡ true) × (are_beside (unsigned_abs (crossing is.first is.positive)) (unsigned_abs z) ≡ true))
+    (subst
+    (λ (z : ℤ). (one_sign (crossing is.first is.positive) z ≡ true) × (are_beside (unsigned_abs (crossing is.first is.positive)) (unsigned_abs z) ≡ true))
     (sym is.between) letters) in
     and_from (int_eq c a && one_sign a b) (are_beside (unsigned_abs a) (unsigned_abs b))
     (and_from (int_eq c a) (one_sign a b) ((Decides-int_eq c a).1 is.again) tests.0) tests.1
@@ -264,14 +265,16 @@ module _ (w : Word) (braid : IsBraid w) where
       no_triple inside e is =
           let lt = ltb-true (p + 2) (length w.letters) inside in
           both_ways (are_triple (letter_at w p) (letter_at w (p + 1)) (letter_at w (p + 2))) e
-          (triple_to (letter_at w p) (letter_at w (p + 1)) (letter_at w (p + 2)) (letter_here p (omega (arith, lt))) (letter_here (p + 1) (omega (arith, lt))) is)
+          (triple_to (letter_at w p) (letter_at w (p + 1)) (letter_at w (p + 2)) (letter_here p (omega (arith, lt)))
+          (letter_here (p + 1) (omega (arith, lt))) is)
 
   cancel_first : (p : ℕ) (fault : BraidMoveFault) → first_fault w (Cancel p) ≡ Some fault → Comes (Cancel p) fault
   cancel_first p fault found = elim (refused (nat_lt (p + 1) (length w.letters)) Range fault _ found) [
     | inl inside ↦ elim (refused (int_eq (letter_at w (p + 1)) (neg_ℤ (letter_at w p))) Shape fault None inside.1) [
       | inl none ↦ absurd (no_fault fault none.1)
       | inr at ↦ subst (Comes (Cancel p)) at.1 (shape_first w (Cancel p) (below (p + 1) (length w.letters) inside.0)
-          (λ e. both_ways (int_eq (letter_at w (p + 1)) (neg_ℤ (letter_at w p))) at.0 ((Decides-int_eq (letter_at w (p + 1)) (neg_ℤ (letter_at w p))).1 e)) (λ is. is))
+          (λ e. both_ways (int_eq (letter_at w (p + 1)) (neg_ℤ (letter_at w p))) at.0
+          ((Decides-int_eq (letter_at w (p + 1)) (neg_ℤ (letter_at w p))).1 e)) (λ is. is))
     ]
     | inr at ↦ subst (Comes (Cancel p)) at.1 (range_first w (Cancel p) (ltb-false (p + 1) (length w.letters) at.0))
   ]
@@ -280,7 +283,8 @@ module _ (w : Word) (braid : IsBraid w) where
   insert_first place a fault found = elim (refused (nat_le place (length w.letters) && not (is_outside w.strands a)) Range fault _ found) [
     | inl inside ↦ elim (refused (nat_le (length w.letters + 2 + 2 * w.strands) MAX_SIZE) Full fault None inside.1) [
       | inl none ↦ absurd (no_fault fault none.1)
-      | inr at ↦ subst (Comes (Insert place a)) at.1 (full_first w (Insert place a) (insert_inside w.strands (length w.letters) place a inside.0) (λ is. is) (no_room at.0))
+      | inr at ↦ subst (Comes (Insert place a)) at.1
+          (full_first w (Insert place a) (insert_inside w.strands (length w.letters) place a inside.0) (λ is. is) (no_room at.0))
     ]
     | inr at ↦ subst (Comes (Insert place a)) at.1 (range_first w (Insert place a) (insert_outside w.strands (length w.letters) place a at.0))
   ]
@@ -321,7 +325,8 @@ module _ (w : Word) (braid : IsBraid w) where
   shrink_first fault found = elim (refused (may_shrink w) Shape fault None found) [
     | inl none ↦ absurd (no_fault fault none.1)
     | inr at ↦ subst (Comes Shrink) at.1 (shape_first w Shrink (λ is. is)
-        (λ grown. both_ways (may_shrink w) at.0 (subst (λ (v : Word). may_shrink v ≡ true) grown.grown (shrinks grown.before grown.positive grown.braid))) (λ is. is))
+        (λ grown. both_ways (may_shrink w) at.0
+        (subst (λ (v : Word). may_shrink v ≡ true) grown.grown (shrinks grown.before grown.positive grown.braid))) (λ is. is))
   ]
 
   pub step_first : (step : BraidMove) (fault : BraidMoveFault) → first_fault w step ≡ Some fault → Comes step fault
@@ -343,7 +348,8 @@ module _ (w : Word) (braid : IsBraid w) where
   step_holds (Far p) none =
       let inside = passed (nat_lt (p + 1) (length w.letters)) Range _ none in
       let far = passed (are_far (letter_at w p) (letter_at w (p + 1))) Shape None inside.1 in
-      each (Has (Far p)) Never (below (p + 1) (length w.letters) inside.0) (no_place_where_far (letter_at w p) (letter_at w (p + 1)) far.0) (λ is. is) (λ is. is)
+      each (Has (Far p)) Never (below (p + 1) (length w.letters) inside.0) (no_place_where_far (letter_at w p) (letter_at w (p + 1)) far.0)
+      (λ is. is) (λ is. is)
   step_holds (Triple p) none =
       let inside = passed (nat_lt (p + 2) (length w.letters)) Range _ none in
       let three = passed (are_triple (letter_at w p) (letter_at w (p + 1)) (letter_at w (p + 2))) Shape None inside.1 in

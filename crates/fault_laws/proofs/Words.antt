@@ -95,7 +95,11 @@ module _ (b : Word) where
   lower_letters place before OutOfMemory rank low fails = fails
 
   strands_first : few_or_many ≡ true → IsFirst (IsWordFault b) word_rank word_number Strands
-  strands_first e = record { fails = strands_fail e; earlier = λ other low fails. absurd (omega (arith, low)); lower = λ other rank low fails. absurd (omega (arith, low)) }
+  strands_first e = record {
+    fails = strands_fail e;
+    earlier = λ other low fails. absurd (omega (arith, low));
+    lower = λ other rank low fails. absurd (omega (arith, low));
+  }
 
   letter_first : few_or_many ≡ false → (place : ℕ) → position (is_outside b.strands) b.letters ≡ Some place
       → IsFirst (IsWordFault b) word_rank word_number (Letter place)

@@ -19,7 +19,7 @@ fn asked(job: Job, workers: u32, budget: u32, spare: u8, seed: u64) -> Result<As
 }
 
 #[test]
-fn a_table_of_command_lines(rt: HostRuntime) -> Result<(), Fail> {
+fn words_are_taken_or_refused(rt: HostRuntime) -> Result<(), Fail> {
     let none: Vec<String> = Vec::new(rt.alloc());
     assert_eq!(rt; read_words(rt.alloc(), &none), Err(WordsFault::Usage));
     let rows = [
