@@ -1,14 +1,14 @@
 #!/usr/bin/env python3
-"""Times `knot code` on grids with many crossings, and counts instructions a crossing.
+"""Times `knot code` on grids with many crossings, and `knot grid` on codes; counts instructions a crossing.
 
     python3 bench/code.py                  crossings, seconds, bytes written
-    python3 bench/code.py --instructions   also instructions a crossing, counted by callgrind
+    python3 bench/code.py --instructions   also instructions a crossing of `knot code`, counted by callgrind
 """
 import os
 import tempfile
 
-from grids import UNKNOT, below, crossings, grid_text
-from measure import PROGRAM, best, built, instructions, put, wants_instructions
+from grids import UNKNOT, below, crossings, grid_text, rectangles
+from measure import PROGRAM, best, built, instructions, lines_of, put, wants_instructions
 
 
 def count_of(grid):
@@ -21,6 +21,14 @@ def rows():
         grids = sorted((below(size, rows) for rows in range(1, size)), key=count_of)
         yield f"{size} columns, most", grids[-1]
         yield f"{size} columns, fewest", grids[0]
+
+
+def drawn(path, size):
+    """Of the code of rectangles in so many columns: its crossings, the columns of the grid that is drawn, and seconds."""
+    put(path, grid_text(rectangles(size)))
+    put(path, "\n".join(lines_of("code", path)) + "\n")
+    seconds, _, written = best([PROGRAM, "grid"], path)
+    return count_of(rectangles(size)), len(written.splitlines()[0].split()) - 1, seconds
 
 
 def main():
@@ -44,6 +52,9 @@ def main():
                 taken = instructions("code", path) - start
                 line += f" {taken:12} {taken / max(count, 1):10.0f}"
             print(line)
+        for size in (8, 24):
+            count, columns, seconds = drawn(path, size)
+            print(f"a code of {count} crossings, drawn in {columns} columns: {seconds:.4f} s")
 
 
 if __name__ == "__main__":

@@ -21,6 +21,13 @@ def torus(size):
     return below(size, 2)
 
 
+def rectangles(size):
+    """The grid of so many columns, an even number, with most crossings: rectangles about a centre, each narrower and higher than the one before."""
+    half = size // 2
+    xs = tuple(half - 1 - column if column < half else half + size - 1 - column for column in range(size))
+    return Grid(xs, tuple(size - 1 - row for row in xs))
+
+
 def line(move):
     """The line of a move."""
     return " ".join(map(str, move))
