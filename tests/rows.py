@@ -23,21 +23,28 @@ A file has a subject, and is read by people. A row is a name, a call, and parts.
 
   input                     standard input; without it there is none
   unreadable input          standard input is a folder, so that each read fails
-  file NAME                 a file that lies where the call is made
+  file NAME                 a file that lies where the call is made, or in a folder there
   each of                   so many cases: each line stands in turn in the place of the line `...` above, up to the next `each of`
   answer STATUS             the exit status, and standard output
+  front STATUS              the exit status, and what standard output begins with
   error                     standard error
   taken                     the input is read: the status is 0, 1 or 8
   accepted behind it        the status is 0, and `knot check` accepts what is written behind the input
   simplified to N columns   a grid of N columns, moves and `irreducible` are written, and `knot replay` makes these moves to this grid
+  equal within N columns    the verdict is `equal`, and no diagram along its moves has more than N columns
+  drawn in N columns        a grid of N columns is written
+  lists of N ..             lists of so many lines are written
+  written NAME              the call writes this file, which begins so
+  unwritten NAME            no file of this name stands where the call is made
   cut at each byte          of each front of the input: it is malformed, or answered likewise where only the last line feed is gone
   altered at each byte      of the input with a byte 1 in each place: its line is malformed
 
+The words of a call stand as in a shell: `--braid "2 1 1 1"`.
 Each line of a part ends with a line feed, but where it ends with a backslash. Within lines stand \\\\ \\t \\r \\n \\0 and \\xHH for one byte,
 \\{MAX_SIZE + 1} for a number, \\{0 to MAX_SIZE} for numbers with blanks between, and \\{" 1" x MAX_SIZE - 4} for so many copies of a text.
 The constants are those of the crates. Lines that begin with # are remarks, and empty lines between parts say nothing.
 
-Each difference is printed, and last a line with the counts. There are some 1,300 calls.
+Each difference is printed, and last a line with the counts. There are some 1,600 calls.
 
 exit status:
   0  each row has what it must
@@ -48,6 +55,7 @@ import argparse
 import itertools
 import os
 import re
+import shlex
 import subprocess
 import sys
 import tempfile
@@ -65,8 +73,9 @@ MARGIN = "    "
 ONE_BYTE = {"\\": b"\\", "t": b"\t", "r": b"\r", "n": b"\n", "0": b"\0"}
 ESCAPE = re.compile(r"\\(?:\{(?P<sum>[^}]*)\}|x(?P<byte>[0-9a-f]{2})|(?P<one>.))")
 NUMBER = re.compile(r"(?P<front>\w+)(?: (?P<sign>[+-]) (?P<rest>[0-9]+))?")
-PART = re.compile(r"input|unreadable input|file (\S+)|each of|answer ([0-9]+)|error|taken|accepted behind it|simplified to ([0-9]+) columns"
-                  r"|(?:cut|altered) at each byte")
+PART = re.compile(r"input|unreadable input|file (?P<file>\S+)|each of|(?:answer|front) (?P<status>[0-9]+)|error|taken|accepted behind it"
+                  r"|(?:simplified to|equal within|drawn in) (?P<columns>[0-9]+) columns|lists of (?P<lists>[0-9]+(?: [0-9]+)*)"
+                  r"|(?:un)?written (?P<written>\S+)|(?:cut|altered) at each byte")
 
 
 class RowError(Exception):
@@ -85,10 +94,11 @@ class Case:
 
 @dataclass
 class Ended:
-    """How a call ended: its status, or minus the signal that ended it; and what it wrote."""
+    """How a call ended: its status, or minus the signal that ended it; what it wrote; and where it was made, if in a folder of its own."""
     status: int
     text: bytes
     error: bytes
+    folder: str = None
 
 
 def constants():
@@ -175,11 +185,27 @@ def rows_of(path):
     return rows
 
 
+def words_of(name, line):
+    """The words of a call."""
+    try:
+        return shlex.split(line)
+    except ValueError as error:
+        raise RowError(f"{name}: {error}") from None
+
+
+def detail_of(part):
+    """What the line of a part tells beside its words: the name of a file, numbers of lines, or a number."""
+    if part["lists"]:
+        return [int(count) for count in part["lists"].split()]
+    return part["written"] or int(part["status"] or part["columns"] or 0)
+
+
 def cases_of(name, blocks, known):
     """The cases of a row: one, or one a line below each `each of`."""
-    if not blocks or blocks[0][1].split()[0] not in ("knot", "seek") or blocks[0][2]:
+    words = words_of(name, blocks[0][1]) if blocks else []
+    if not words or words[0] not in ("knot", "seek") or blocks[0][2]:
         raise RowError(f"{name}: a call is due, of knot or seek")
-    frame, group, made = Case(name, blocks[0][1].split(), []), [None], []
+    frame, group, made = Case(name, words, []), [None], []
     for number, line, lines in [*blocks[1:], (0, "each of", [])]:
         part = PART.fullmatch(line)
         if not part:
@@ -191,10 +217,10 @@ def cases_of(name, blocks, known):
             frame.given = lines
         elif line == "unreadable input":
             frame.given = None
-        elif part[1]:
-            frame.files[part[1]] = lines
+        elif part["file"]:
+            frame.files[part["file"]] = lines
         else:
-            frame.wanted.append((line.split()[0], int(part[2] or part[3] or 0), text_of(lines, known)))
+            frame.wanted.append((line.split()[0], detail_of(part), text_of(lines, known)))
     if not made:
         raise RowError(f"{name}: nothing is expected")
     return made
@@ -251,33 +277,38 @@ class Runner:
         command = [self.programs[words[0]], *words[1:]]
         if given is not None:
             done = subprocess.run(command, input=given, capture_output=True, cwd=folder, timeout=PATIENCE, check=False)
-            return Ended(done.returncode, done.stdout, done.stderr)
+            return Ended(done.returncode, done.stdout, done.stderr, folder)
         unreadable = os.open("/", os.O_RDONLY)
         try:
             done = subprocess.run(command, stdin=unreadable, capture_output=True, cwd=folder, timeout=PATIENCE, check=False)
         finally:
             os.close(unreadable)
-        return Ended(done.returncode, done.stdout, done.stderr)
-
-    def call_of(self, case):
-        if not case.files:
-            return self.call(case.words, case.given)
-        with tempfile.TemporaryDirectory(prefix="knot-rows.") as folder:
-            for name, text in case.files.items():
-                with open(os.path.join(folder, name), "wb") as file:
-                    file.write(text)
-            return self.call(case.words, case.given, folder)
+        return Ended(done.returncode, done.stdout, done.stderr, folder)
 
     def problems(self, case):
         """What differs in a case."""
         try:
-            ended = self.call_of(case)
-            return [problem for part, number, text in case.wanted for problem in getattr(self, f"part_{part}")(case, ended, number, text) if problem]
+            if not case.files and not any(part.endswith("written") for part, _, _ in case.wanted):
+                return self.differences(case, self.call(case.words, case.given))
+            with tempfile.TemporaryDirectory(prefix="knot-rows.") as folder:
+                for name, text in case.files.items():
+                    path = os.path.join(folder, name)
+                    os.makedirs(os.path.dirname(path), exist_ok=True)
+                    with open(path, "wb") as file:
+                        file.write(text)
+                return self.differences(case, self.call(case.words, case.given, folder))
         except subprocess.TimeoutExpired:
             return [f"a call took over {PATIENCE} seconds"]
 
+    def differences(self, case, ended):
+        """What differs where a call ended so."""
+        return [problem for part, detail, text in case.wanted for problem in getattr(self, f"part_{part}")(case, ended, detail, text) if problem]
+
     def part_answer(self, _case, ended, status, text):
         return [differs("status", ended.status, status), differs("standard output", ended.text, text)]
+
+    def part_front(self, _case, ended, status, text):
+        return [differs("status", ended.status, status), differs("the front of standard output", ended.text[:len(text)], text)]
 
     def part_error(self, _case, ended, _number, text):
         return [differs("standard error", ended.error, text)]
@@ -296,6 +327,42 @@ class Runner:
         return [differs("status", ended.status, 0), differs("the last line", lines[-1:], [b"irreducible\n"]),
                 differs("columns", [len(line.split()) - 1 for line in grid], [columns] * 2), differs("the last diagram", reached.text, b"".join(grid))]
 
+    def part_equal(self, case, ended, columns, _text):
+        lines = ended.text.decode(errors="replace").splitlines()
+        size = most = columns_of(case.given.decode().splitlines()[0].split())
+        for line in lines[2:]:
+            size += line.startswith("stabilise") - line.startswith("destabilise")
+            most = max(most, size)
+        return [differs("status", ended.status, 0), differs("the verdict", [line.split()[0] for line in lines[:2]], ["certificate", "equal"]),
+                None if most <= columns else f"a diagram along the moves has {most} columns, and not at most {columns}"]
+
+    def part_drawn(self, _case, ended, columns, _text):
+        return [differs("status", ended.status, 0), differs("columns", [len(line.split()) - 1 for line in ended.text.splitlines()], [columns] * 2)]
+
+    def part_lists(self, _case, ended, counts, _text):
+        told, found = [], []
+        for line in ended.text.decode(errors="replace").splitlines():
+            if line.startswith("list "):
+                told.append(int(line.split()[1]))
+                found.append(0)
+            elif line.startswith("quandle"):
+                # what follows it, up to a list, is a table
+                found.append(None)
+            elif found and found[-1] is not None and line[:1].isdigit():
+                found[-1] += 1
+        return [differs("status", ended.status, 0), differs("the numbers of lines that are told", told, counts),
+                differs("the numbers of lines", [count for count in found if count is not None], counts)]
+
+    def part_written(self, _case, ended, name, text):
+        try:
+            with open(os.path.join(ended.folder, name), "rb") as file:
+                return [differs(f"the front of {name}", file.read(len(text)), text)]
+        except OSError:
+            return [f"no file {name} is written"]
+
+    def part_unwritten(self, _case, ended, name, _text):
+        return [f"a file {name} is written" if os.path.isfile(os.path.join(ended.folder, name)) else None]
+
     def part_cut(self, case, ended, _number, _text):
         fronts = [(length, self.call(case.words, case.given[:length])) for length in range(len(case.given))]
         return [differs(f"cut to {length} bytes: the status", front.status, MALFORMED) if length + 1 < len(case.given)
@@ -308,6 +375,11 @@ class Runner:
             return differs(f"altered at byte {place}: the answer", (found.status, found.text), (MALFORMED, due))
 
         return [altered(place) for place in range(len(case.given))]
+
+
+def columns_of(words):
+    """The columns of the diagram that begins with a line of these words."""
+    return 2 * int(words[1]) + len(words) - 2 if words[0] == "braid" else len(words) - 1
 
 
 def differs(what, found, wanted):

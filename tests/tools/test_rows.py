@@ -25,6 +25,20 @@ if sys.argv[1:] == ["sample"]:
     except OSError:
         sys.exit(0)
     sys.exit(5)
+if sys.argv[1:2] == ["write"]:
+    with open(sys.argv[2], "w") as file:
+        file.write("certificate\\nand more\\n")
+    print("written", sys.argv[3])
+    sys.exit(0)
+if sys.argv[1:] == ["colour"]:
+    sys.stdout.write("quandle table 1\\n0\\nlist 2\\n0 0\\n1 1\\nquandle trivial 1\\nlist 1\\n0 0\\n")
+    sys.exit(0)
+if sys.argv[1:] == ["decide"]:
+    sys.stdout.write("certificate 2\\nequal 3\\nstabilise 0 x lowleft\\nshift rows 1\\ndestabilise 0 0\\n")
+    sys.exit(0)
+if sys.argv[1:] == ["grid"]:
+    sys.stdout.write("x 0 1 2\\no 1 2 0\\n")
+    sys.exit(0)
 if sys.argv[1:] == ["shown"]:
     sys.stdout.write(open("shown").read())
     sys.exit(0)
@@ -97,10 +111,73 @@ answer 0
     b
 """
 
+# What a call writes, and of each kind a row that fails.
+WRITTEN = """== written
+knot write made "two words"
+front 0
+    writ\\
+written made
+    certificate
+unwritten other
+
+== not written
+knot write made "two words"
+front 1
+    written by
+written other
+unwritten made
+
+== lists
+knot colour
+lists of 2 1
+
+== other lists
+knot colour
+lists of 2
+
+== within
+knot decide
+input
+    x 0 1
+    o 1 0
+equal within 3 columns
+
+== too wide
+knot decide
+input
+    braid 1
+equal within 2 columns
+
+== drawn
+knot grid
+drawn in 3 columns
+
+== drawn in others
+knot grid
+drawn in 4 columns
+"""
+
+# What is said of the four that fail.
+NOT_WRITTEN = """some: not written
+    status is 0, and not 1
+    the front of standard output is b'written two', and not b'written by\\n'
+    no file other is written
+    a file made is written
+some: other lists
+    the numbers of lines that are told is [2, 1], and not [2]
+    the numbers of lines is [2, 1], and not [2]
+some: too wide
+    a diagram along the moves has 3 columns, and not at most 2
+some: drawn in others
+    columns is [3, 3], and not [4, 4]
+8 cases, 8 calls, 4 different
+"""
+
 # What is no row, and a part of what is said of it.
 NO_ROWS = (
     ("knot job\n", "a row begins with a line"),
     ("== one\nrun job\ntaken\n", "a call is due"),
+    ("== one\nknot \"job\ntaken\n", "No closing quotation"),
     ("== one\nknot job\n", "nothing is expected"),
     ("== one\nknot job\ninputs\n    good\ntaken\n", "is no part of a row"),
     ("== one\nknot job\ninput\n    ...\ntaken\n", "stand together"),
@@ -151,6 +228,9 @@ class Rows(unittest.TestCase):
 
     def test_streams_and_files(self):
         self.assertEqual(self.found(STREAMS), (0, "3 cases, 3 calls, 0 different\n"))
+
+    def test_what_a_call_writes(self):
+        self.assertEqual(self.found(WRITTEN), (1, NOT_WRITTEN))
 
     def test_an_empty_line_within_a_part_counts(self):
         self.assertEqual(self.found("== one\nknot job\ninput\n    good\n\n    good\n\nanswer 3\n    malformed line 2\n")[0], 0)

@@ -5,8 +5,6 @@
 mod lines;
 mod sentence;
 mod shapes;
-#[cfg(test)]
-mod tests;
 mod words;
 
 pub use sentence::{Sentence, reading, sentence_of};

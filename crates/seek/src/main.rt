@@ -9,8 +9,6 @@ mod failure;
 mod progress;
 mod report;
 mod search;
-#[cfg(test)]
-mod tests;
 
 use crate::call::call;
 use crate::failure::Failure;

@@ -10,8 +10,6 @@ mod quandles;
 mod reader;
 mod reason;
 mod shape;
-#[cfg(test)]
-mod shape_tests;
 mod shown;
 
 pub use alone::{NotOne, one_diagram};

@@ -1,4 +1,4 @@
-//! Tests of code_drawing, code_faults, code_grids, code_rows, code_text and crossing_codes.
+//! Tests of code_drawing, code_faults, code_grids, code_rows and crossing_codes.
 #![tactic(auto)]
 
 #[cfg(test)]

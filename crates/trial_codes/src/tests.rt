@@ -1,7 +1,6 @@
-//! A file a crate.
+//! What no program shows, a file a crate.
 mod codes;
 mod drawn;
 mod faults;
 mod grids;
 mod rows;
-mod written;

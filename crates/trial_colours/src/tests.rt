@@ -1,11 +1,8 @@
-//! A file a crate.
+//! What no program shows, a file a crate.
 mod braid_steps;
-mod carried;
-mod closures;
 mod colourings;
 mod linking;
+mod names;
 mod regions;
-mod rulings;
-mod verdicts;
 mod weights;
 mod words;

@@ -4,3 +4,4 @@ mod keys;
 mod offers;
 mod short;
 mod torus;
+mod walks;

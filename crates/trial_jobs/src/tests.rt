@@ -1,7 +1,8 @@
-//! The searches that calls of `decide` keep.
+//! The searches that calls of `decide` keep, and what is told beside an answer.
 mod gate;
 mod kept;
 mod many;
+mod told;
 
 use crate::tests::gate::Meeting;
 use decision_core::Status;

@@ -1,4 +1,4 @@
-//! Tests of colour_numbers, colour_seeds, number_certificates, number_check, number_decision and number_search.
+//! Tests of colour_seeds, number_certificates and number_search.
 #![tactic(auto)]
 
 #[cfg(test)]

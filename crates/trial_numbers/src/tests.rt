@@ -1,7 +1,4 @@
-//! A file a crate.
+//! What no program shows, a file a crate.
 mod certificates;
-mod evidence;
 mod found;
-mod numbers;
 mod seeds;
-mod worth;

@@ -34,66 +34,53 @@ fn has_fault(
     Ok(())
 }
 
-#[test]
-fn faults_of_small_codes(rt: HostRuntime) -> Result<(), Fail> {
-    let alloc = rt.alloc();
-    has_fault(&rt, alloc, &[], 0, 0, Some(CodeFault::Empty))?;
-    has_fault(&rt, alloc, &[], 0, 1, None)?;
-    has_fault(&rt, alloc, &[(1, 1, 2, 2, true)], 2, 0, None)?;
-    has_fault(
-        &rt,
-        alloc,
-        &[(1, 1, 2, 2, true)],
-        4,
-        0,
-        Some(CodeFault::Count),
-    )?;
-    has_fault(
-        &rt,
-        alloc,
+/// The four edges of a crossing, and whether its sign is positive.
+type Row = (u32, u32, u32, u32, bool);
+
+const KINK: &[Row] = &[(1, 1, 2, 2, true)];
+
+const TREFOIL: &[Row] = &[(1, 5, 2, 4, true), (3, 1, 4, 6, true), (5, 3, 6, 2, true)];
+
+const ON_A_TORUS: &[Row] = &[(3, 2, 4, 1, true), (2, 1, 3, 4, true)];
+
+/// Rows, edges and loops, and the first fault.
+const CODES: [(&[Row], u32, u32, Option<CodeFault>); 10] = [
+    (&[], 0, 0, Some(CodeFault::Empty)),
+    (&[], 0, 1, None),
+    (KINK, 2, 0, None),
+    (KINK, 4, 0, Some(CodeFault::Count)),
+    (
         &[(1, 1, 2, 3, true)],
         2,
         0,
         Some(CodeFault::Range { crossing: 0 }),
-    )?;
-    has_fault(
-        &rt,
-        alloc,
+    ),
+    (
         &[(1, 2, 2, 2, true)],
         2,
         0,
         Some(CodeFault::Edge { edge: 1 }),
-    )?;
-    has_fault(
-        &rt,
-        alloc,
+    ),
+    (
         &[(1, 1, 1, 2, true)],
         2,
         0,
         Some(CodeFault::Edge { edge: 1 }),
-    )?;
-    has_fault(
-        &rt,
-        alloc,
+    ),
+    (
         &[(1, 1, 2, 2, false)],
         2,
         0,
         Some(CodeFault::Edge { edge: 1 }),
-    )?;
-    has_fault(
-        &rt,
-        alloc,
-        &[(1, 5, 2, 4, true), (3, 1, 4, 6, true), (5, 3, 6, 2, true)],
-        6,
-        0,
-        None,
-    )?;
-    has_fault(
-        &rt,
-        alloc,
-        &[(3, 2, 4, 1, true), (2, 1, 3, 4, true)],
-        4,
-        0,
-        Some(CodeFault::Plane),
-    )
+    ),
+    (TREFOIL, 6, 0, None),
+    (ON_A_TORUS, 4, 0, Some(CodeFault::Plane)),
+];
+
+#[test]
+fn faults_of_small_codes(rt: HostRuntime) -> Result<(), Fail> {
+    for (rows, edges, loops, fault) in CODES {
+        has_fault(&rt, rt.alloc(), rows, edges, loops, fault)?;
+    }
+    Ok(())
 }

@@ -20,13 +20,6 @@ fn made(alloc: Global, modulus: u8, table: &[u8]) -> Option<Result<ShadowCocycle
     Some(ShadowCocycle::new(&Quandle::dihedral(3), modulus, table))
 }
 
-/// How many pairs of a colouring of the grid of two lists and an outer colour have each weight, or None where the lists are no grid.
-fn counted(alloc: Global, x: &[u8], o: &[u8]) -> Option<Vec<u32>> {
-    let grid = Grid::new(x, o).ok()?;
-    let cocycle = made(alloc, 3, &MOCHIZUKI)?.ok()?;
-    shadow_weights(alloc, &grid, &cocycle).ok()
-}
-
 /// The weight of a list of colours, and that of what a move makes of it, or None where it is no colouring or the move is not legal.
 #[tactic(auto, using(colour_rows::proofs::Colourings::coloured))]
 fn weighed(
@@ -59,71 +52,123 @@ fn weighed(
     ))
 }
 
+/// The rows of a grid: of the Xs, and of the Os.
+type Rows = (&'static [u8], &'static [u8]);
+
+const RIGHT_TREFOIL: Rows = (&[4, 3, 2, 1, 0], &[2, 1, 0, 4, 3]);
+
+const LEFT_TREFOIL: Rows = (&[0, 1, 2, 3, 4], &[2, 3, 4, 0, 1]);
+
+/// The grid of these rows.
+fn grid_of(rows: Rows) -> Result<Grid, Fail> {
+    match Grid::new(rows.0, rows.1) {
+        Ok(grid) => Ok(grid),
+        Err(_) => Err(Fail::from("no grid")),
+    }
+}
+
+/// The cocycle of Mochizuki.
+fn mochizuki(alloc: Global) -> Result<ShadowCocycle, Fail> {
+    match made(alloc, 3, &MOCHIZUKI) {
+        Some(Ok(cocycle)) => Ok(cocycle),
+        _ => Err(Fail::from("no cocycle")),
+    }
+}
+
+/// How many pairs of a colouring and an outer colour have each weight.
+fn counted(alloc: Global, rows: Rows) -> Result<Vec<u32>, Fail> {
+    let grid = grid_of(rows)?;
+    let cocycle = mochizuki(alloc)?;
+    match shadow_weights(alloc, &grid, &cocycle) {
+        Ok(counts) => Ok(counts),
+        Err(_) => Err(Fail::from("no weights")),
+    }
+}
+
+/// Compares how many pairs have each weight.
+fn counts(rt: &impl Abort, alloc: Global, rows: Rows, wanted: &[u32]) -> Result<(), Fail> {
+    let found = counted(alloc, rows)?;
+    assert_eq!(rt; found.as_slice(), wanted);
+    Ok(())
+}
+
 #[test]
 fn the_trefoils_differ(rt: HostRuntime) -> Result<(), Fail> {
-    let right = counted(rt.alloc(), &[4, 3, 2, 1, 0], &[2, 1, 0, 4, 3]);
-    assert_eq!(rt;
-        right.expect(&rt, "weights").as_slice(),
-        [9, 0, 18].as_slice()
-    );
-    let left = counted(rt.alloc(), &[0, 1, 2, 3, 4], &[2, 3, 4, 0, 1]);
-    assert_eq!(rt;
-        left.expect(&rt, "weights").as_slice(),
-        [9, 18, 0].as_slice()
-    );
-    Ok(())
+    counts(&rt, rt.alloc(), RIGHT_TREFOIL, &[9, 0, 18])?;
+    counts(&rt, rt.alloc(), LEFT_TREFOIL, &[9, 18, 0])
+}
+
+/// The table of Mochizuki with a wrong value.
+const LAWLESS: [u8; 27] = [
+    0, 0, 0, 0, 0, 1, 0, 2, 0, 0, 2, 1, 0, 0, 0, 0, 1, 0, 0, 1, 2, 0, 0, 1, 0, 0, 0,
+];
+
+const LAW: ShadowFault = ShadowFault::Law {
+    a: 0,
+    b: 1,
+    c: 0,
+    d: 2,
+};
+
+const FAULTS: [(u8, &[u8], ShadowFault); 3] = [
+    (3, &LAWLESS, LAW),
+    (1, &LAWLESS, ShadowFault::Modulus),
+    (3, &[], ShadowFault::Length),
+];
+
+/// The fault of a table.
+fn fault_of(alloc: Global, modulus: u8, table: &[u8]) -> Result<ShadowFault, Fail> {
+    match made(alloc, modulus, table) {
+        Some(Err(fault)) => Ok(fault),
+        _ => Err(Fail::from("no fault")),
+    }
 }
 
 #[test]
 fn a_table_is_refused_with_its_first_fault(rt: HostRuntime) -> Result<(), Fail> {
-    let mut table = MOCHIZUKI;
-    table[5] = 1;
-    let law = ShadowFault::Law {
-        a: 0,
-        b: 1,
-        c: 0,
-        d: 2,
-    };
-    for (modulus, table, fault) in [
-        (3, table.as_slice(), law),
-        (1, table.as_slice(), ShadowFault::Modulus),
-        (3, [].as_slice(), ShadowFault::Length),
-    ] {
-        let found = made(rt.alloc(), modulus, table).expect(&rt, "memory");
-        assert_eq!(rt; found.err(), Some(fault));
+    for (modulus, table, fault) in FAULTS {
+        assert_eq!(rt; fault_of(rt.alloc(), modulus, table)?, fault);
     }
     Ok(())
 }
 
+/// The modulus of a cocycle, and the number of its table at 0, 1 and 2.
+fn read(cocycle: &ShadowCocycle) -> (u8, u8) {
+    if cocycle.quandle().order() > 2 {
+        (cocycle.modulus(), cocycle.value(0, 1, 2))
+    } else {
+        (0, 0)
+    }
+}
+
 #[test]
 fn a_cocycle_has_the_numbers_of_its_table(rt: HostRuntime) -> Result<(), Fail> {
-    let found = made(rt.alloc(), 3, &MOCHIZUKI).expect(&rt, "memory");
-    let cocycle = found.ok().expect(&rt, "a cocycle");
-    let read = if cocycle.quandle().order() > 2 {
-        cocycle.value(0, 1, 2)
-    } else {
-        0
-    };
-    assert_eq!(rt; read, 2);
-    assert_eq!(rt; cocycle.modulus(), 3);
+    let cocycle = mochizuki(rt.alloc())?;
+    assert_eq!(rt; read(&cocycle), (3, 2));
     Ok(())
+}
+
+/// A stabilisation of the right trefoil.
+const BLOCK: Move = Move::Stabilise {
+    column: 3,
+    kind: Kind::Ring,
+    corner: Corner::LowLeft,
+};
+
+/// Whether a colouring of the right trefoil has weight 2, and what a move makes of it too.
+fn keeps(alloc: Global, step: Move) -> Result<bool, Fail> {
+    let grid = grid_of(RIGHT_TREFOIL)?;
+    let cocycle = mochizuki(alloc)?;
+    match weighed(&grid, &cocycle, &[0, 1, 2, 0, 2], 1, step) {
+        Some((before, after)) => Ok(before == 2 && after == 2),
+        None => Ok(false),
+    }
 }
 
 #[test]
 fn a_move_keeps_the_weight(rt: HostRuntime) -> Result<(), Fail> {
-    let grid = Grid::new(&[4, 3, 2, 1, 0], &[2, 1, 0, 4, 3])
-        .ok()
-        .expect(&rt, "a grid");
-    let found = made(rt.alloc(), 3, &MOCHIZUKI).expect(&rt, "memory");
-    let cocycle = found.ok().expect(&rt, "a cocycle");
-    let block = Move::Stabilise {
-        column: 3,
-        kind: Kind::Ring,
-        corner: Corner::LowLeft,
-    };
-    for step in [Move::ShiftRows(1), Move::ShiftColumns(2), block] {
-        let found = weighed(&grid, &cocycle, &[0, 1, 2, 0, 2], 1, step);
-        assert_eq!(rt; found, Some((2, 2)));
+    for step in [Move::ShiftRows(1), Move::ShiftColumns(2), BLOCK] {
+        assert!(rt; keeps(rt.alloc(), step)?);
     }
     Ok(())
 }

@@ -1,12 +1,10 @@
-//! Verdicts beside what a plain breadth-first program reaches, and by lists of quandles that separate.
+//! Verdicts beside what a plain breadth-first program reaches.
 ghost use Rattle.std.specs.Prelude.{◌≡◌, ◌≤◌};
 ghost use Rattle.search_book.specs.declared.problem.TheConstants.{MAX_BUDGET};
 
 mod atlas;
 mod many;
 mod searched;
-mod separated;
-mod simplified;
 mod steps;
 
 use grid_core::{Grid, MAX_SIZE};

@@ -7,7 +7,7 @@ ghost use Rattle.search_book.specs.declared.problem.TheConstants.{MAX_BUDGET};
 mod many;
 
 use grid_core::{Grid, MAX_SIZE};
-use grid_moves::apply_all;
+use grid_moves::{Move, apply_all};
 use search_book::{End, MAX_BUDGET, Meeting, Problem};
 use search_pool::{Finding, alone};
 use std::alloc::Global;
@@ -25,16 +25,22 @@ const REVERSED: Rows = (&[4, 3, 2, 1, 0], &[1, 0, 4, 3, 2]);
 /// The closure of the braid of two strands with the letters 1, 1 and 1, which is the right trefoil too.
 const CLOSURE: Rows = (&[4, 3, 2, 0, 1, 5, 6], &[6, 5, 4, 3, 2, 1, 0]);
 
+/// The grid of these rows.
+fn grid_of(rows: Rows) -> Result<Grid, Fail> {
+    match Grid::new(rows.0, rows.1) {
+        Ok(grid) => Ok(grid),
+        Err(_) => Err(Fail::from("no grid")),
+    }
+}
+
 /// The problem of these two grids.
 fn problem_of(first: Rows, second: Rows, cap: u8, budget: u32) -> Result<Problem, Fail>
     ensures fit { IfOk result (λ p. (size p.first ≤ p.cap) × (size p.second ≤ p.cap)) }
     ensures cap { IfOk result (λ p. p.cap ≤ MAX_SIZE) }
     ensures budget { IfOk result (λ p. (2 ≤ p.budget) × (p.budget ≤ MAX_BUDGET)) }
 {
-    let (Ok(first), Ok(second)) = (Grid::new(first.0, first.1), Grid::new(second.0, second.1))
-    else {
-        return Err(Fail::from("no grid"));
-    };
+    let first = grid_of(first)?;
+    let second = grid_of(second)?;
     if first.size() > cap || second.size() > cap || cap as usize > MAX_SIZE {
         return Err(Fail::from("no cap"));
     }
@@ -58,57 +64,93 @@ fn search(alloc: Global, first: Rows, second: Rows, cap: u8, budget: u32) -> Res
     }
 }
 
+/// The numbers of entries, of settlements and of events.
+fn counts(finding: &Finding) -> (u32, u64, usize) {
+    (
+        finding.book.len(),
+        finding.settled,
+        finding.book.history().len(),
+    )
+}
+
+/// Whether all entries were settled.
+fn is_exhausted(finding: &Finding) -> bool {
+    matches!(finding.book.end(), Some(End::Exhausted))
+}
+
+/// Whether the budget was too small.
+fn is_spent(finding: &Finding) -> bool {
+    matches!(finding.book.end(), Some(End::Spent { .. }))
+}
+
+/// Whether the roots were one entry.
+fn is_met_by_roots(finding: &Finding) -> bool {
+    matches!(finding.book.end(), Some(End::Met(Meeting::Roots)))
+}
+
+/// Whether the sides met in an offer.
+fn is_met_by_offer(finding: &Finding) -> bool {
+    matches!(finding.book.end(), Some(End::Met(Meeting::Offered { .. })))
+}
+
+/// The list of a search whose sides have met.
+fn joined(alloc: Global, finding: &Finding) -> Result<Vec<Move>, Fail> {
+    match finding.book.joined(alloc) {
+        Ok(Some(moves)) => Ok(moves),
+        _ => Err(Fail::from("not joined")),
+    }
+}
+
+/// Whether moves lead from one grid to another.
+fn leads(first: Rows, moves: &[Move], second: Rows) -> Result<bool, Fail> {
+    let first = grid_of(first)?;
+    let second = grid_of(second)?;
+    match apply_all(&first, moves) {
+        Ok(reached) => Ok(reached.same_as(&second)),
+        Err(_) => Ok(false),
+    }
+}
+
 #[test]
 fn neither_trefoil_has_a_neighbour_of_its_size(rt: HostRuntime) -> Result<(), Fail> {
     let finding = search(rt.alloc(), LEFT_TREFOIL, RIGHT_TREFOIL, 5, 20_000)?;
-    assert_eq!(rt; finding.book.end(), Some(End::Exhausted));
-    assert_eq!(rt; finding.book.len(), 2);
-    assert_eq!(rt; finding.settled, 2);
-    assert_eq!(rt; finding.book.history().len(), 4);
+    assert!(rt; is_exhausted(&finding));
+    assert_eq!(rt; counts(&finding), (2, 2, 4));
     Ok(())
 }
 
 #[test]
 fn a_budget_of_two_is_spent_at_the_next_size(rt: HostRuntime) -> Result<(), Fail> {
     let finding = search(rt.alloc(), LEFT_TREFOIL, RIGHT_TREFOIL, 6, 2)?;
-    assert!(rt; matches!(finding.book.end(), Some(End::Spent { .. })));
-    assert_eq!(rt; finding.book.len(), 2);
-    assert_eq!(rt; finding.settled, 1);
+    assert!(rt; is_spent(&finding));
+    let (entries, settled, _) = counts(&finding);
+    assert!(rt; entries == 2 && settled == 1);
     Ok(())
 }
 
 #[test]
 fn the_trefoil_and_its_reverse_meet_at_the_next_size(rt: HostRuntime) -> Result<(), Fail> {
     let finding = search(rt.alloc(), RIGHT_TREFOIL, REVERSED, 6, 20_000)?;
-    assert!(rt; matches!(finding.book.end(), Some(End::Met(Meeting::Offered { .. }))));
+    assert!(rt; is_met_by_offer(&finding));
     Ok(())
 }
 
 #[test]
 fn a_closure_and_the_trefoil_are_joined_within_its_own_size(rt: HostRuntime) -> Result<(), Fail> {
     let finding = search(rt.alloc(), CLOSURE, RIGHT_TREFOIL, 7, 200_000)?;
-    let Ok(Some(moves)) = finding.book.joined(rt.alloc()) else {
-        return Err(Fail::from("not joined"));
-    };
-    let (Ok(closure), Ok(trefoil)) = (
-        Grid::new(CLOSURE.0, CLOSURE.1),
-        Grid::new(RIGHT_TREFOIL.0, RIGHT_TREFOIL.1),
-    ) else {
-        return Err(Fail::from("no grid"));
-    };
-    match apply_all(&closure, moves.as_slice()) {
-        Ok(reached) => assert!(rt; reached.same_as(&trefoil)),
-        Err(_) => return Err(Fail::from("a move is not legal")),
-    }
+    let moves = joined(rt.alloc(), &finding)?;
+    assert!(rt; leads(CLOSURE, moves.as_slice(), RIGHT_TREFOIL)?);
     Ok(())
 }
 
+const TWO: Rows = (&[0, 1], &[1, 0]);
+
+const TWO_SHIFTED: Rows = (&[1, 0], &[0, 1]);
+
 #[test]
 fn a_shift_apart_they_meet_before_any_claim(rt: HostRuntime) -> Result<(), Fail> {
-    let finding = search(rt.alloc(), (&[0, 1], &[1, 0]), (&[1, 0], &[0, 1]), 2, 2)?;
-    assert_eq!(rt; finding.book.end(), Some(End::Met(Meeting::Roots)));
-    assert_eq!(rt; finding.book.len(), 1);
-    assert_eq!(rt; finding.settled, 0);
-    assert!(rt; finding.book.history().is_empty());
+    let finding = search(rt.alloc(), TWO, TWO_SHIFTED, 2, 2)?;
+    assert!(rt; is_met_by_roots(&finding));
+    assert_eq!(rt; counts(&finding), (1, 0, 0));
     Ok(())
 }

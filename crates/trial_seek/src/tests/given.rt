@@ -2,7 +2,7 @@
 ghost use Rattle.std.specs.Prelude.{◌≡◌, Some, codes, if◌then◌else◌};
 ghost use Rattle.std.specs.Str.{bytes_eq};
 
-use decision_core::{MAX_INPUT, Status};
+use decision_core::MAX_INPUT;
 use seek_parts::{PartFault, Parts, Texts};
 use seek_words::{Asked, Diagrams, Given, Talk};
 use std::alloc::Global;
@@ -104,43 +104,5 @@ fn a_code_is_drawn(rt: HostRuntime) -> Result<(), Fail> {
     };
     let drawn = parts.texts()[0].as_slice();
     assert!(rt; drawn == b"x 0 1\no 1 0\n".as_slice() || drawn == b"x 1 0\no 0 1\n".as_slice());
-    Ok(())
-}
-
-/// The sentence and the status of each fault. The first file is a grid without its Os, the second the code of an edge that stands once.
-#[test]
-fn faults_are_told(rt: HostRuntime) -> Result<(), Fail> {
-    let files = TwoTexts {
-        first: b"x 0 1\n",
-        second: b"X[1,2,3,4]\n",
-    };
-    let braid = Given::Braid("1");
-    let rows = [
-        (
-            Given::File("a"),
-            Status::Malformed,
-            "a: it ends before the line `o ..` of its diagram",
-        ),
-        (
-            Given::Code("b"),
-            Status::Malformed,
-            "b: edge 1 does not stand exactly twice",
-        ),
-        (
-            Given::Code("a"),
-            Status::Malformed,
-            "a, line 1 is not what is due in a planar diagram code",
-        ),
-    ];
-    for (given, status, sentence) in rows {
-        let asked = asked_for(rt.alloc(), Diagrams::Pair(braid, given))?;
-        match Parts::read(rt.alloc(), &files, &asked) {
-            Ok(_) => return Err(Fail::from("the parts were read")),
-            Err(fault) => {
-                assert_eq!(rt; fault.status(), status);
-                assert_eq!(rt; format!(in rt.alloc(); "{fault}")?.as_str(), sentence);
-            }
-        }
-    }
     Ok(())
 }

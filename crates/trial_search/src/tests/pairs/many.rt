@@ -15,24 +15,33 @@ use verdict_core::{Listed, QuandleName, Verdict};
 /// The size of the greatest diagrams, and the cap.
 const CAP: u8 = 4;
 
+/// Whether a verdict is by moves that join the pair.
+fn is_joined(verdict: &Verdict, first: &Grid, second: &Grid) -> bool {
+    match verdict {
+        Verdict::Equal(moves) => leads(first, moves.as_slice(), second),
+        _ => false,
+    }
+}
+
+/// Whether a verdict tells that so many diagrams were reached within a cap.
+fn is_exhausted(verdict: &Verdict, within: u32, count: u32) -> bool {
+    match verdict {
+        Verdict::UnknownExhausted { cap, admitted } => *cap == within && *admitted == count,
+        _ => false,
+    }
+}
+
 /// Whether the decision of many workers on a pair is of the kind and with the number of that of one. The
 /// moves may be others, but they join the pair.
 fn agrees(one: &Decision, many: &Decision, first: &Grid, second: &Grid) -> bool {
-    let alike = match (&one.verdict, &many.verdict) {
-        (Verdict::Equal(_), Verdict::Equal(moves)) => leads(first, moves.as_slice(), second),
-        (
-            Verdict::UnknownExhausted { cap, admitted },
-            Verdict::UnknownExhausted {
-                cap: within,
-                admitted: count,
-            },
-        ) => *cap == *within && *admitted == *count,
+    let alike = match &one.verdict {
+        Verdict::Equal(_) => is_joined(&many.verdict, first, second),
+        Verdict::UnknownExhausted { cap, admitted } => {
+            is_exhausted(&many.verdict, *cap, *admitted)
+        }
         _ => false,
     };
-    match &many.kept {
-        Some(_finding) => alike,
-        None => false,
-    }
+    alike && many.kept.is_some()
 }
 
 /// The decision of so many workers on a pair.
@@ -54,6 +63,25 @@ fn by_many<R: Threads + Wait + Sync>(
     }
 }
 
+/// Whether each of these numbers of workers decides a pair as one does.
+fn agrees_by_all<R: Threads + Wait + Sync>(
+    rt: &R,
+    alloc: Global,
+    first: &Grid,
+    second: &Grid,
+    quandles: &[Listed],
+    numbers: &[u32],
+) -> Result<bool, Fail> {
+    let by_one = decision(alloc, first, second, CAP, quandles)?;
+    for workers in numbers {
+        let found = by_many(rt, alloc, first, second, quandles, *workers)?;
+        if !agrees(&by_one, &found, first, second) {
+            return Ok(false);
+        }
+    }
+    Ok(true)
+}
+
 /// Decides all pairs of diagrams of two columns to so many, by numbers of workers and by one.
 fn compare<R: Abort + Threads + Wait + Sync>(
     rt: &R,
@@ -72,15 +100,9 @@ fn compare<R: Abort + Threads + Wait + Sync>(
             if first.grid.size().max(second.grid.size()) > greatest {
                 continue;
             }
-            let by_one = decision(alloc, &first.grid, &second.grid, CAP, &quandles)?;
-            for workers in numbers {
-                let by_many = by_many(rt, alloc, &first.grid, &second.grid, &quandles, *workers)?;
-                let (one, two) = (first.name, second.name);
-                assert!(rt;
-                    agrees(&by_one, &by_many, &first.grid, &second.grid),
-                    "{one} {two} {workers}"
-                );
-            }
+            let is_so = agrees_by_all(rt, alloc, &first.grid, &second.grid, &quandles, numbers)?;
+            let (one, two) = (first.name, second.name);
+            assert!(rt; is_so, "{one} {two}");
         }
     }
     Ok(())

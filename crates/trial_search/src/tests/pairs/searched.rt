@@ -85,23 +85,47 @@ fn apart(first: &Root, second: &Root) -> Option<usize> {
     }
 }
 
+/// Whether moves join two diagrams that the plain program joins, within a cap.
+fn is_joined(moves: &[Move], first: &Root, second: &Root, cap: u8) -> bool {
+    apart(first, second).is_none()
+        && leads(&first.grid, moves, &second.grid)
+        && stays_within(&first.grid, moves, cap)
+}
+
+/// Whether a search told what the plain program reached of two diagrams that it doesn't join.
+fn is_exhausted(within: u32, admitted: u32, first: &Root, second: &Root, cap: u8) -> bool {
+    match apart(first, second) {
+        Some(count) => within == u32::from(cap) && admitted as usize == count,
+        None => false,
+    }
+}
+
 /// Whether a search of two diagrams came to what the plain program reached.
 fn agrees(decision: &Decision, first: &Root, second: &Root, cap: u8) -> bool {
-    let searched = match (&decision.verdict, apart(first, second)) {
-        (Verdict::Equal(moves), None) => {
-            leads(&first.grid, moves.as_slice(), &second.grid)
-                && stays_within(&first.grid, moves.as_slice(), cap)
-        }
-        (
-            Verdict::UnknownExhausted {
-                cap: within,
-                admitted,
-            },
-            Some(count),
-        ) => *within == u32::from(cap) && *admitted as usize == count,
+    let searched = match &decision.verdict {
+        Verdict::Equal(moves) => is_joined(moves.as_slice(), first, second, cap),
+        Verdict::UnknownExhausted {
+            cap: within,
+            admitted,
+        } => is_exhausted(*within, *admitted, first, second, cap),
         _ => false,
     };
     searched && decision.kept.is_some()
+}
+
+/// Whether the search of a pair agrees, and whether it joins the pair.
+fn compared(
+    alloc: Global,
+    first: &Root,
+    second: &Root,
+    cap: u8,
+    quandles: &[Listed],
+) -> Result<(bool, bool), Fail> {
+    let found = decision(alloc, &first.grid, &second.grid, cap, quandles)?;
+    Ok((
+        agrees(&found, first, second, cap),
+        matches!(found.verdict, Verdict::Equal(_)),
+    ))
 }
 
 /// Whether moves lead from a diagram to another.
@@ -139,13 +163,11 @@ fn compare(
     let mut joined: u32 = 0;
     for first in roots {
         for second in roots {
-            let found = decision(alloc, &first.grid, &second.grid, cap, quandles)?;
+            let (is_so, is_equal) = compared(alloc, first, second, cap, quandles)?;
             let (one, two) = (first.place, second.place);
-            assert!(rt; agrees(&found, first, second, cap), "{one} {two} {cap}");
+            assert!(rt; is_so, "{one} {two} {cap}");
             pairs = pairs.saturating_add(1);
-            if matches!(found.verdict, Verdict::Equal(_)) {
-                joined = joined.saturating_add(1);
-            }
+            joined = joined.saturating_add(u32::from(is_equal));
         }
     }
     Ok((pairs, joined))

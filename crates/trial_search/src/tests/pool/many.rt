@@ -1,11 +1,17 @@
 //! Searches of many workers: that two of them, and eight, really are at work at once, and where they meet.
 
-use super::{LEFT_TREFOIL, REVERSED, RIGHT_TREFOIL, problem_of};
-use search_book::{End, Event, Meeting};
-use search_pool::{Gate, OpenGate, pool};
+use super::{
+    LEFT_TREFOIL, REVERSED, RIGHT_TREFOIL, Rows, is_exhausted, is_met_by_offer, is_spent,
+    problem_of,
+};
+use search_book::Event;
+use search_pool::{Finding, Gate, MAX_WORKERS, OpenGate, pool};
+use std::alloc::Global;
+use std::sync::Wait;
 use std::sync::atomic::{AtomicU64, Ordering};
 use std::test::Fail;
 use std::thread;
+use std::thread::Threads;
 
 /// How many turns a pass waits at most.
 const TURNS: u64 = 1_000_000_000;
@@ -38,21 +44,34 @@ impl Rendezvous {
             of_others: AtomicU64::new(0),
         }
     }
-}
 
-impl Gate for Rendezvous {
-    fn pass(&self, worker: u32, _id: u32) {
-        let passes = if worker == 0 {
-            &self.of_first
+    /// How many passes saw the last one come, and how many waited in vain.
+    fn seen(&self) -> (u64, u64) {
+        (
+            self.met.load(Ordering::SeqCst),
+            self.in_vain.load(Ordering::SeqCst),
+        )
+    }
+
+    /// The passes of worker 0, and those of all others.
+    fn passes(&self) -> (u64, u64) {
+        (
+            self.of_first.load(Ordering::SeqCst),
+            self.of_others.load(Ordering::SeqCst),
+        )
+    }
+
+    /// Counts a pass of this worker.
+    fn count(&self, worker: u32) {
+        if worker == 0 {
+            self.of_first.fetch_add(1, Ordering::SeqCst);
         } else {
-            &self.of_others
-        };
-        passes.fetch_add(1, Ordering::SeqCst);
-        let last = self.before.saturating_add(self.together);
-        let begun = self.begun.fetch_add(1, Ordering::SeqCst).saturating_add(1);
-        if begun <= self.before || begun >= last {
-            return;
+            self.of_others.fetch_add(1, Ordering::SeqCst);
         }
+    }
+
+    /// Waits until so many passes have begun, and notes whether that came.
+    fn wait(&self, last: u64) {
         for turn in 0..self.turns {
             // on a busy machine the others have to get on
             if turn % 1024 == 0 {
@@ -64,6 +83,17 @@ impl Gate for Rendezvous {
             }
         }
         self.in_vain.fetch_add(1, Ordering::SeqCst);
+    }
+}
+
+impl Gate for Rendezvous {
+    fn pass(&self, worker: u32, _id: u32) {
+        self.count(worker);
+        let last = self.before.saturating_add(self.together);
+        let begun = self.begun.fetch_add(1, Ordering::SeqCst).saturating_add(1);
+        if begun > self.before && begun < last {
+            self.wait(last);
+        }
     }
 }
 
@@ -108,36 +138,70 @@ fn are_of(history: &[Event], workers: u32) -> bool {
     seen.count_ones() == workers
 }
 
+/// What so many workers find at a gate.
+fn pooled<R: Threads + Wait + Sync, G: Gate + Sync>(
+    rt: &R,
+    alloc: Global,
+    pair: (Rows, Rows),
+    cap: u8,
+    budget: u32,
+    workers: u32,
+    gate: &G,
+) -> Result<Finding, Fail> {
+    let problem = problem_of(pair.0, pair.1, cap, budget)?;
+    if workers < 1 || workers > MAX_WORKERS {
+        return Err(Fail::from("no workers"));
+    }
+    match pool(rt, alloc, problem, workers, gate) {
+        Ok(finding) => Ok(finding),
+        Err(_) => Err(Fail::from("no memory")),
+    }
+}
+
+/// The most entries in hand at any time of a search.
+fn in_hand(finding: &Finding) -> u64 {
+    most_in_flight(finding.book.history())
+}
+
+/// Whether each event is one of these workers, and each of them has one.
+fn is_of(finding: &Finding, workers: u32) -> bool {
+    are_of(finding.book.history(), workers)
+}
+
+/// The claims of worker 0, and those of all others.
+fn claims_of(finding: &Finding) -> (u64, u64) {
+    claims(finding.book.history())
+}
+
+/// Whether each entry was settled.
+fn is_settled(finding: &Finding) -> bool {
+    finding.settled == u64::from(finding.book.len())
+}
+
+const TREFOILS: (Rows, Rows) = (LEFT_TREFOIL, RIGHT_TREFOIL);
+
+const REVERSE: (Rows, Rows) = (RIGHT_TREFOIL, REVERSED);
+
 #[test]
 fn two_workers_are_between_claim_and_settlement_at_once(rt: HostRuntime) -> Result<(), Fail> {
     let gate = Rendezvous::new(0, 2, TURNS);
-    let problem = problem_of(LEFT_TREFOIL, RIGHT_TREFOIL, 6, 20_000)?;
-    let Ok(finding) = pool(&rt, rt.alloc(), problem, 2, &gate) else {
-        return Err(Fail::from("no memory"));
-    };
-    assert_eq!(rt; gate.met.load(Ordering::SeqCst), 1);
-    assert_eq!(rt; gate.in_vain.load(Ordering::SeqCst), 0);
-    assert_eq!(rt; finding.book.end(), Some(End::Exhausted));
-    assert_eq!(rt; finding.settled, u64::from(finding.book.len()));
-    let (of_first, of_others) = claims(finding.book.history());
-    assert_eq!(rt; of_first, gate.of_first.load(Ordering::SeqCst));
-    assert_eq!(rt; of_others, gate.of_others.load(Ordering::SeqCst));
-    assert!(rt; of_first > 0);
-    assert!(rt; of_others > 0);
-    assert_eq!(rt; most_in_flight(finding.book.history()), 2);
+    let finding = pooled(&rt, rt.alloc(), TREFOILS, 6, 20_000, 2, &gate)?;
+    assert_eq!(rt; gate.seen(), (1, 0));
+    assert!(rt; is_exhausted(&finding));
+    assert!(rt; is_settled(&finding));
+    let (of_first, of_others) = claims_of(&finding);
+    assert_eq!(rt; gate.passes(), (of_first, of_others));
+    assert!(rt; of_first > 0 && of_others > 0);
+    assert!(rt; in_hand(&finding) == 2);
     Ok(())
 }
 
 #[test]
 fn one_worker_waits_at_the_gate_in_vain(rt: HostRuntime) -> Result<(), Fail> {
     let gate = Rendezvous::new(0, 2, 1_000);
-    let problem = problem_of(LEFT_TREFOIL, RIGHT_TREFOIL, 5, 20_000)?;
-    let Ok(finding) = pool(&rt, rt.alloc(), problem, 1, &gate) else {
-        return Err(Fail::from("no memory"));
-    };
-    assert_eq!(rt; gate.met.load(Ordering::SeqCst), 0);
-    assert_eq!(rt; gate.in_vain.load(Ordering::SeqCst), 1);
-    assert_eq!(rt; finding.settled, 2);
+    let finding = pooled(&rt, rt.alloc(), TREFOILS, 5, 20_000, 1, &gate)?;
+    assert_eq!(rt; gate.seen(), (0, 1));
+    assert!(rt; finding.settled == 2);
     Ok(())
 }
 
@@ -145,48 +209,34 @@ fn one_worker_waits_at_the_gate_in_vain(rt: HostRuntime) -> Result<(), Fail> {
 fn eight_workers_are_between_claim_and_settlement_at_once(rt: HostRuntime) -> Result<(), Fail> {
     let gate = Rendezvous::new(19, 8, TURNS);
     // by the 20th claim twelve entries are settled, so there are eight to claim at once, and the budget is far off
-    let problem = problem_of(LEFT_TREFOIL, RIGHT_TREFOIL, 7, 5_000)?;
-    let Ok(finding) = pool(&rt, rt.alloc(), problem, 8, &gate) else {
-        return Err(Fail::from("no memory"));
-    };
-    assert_eq!(rt; gate.met.load(Ordering::SeqCst), 7);
-    assert_eq!(rt; gate.in_vain.load(Ordering::SeqCst), 0);
-    assert_eq!(rt; most_in_flight(finding.book.history()), 8);
-    assert!(rt; are_of(finding.book.history(), 8));
+    let finding = pooled(&rt, rt.alloc(), TREFOILS, 7, 5_000, 8, &gate)?;
+    assert_eq!(rt; gate.seen(), (7, 0));
+    assert!(rt; in_hand(&finding) == 8);
+    assert!(rt; is_of(&finding, 8));
     Ok(())
 }
 
 #[test]
 fn three_workers_are_between_claim_and_settlement_at_once(rt: HostRuntime) -> Result<(), Fail> {
     let gate = Rendezvous::new(2, 3, TURNS);
-    let problem = problem_of(LEFT_TREFOIL, RIGHT_TREFOIL, 6, 20_000)?;
-    let Ok(finding) = pool(&rt, rt.alloc(), problem, 3, &gate) else {
-        return Err(Fail::from("no memory"));
-    };
-    assert_eq!(rt; gate.met.load(Ordering::SeqCst), 2);
-    assert_eq!(rt; gate.in_vain.load(Ordering::SeqCst), 0);
-    assert_eq!(rt; most_in_flight(finding.book.history()), 3);
-    assert!(rt; are_of(finding.book.history(), 3));
+    let finding = pooled(&rt, rt.alloc(), TREFOILS, 6, 20_000, 3, &gate)?;
+    assert_eq!(rt; gate.seen(), (2, 0));
+    assert!(rt; in_hand(&finding) == 3);
+    assert!(rt; is_of(&finding, 3));
     Ok(())
 }
 
 #[test]
 fn eight_workers_meet_from_the_trefoil_and_its_reverse(rt: HostRuntime) -> Result<(), Fail> {
-    let problem = problem_of(RIGHT_TREFOIL, REVERSED, 6, 20_000)?;
-    let Ok(finding) = pool(&rt, rt.alloc(), problem, 8, &OpenGate) else {
-        return Err(Fail::from("no memory"));
-    };
-    assert!(rt; matches!(finding.book.end(), Some(End::Met(Meeting::Offered { .. }))));
+    let finding = pooled(&rt, rt.alloc(), REVERSE, 6, 20_000, 8, &OpenGate)?;
+    assert!(rt; is_met_by_offer(&finding));
     Ok(())
 }
 
 #[test]
 fn one_worker_has_four_entries_in_hand_where_there_is_plenty(rt: HostRuntime) -> Result<(), Fail> {
-    let problem = problem_of(LEFT_TREFOIL, RIGHT_TREFOIL, 8, 20_000)?;
-    let Ok(finding) = pool(&rt, rt.alloc(), problem, 1, &OpenGate) else {
-        return Err(Fail::from("no memory"));
-    };
-    assert!(rt; matches!(finding.book.end(), Some(End::Spent { .. })));
-    assert_eq!(rt; most_in_flight(finding.book.history()), 4);
+    let finding = pooled(&rt, rt.alloc(), TREFOILS, 8, 20_000, 1, &OpenGate)?;
+    assert!(rt; is_spent(&finding));
+    assert!(rt; in_hand(&finding) == 4);
     Ok(())
 }

@@ -1,0 +1,93 @@
+//! Searches that find nothing, by what a watch is told.
+
+use super::{BRAID, Lists, MIRRORED, TREFOIL, grid_of};
+use grid_core::MAX_SIZE;
+use meeting_walks::{Bounds, Progress, Watch, find_joining_by};
+use std::alloc::Global;
+use std::test::Fail;
+use std::thread::Threads;
+
+/// The most steps or forms that two excursions, one of each side, make.
+const TWO_EXCURSIONS: usize = 2 * 512 * MAX_SIZE;
+
+/// Counts the notes, and keeps the last one.
+#[derive(Drop)]
+struct Counting {
+    notes: u32,
+    last: Option<Progress>,
+    /// Whether no note has fewer steps than the one before.
+    is_rising: bool,
+    /// Whether a note has fewer forms than the one before.
+    has_begun_anew: bool,
+}
+
+impl Counting {
+    /// Before the first note.
+    fn new() -> Counting {
+        Counting {
+            notes: 0,
+            last: None,
+            is_rising: true,
+            has_begun_anew: false,
+        }
+    }
+}
+
+impl Watch for Counting {
+    fn note(&mut self, progress: Progress) {
+        if let Some(last) = self.last {
+            self.is_rising &= last.steps <= progress.steps;
+            self.has_begun_anew |= progress.forms < last.forms;
+        }
+        self.notes = self.notes.saturating_add(1);
+        self.last = Some(progress);
+    }
+}
+
+/// Whether some workers find nothing between the grids of lists.
+fn finds_nothing<R: Threads + Sync>(
+    rt: &R,
+    alloc: Global,
+    lists: (Lists, Lists),
+    bounds: Bounds,
+    workers: u32,
+    watch: &mut Counting,
+) -> Result<bool, Fail> {
+    let near = grid_of(lists.0)?;
+    let far = grid_of(lists.1)?;
+    let found = find_joining_by(rt, alloc, &near, &far, bounds, workers, watch)?;
+    Ok(found.is_none())
+}
+
+#[test]
+fn a_search_without_new_forms_ends_early(rt: HostRuntime) -> Result<(), Fail> {
+    let mut watch = Counting::new();
+    let bounds = Bounds {
+        seed: 1,
+        steps: 1000000000000,
+        room: 262144,
+    };
+    let trefoils = (TREFOIL, MIRRORED);
+    assert!(rt; finds_nothing(&rt, rt.alloc(), trefoils, bounds, 2, &mut watch)?);
+    assert!(rt; watch.notes > 1 && watch.is_rising);
+    let last = watch.last.ok_or("no progress")?;
+    assert!(rt; last.steps > 1000000 && last.steps < 100000000);
+    assert_eq!(rt; (last.first_size, last.second_size), (5, 5));
+    Ok(())
+}
+
+#[test]
+fn a_full_table_is_emptied_and_the_steps_are_kept(rt: HostRuntime) -> Result<(), Fail> {
+    let mut watch = Counting::new();
+    let bounds = Bounds {
+        seed: 1,
+        steps: 20000,
+        room: TWO_EXCURSIONS + 20,
+    };
+    let others = (BRAID, TREFOIL);
+    assert!(rt; finds_nothing(&rt, rt.alloc(), others, bounds, 1, &mut watch)?);
+    let last = watch.last.ok_or("no progress")?;
+    assert!(rt; last.steps >= 20000 && last.steps <= 20002 + TWO_EXCURSIONS as u64);
+    assert!(rt; watch.has_begun_anew);
+    Ok(())
+}

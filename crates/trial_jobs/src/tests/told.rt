@@ -1,0 +1,169 @@
+//! What is told of streams that fail in the middle, and of answers; and which words ask for a job that reads.
+use knot_jobs::{Job, PlainJob, Status, run_alone};
+use knot_ports::{StdSink, StdSource, give_all};
+use knot_tells::{reading, sentence_of};
+use std::alloc::Global;
+use std::io;
+use std::io::{Read, Write};
+use std::test::Fail;
+use trial_calls::words_of;
+
+/// A reader of bytes, which fails behind them if it is to.
+#[derive(Drop)]
+struct Bytes<'a> {
+    left: &'a [u8],
+    fails: bool,
+}
+
+impl<'a> Read for Bytes<'a> {
+    fn read(&mut self, buf: &mut [u8]) -> io::Result<usize> {
+        if self.left.is_empty() && self.fails {
+            return Err(io::Error::from(io::ErrorKind::PermissionDenied));
+        }
+        let count = self.left.len().min(buf.len());
+        let (front, behind) = self.left.split_at(count);
+        buf[..count].copy_from_slice(front);
+        self.left = behind;
+        Ok(count)
+    }
+}
+
+/// A writer that takes so many bytes, and then fails.
+#[derive(Drop)]
+struct Room {
+    left: usize,
+}
+
+impl Write for Room {
+    fn write(&mut self, buf: &[u8]) -> io::Result<usize> {
+        let count = self.left.min(buf.len());
+        if count == 0 && !buf.is_empty() {
+            return Err(io::Error::from(io::ErrorKind::StorageFull));
+        }
+        self.left -= count;
+        Ok(count)
+    }
+
+    fn flush(&mut self) -> io::Result<()> {
+        Ok(())
+    }
+}
+
+/// The status of a call of `code`.
+fn code(
+    alloc: Global,
+    source: &mut StdSource<Bytes>,
+    sink: &mut StdSink<Room>,
+) -> Result<Status, Fail> {
+    let words = words_of(alloc, "knot code")?;
+    Ok(run_alone(alloc, words.as_slice(), source, sink, &mut None))
+}
+
+/// What is told of a call with the words of a line that ended with a status; nothing, where nothing is.
+fn said(
+    rt: &HostRuntime,
+    line: &str,
+    status: Status,
+    source: &StdSource<Bytes>,
+    sink: &StdSink<Room>,
+) -> Result<String, Fail> {
+    let alloc = rt.alloc();
+    let words = words_of(alloc, line)?;
+    match sentence_of(rt, alloc, words.as_slice(), status, source, sink) {
+        Some(sentence) => Ok(format!(in alloc; "{sentence}")?),
+        None => Ok(String::new(alloc)),
+    }
+}
+
+/// Whether a call of `code` over this reader, with so much room to write, ends with a status, and its sentence begins with these words.
+fn ends(
+    rt: &HostRuntime,
+    reader: Bytes,
+    room: usize,
+    status: Status,
+    words: &str,
+) -> Result<bool, Fail> {
+    let alloc = rt.alloc();
+    let mut source = StdSource::new(alloc, reader, 100);
+    let mut sink = StdSink::new(Room { left: room });
+    let ended = code(alloc, &mut source, &mut sink)?;
+    let said = said(rt, "knot code", ended, &source, &sink)?;
+    Ok(ended == status && said.as_str().starts_with(words))
+}
+
+#[test]
+fn faults_of_streams_are_told(rt: HostRuntime) -> Result<(), Fail> {
+    let reader = Bytes {
+        left: b"x 0 1\n",
+        fails: true,
+    };
+    let words = "standard input can't be read: ";
+    assert!(rt; ends(&rt, reader, 100, Status::ReadFault, words)?);
+    let reader = Bytes {
+        left: b"x 0 1\no 1 0\n",
+        fails: false,
+    };
+    let words = "standard output can't be written: ";
+    assert!(rt; ends(&rt, reader, 10, Status::WriteFault, words)?);
+    Ok(())
+}
+
+/// What is told where a call of `grid`, whose lines have no reasons, ended with a status and wrote this.
+fn said_of(rt: &HostRuntime, status: Status, written: &[u8]) -> Result<String, Fail> {
+    let reader = Bytes {
+        left: b"",
+        fails: false,
+    };
+    let source = StdSource::new(rt.alloc(), reader, 0);
+    let mut sink = StdSink::new(Room { left: 100 });
+    let _all = give_all(&mut sink, written);
+    said(rt, "knot grid", status, &source, &sink)
+}
+
+const WRITTEN: [(Status, &[u8], &str); 6] = [
+    (
+        Status::Malformed,
+        b"malformed line 12\n",
+        "line 12 is not what is due there",
+    ),
+    (Status::Limit, b"limit line 1\n", "line 1 exceeds a limit"),
+    (
+        Status::Limit,
+        b"limit bytes\n",
+        "the input has more bytes than the job takes",
+    ),
+    (Status::Malformed, b"malformed line 12", ""),
+    (Status::Limit, b"limit line \n", ""),
+    (Status::Malformed, b"accepted\n", ""),
+];
+
+#[test]
+fn answers_name_lines(rt: HostRuntime) -> Result<(), Fail> {
+    for (status, written, expected) in WRITTEN {
+        let said = said_of(&rt, status, written)?;
+        assert_eq!(rt; said.as_str(), expected);
+    }
+    Ok(())
+}
+
+/// The job that the words of a line ask for, where it reads.
+fn read_by(alloc: Global, line: &str) -> Result<Option<Job>, Fail> {
+    let words = words_of(alloc, line)?;
+    Ok(reading(alloc, words.as_slice()))
+}
+
+const LINES: [(&str, Option<Job>); 5] = [
+    ("knot decide", Some(Job::Decide)),
+    ("knot --spare 0 code", Some(Job::Plain(PlainJob::Code))),
+    ("knot sample", None),
+    ("knot decide --spare 5", None),
+    ("knot", None),
+];
+
+#[test]
+fn a_job_that_reads_is_known_by_its_words(rt: HostRuntime) -> Result<(), Fail> {
+    for (line, expected) in LINES {
+        assert_eq!(rt; read_by(rt.alloc(), line)?, expected);
+    }
+    Ok(())
+}
