@@ -9,3 +9,4 @@ pub mod Keys
 pub mod Briefs
 pub mod Joined
 pub mod CanonicalForms
+pub mod PutShifts

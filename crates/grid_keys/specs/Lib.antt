@@ -9,3 +9,4 @@ pub mod Cornered
 pub use Rattle.grid_core.specs.Diagram
 pub use Rattle.grid_moves.specs.Shift
 pub use Rattle.grid_moves.specs.Joining
+pub use Rattle.grid_moves.specs.PutsPart

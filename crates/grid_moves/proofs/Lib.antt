@@ -21,5 +21,6 @@ pub mod Sizes
 mod Tidied
 pub mod OneStabilisation
 pub mod TurnedBack
+pub mod PutParts
 mod WorkedMoves
 pub mod WorkedRows

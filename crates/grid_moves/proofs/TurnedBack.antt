@@ -1,6 +1,6 @@
 -- Lists of moves, undone.
 use Rattle.std.proofs.Common.{◌≡◌, ◌∙◌, ap, refl, sym, subst, ℕ, zero, suc, ◌+◌, ◌<◌, ◌≤◌, List, [], ◌∷◌, ◌++◌, length, get_or, take, reverse, None, arith}
-use Rattle.std.proofs.lemmas.List.{take_more, reverse-append}
+use Rattle.std.proofs.lemmas.List.{take_more, reverse-append, length-append}
 use Rattle.grid_core.specs.Diagram.{Diagram, size}
 use Rattle.grid_moves.specs.declared.step.Move.{Move}
 use Rattle.grid_moves.specs.Inverse.{inverse_of}
@@ -18,6 +18,13 @@ use Rattle.grid_moves.specs.Undoing.{Undone}
 pub undone_joins : (moves back : List Move) (d e : Diagram) → Undone d moves e back → Joins d moves e
 undone_joins [] back d e undone = undone.0
 undone_joins (move ∷ moves) back d e (f, (rest, (step, undone, is))) = (f, (step, undone_joins moves rest f e undone))
+
+-- moves that join are undone by some list, which is as long
+pub undone_by : (moves : List Move) (d e : Diagram) → Joins d moves e → (back : List Move) × (Undone d moves e back × (length back ≡ length moves))
+undone_by [] d e joined = ([], ((joined, refl), refl))
+undone_by (move ∷ moves) d e (f, (step, joined)) =
+    let (rest, (undone, long)) = undone_by moves f e joined in
+    (rest ++ inverse_of d move ∷ [], ((f, (rest, (step, undone, refl))), omega (arith, long, length-append rest (inverse_of d move ∷ []))))
 
 -- one move more, and what leads back from it first
 undone_push : (moves back : List Move) (d e f : Diagram) (move : Move) → Undone d moves e back → Step e move f

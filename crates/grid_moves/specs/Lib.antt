@@ -15,6 +15,7 @@ pub mod Step
 pub mod MoveFault
 pub mod Joining
 pub mod Undoing
+pub mod PutsPart
 pub mod MoveLists
 pub mod Kinds
 pub mod Tidy

@@ -17,6 +17,7 @@ pub mod Complete
 pub mod Exchanges
 pub mod Determined
 pub mod Linked
+pub mod PutLinks
 pub mod Closed
 pub mod Offered
 pub mod HowMany

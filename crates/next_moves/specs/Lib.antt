@@ -11,6 +11,7 @@ pub use Rattle.grid_moves.specs.Step
 pub use Rattle.grid_moves.specs.Kinds
 pub use Rattle.grid_moves.specs.Joining
 pub use Rattle.grid_moves.specs.MoveLists
+pub use Rattle.grid_moves.specs.PutsPart
 pub use Rattle.grid_keys.specs.Translation
 pub use Rattle.grid_keys.specs.CanonicalForm
 pub use Rattle.grid_keys.specs.Key

@@ -1,5 +1,6 @@
 //! Links and offers.
-ghost use Rattle.std.specs.Prelude.{◌≡◌, ◌++◌, reverse, IfOk};
+ghost use Rattle.std.specs.Prelude.{◌≡◌, ◌++◌, reverse, IfOk, OnErr};
+ghost use Rattle.grid_moves.specs.PutsPart.{PutsPart};
 ghost use Rattle.next_moves.specs.Links.{link_moves};
 
 use grid_keys::{Packed, push_shifts, push_shifts_back};
@@ -43,18 +44,24 @@ pub struct Offer {
     pub link: Link,
 }
 
-/// Puts the moves of a link at the end of a list. Where there is no memory for all of them the first ones may stand there.
+/// Puts the moves of a link at the end of a list. Where there is no memory for all of them, the first few may stand behind the old
+/// list, and nothing else.
+#[tactic(auto, using(crate::proofs::PutLinks::link_ahead, crate::proofs::PutLinks::link_between, crate::proofs::PutLinks::link_last))]
 pub fn push_link(list: &mut Vec<Move>, link: Link) -> Result<(), OutOfMemory>
-    ensures { IfOk result (λ _. list.new.items ≡ list.old.items ++ link_moves link) }
+    ensures list { IfOk result (λ _. list.new.items ≡ list.old.items ++ link_moves link) }
+    ensures part { OnErr result (PutsPart list.old.items list.new.items (link_moves link)) }
 {
     push_shifts(list, link.before.0, link.before.1)?;
     list.push(link.step)?;
     push_shifts(list, link.after.0, link.after.1)
 }
 
-/// Puts the moves of a link at the end of a list, the last one first.
+/// Puts the moves of a link at the end of a list, the last one first. Where there is no memory for all of them, the first few of
+/// these may stand behind the old list, and nothing else.
+#[tactic(auto, using(crate::proofs::PutLinks::back_ahead, crate::proofs::PutLinks::back_between, crate::proofs::PutLinks::back_last))]
 pub fn push_link_back(list: &mut Vec<Move>, link: Link) -> Result<(), OutOfMemory>
-    ensures { IfOk result (λ _. list.new.items ≡ list.old.items ++ reverse (link_moves link)) }
+    ensures list { IfOk result (λ _. list.new.items ≡ list.old.items ++ reverse (link_moves link)) }
+    ensures part { OnErr result (PutsPart list.old.items list.new.items (reverse (link_moves link))) }
 {
     push_shifts_back(list, link.after.0, link.after.1)?;
     list.push(link.step)?;

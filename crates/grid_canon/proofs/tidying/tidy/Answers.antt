@@ -30,22 +30,22 @@ loop-step-preserved c =
 pub returns-clause-is : goal.returns-clause-is
 returns-clause-is c =
     making_ends c.args.first.now c.args.steps.now c.loop-step.step-index c.loop-step.list.items c.push_shifts.new.list.items c.loop-step.run (omega arith)
-    c.loop-step.invariant c.in_ok-push_shifts.ensures
+    c.loop-step.invariant c.in_ok-push_shifts.ensures.list
 
 pub returns-clause-tidy : goal.returns-clause-tidy
 returns-clause-tidy c =
     let is = making_ends c.args.first.now c.args.steps.now c.loop-step.step-index c.loop-step.list.items c.push_shifts.new.list.items c.loop-step.run
-    (omega arith) c.loop-step.invariant c.in_ok-push_shifts.ensures in
+    (omega arith) c.loop-step.invariant c.in_ok-push_shifts.ensures.list in
     ap (λ (ms : List Move). is_tidy ms) is ∙ tidied_is_tidy c.args.steps.now (size c.args.first.now)
 
 pub returns-clause-joins : goal.returns-clause-joins
 returns-clause-joins c = λ e joined.
     let is = making_ends c.args.first.now c.args.steps.now c.loop-step.step-index c.loop-step.list.items c.push_shifts.new.list.items c.loop-step.run
-    (omega arith) c.loop-step.invariant c.in_ok-push_shifts.ensures in
+    (omega arith) c.loop-step.invariant c.in_ok-push_shifts.ensures.list in
     subst (λ (ms : List Move). Joins c.args.first.now ms e) (sym is) (tidied_joins c.args.steps.now c.args.first.now e c.size.ensures.grid joined)
 
 pub returns-clause-within : goal.returns-clause-within
 returns-clause-within c = λ cap e joined.
     let is = making_ends c.args.first.now c.args.steps.now c.loop-step.step-index c.loop-step.list.items c.push_shifts.new.list.items c.loop-step.run
-    (omega arith) c.loop-step.invariant c.in_ok-push_shifts.ensures in
+    (omega arith) c.loop-step.invariant c.in_ok-push_shifts.ensures.list in
     subst (λ (ms : List Move). JoinsWithin cap c.args.first.now ms e) (sym is) (tidied_from cap c.args.steps.now c.args.first.now e c.size.ensures.grid joined)

@@ -17,4 +17,4 @@ returns-clause-rows c = omega (arith, legal_after c.args.step c.args.run.size c.
 pub returns-clause-list : goal.returns-clause-list
 returns-clause-list c = λ rest.
     other_written c.args.list.now.items c.push_shifts.new.list.items c.push.new.self.items c.args.run.size c.args.run.columns c.args.run.rows c.size_after.result
-    c.args.step rest c.requires.other c.in_ok-push_shifts.ensures c.in_ok-push.ensures.items c.size_after.ensures
+    c.args.step rest c.requires.other c.in_ok-push_shifts.ensures.list c.in_ok-push.ensures.items c.size_after.ensures

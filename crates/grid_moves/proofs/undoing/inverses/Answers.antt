@@ -18,8 +18,8 @@ pub loop-step-preserved : goal.loop-step-preserved
 loop-step-preserved c =
     undone_more c.args.moves.now c.loop-step.step-index _ c.args.grid.now c.loop-step.here c.in-Ok.next c.loop-step.list.items c.push.new.self.items c.inverse.result c.loop-step-test.true c.loop-step.invariant c.in-Ok.ensures.moved c.inverse.ensures.is c.in_ok-push-in-Ok.ensures.items
 
-pub returns : goal.returns
-returns c = λ e joined.
+pub returns-clause-undone : goal.returns-clause-undone
+returns-clause-undone c = λ e joined.
     let all : take c.loop-step.step-index c.args.moves.now ≡ c.args.moves.now = take_all c.loop-step.step-index c.args.moves.now (omega arith) in
     undone_there c.args.moves.now (reverse c.loop-step.list.items) c.args.grid.now c.loop-step.here e
     (subst (λ (ms : List Move). Undone c.args.grid.now ms c.loop-step.here (reverse c.loop-step.list.items)) all c.loop-step.invariant) joined
