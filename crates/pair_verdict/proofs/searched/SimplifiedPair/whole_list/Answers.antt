@@ -12,7 +12,7 @@ returns-clause-whole c =
     whole_written c.args.given.now c.args.self.first c.args.self.second c.args.between.now
     c.as_slice.result.now c.extend_from_slice.new.self.items c.push_undone.new.list.items c.requires.simplified c.as_slice.ensures
     (c.in_ok-extend_from_slice.ensures.items ∙ ap (λ (moves : List Move). moves ++ c.args.between.now) c.into_vec-list.ensures)
-    c.in_ok-push_undone.ensures
+    c.in_ok-push_undone.ensures.list
 
 pub returns-clause-joins : goal.returns-clause-joins
 returns-clause-joins c =
