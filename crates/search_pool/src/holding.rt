@@ -3,7 +3,7 @@ ghost use Rattle.std.specs.Prelude.{◌≡◌, ◌≤◌, true};
 ghost use Rattle.std.specs.Sync.Mutex.{mutex_guard_value};
 ghost use Rattle.search_pool.specs.Holding.{IsHolding};
 ghost use Rattle.search_pool.specs.Seats.{SeatState};
-ghost use Rattle.search_pool.specs.Task.{AllowsOffers, Counts};
+ghost use Rattle.search_pool.specs.Task.{AllowsOffers, IsHanded, Counts};
 
 use crate::locked::{Handed, Locked, Task, Waking};
 use crate::seat::Seat;
@@ -75,6 +75,8 @@ impl<'a, L: Ledger, M: Ledger, K: OfProblem> Holding<'a, L, M, K> {
     /// One claim of the book, as `Locked::claim` has it.
     pub fn claim(self, seat: &mut Seat<L, M>) -> (Handed, Called<'a, L, M, K>)
         ensures book { IsHolding seat.old.worker (mutex_guard_value self.entry.guard).book (mutex_guard_value result.1.guard).book }
+        ensures handed { IsHanded (mutex_guard_value self.entry.guard).book seat.old.worker result.0
+            (mutex_guard_value result.1.guard).book }
         ensures work { (task : Task) → result.0 ≡ Handed.Work task → AllowsOffers task }
         ensures over { result.0 ≡ Handed.Over → seat.new.saw_end ≡ true }
         ensures worker { seat.new.worker ≡ seat.old.worker }
