@@ -15,6 +15,10 @@ greatest : Asks (codes "knot" ∷ codes "replay" ∷ codes "--budget" ∷ codes 
 unfolding clap_on_literals
 greatest = record { taken = refl; job = refl; workers = refl; budget = refl; spare = refl; seed = refl }
 
+over_budget : fault_of knot_app (codes "knot" ∷ codes "decide" ∷ codes "--budget" ∷ codes "500001" ∷ []) ≡ kind.ValueValidation ∷ []
+unfolding clap_on_literals
+over_budget = refl
+
 options_before_the_job : Asks (codes "knot" ∷ codes "--workers" ∷ codes "8" ∷ codes "colour" ∷ []) (record { job = Plain Colour; workers = 8; budget = 20000; spare = 1; seed = 1 })
 unfolding clap_on_literals
 options_before_the_job = record { taken = refl; job = refl; workers = refl; budget = refl; spare = refl; seed = refl }
