@@ -2,10 +2,12 @@
 use Rattle.std.proofs.Common.{◌≡◌, ◌⊎◌, ◌∙◌, inl, inr, ℕ, List, Option, Some, None, refl, sym, arith}
 use Rattle.std.specs.Borrow.{Bor}
 use Rattle.clap.specs.Walk.{Text}
+use Rattle.clap.specs.declared.error.kind.ErrorKind.{ErrorKind}
+use Rattle.clap.specs.declared.error.kind.ErrorKind.TheVariants as kind
 use Rattle.decision_core.specs.declared.status.Status.{Status}
 use Rattle.decision_core.specs.declared.status.Status.TheVariants as status
 use Rattle.decision_core.specs.Status.{status_number}
-use Rattle.seek_words.specs.Words.{AskForText}
+use Rattle.seek_words.specs.Words.{IsShown, AsksNothing, AskForText}
 use Rattle.seek_words.specs.declared.asked.Asked.{Asked}
 use Rattle.seek_parts.specs.Parts.{Told, ArePartsOf, all_due}
 use Rattle.seek_parts.proofs.NeverDone.{never_done, text_never_done}
@@ -13,7 +15,7 @@ use Rattle.number_text.specs.declared.blocks.Block.{Block}
 use Rattle.seek.specs.declared.failure.Failure.{Failure}
 use Rattle.seek.specs.declared.failure.Failure.TheVariants as failure
 use Rattle.seek.specs.Failure.{failure_status}
-use Rattle.seek.specs.Exit.{Outside, IsSoughtTo, EndsOn, EndsBy, EndsCall, IsWrittenTo, IsAnswered}
+use Rattle.seek.specs.Exit.{Outside, IsUntouched, IsSoughtTo, EndsOn, EndsBy, EndsCall, IsWrittenTo, IsAnswered}
 use Rattle.seek.proofs.Found.{written_where_done}
 
 -- only Done has the number 0
@@ -66,3 +68,15 @@ answered told words old new s (inl asked) done = inr (
       | inr (inr (inl by)) ↦ absurd (failed by.failure (sym by.status_is ∙ done))
       | inr (inr (inr by)) ↦ cc
     ])
+
+-- words that `clap` or the seeker refuses, or that ask for the help or the version
+pub words_refused : (told : Told) (words : List Text) (old new : Outside) (s : Status) (k : ErrorKind) → IsUntouched old new
+    → (IsShown k → AskForText words) → (k ≡ kind.OutOfMemory) ⊎ AsksNothing words
+    → (IsShown k × ((s ≡ status.Done) ⊎ (s ≡ status.WriteFault))) ⊎ ((s ≡ status.Usage) ⊎ (s ≡ status.OutOfMemory))
+    → (s ≡ status.Usage → k ≡ kind.OutOfMemory → ⊥) → EndsCall told words old new s
+words_refused told words old new s k same shown refused (inl (is, ends)) usage =
+    inr (inl record { asks = shown is; status_is = ends; untouched = same })
+words_refused told words old new s k same shown (inl memory) (inr ends) usage =
+    inr (inr record { status_is = ends; nothing = λ is. absurd (usage is memory); untouched = same })
+words_refused told words old new s k same shown (inr none) (inr ends) usage =
+    inr (inr record { status_is = ends; nothing = λ is. none; untouched = same })

@@ -1,7 +1,7 @@
 -- What the status of a search says of what was written, or put at a path.
 use Rattle.std.proofs.Common.{◌≡◌, ◌≢◌, ◌⊎◌, ◌∙◌, inl, inr, ℕ, List, Option, Some, None, refl, sym, subst}
 use Rattle.std.specs.Borrow.{Bor}
-use Rattle.std.specs.Io.KnownBytes.{Keeps}
+use Rattle.std.proofs.KnownBytes.{Keeps-refl}
 use Rattle.whole_files.specs.Places.{Standing, PutsAt}
 use Rattle.number_text.specs.declared.blocks.Block.{Block}
 use Rattle.decision_core.specs.declared.status.Status.{Status}
@@ -9,8 +9,8 @@ use Rattle.decision_core.specs.declared.status.Status.TheVariants as status
 use Rattle.seek_core.specs.declared.ending.Ending.{Ending}
 use Rattle.seek_core.specs.declared.ending.Ending.TheVariants as end
 use Rattle.seek_core.specs.Answers.{Ends, WritesDecision, ending_status}
-use Rattle.seek.specs.Exit.{Outside, IsSoughtTo}
-use Rattle.seek.specs.Search.{EndsSearch, IsSoughtWith, IsDecisionText, IsUnput, IsSoughtAt}
+use Rattle.seek.specs.Exit.{Outside, IsKept, IsSoughtTo}
+use Rattle.seek.specs.Search.{Held, unseen, EndsSearch, IsSoughtWith, IsDecisionText, IsUnput, IsSoughtAt}
 
 -- only the ending of a verdict that was written has the status of one
 pub only_done : (e : Ending) → ending_status e ≡ status.Done → e ≡ end.Done
@@ -23,10 +23,10 @@ only_done end.WriteFault is = cc
 only_done end.OutOfMemory is = cc
 
 -- a call that is done has written a text that decides the input
-pub written_where_done : (bytes : List ℕ) (blocks : List Block) (before after : Option (List ℕ)) (s : Status)
-    → IsSoughtWith bytes blocks before after s → s ≡ status.Done → WritesDecision bytes before after
+pub written_where_done : (bytes : List ℕ) (blocks : List Block) (before after : Held) (s : Status)
+    → IsSoughtWith bytes blocks before after s → s ≡ status.Done → WritesDecision bytes before.bytes after.bytes
 written_where_done bytes blocks before after s sought done =
-    subst (Ends bytes before after) (only_done sought.ending (sym sought.status_is ∙ done)) sought.ends.ends
+    subst (Ends bytes before.bytes after.bytes) (only_done sought.ending (sym sought.status_is ∙ done)) sought.ends.ends
 
 -- an ending is one too where nothing is told of what was written
 untold : (bytes : List ℕ) (before after : Option (List ℕ)) (e : Ending) → Ends bytes before after e → Ends bytes None None e
@@ -38,18 +38,27 @@ untold bytes before after end.TooLong h = (h.0, tt)
 untold bytes before after end.WriteFault h = (h.0, (h.1.0, (h.1.1.0, h.1.1.1, tt)))
 untold bytes before after end.OutOfMemory h = tt
 
--- a search whose sink is in memory, and holds nothing that is put anywhere
-pub sought_in_memory : (bytes : List ℕ) (blocks : List Block) (before after : Option (List ℕ)) (e : Ending) (s : Status)
-    → EndsSearch bytes blocks before after e → s ≡ ending_status e → IsSoughtWith bytes blocks None None s
-sought_in_memory bytes blocks before after e s ends is = record {
+-- a search whose sink is in memory, didn't fail, and holds nothing that is put anywhere
+pub sought_in_memory : (bytes : List ℕ) (blocks : List Block) (before after : Held) (e : Ending) (s : Status)
+    → EndsSearch bytes blocks before after e → (e ≡ end.WriteFault → ⊥) → s ≡ ending_status e → IsSoughtWith bytes blocks unseen unseen s
+sought_in_memory bytes blocks before after e s ends unfailed is = record {
   ending = e;
   status_is = is;
-  ends = record { ends = untold bytes before after e ends.ends; vain = ends.vain };
+  ends = record {
+    ends = untold bytes before.bytes after.bytes e ends.ends;
+    vain = ends.vain;
+    long = ends.long;
+    fault = λ fails. absurd (unfailed fails);
+  };
 }
 
 -- memory may be wanting for any search
-pub wanting : (bytes : List ℕ) (blocks : List Block) (s : Status) → s ≡ status.OutOfMemory → IsSoughtWith bytes blocks None None s
-wanting bytes blocks s is = record { ending = end.OutOfMemory; status_is = is; ends = record { ends = tt; vain = λ tried found. cc } }
+pub wanting : (bytes : List ℕ) (blocks : List Block) (s : Status) → s ≡ status.OutOfMemory → IsSoughtWith bytes blocks unseen unseen s
+wanting bytes blocks s is = record {
+  ending = end.OutOfMemory;
+  status_is = is;
+  ends = record { ends = tt; vain = λ tried found. cc; long = λ more. inr refl; fault = λ fails. cc };
+}
 
 -- a file that can't be written has no decision
 pub unwritten : (bytes : List ℕ) (blocks : List Block) (s : Status) → (s ≡ status.WriteFault) ⊎ (s ≡ status.OutOfMemory)
@@ -68,6 +77,9 @@ put_at bytes blocks text before after path s decided whole none (inr (inr memory
 
 -- a search whose words name a file
 pub sought_at_path : (out : Option (Bor (List ℕ))) (path : Bor (List ℕ)) (bytes : List ℕ) (blocks : List Block) (old new : Outside) (s : Status)
-    → out ≡ Some path → IsSoughtAt bytes blocks old.files new.files path.now s → Keeps old.output new.output
+    → out ≡ Some path → IsSoughtAt bytes blocks old.files new.files path.now s → IsKept old.output new.output
     → IsSoughtTo out bytes blocks old new s
 sought_at_path out path bytes blocks old new s is sought kept = subst (λ o. IsSoughtTo o bytes blocks old new s) (sym is) (sought, kept)
+
+pub kept : (held : Held) → IsKept held held
+kept held = record { bytes = Keeps-refl held.bytes; faults = refl }

@@ -12,7 +12,7 @@ use Rattle.decision_core.specs.Status.{status_number}
 use Rattle.seek_core.specs.Answers.{WritesDecision}
 use Rattle.seek_core.specs.Parts.{joined}
 use Rattle.seek_words.specs.declared.asked.Asked.{Asked}
-use Rattle.seek_words.specs.Words.{Asks, AskForText}
+use Rattle.seek_words.specs.Words.{Asks, AsksNothing, AskForText}
 use Rattle.seek_parts.specs.declared.fault.PartFault.{PartFault}
 use Rattle.seek_parts.specs.Parts.{Told, ArePartsOf, all_due}
 use Rattle.seek_parts.specs.Fault.{IsFaultOf, fault_status}
@@ -20,15 +20,20 @@ use Rattle.number_text.specs.declared.blocks.Block.{Block}
 use Rattle.seek.specs.declared.failure.Failure.{Failure}
 use Rattle.seek.specs.Failure.{failure_status}
 use Rattle.seek.specs.Blocks.{AreBlocksOf, IsBlocksFailure}
-use Rattle.seek.specs.Search.{IsSoughtWith, PutsDecision, IsSoughtAt}
+use Rattle.seek.specs.Search.{Held, IsSoughtWith, PutsDecision, IsSoughtAt}
 
--- what a call may change, as far as it is told: what standard output holds, and what stands at each path
+-- what a call may change, as far as it is told: what the lent output holds, with its count of faults, and what stands at each path
 pub record Outside : Type 0 where
-  pub output : Option (List ℕ)
+  pub output : Held
   pub files : Option Standing
 
+-- nothing was given to a sink
+pub record IsKept (old new : Held) : Type 0 where
+  pub bytes : Keeps old.bytes new.bytes
+  pub faults : new.faults ≡ old.faults
+
 pub record IsUntouched (old new : Outside) : Type 0 where
-  pub output : Keeps old.output new.output
+  pub output : IsKept old.output new.output
   pub files : new.files ≡ old.files
 
 -- ---- what words ask for, and how a call ends that does it
@@ -36,7 +41,7 @@ pub record IsUntouched (old new : Outside) : Type 0 where
 -- a verdict on the input was sought, to be written to standard output, or to the file that the words name
 abbrev pub IsSoughtTo : Option (Bor (List ℕ)) → List ℕ → List Block → Outside → Outside → Status → Type 0
 IsSoughtTo None bytes blocks old new s = IsSoughtWith bytes blocks old.output new.output s × (new.files ≡ old.files)
-IsSoughtTo (Some path) bytes blocks old new s = IsSoughtAt bytes blocks old.files new.files path.now s × Keeps old.output new.output
+IsSoughtTo (Some path) bytes blocks old new s = IsSoughtAt bytes blocks old.files new.files path.now s × IsKept old.output new.output
 
 -- on these parts a verdict was sought, by the blocks of the files that are asked too
 pub record EndsWithBlocks (told : Told) (asked : Asked) (parts : List (List ℕ)) (old new : Outside) (s : Status) : Type 0 where
@@ -68,7 +73,7 @@ pub record EndsUnread (told : Told) (asked : Asked) (old new : Outside) (s : Sta
   pub status_is : s ≡ fault_status fault
   pub untouched : IsUntouched old new
 
--- a file would be read and written
+-- it is said that a file would be read and written
 pub record EndsClashing (asked : Asked) (old new : Outside) (s : Status) : Type 0 where
   pub out : IsSome asked.out
   pub status_is : s ≡ status.Usage
@@ -93,13 +98,14 @@ pub record EndsShown (words : List Text) (old new : Outside) (s : Status) : Type
   pub status_is : (s ≡ status.Done) ⊎ (s ≡ status.WriteFault)
   pub untouched : IsUntouched old new
 
--- the words are refused, or memory was wanting for them
-pub record EndsRefused (old new : Outside) (s : Status) : Type 0 where
+-- the words ask for nothing that can be done, or memory was wanting for them
+pub record EndsRefused (words : List Text) (old new : Outside) (s : Status) : Type 0 where
   pub status_is : (s ≡ status.Usage) ⊎ (s ≡ status.OutOfMemory)
+  pub nothing : s ≡ status.Usage → AsksNothing words
   pub untouched : IsUntouched old new
 
 abbrev pub EndsCall : Told → List Text → Outside → Outside → Status → Type 0
-EndsCall told words old new s = EndsAsked told words old new s ⊎ (EndsShown words old new s ⊎ EndsRefused old new s)
+EndsCall told words old new s = EndsAsked told words old new s ⊎ (EndsShown words old new s ⊎ EndsRefused words old new s)
 
 -- the exit status is the number of a status by which such a call ends
 pub record IsExitOf (told : Told) (words : List Text) (old new : Outside) (exit : ExitCode) : Type 0 where
@@ -111,7 +117,7 @@ pub record IsExitOf (told : Told) (words : List Text) (old new : Outside) (exit 
 
 -- a text that decides the input was written: to standard output, or to a file with no more and no less at the path that the words name
 abbrev pub IsWrittenTo : Option (Bor (List ℕ)) → List ℕ → Outside → Outside → Type 0
-IsWrittenTo None bytes old new = WritesDecision bytes old.output new.output
+IsWrittenTo None bytes old new = WritesDecision bytes old.output.bytes new.output.bytes
 IsWrittenTo (Some path) bytes old new = PutsDecision bytes old.files new.files path.now
 
 -- the words are answered by a decision on the parts of what they ask

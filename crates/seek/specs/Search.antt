@@ -1,21 +1,35 @@
 -- How a search ends whose verdict is written: to a sink, or to a file at a path.
-use Rattle.std.specs.Prelude.{◌≡◌, ◌≢◌, ◌⊎◌, ℕ, List, [], Option, Some, None}
+use Rattle.std.specs.Prelude.{◌≡◌, ◌≢◌, ◌⊎◌, ◌<◌, ℕ, List, [], Option, Some, None, length}
+use Rattle.knot_ports.specs.Faults.{Rose}
+use Rattle.decision_core.specs.declared.limits.TheConstants.{MAX_INPUT}
 use Rattle.whole_files.specs.Places.{Standing, PutsAt}
 use Rattle.decision_core.specs.declared.status.Status.{Status}
 use Rattle.decision_core.specs.declared.status.Status.TheVariants as status
 use Rattle.seek_core.specs.declared.ending.Ending.{Ending}
 use Rattle.number_text.specs.declared.blocks.Block.{Block}
 use Rattle.seek_core.specs.declared.answer.Tried.{Tried}
-use Rattle.seek_core.specs.declared.ending.Ending.TheVariants.{NotFound}
-use Rattle.seek_core.specs.Answers.{Ends, WritesDecision, BlocksTriedInVain, ending_status}
+use Rattle.seek_core.specs.declared.ending.Ending.TheVariants.{NotFound, WriteFault}
+use Rattle.seek_core.specs.Answers.{Ends, WritesDecision, BlocksTriedInVain, IsTooLong, ending_status}
 
--- a search ended so: what was held before and is held after is as this ending says, and so are the blocks that were tried in vain
-pub record EndsSearch (bytes : List ℕ) (blocks : List Block) (before after : Option (List ℕ)) (ending : Ending) : Type 0 where
-  pub ends : Ends bytes before after ending
+-- what a sink holds, as far as it is told, and how many faults it counts
+pub record Held : Type 0 where
+  pub bytes : Option (List ℕ)
+  pub faults : ℕ
+
+-- what is told of a sink whose text is put nowhere: it never fails
+abbrev pub unseen : Held
+unseen = record { bytes = None; faults = 0 }
+
+-- a search ended so: what was held before and is held after is as this ending says, and so are the blocks that were tried in vain. A long
+-- input is refused, and the sink failed only where its count of faults rose
+pub record EndsSearch (bytes : List ℕ) (blocks : List Block) (before after : Held) (ending : Ending) : Type 0 where
+  pub ends : Ends bytes before.bytes after.bytes ending
   pub vain : (tried : Tried) → ending ≡ NotFound tried → BlocksTriedInVain bytes blocks tried
+  pub long : MAX_INPUT < length bytes → IsTooLong ending
+  pub fault : ending ≡ WriteFault → Rose before.faults after.faults
 
 -- the status is that of an ending by which the search ended
-pub record IsSoughtWith (bytes : List ℕ) (blocks : List Block) (before after : Option (List ℕ)) (s : Status) : Type 0 where
+pub record IsSoughtWith (bytes : List ℕ) (blocks : List Block) (before after : Held) (s : Status) : Type 0 where
   pub ending : Ending
   pub status_is : s ≡ ending_status ending
   pub ends : EndsSearch bytes blocks before after ending
@@ -30,7 +44,7 @@ PutsDecision bytes before after path = (text : List ℕ) × (IsDecisionText byte
 
 -- no decision was put: the file can't be written, or the search ended without one, of which nothing was written
 abbrev pub IsUnput : List ℕ → List Block → Status → Type 0
-IsUnput bytes blocks s = (s ≡ status.WriteFault) ⊎ ((s ≢ status.Done) × IsSoughtWith bytes blocks None None s)
+IsUnput bytes blocks s = (s ≡ status.WriteFault) ⊎ ((s ≢ status.Done) × IsSoughtWith bytes blocks unseen unseen s)
 
 -- the file at the path is whole, and decides the input, where the call is done; and else what stands at each path is as it was
 abbrev pub IsSoughtAt : List ℕ → List Block → Option Standing → Option Standing → List ℕ → Status → Type 0

@@ -1,8 +1,9 @@
 //! A call over any files, places and writer: what the words ask for, with a status as the exit status, and a sentence where something is
 //! wrong.
-ghost use Rattle.std.specs.Prelude.{◌≡◌, ◌⊎◌};
+ghost use Rattle.std.specs.Prelude.{◌≡◌, ◌≢◌, ◌⊎◌};
 ghost use Rattle.std.specs.Process.{exit_status};
 ghost use Rattle.clap.specs.Values.{kind_of};
+ghost use Rattle.clap.specs.declared.error.kind.ErrorKind.TheVariants as kind;
 ghost use Rattle.decision_core.specs.declared.status.Status.TheVariants as status;
 ghost use Rattle.seek_core.specs.Parts.{joined};
 ghost use Rattle.seek_words.specs.Words.{texts_of, IsShown, AskForText};
@@ -36,11 +37,11 @@ pub(crate) fn call<R: Threads + Sync, F: Texts, P: Places, W: Write + Drop>(
     output: &mut StdSink<W>,
 ) -> ExitCode
     ensures exit { IsExitOf (F.told files.now) (texts_of words.now)
-        (record { output = W.contents output.old.port; files = P.standing places.old })
-        (record { output = W.contents output.new.port; files = P.standing places.new }) result }
+        (record { output = record { bytes = W.contents output.old.port; faults = output.old.errors }; files = P.standing places.old })
+        (record { output = record { bytes = W.contents output.new.port; faults = output.new.errors }; files = P.standing places.new }) result }
     ensures done { exit_status result ≡ 0 → AskForText (texts_of words.now) ⊎ IsAnswered (F.told files.now) (texts_of words.now)
-        (record { output = W.contents output.old.port; files = P.standing places.old })
-        (record { output = W.contents output.new.port; files = P.standing places.new }) }
+        (record { output = record { bytes = W.contents output.old.port; faults = output.old.errors }; files = P.standing places.old })
+        (record { output = record { bytes = W.contents output.new.port; faults = output.new.errors }; files = P.standing places.new }) }
 {
     answer(rt, threads, words, files, places, output).exit_code()
 }
@@ -55,8 +56,8 @@ fn answer<R: Threads + Sync, F: Texts, P: Places, W: Write + Drop>(
     output: &mut StdSink<W>,
 ) -> Status
     ensures { EndsCall (F.told files.now) (texts_of words.now)
-        (record { output = W.contents output.old.port; files = P.standing places.old })
-        (record { output = W.contents output.new.port; files = P.standing places.new }) result }
+        (record { output = record { bytes = W.contents output.old.port; faults = output.old.errors }; files = P.standing places.old })
+        (record { output = record { bytes = W.contents output.new.port; faults = output.new.errors }; files = P.standing places.new }) result }
 {
     match read_words(rt.alloc(), words) {
         Ok(asked) => seek(rt, threads, &asked, files, places, output),
@@ -67,8 +68,9 @@ fn answer<R: Threads + Sync, F: Texts, P: Places, W: Write + Drop>(
 /// Prints the text of `clap`: what is wrong with the words, the help, or the version. The status is that of refused words, but of the
 /// last two.
 fn answer_words(rt: &HostRuntime, error: &clap::Error) -> Status
-    ensures { (IsShown (kind_of error.now) × ((result ≡ status.Done) ⊎ (result ≡ status.WriteFault)))
+    ensures told { (IsShown (kind_of error.now) × ((result ≡ status.Done) ⊎ (result ≡ status.WriteFault)))
         ⊎ ((result ≡ status.Usage) ⊎ (result ≡ status.OutOfMemory)) }
+    ensures usage { result ≡ status.Usage → kind_of error.now ≢ kind.OutOfMemory }
 {
     let printed = error.print(rt);
     match error.kind() {
@@ -109,8 +111,8 @@ fn seek<R: Threads + Sync, F: Texts, P: Places, W: Write + Drop>(
     output: &mut StdSink<W>,
 ) -> Status
     ensures { EndsBy (F.told files.now) asked.now
-        (record { output = W.contents output.old.port; files = P.standing places.old })
-        (record { output = W.contents output.new.port; files = P.standing places.new }) result }
+        (record { output = record { bytes = W.contents output.old.port; faults = output.old.errors }; files = P.standing places.old })
+        (record { output = record { bytes = W.contents output.new.port; faults = output.new.errors }; files = P.standing places.new }) result }
 {
     if let Some(name) = read_and_written(rt, asked) {
         return tell(rt, &Failure::ReadAndWritten { name });
@@ -135,8 +137,8 @@ fn seek_on<R: Threads + Sync, F: Texts, P: Places, W: Write + Drop>(
     output: &mut StdSink<W>,
 ) -> Status
     ensures { EndsOn (F.told files.now) asked.now parts.now.texts
-        (record { output = W.contents output.old.port; files = P.standing places.old })
-        (record { output = W.contents output.new.port; files = P.standing places.new }) result }
+        (record { output = record { bytes = W.contents output.old.port; faults = output.old.errors }; files = P.standing places.old })
+        (record { output = record { bytes = W.contents output.new.port; faults = output.new.errors }; files = P.standing places.new }) result }
 {
     match read_blocks(rt.alloc(), files, asked) {
         Ok(blocks) => seek_by(rt, threads, parts, &blocks, asked, places, output),
@@ -155,8 +157,8 @@ fn seek_by<R: Threads + Sync, P: Places, W: Write + Drop>(
     output: &mut StdSink<W>,
 ) -> Status
     ensures { IsSoughtTo asked.now.out (joined parts.now.texts) blocks.now
-        (record { output = W.contents output.old.port; files = P.standing places.old })
-        (record { output = W.contents output.new.port; files = P.standing places.new }) result }
+        (record { output = record { bytes = W.contents output.old.port; faults = output.old.errors }; files = P.standing places.old })
+        (record { output = record { bytes = W.contents output.new.port; faults = output.new.errors }; files = P.standing places.new }) result }
 {
     match asked.out {
         None => seek_to(rt, threads, parts, blocks, asked, output),

@@ -1,9 +1,9 @@
 //! A verdict on the parts of an input is sought and written: to a writer that is lent, or to a file at a path, whole or not at all.
-ghost use Rattle.std.specs.Prelude.{◌≡◌, ◌≢◌, ◌⊎◌, [], None, Some, IfOk, IfErr};
+ghost use Rattle.std.specs.Prelude.{◌≡◌, ◌≢◌, ◌⊎◌, IfOk, IfErr};
 ghost use Rattle.decision_core.specs.declared.status.Status.TheVariants as status;
 ghost use Rattle.seek_core.specs.Parts.{joined};
 ghost use Rattle.whole_files.specs.Places.{PutsAt};
-ghost use Rattle.seek.specs.Search.{EndsSearch, IsSoughtWith, IsDecisionText, IsSoughtAt};
+ghost use Rattle.seek.specs.Search.{unseen, EndsSearch, IsSoughtWith, IsDecisionText, IsSoughtAt};
 
 use crate::failure::{Failure, OUTPUT};
 use crate::progress::Teller;
@@ -27,7 +27,8 @@ pub(crate) fn seek_to<R: Threads + Sync, W: Write + Drop>(
     asked: &Asked,
     sink: &mut StdSink<W>,
 ) -> Status
-    ensures { IsSoughtWith (joined parts.now.texts) blocks.now (W.contents sink.old.port) (W.contents sink.new.port) result }
+    ensures { IsSoughtWith (joined parts.now.texts) blocks.now (record { bytes = W.contents sink.old.port; faults = sink.old.errors })
+        (record { bytes = W.contents sink.new.port; faults = sink.new.errors }) result }
 {
     let mut teller = Teller::new(rt, asked.talk);
     let ending = run_told(rt, threads, parts, blocks, asked, sink, &mut teller);
@@ -69,7 +70,7 @@ fn find_text<R: Threads + Sync>(
 ) -> Result<TextSink, Status>
     ensures found { IfOk result (λ text. IsDecisionText (joined parts.now.texts) text.bytes) }
     ensures none { IfErr result (λ s. s ≢ status.Done) }
-    ensures sought { IfErr result (λ s. IsSoughtWith (joined parts.now.texts) blocks.now None None s) }
+    ensures sought { IfErr result (λ s. IsSoughtWith (joined parts.now.texts) blocks.now unseen unseen s) }
 {
     let mut text = TextSink::new(rt.alloc());
     let mut teller = Teller::new(rt, asked.talk);
@@ -125,7 +126,8 @@ fn run_told<R: Threads + Sync, K: Sink>(
     sink: &mut K,
     teller: &mut Teller,
 ) -> Ending
-    ensures { EndsSearch (joined parts.now.texts) blocks.now (K.held sink.old) (K.held sink.new) result }
+    ensures { EndsSearch (joined parts.now.texts) blocks.now (record { bytes = K.held sink.old; faults = K.faults sink.old })
+        (record { bytes = K.held sink.new; faults = K.faults sink.new }) result }
 {
     let ending = run(
         threads,

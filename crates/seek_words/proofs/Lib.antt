@@ -1,3 +1,4 @@
 mod WorkedWords
 mod Shown
 mod Named
+mod Numbers

@@ -1,14 +1,14 @@
--- Diagrams that words name: as values of arguments, and in another order.
-use Rattle.std.proofs.Common.{◌≡◌, ◌++◌, ◌≤◌, ◌∙◌, inl, inr, ℕ, List, [], ◌∷◌, Option, Some, None, IfSome, length, map, take, refl, ap, subst, arith}
+-- Diagrams that words name, as values of arguments, and that there are none.
+use Rattle.std.proofs.Common.{◌≡◌, ◌≢◌, ◌++◌, ◌<◌, ◌≤◌, ◌∙◌, inl, inr, ℕ, List, [], ◌∷◌, Option, codes, length, get_or, map, take, refl, ap, subst, arith}
 use Rattle.std.specs.Borrow.{Bor}
-use Rattle.std.specs.Prelude.{IsPermutation, unwrap_or}
-use Rattle.std.proofs.lemmas.List.{take_all}
-use Rattle.std.proofs.lemmas.List.Sorted.{IsPermutation-trans, IsPermutation-map, length_permutation}
+use Rattle.std.specs.Prelude.{unwrap_or}
+use Rattle.std.proofs.lemmas.List.{take_all, length-map}
 use Rattle.clap.specs.Walk.{Row, Text, all_of}
 use Rattle.seek_words.specs.declared.given.Diagrams.{Diagrams}
 use Rattle.seek_words.specs.declared.given.Diagrams.TheVariants.{Problem, Pair}
 use Rattle.seek_words.specs.declared.given.Placed.{Placed}
-use Rattle.seek_words.specs.Words.{Named, named, named_by, AreNamedBy}
+use Rattle.seek_words.specs.Matched.{FindsNamed}
+use Rattle.seek_words.specs.Words.{Named, named, named_by, AreNamedBy, AreNone}
 
 -- ---- values of an argument
 
@@ -29,28 +29,36 @@ all_valued way name values rows at front same are end =
     let given = as_texts way values ∙ ap (λ (ts : List Text). map (λ (text : Text). record { way = way; text = text }) ts) texts in
     ap (λ (last : List Named). front ++ last) (ap (valued way) (take_all at values end) ∙ given)
 
--- ---- another order
+-- ---- what is no diagram, and no two
 
-none_before : (xs ys : List Named) → IsPermutation xs ys → ys ≡ [] → xs ≡ []
-none_before [] ys moved none = refl
-none_before (x ∷ xs) ys moved none = absurd (omega (arith, length_permutation (x ∷ xs) ys moved, ap length none))
+-- a single one that is no file
+pub not_a_file : (x : Named) → x.way ≢ codes "FILE" → (d : Diagrams) → AreNamedBy (x ∷ []) d → ⊥
+not_a_file x other (Problem one) (inl (is, way)) =
+    let same : x ≡ named one = cc in
+    other (ap (λ (n : Named). n.way) same ∙ way)
+not_a_file x other (Problem one) (inr (none, input)) = absurd (omega (arith, ap length none))
+not_a_file x other (Pair first second) (inl is) = absurd (omega (arith, ap length is))
+not_a_file x other (Pair first second) (inr (is, ways)) = absurd (omega (arith, ap length is))
 
-permuted : (xs ys : List Named) (d : Diagrams) → IsPermutation xs ys → AreNamedBy ys d → AreNamedBy xs d
-permuted xs ys (Problem one) moved (inl (same, way)) = inl (IsPermutation-trans xs ys _ moved same, way)
-permuted xs ys (Problem one) moved (inr (none, input)) = inr (none_before xs ys moved none, input)
-permuted xs ys (Pair first second) moved same = IsPermutation-trans xs ys _ moved same
+-- three and more
+too_many : (xs : List Named) → 2 < length xs → (d : Diagrams) → AreNamedBy xs d → ⊥
+too_many xs more (Problem one) (inl (is, way)) = absurd (omega (arith, more, ap length is))
+too_many xs more (Problem one) (inr (none, input)) = absurd (omega (arith, more, ap length none))
+too_many xs more (Pair first second) (inl is) = absurd (omega (arith, more, ap length is))
+too_many xs more (Pair first second) (inr (is, ways)) = absurd (omega (arith, more, ap length is))
 
 abbrev names : List Placed → List Named
 names placed = map (λ (p : Placed). named p.given) placed
 
--- diagrams among sorted ones are diagrams among all
-pub among_all : (all : List Named) (placed sorted seen : List Placed) (found : Option Diagrams) → IsPermutation placed sorted → seen ≡ sorted
-    → names placed ≡ all → IfSome found (λ d. AreNamedBy (names seen) d) → IfSome found (λ d. AreNamedBy all d)
-among_all all placed sorted seen None moved same is are = tt
-among_all all placed sorted seen (Some d) moved same is are =
-    let known = subst (λ (ps : List Placed). AreNamedBy (names ps) d) same are in
-    subst (λ (xs : List Named). AreNamedBy xs d) is
-    (permuted (names placed) (names sorted) d (IsPermutation-map (λ (p : Placed). named p.given) placed sorted moved) known)
+pub too_many_placed : (placed : List Placed) → 2 < length placed → AreNone (names placed)
+too_many_placed placed more = too_many (names placed) (omega (arith, more, length-map placed (λ (p : Placed). named p.given)))
+
+-- a single one among those with their places
+pub one_placed : (placed : List Placed) (none : Placed) (found : Option Diagrams) → 1 ≤ length placed → length placed < 2
+    → FindsNamed (named (get_or placed 0 none).given ∷ []) found → FindsNamed (names placed) found
+one_placed [] none found least most finds = absurd (omega (arith, least))
+one_placed (one ∷ []) none found least most finds = finds
+one_placed (one ∷ other ∷ placed) none found least most finds = absurd (omega (arith, most))
 
 -- what three arguments give, one behind the other
 pub in_turn : (none placed : List Placed) (second third : List Placed) (files braids drawn : List Named) → none ≡ []

@@ -1,12 +1,14 @@
--- What the help and the version say of the words.
+-- What an error says of the words.
 use Rattle.std.proofs.Common.{◌≡◌, ◌∙◌, ◌⊎◌, inl, inr, sym, subst}
-use Rattle.std.specs.Prelude.{Result, Ok, Err, IfErr}
+use Rattle.std.specs.Prelude.{List, Result, Ok, Err, IfErr, OnOk, [], ◌∷◌}
 use Rattle.clap.specs.Kinds.{Kinds, IsAmong, FailsBy}
+use Rattle.clap.specs.Simple.{matches_of}
 use Rattle.clap.specs.Values.{kind_of}
+use Rattle.clap.specs.Walk.{Row, Text}
 use Rattle.clap.specs.declared.error.Error.{Error}
 use Rattle.clap.specs.declared.error.kind.ErrorKind.{ErrorKind}
 use Rattle.clap.specs.declared.error.kind.ErrorKind.TheVariants as kind
-use Rattle.seek_words.specs.Words.{IsShown}
+use Rattle.seek_words.specs.Words.{seek_app, IsShown, AsksNothingBy, AsksNothing}
 
 abbrev IsOfMemory : ErrorKind → Type 0
 IsOfMemory kind.OutOfMemory = Unit {0}
@@ -25,3 +27,26 @@ of_kind k kinds (inr among) (inr version) = inr (subst (λ x. IsAmong x kinds) v
 pub by_kinds : {T : Type 0} (r : Result T Error) (kinds : Kinds) → FailsBy kinds r → IfErr r (λ e. IsShown (kind_of e) → HasShown kinds)
 by_kinds (Ok m) kinds h = tt
 by_kinds (Err e) kinds h = of_kind (kind_of e) kinds h
+
+-- words that are taken fail by no kind
+pub taken_by : {T : Type 0} (r : Result T Error) (kinds : Kinds) → FailsBy kinds r → OnOk r (kinds ≡ [])
+taken_by (Ok m) kinds h = h
+taken_by (Err e) kinds h = tt
+
+some_among : (k : ErrorKind) (kinds : Kinds) → IsAmong k kinds → kinds ≡ [] → ⊥
+some_among k [] among none = among
+some_among k (x ∷ xs) among none = cc
+
+-- an error comes for want of memory, or where the words fail
+pub refused_by : {T : Type 0} (r : Result T Error) (kinds : Kinds) → FailsBy kinds r
+    → IfErr r (λ e. (kind_of e ≡ kind.OutOfMemory) ⊎ (kinds ≡ [] → ⊥))
+refused_by (Ok m) kinds h = tt
+refused_by (Err e) kinds (inl none) = inl none
+refused_by (Err e) kinds (inr among) = inr (some_among (kind_of e) kinds among)
+
+-- what is taken is refused for what its matches ask
+pub refused_for : {T : Type 0} (r : Result T Error) (words : List Text) (rows : List Row) → rows ≡ matches_of seek_app words
+    → IfErr r (λ e. (kind_of e ≡ kind.OutOfMemory) ⊎ AsksNothingBy rows) → IfErr r (λ e. (kind_of e ≡ kind.OutOfMemory) ⊎ AsksNothing words)
+refused_for (Ok asked) words rows is refused = tt
+refused_for (Err e) words rows is (inl none) = inl none
+refused_for (Err e) words rows is (inr nothing) = inr (λ taken. subst AsksNothingBy is nothing)

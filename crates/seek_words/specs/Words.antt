@@ -1,8 +1,8 @@
 -- What the words of a command line ask of the seeker, by `clap`'s meaning of one simple command: two lists, the files among them, and options.
-use Rattle.std.specs.Prelude.{◌≡◌, ◌⊎◌, ◌++◌, ◌+◌, ◌^◌, ◌-◌, IsPermutation, ℕ, Bool, true, false, List, [], ◌∷◌, Option, Some, if◌then◌else◌}
+use Rattle.std.specs.Prelude.{◌≡◌, ◌≢◌, ◌⊎◌, ◌++◌, ◌+◌, ◌<◌, ◌^◌, ◌-◌, ℕ, Bool, true, false, List, [], ◌∷◌, Option, Some, if◌then◌else◌}
 use Rattle.std.specs.Prelude.{codes, pos, map, count_by, option_map, unwrap_or, string_bytes, String}
 use Rattle.std.specs.Str.{bytes_eq}
-use Rattle.std.specs.Str.Parse.{digits_value, without_leading_plus}
+use Rattle.std.specs.Str.Parse.{IsNumeral, digits_value, without_leading_plus}
 use Rattle.std.specs.declared.alloc.Global.{Global}
 use Rattle.clap.specs.Walk.{Row, Rule, Text, first_of, one_of, all_of}
 use Rattle.clap.specs.Simple.{App, new_app, new_rule, on_top, with_rule, matches_of}
@@ -106,13 +106,19 @@ named_by way rows = map (λ text. record { way = way; text = text }) (unwrap_or 
 abbrev pub all_named : List Row → List Named
 all_named rows = named_by (codes "FILE") rows ++ named_by (codes "braid") rows ++ named_by (codes "pd") rows
 
--- the diagrams are those that the words give, in an order that is left open: two, or a problem in a file, which is standard input where they
--- give none
+-- the diagrams are those that the words give: two, or a problem in a file, which is standard input where they give none. Two that are given
+-- the same way stand in the order of the words; that of two others is left open
 abbrev pub AreNamedBy : List Named → Diagrams → Type 0
 AreNamedBy all (Problem one) =
-    (IsPermutation all (named one ∷ []) × ((named one).way ≡ codes "FILE"))
+    ((all ≡ named one ∷ []) × ((named one).way ≡ codes "FILE"))
     ⊎ ((all ≡ []) × (named one ≡ record { way = codes "FILE"; text = codes "-" }))
-AreNamedBy all (Pair first second) = IsPermutation all (named first ∷ named second ∷ [])
+AreNamedBy all (Pair first second) =
+    (all ≡ named first ∷ named second ∷ [])
+    ⊎ ((all ≡ named second ∷ named first ∷ []) × ((named first).way ≢ (named second).way))
+
+-- there are too few or too many for that, or a single one that is no file
+abbrev pub AreNone : List Named → Type 0
+AreNone all = (diagrams : Diagrams) → AreNamedBy all diagrams → ⊥
 
 -- what is told on standard error, by what the words give of `--quiet` and `--progress`, of which the first decides
 pub record IsTalkBy (quiet progress : Option Text) (talk : Talk) : Type 0 where
@@ -125,21 +131,38 @@ pub record AreWeightsBy (none : Option Text) (given files : List Text) : Type 0 
   pub dropped : none ≡ Some (codes "true") → files ≡ []
   pub kept : none ≡ Some (codes "false") → files ≡ given
 
--- these matches ask for this: the diagrams in some order, and what the words give of each option, and else its default
+-- the text that is given spells this number below 2 ^ k, in decimal digits, with a plus before them or without
+pub record IsNumberBy (k : ℕ) (given : Option Text) (n : ℕ) : Type 0 where
+  pub text : Text
+  pub is : given ≡ Some text
+  pub numeral : IsNumeral 10 (without_leading_plus text)
+  pub number : number_of text ≡ n
+  pub most : n < 2 ^ k
+
+-- the options have these numbers
+pub record AreNumbersBy (rows : List Row) (seed steps room workers : ℕ) : Type 0 where
+  pub of_seed : IsNumberBy 64 (one_of (codes "seed") rows) seed
+  pub of_steps : IsNumberBy 64 (one_of (codes "steps") rows) steps
+  pub of_room : IsNumberBy 32 (one_of (codes "room") rows) room
+  pub of_workers : IsNumberBy 32 (one_of (codes "workers") rows) workers
+
+-- these matches ask for this: what the words give of each option, and else its default
 pub record AsksBy (rows : List Row) (asked : Asked) : Type 0 where
   pub diagrams : AreNamedBy (all_named rows) asked.diagrams
   pub quandles : map (λ s. s.now) asked.quandles.items ≡ unwrap_or (all_of (codes "quandles") rows) []
   pub weights : AreWeightsBy (one_of (codes "no-weights") rows) (unwrap_or (all_of (codes "weights") rows) []) (map (λ s. s.now) asked.weights.items)
   pub out : option_map (λ s. s.now) asked.out ≡ first_of (codes "out") rows
-  pub seed : option_map number_of (one_of (codes "seed") rows) ≡ Some asked.seed
-  pub steps : option_map number_of (one_of (codes "steps") rows) ≡ Some asked.steps
-  pub room : option_map number_of (one_of (codes "room") rows) ≡ Some asked.room
-  pub workers : option_map number_of (one_of (codes "workers") rows) ≡ Some asked.workers
+  pub numbers : AreNumbersBy rows asked.seed asked.steps asked.room asked.workers
   pub talk : IsTalkBy (one_of (codes "quiet") rows) (one_of (codes "progress") rows) asked.talk
 
--- the words ask for this
-abbrev pub Asks : List Text → Asked → Type 0
-Asks words asked = AsksBy (matches_of seek_app words) asked
+-- `clap` takes the words: they have no fault
+abbrev pub AreTaken : List Text → Type 0
+AreTaken words = fault_of seek_app words ≡ []
+
+-- the words are taken, and ask for this
+pub record Asks (words : List Text) (asked : Asked) : Type 0 where
+  pub taken : AreTaken words
+  pub by : AsksBy (matches_of seek_app words) asked
 
 -- ---- what words are answered with by `clap`
 
@@ -171,3 +194,21 @@ diagram_inputs (Pair first second) = (if is_input_given first then 1 else 0) + (
 abbrev pub inputs_read : Asked → ℕ
 inputs_read asked = diagram_inputs asked.diagrams
     + (count_by (λ s. is_input s.now) asked.quandles.items + count_by (λ s. is_input s.now) asked.weights.items)
+
+-- ---- what words ask for nothing
+
+-- by what these matches ask for standard input is read more than once
+pub record ReadsTwice (rows : List Row) : Type 0 where
+  pub asked : Asked
+  pub asks : AsksBy rows asked
+  pub twice : 1 < inputs_read asked
+
+-- these matches name another number of diagrams, or an option has no number, or standard input would be read twice
+abbrev pub AsksNothingBy : List Row → Type 0
+AsksNothingBy rows =
+    AreNone (all_named rows)
+    ⊎ (((seed steps room workers : ℕ) → AreNumbersBy rows seed steps room workers → ⊥) ⊎ ReadsTwice rows)
+
+-- `clap` refuses the words, or what they ask for is nothing that can be done
+abbrev pub AsksNothing : List Text → Type 0
+AsksNothing words = AreTaken words → AsksNothingBy (matches_of seek_app words)

@@ -1,11 +1,13 @@
 //! What the words ask for.
-ghost use Rattle.std.specs.Prelude.{◌≡◌, ◌≤◌, [], map, unwrap_or, IfOk, IfErr, IfSome, codes};
+ghost use Rattle.std.specs.Prelude.{◌≡◌, ◌≤◌, ◌⊎◌, [], map, unwrap_or, IfOk, IfErr, OnOk, codes};
 ghost use Rattle.clap.specs.Matches.{found_of, one_text};
 ghost use Rattle.clap.specs.Simple.{matches_of};
 ghost use Rattle.clap.specs.Values.{kind_of};
 ghost use Rattle.clap.specs.Walk.{rows_of, all_of};
-ghost use Rattle.seek_words.specs.Matched.{AreNumbersOf};
-ghost use Rattle.seek_words.specs.Words.{texts_of, seek_app, all_named, AreNamedBy, AreWeightsBy, IsTalkBy, AsksBy, Asks, IsShown, AskForText, inputs_read};
+ghost use Rattle.clap.specs.declared.error.kind.ErrorKind.TheVariants as kind;
+ghost use Rattle.seek_words.specs.Matched.{AreNumbersOf, FindsNumber, FindsNumbers};
+ghost use Rattle.seek_words.specs.Words.{texts_of, seek_app, all_named, AreNamedBy, AreWeightsBy, IsTalkBy, AreTaken, AsksBy, Asks, IsShown, AskForText};
+ghost use Rattle.seek_words.specs.Words.{AsksNothingBy, AsksNothing, inputs_read};
 
 use crate::command::{
     NO_WEIGHTS, OUT, PROGRESS, QUANDLES, QUIET, ROOM, SEED, STEPS, WEIGHTS, WORKERS, command,
@@ -66,11 +68,13 @@ struct Numbers {
 }
 
 /// What the words ask for, by which standard input is read once at most. Else the text for whoever wrote them: what is wrong with them,
-/// the help, or the version. `words[0]` is the program's name.
+/// the help, or the version. An error comes only where the words ask for nothing that can be done, or memory is wanting. `words[0]` is
+/// the program's name.
 pub fn read_words<'a>(alloc: Global, words: &'a [String]) -> Result<Asked<'a>, Error>
     ensures asks { IfOk result (λ asked. Asks (texts_of words.entry.now) asked) }
     ensures once { IfOk result (λ asked. inputs_read asked ≤ 1) }
     ensures shown { IfErr result (λ e. IsShown (kind_of e) → AskForText (texts_of words.entry.now)) }
+    ensures refused { IfErr result (λ e. (kind_of e ≡ kind.OutOfMemory) ⊎ AsksNothing (texts_of words.entry.now)) }
 {
     let matches = parse(alloc, words)?;
     asked_by(alloc, &matches)
@@ -78,15 +82,19 @@ pub fn read_words<'a>(alloc: Global, words: &'a [String]) -> Result<Asked<'a>, E
 
 /// The matches of the words.
 fn parse<'a>(alloc: Global, words: &'a [String]) -> Result<ArgMatches<'a>, Error>
+    ensures taken { OnOk result (AreTaken (texts_of words.entry.now)) }
     ensures rows { IfOk result (λ m. rows_of (found_of m) ≡ matches_of seek_app (texts_of words.entry.now)) }
     ensures shown { IfErr result (λ e. IsShown (kind_of e) → AskForText (texts_of words.entry.now)) }
+    ensures refused { IfErr result (λ e. (kind_of e ≡ kind.OutOfMemory) ⊎ (AreTaken (texts_of words.entry.now) → ⊥)) }
 {
     command(alloc)?.try_get_matches_from(words)
 }
 
 /// What matches ask for.
+#[tactic(auto, using(crate::proofs::Numbers::no_numbers))]
 fn asked_by<'a>(alloc: Global, matches: &ArgMatches<'a>) -> Result<Asked<'a>, Error>
-    ensures refused { IfErr result (λ e. IsShown (kind_of e) → ⊥) }
+    ensures shown { IfErr result (λ e. IsShown (kind_of e) → ⊥) }
+    ensures refused { IfErr result (λ e. (kind_of e ≡ kind.OutOfMemory) ⊎ AsksNothingBy (rows_of (found_of matches.now))) }
     ensures asks { IfOk result (λ asked. AsksBy (rows_of (found_of matches.now)) asked) }
     ensures once { IfOk result (λ asked. inputs_read asked ≤ 1) }
 {
@@ -167,14 +175,28 @@ fn refusal(alloc: Global, text: &str) -> Result<Error, AllocError>
 
 /// The numbers of the options; None where one can't be read, which `clap` refuses before.
 fn numbers_of(matches: &ArgMatches) -> Option<Numbers>
-    ensures { IfSome result (λ n. AreNumbersOf matches.now n) }
+    ensures { FindsNumbers matches.now result }
 {
     Some(Numbers {
-        seed: matches.get_one(SEED)?,
-        steps: matches.get_one(STEPS)?,
-        room: matches.get_one(ROOM)?,
-        workers: matches.get_one(WORKERS)?,
+        seed: long_number(matches, SEED)?,
+        steps: long_number(matches, STEPS)?,
+        room: number(matches, ROOM)?,
+        workers: number(matches, WORKERS)?,
     })
+}
+
+/// The number of an option, of 64 bits.
+fn long_number(matches: &ArgMatches, name: &str) -> Option<u64>
+    ensures { FindsNumber 64 (one_text (found_of matches.now) name.now) result }
+{
+    matches.get_one(name)
+}
+
+/// The number of an option, of 32 bits.
+fn number(matches: &ArgMatches, name: &str) -> Option<u32>
+    ensures { FindsNumber 32 (one_text (found_of matches.now) name.now) result }
+{
+    matches.get_one(name)
 }
 
 /// What is told on standard error.

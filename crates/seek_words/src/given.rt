@@ -1,8 +1,8 @@
 //! The diagrams that the words name.
-ghost use Rattle.std.specs.Prelude.{◌≡◌, ◌++◌, map, IfOk, IfSome, OnOk};
+ghost use Rattle.std.specs.Prelude.{◌≡◌, ◌++◌, [], ◌∷◌, map, IfOk, OnOk};
 ghost use Rattle.clap.specs.Matches.{found_of};
 ghost use Rattle.clap.specs.Walk.{rows_of};
-ghost use Rattle.seek_words.specs.Matched.{way_name};
+ghost use Rattle.seek_words.specs.Matched.{way_name, FindsNamed};
 ghost use Rattle.seek_words.specs.Words.{named, named_by, all_named, AreNamedBy};
 
 use crate::asked::values_of;
@@ -30,34 +30,64 @@ pub enum Diagrams<'a> {
     Pair(Given<'a>, Given<'a>),
 }
 
-/// The diagrams that the words name, in the order in which they stand there; None where they are too few or too many. Without any, the
-/// problem comes from standard input.
+/// The diagrams that the words name, in the order in which they stand there; None where they are too few or too many, or one that is
+/// no file. Without any, the problem comes from standard input.
 pub(crate) fn diagrams_of<'a>(
     alloc: Global,
     matches: &ArgMatches<'a>,
 ) -> Result<Option<Diagrams<'a>>, AllocError>
-    ensures { IfOk result (λ o. IfSome o (λ d. AreNamedBy (all_named (rows_of (found_of matches.now))) d)) }
+    ensures { IfOk result (λ o. FindsNamed (all_named (rows_of (found_of matches.now))) o) }
 {
     let mut placed = Vec::new(alloc);
     push_placed(alloc, &mut placed, matches, Way::File)?;
     push_placed(alloc, &mut placed, matches, Way::Braid)?;
     push_placed(alloc, &mut placed, matches, Way::Code)?;
-    placed.sort_unstable_by_key(|one| one.place);
     Ok(diagrams_among(placed.as_slice()))
 }
 
-/// The diagrams of these and no more, in this order; None where they are too few or too many.
+/// The diagrams of these and no more: of two, by their places. None where they are too few or too many, or one that is no file.
+#[tactic(auto, using(crate::proofs::Named::too_many_placed))]
 fn diagrams_among<'a>(placed: &[Placed<'a>]) -> Option<Diagrams<'a>>
-    ensures { IfSome result (λ d. AreNamedBy (map (λ p. named p.given) placed.now) d) }
+    ensures { FindsNamed (map (λ p. named p.given) placed.now) result }
 {
     match placed {
         [] => Some(Diagrams::Problem(Given::File("-"))),
-        [one] => match one.given {
-            Given::File(_) => Some(Diagrams::Problem(one.given)),
-            Given::Braid(_) | Given::Code(_) => None,
-        },
-        [first, second] => Some(Diagrams::Pair(first.given, second.given)),
+        [one] => problem_of(one.given),
+        [first, second] => Some(pair_of(*first, *second)),
         _ => None,
+    }
+}
+
+/// The problem in a file; None of a braid or a code.
+#[tactic(auto, using(crate::proofs::Named::not_a_file))]
+fn problem_of<'a>(given: Given<'a>) -> Option<Diagrams<'a>>
+    ensures { FindsNamed (named given.entry ∷ []) result }
+{
+    match given {
+        Given::File(_) => Some(Diagrams::Problem(given)),
+        Given::Braid(_) | Given::Code(_) => None,
+    }
+}
+
+/// Two diagrams in the order of their places. Two that are given the same way come so, and stay.
+fn pair_of<'a>(first: Placed<'a>, second: Placed<'a>) -> Diagrams<'a>
+    ensures { AreNamedBy (named first.entry.given ∷ named second.entry.given ∷ []) result }
+{
+    if argument_of(first.given) == argument_of(second.given) || first.place <= second.place {
+        Diagrams::Pair(first.given, second.given)
+    } else {
+        Diagrams::Pair(second.given, first.given)
+    }
+}
+
+/// The name of the argument by which a diagram is given.
+fn argument_of(given: Given) -> &'static str
+    ensures { result.now ≡ (named given.entry).way }
+{
+    match given {
+        Given::File(_) => FILES,
+        Given::Braid(_) => BRAID,
+        Given::Code(_) => CODE,
     }
 }
 

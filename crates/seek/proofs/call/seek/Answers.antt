@@ -1,6 +1,6 @@
 use Rattle.std.proofs.Common.{inl, inr, refl}
-use Rattle.std.proofs.KnownBytes.{Keeps-refl}
 use Rattle.seek.proofs.Ended.{on_parts}
+use Rattle.seek.proofs.Found.{kept}
 use Rattle.seek.proofs.call.seek.Goals as goal
 
 pub returns-in-Err : goal.returns-in-Err
@@ -8,7 +8,7 @@ returns-in-Err g c = inr (inl record {
   fault = c.in-Err.fault;
   is = c.in-Err.ensures.fault;
   status_is = c.tell-in-Err.ensures.is;
-  untouched = record { output = Keeps-refl (g.W.Write.contents c.args.output.now.port); files = refl };
+  untouched = record { output = kept _; files = refl };
 })
 
 pub returns-in-Ok : goal.returns-in-Ok

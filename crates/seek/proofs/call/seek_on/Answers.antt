@@ -1,5 +1,5 @@
 use Rattle.std.proofs.Common.{inl, inr, refl}
-use Rattle.std.proofs.KnownBytes.{Keeps-refl}
+use Rattle.seek.proofs.Found.{kept}
 use Rattle.seek.proofs.call.seek_on.Goals as goal
 
 pub returns-in-Ok : goal.returns-in-Ok
@@ -14,5 +14,5 @@ returns-in-Err g c = inr record {
   failure = c.in-Err.failure;
   is = c.in-Err.ensures.failure;
   status_is = c.tell.ensures.is;
-  untouched = record { output = Keeps-refl (g.W.Write.contents c.args.output.now.port); files = refl };
+  untouched = record { output = kept _; files = refl };
 }

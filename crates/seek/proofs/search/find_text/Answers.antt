@@ -1,4 +1,4 @@
-use Rattle.std.proofs.Common.{◌∙◌, Some, sym}
+use Rattle.std.proofs.Common.{◌∙◌, sym}
 use Rattle.seek.proofs.Found.{only_done, sought_in_memory, wanting}
 use Rattle.seek.proofs.search.find_text.Goals as goal
 
@@ -9,5 +9,5 @@ pub returns-in_default : goal.returns-in_default
 returns-in_default g c = record {
   found = tt;
   none = λ done. c.in_default.not-Done (only_done c.run_told.result (sym c.tell_ending.ensures ∙ done));
-  sought = sought_in_memory _ _ (Some c.new-text.result.bytes) (Some c.run_told.new.sink.bytes) c.run_told.result _ c.run_told.ensures c.tell_ending.ensures;
+  sought = sought_in_memory _ _ _ _ c.run_told.result _ c.run_told.ensures c.in_default.not-WriteFault c.tell_ending.ensures;
 }

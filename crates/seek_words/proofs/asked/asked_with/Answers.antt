@@ -1,10 +1,10 @@
-use Rattle.std.proofs.Common.{◌≡◌, ◌∙◌, [], Some, codes, map, rules, subst}
-use Rattle.std.specs.Prelude.{option_map, unwrap_or}
+use Rattle.std.proofs.Common.{◌∙◌, [], codes, map, rules, subst}
+use Rattle.std.specs.Prelude.{unwrap_or}
 use Rattle.clap.specs.Matches.{found_of}
 use Rattle.clap.specs.Walk.{all_of, one_of, rows_of}
 use Rattle.clap.proofs.WalkLemmas.{first_value-rows, one_text-rows}
 use Rattle.clap.specs.Matches.{one_text}
-use Rattle.seek_words.specs.Words.{AreWeightsBy, IsTalkBy, number_of}
+use Rattle.seek_words.specs.Words.{AreWeightsBy, IsTalkBy, IsNumberBy}
 use Rattle.seek_words.proofs.asked.asked_with.Goals as goal
 
 pub returns : goal.returns
@@ -20,9 +20,11 @@ returns c =
       weights = subst (λ o. AreWeightsBy o (unwrap_or (all_of (codes "weights") (rows_of f)) []) (map (λ s. s.now) c.in_ok-weights.weights.items))
           (one_text-rows f (codes "no-weights")) c.in_ok-weights.ensures;
       out = c.get_str.ensures ∙ first_value-rows f (codes "out");
-      seed = subst (λ o. option_map number_of o ≡ Some n.seed) (one_text-rows f (codes "seed")) c.requires.numbers.seed;
-      steps = subst (λ o. option_map number_of o ≡ Some n.steps) (one_text-rows f (codes "steps")) c.requires.numbers.steps;
-      room = subst (λ o. option_map number_of o ≡ Some n.room) (one_text-rows f (codes "room")) c.requires.numbers.room;
-      workers = subst (λ o. option_map number_of o ≡ Some n.workers) (one_text-rows f (codes "workers")) c.requires.numbers.workers;
+      numbers = record {
+        of_seed = subst (λ o. IsNumberBy 64 o n.seed) (one_text-rows f (codes "seed")) c.requires.numbers.seed;
+        of_steps = subst (λ o. IsNumberBy 64 o n.steps) (one_text-rows f (codes "steps")) c.requires.numbers.steps;
+        of_room = subst (λ o. IsNumberBy 32 o n.room) (one_text-rows f (codes "room")) c.requires.numbers.room;
+        of_workers = subst (λ o. IsNumberBy 32 o n.workers) (one_text-rows f (codes "workers")) c.requires.numbers.workers;
+      };
       talk = subst (λ o. IsTalkBy o (one_of (codes "progress") (rows_of f)) c.talk_of.result) quiet told;
     }
