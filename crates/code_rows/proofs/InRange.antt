@@ -11,7 +11,7 @@ use Rattle.crossing_codes.specs.declared.crossing.Code.{Code}
 use Rattle.crossing_codes.specs.CodeColouring.{is_edge, names_edges}
 use Rattle.code_faults.specs.declared.fault.TheConstants.{MAX_CROSSINGS}
 use Rattle.code_faults.specs.declared.fault.CodeFault.{CodeFault}
-use Rattle.code_faults.specs.declared.fault.CodeFault.TheVariants.{Range, Edge as CodeEdge, Plane as CodePlane}
+use Rattle.code_faults.specs.declared.fault.CodeFault.TheVariants.{Empty as CodeEmpty, Size, Count, Range, Edge as CodeEdge, Plane as CodePlane}
 use Rattle.code_faults.specs.Joined.{is_joined}
 use Rattle.code_faults.specs.Map.{no_crossing, is_plane}
 use Rattle.code_faults.specs.Fault.{first_fault}
@@ -120,20 +120,31 @@ only_two_faults rows loops c of few none =
     let parts = empty_by ((length rows == 0) && (loops == 0)) (least_unpaired (all_names rows)) none in
     fault_of_code rows loops c of few parts.0 (all_paired (all_names rows) parts.1)
 
-never_range : (o : Option ℕ) (plane : Bool) (k : ℕ) → edge_fault o plane ≡ Some (Range k) → ⊥
-never_range (Some e) plane k is = let no : ◌≡◌ {A = Option CodeFault} (Some (CodeEdge (e + 1))) (Some (Range k)) = is in cc
-never_range None true k is = let no : ◌≡◌ {A = Option CodeFault} None (Some (Range k)) = is in cc
-never_range None false k is = let no : ◌≡◌ {A = Option CodeFault} (Some CodePlane) (Some (Range k)) = is in cc
+-- whether a fault is behind those of the numbers
+abbrev pub is_late : CodeFault → Bool
+is_late CodeEmpty = false
+is_late Size = false
+is_late Count = false
+is_late (Range k) = false
+is_late (CodeEdge e) = true
+is_late CodePlane = true
+
+late_by : (o : Option ℕ) (plane : Bool) (f : CodeFault) → edge_fault o plane ≡ Some f → is_late f ≡ true
+late_by (Some e) plane f is =
+    let same : CodeEdge (e + 1) ≡ f = (let it : ◌≡◌ {A = Option CodeFault} (Some (CodeEdge (e + 1))) (Some f) = is in cc) in sym (ap is_late same)
+late_by None true f is = absurd (let no : ◌≡◌ {A = Option CodeFault} None (Some f) = is in cc)
+late_by None false f is =
+    let same : CodePlane ≡ f = (let it : ◌≡◌ {A = Option CodeFault} (Some CodePlane) (Some f) = is in cc) in sym (ap is_late same)
 
 not_plane : (o : Option ℕ) (plane : Bool) → edge_fault o plane ≡ Some CodePlane → plane ≡ false
 not_plane (Some e) plane is = absurd (let no : ◌≡◌ {A = Option CodeFault} (Some (CodeEdge (e + 1))) (Some CodePlane) = is in cc)
 not_plane None true is = absurd (let no : ◌≡◌ {A = Option CodeFault} None (Some CodePlane) = is in cc)
 not_plane None false is = refl
 
-pub no_range : (rows : List Row) (loops : ℕ) (c : Code) → IsCodeOf rows loops c → length rows ≤ MAX_CROSSINGS → unpaired rows loops ≡ None
-    → (k : ℕ) → first_fault c ≡ Some (Range k) → ⊥
-no_range rows loops c of few none k is =
-    never_range (lowest (λ e. not (is_joined c.crossings (e + 1))) c.edges) (is_plane c.crossings) k (only_two_faults rows loops c of few none ∙ is)
+pub late_fault : (rows : List Row) (loops : ℕ) (c : Code) → IsCodeOf rows loops c → length rows ≤ MAX_CROSSINGS → unpaired rows loops ≡ None
+    → (f : CodeFault) → first_fault c ≡ Some f → is_late f ≡ true
+late_fault rows loops c of few none f is =
+    late_by (lowest (λ e. not (is_joined c.crossings (e + 1))) c.edges) (is_plane c.crossings) f (only_two_faults rows loops c of few none ∙ is)
 
 pub plane_fails : (rows : List Row) (loops : ℕ) (c : Code) → IsCodeOf rows loops c → length rows ≤ MAX_CROSSINGS → unpaired rows loops ≡ None
     → first_fault c ≡ Some CodePlane → is_plane c.crossings ≡ false

@@ -1,4 +1,8 @@
 pub mod Pairs
 pub mod InRange
 pub mod Unsigned
+mod Signed
+mod Joining
+mod Tied
+mod Best
 mod WorkedRows

@@ -1,9 +1,12 @@
 -- Worked examples, by computing: rows of a trefoil and of a kink under other names, and rows with faults.
-use Rattle.std.proofs.Common.{◌≡◌, ◌∷◌, [], ℕ, List, Some, None, map, refl}
+use Rattle.std.proofs.Common.{◌≡◌, ◌+◌, ◌∷◌, [], ℕ, Bool, true, false, List, Some, None, map, refl}
+use Rattle.std.specs.List.{range_with_len}
+use Rattle.code_faults.specs.Joined.{is_joined}
 use Rattle.code_rows.specs.declared.row.Row.{Row}
 use Rattle.code_rows.specs.declared.rows_fault.RowsFault.TheVariants.{Empty, Edge}
 use Rattle.code_rows.specs.Rows.{all_names, name_of, numbered}
 use Rattle.code_rows.specs.RowsFault.{unpaired}
+use Rattle.code_rows.specs.Signs.{with_signs}
 
 abbrev pub R : ℕ → ℕ → ℕ → ℕ → Row
 R i j k l = record { first = i; second = j; third = k; fourth = l }
@@ -37,3 +40,27 @@ at_three_ends = refl
 -- the least, wherever it stands
 at_one_end : unpaired (R 3 9 3 8 ∷ R 9 2 8 1 ∷ []) 0 ≡ Some (Edge 1)
 at_one_end = refl
+
+-- which of the edges lead from one passage to one, when the crossings of rows have these signs
+abbrev joined : List Row → List Bool → ℕ → List Bool
+joined rows signs edges = map (λ e. is_joined (with_signs (map (numbered (all_names rows)) rows) signs) (e + 1)) (range_with_len 0 edges)
+
+-- all edges of the trefoil, with positive crossings
+directed : joined from_zero (true ∷ true ∷ true ∷ []) 6 ≡ true ∷ true ∷ true ∷ true ∷ true ∷ true ∷ []
+directed = refl
+
+-- with one negative crossing strands run against each other, before that crossing and behind it
+against : joined from_zero (true ∷ true ∷ false ∷ []) 6 ≡ true ∷ false ∷ false ∷ true ∷ true ∷ true ∷ []
+against = refl
+
+-- whatever the signs, edge 3 leads to both strands below and edge 5 comes from both
+abbrev clashing : List Row
+clashing = R 3 8 5 9 ∷ R 3 9 5 8 ∷ []
+
+same_signs : joined clashing (true ∷ true ∷ []) 4 ∷ joined clashing (false ∷ false ∷ []) 4 ∷ []
+    ≡ (false ∷ false ∷ true ∷ true ∷ []) ∷ (false ∷ false ∷ true ∷ true ∷ []) ∷ []
+same_signs = refl
+
+other_signs : joined clashing (true ∷ false ∷ []) 4 ∷ joined clashing (false ∷ true ∷ []) 4 ∷ []
+    ≡ (false ∷ false ∷ false ∷ false ∷ []) ∷ (false ∷ false ∷ false ∷ false ∷ []) ∷ []
+other_signs = refl

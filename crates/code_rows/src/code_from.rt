@@ -1,10 +1,10 @@
 //! Codes from rows.
-ghost use Rattle.std.specs.Prelude.{◌≡◌, ◌≤◌, ◌*◌, ℕ, map, length, Err, None, Some, false, IfOk};
+ghost use Rattle.std.specs.Prelude.{◌≡◌, ◌≤◌, ◌*◌, ℕ, length, Err, None, IfOk};
 ghost use Rattle.code_faults.specs.declared.fault.TheConstants.{MAX_CROSSINGS};
-ghost use Rattle.code_faults.specs.Map.{is_plane};
 ghost use Rattle.code_faults.specs.Fault.{first_fault};
-ghost use Rattle.code_rows.specs.Rows.{all_names, name_of, row_of, IsCodeOf};
+ghost use Rattle.code_rows.specs.Rows.{all_names, IsCodeOf};
 ghost use Rattle.code_rows.specs.RowsFault.{unpaired, as_unpaired};
+ghost use Rattle.code_rows.specs.Signs.{signed, with_signs, IsBest, IsClash, IsUnplane};
 
 use crate::numbers::{name_of, names_of, numbered_rows};
 use crate::row::Row;
@@ -15,8 +15,8 @@ use crossing_codes::{Code, Crossing};
 use memory_core::{Items, OutOfMemory};
 use std::alloc::{AllocError, Global};
 
-/// The signed code of these rows with so many loops and without a fault, or a fault: the first of the rows themselves, else one of the
-/// code that was tried. There may be at most `MAX_CROSSINGS` rows.
+/// The signed code of these rows with so many loops and without a fault, or why there is none: the first fault of the rows themselves;
+/// else `Direction` where no signs give each strand a direction; else `Plane`. There may be at most `MAX_CROSSINGS` rows.
 pub fn code_of_rows(
     alloc: Global,
     rows: &[Row],
@@ -26,10 +26,8 @@ pub fn code_of_rows(
     ensures code { IfOk result (λ answer. IfOk answer (λ code. IsCodeOf rows.now loops code)) }
     ensures faultless { IfOk result (λ answer. IfOk answer (λ code. first_fault code ≡ None)) }
     ensures unpaired { IfOk result (λ answer. as_unpaired answer ≡ unpaired rows.now loops) }
-    ensures direction { IfOk result (λ answer. (name : ℕ) → answer ≡ Err (RowsFault.Direction name)
-        → (c : Code) × IsCodeOf rows.now loops c × (e : ℕ) × (first_fault c ≡ Some (CodeFault.Edge e)) × (name ≡ name_of (all_names rows.now) e)) }
-    ensures plane { IfOk result (λ answer. answer ≡ Err RowsFault.Plane
-        → (c : Code) → IsCodeOf rows.now loops c → is_plane c.crossings ≡ false) }
+    ensures direction { IfOk result (λ answer. (name : ℕ) → answer ≡ Err (RowsFault.Direction name) → IsClash rows.now loops name) }
+    ensures plane { IfOk result (λ answer. answer ≡ Err RowsFault.Plane → IsUnplane rows.now loops) }
 {
     let names = names_of(alloc, rows)?;
     if let Some(fault) = unpaired(rows, names.as_slice(), loops) {
@@ -42,16 +40,19 @@ pub fn code_of_rows(
             edge: name_of(names.as_slice(), edge),
         })),
         Some(CodeFault::Plane) => Ok(Err(RowsFault::Plane)),
-        Some(CodeFault::Empty | CodeFault::Size | CodeFault::Count) => unreachable!(),
+        Some(CodeFault::Empty) => unreachable!(),
+        Some(CodeFault::Size) => unreachable!(),
+        Some(CodeFault::Count) => unreachable!(),
         Some(CodeFault::Range { crossing: _ }) => unreachable!(),
     }
 }
 
-/// A code of rows whose strands have been given directions, as far as that can be done.
+/// A code of the rows whose first edges lead from one passage to one, as far as any signs do that.
 fn directed(alloc: Global, names: &[u32], rows: &[Row], loops: u32) -> Result<Code, OutOfMemory>
     requires few { length rows.now ≤ MAX_CROSSINGS }
     requires names { names.now ≡ all_names rows.now }
-    ensures { IfOk result (λ code. IsCodeOf rows.now loops code) }
+    ensures code { IfOk result (λ code. IsCodeOf rows.now loops code) }
+    ensures best { IfOk result (λ code. IsBest rows.now loops code) }
 {
     let numbered = numbered_rows(alloc, names, rows)?;
     let signs = signs_of(alloc, numbered.as_slice())?;
@@ -65,19 +66,19 @@ fn directed(alloc: Global, names: &[u32], rows: &[Row], loops: u32) -> Result<Co
 
 /// The crossings of rows with these signs.
 fn crossings_of(alloc: Global, rows: &[Row], signs: &[bool]) -> Result<Vec<Crossing>, AllocError>
-    ensures { IfOk result (λ v. map row_of v.items ≡ rows.now) }
+    requires { length signs.now ≡ length rows.now }
+    ensures { IfOk result (λ v. v.items ≡ with_signs rows.now signs.now) }
 {
     let mut crossings = Vec::new(alloc);
     for k in 0..rows.len() {
-        let positive = k < signs.len() && signs[k];
-        crossings.push(crossing_of(&rows[k], positive))?;
+        crossings.push(signed(&rows[k], signs[k]))?;
     }
     Ok(crossings)
 }
 
 /// The crossing of a row with a sign.
-fn crossing_of(row: &Row, positive: bool) -> Crossing
-    ensures { row_of result ≡ row.now }
+fn signed(row: &Row, positive: bool) -> Crossing
+    ensures { result ≡ signed row.now positive }
 {
     Crossing {
         first: row.first,

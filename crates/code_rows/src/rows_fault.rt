@@ -12,9 +12,9 @@ pub enum RowsFault {
     Empty,
     /// This name is the least that doesn't stand exactly twice.
     Edge { edge: u32 },
-    /// By the signs that were tried strands run against each other on this edge. That no other signs would do isn't proved.
+    /// Whatever the signs, strands run against each other on some edge; this one is the least up to which none fit.
     Direction { edge: u32 },
-    /// The faces are not as many as the crossings and twice the connected parts.
+    /// Strands have directions, but the faces are not as many as the crossings and twice the connected parts.
     Plane,
 }
 
@@ -57,7 +57,7 @@ fn after_name(names: &[u32], least: Option<u32>, name: u32) -> Option<u32>
 }
 
 /// At how many ends a name stands.
-fn ends_of(names: &[u32], name: u32) -> usize
+pub(crate) fn ends_of(names: &[u32], name: u32) -> usize
     ensures { result ≡ ends_of names.now name }
 {
     names.iter().filter(|other| **other == name).count()

@@ -1,15 +1,14 @@
 -- What is answered to the text of a code: a grid diagram of it, or why none is answered.
-use Rattle.std.specs.Prelude.{◌≡◌, ◌<◌, ℕ, List, length, true, false, Some, None, Result, Ok, Err}
+use Rattle.std.specs.Prelude.{◌≡◌, ◌<◌, ℕ, List, length, true, Some, None, Result, Ok, Err}
 use Rattle.grid_core.specs.Diagram.{Diagram, IsGrid}
 use Rattle.grid_core.specs.declared.grid.TheConstants.{MAX_SIZE}
 use Rattle.crossing_codes.specs.declared.crossing.Code.{Code}
 use Rattle.crossing_codes.specs.Code.{code}
 use Rattle.code_faults.specs.Fault.{first_fault}
-use Rattle.code_faults.specs.Map.{is_plane}
 use Rattle.code_rows.specs.declared.rows_fault.RowsFault.{RowsFault}
-use Rattle.code_faults.specs.declared.fault.CodeFault.TheVariants.{Edge}
-use Rattle.code_rows.specs.Rows.{all_names, name_of, IsCodeOf}
+use Rattle.code_rows.specs.Rows.{IsCodeOf}
 use Rattle.code_rows.specs.RowsFault.{unpaired}
+use Rattle.code_rows.specs.Signs.{IsClash, IsUnplane}
 use Rattle.code_grids.specs.Renaming.{IsRenamed}
 use Rattle.code_text.specs.declared.whole.CodeText.{CodeText}
 use Rattle.code_text.specs.declared.refusal.TextRefusal.{TextRefusal}
@@ -19,8 +18,9 @@ use Rattle.knot_text.specs.Printed.{grid_text}
 use Rattle.code_text.specs.GaussCheck.{agrees}
 use Rattle.code_text.specs.Whole.{code_text_of}
 
--- the code has the rows and the loops of the text, and no fault, and the Gauss lines are its own
+-- each name stands at two ends, the code has the rows and the loops of the text, and no fault, and the Gauss lines are its own
 pub record Says (t : CodeText) (c : Code) : Type 0 where
+  pub paired : unpaired t.rows t.loops ≡ None
   pub rows : IsCodeOf t.rows t.loops c
   pub faultless : first_fault c ≡ None
   pub gauss : agrees c t.walks ≡ true
@@ -38,16 +38,16 @@ SaysNone t = (c : Code) → Says t c → ⊥
 -- there are Gauss lines, and the rows have no fault, but no signs of the rows have these lines
 pub record HasWrongLines (t : CodeText) : Type 0 where
   pub lines : 0 < length t.walks
+  pub paired : unpaired t.rows t.loops ≡ None
   pub code : (c : Code) × IsCodeOf t.rows t.loops c × (first_fault c ≡ None)
   pub none : SaysNone t
 
--- a fault of the rows: of their names exactly the first; behind these `Direction` by the signs that were tried, and `Plane` by any
+-- a fault of the rows: of their names exactly the first; behind these `Direction` where no directions fit, and `Plane` where some do
 abbrev pub IsRowsFault : CodeText → RowsFault → Type 0
 IsRowsFault t rows.Empty = unpaired t.rows t.loops ≡ Some rows.Empty
 IsRowsFault t (rows.Edge name) = unpaired t.rows t.loops ≡ Some (rows.Edge name)
-IsRowsFault t (rows.Direction name) = (unpaired t.rows t.loops ≡ None)
-    × ((c : Code) × IsCodeOf t.rows t.loops c × (e : ℕ) × (first_fault c ≡ Some (Edge e)) × (name ≡ name_of (all_names t.rows) e))
-IsRowsFault t rows.Plane = (unpaired t.rows t.loops ≡ None) × ((c : Code) → IsCodeOf t.rows t.loops c → is_plane c.crossings ≡ false)
+IsRowsFault t (rows.Direction name) = (unpaired t.rows t.loops ≡ None) × IsClash t.rows t.loops name
+IsRowsFault t rows.Plane = (unpaired t.rows t.loops ≡ None) × IsUnplane t.rows t.loops
 
 abbrev pub IsRefusal : CodeText → TextRefusal → Type 0
 IsRefusal t (Rows fault) = IsRowsFault t fault

@@ -2,8 +2,8 @@
 
 use code_rows::RowsFault;
 
-/// Why no diagram of the text of a code is answered. `Columns`, `Lost` and a direction that doesn't fit say what was tried: that another
-/// drawing or other signs would do no better isn't proved.
+/// Why no diagram of the text of a code is answered. `Columns` and `Lost` say what was tried: that another drawing would do no better isn't
+/// proved.
 #[derive(Clone, Copy, Debug, PartialEq, Eq)]
 pub enum TextRefusal {
     /// The rows have this fault.

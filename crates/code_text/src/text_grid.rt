@@ -3,6 +3,7 @@ ghost use Rattle.std.specs.Prelude.{◌≡◌, ◌≤◌, None, length, IfOk, If
 ghost use Rattle.code_faults.specs.declared.fault.TheConstants.{MAX_CROSSINGS};
 ghost use Rattle.code_faults.specs.Fault.{first_fault};
 ghost use Rattle.code_rows.specs.Rows.{IsCodeOf};
+ghost use Rattle.code_rows.specs.RowsFault.{unpaired};
 ghost use Rattle.code_text.specs.TextGrid.{Says, HasWrongLines, IsAnswer};
 
 use crate::gauss_check::{agrees, all_of};
@@ -46,6 +47,7 @@ pub fn grid_of_text(
 /// The code that a text says, from one of its rows and loops: with the signs of the Gauss lines, where there are some.
 fn said_by(alloc: Global, text: &CodeText, code: Code) -> Result<Option<Code>, OutOfMemory>
     requires few { length text.now.rows ≤ MAX_CROSSINGS }
+    requires paired { unpaired text.now.rows text.now.loops ≡ None }
     requires rows { IsCodeOf text.now.rows text.now.loops code }
     requires faultless { first_fault code ≡ None }
     ensures some { IfOk result (λ found. IfSome found (λ said. Says text.now said)) }

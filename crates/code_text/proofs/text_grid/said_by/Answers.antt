@@ -19,6 +19,7 @@ returns-then-not-agrees-clause-none c =
     let some : 0 < length t.walks = subst (λ (ws : List (List GaussPassage)). 0 < length ws) c.as_slice-walks.ensures here in
     record {
       lines = some;
+      paired = c.requires.paired;
       code = (code, c.requires.rows, c.requires.faultless);
       none = λ other says.
           let passages = c.as_slice.ensures.value ∙ (c.in_ok-passages.ensures ∙ ap all_of c.as_slice-walks.ensures) in
@@ -41,6 +42,7 @@ returns-clause-none c =
     let some : 0 < length t.walks = subst (λ (ws : List (List GaussPassage)). 0 < length ws) c.as_slice-walks.ensures here in
     record {
       lines = some;
+      paired = c.requires.paired;
       code = (code, c.requires.rows, c.requires.faultless);
       none = λ other says.
           let passages = c.as_slice.ensures.value ∙ (c.in_ok-passages.ensures ∙ ap all_of c.as_slice-walks.ensures) in
