@@ -94,6 +94,39 @@ def leads(rows, signs, end):
     return slot == 2 if slot % 2 == 0 else (slot == 1) == signs[crossing]
 
 
+def strand(end):
+    """The crossing whose sign tells whether the strand leaves by this end, None for a strand under, and whether the other way round."""
+    crossing, slot = end
+    return (None if slot % 2 == 0 else crossing), slot in (0, 3)
+
+
+def fits(edges):
+    """Whether there are signs with which the strand of each edge leaves by one of its ends alone."""
+    near, values = {}, {}
+    for ends in edges:
+        (one, turned), (other, too) = map(strand, ends)
+        near.setdefault(one, []).append((other, turned == too))
+        near.setdefault(other, []).append((one, turned == too))
+    for begin in near:
+        new = [] if begin in values else [begin]
+        values.setdefault(begin, True)
+        while new:
+            at = new.pop()
+            for to, differ in near[at]:
+                if to not in values:
+                    values[to] = values[at] != differ
+                    new.append(to)
+                elif values[to] != (values[at] != differ):
+                    return False
+    return True
+
+
+def clash_of(rows):
+    """The least edge up to which no signs fit; None where there are signs that fit all."""
+    edges = ends_of(rows)
+    return next((edge for count, edge in enumerate(edges, 1) if not fits(list(edges.values())[:count])), None)
+
+
 def signs_by(rows, walks):
     """The signs that the Gauss lines have; None where these lines aren't those of the rows."""
     passages = [passage for walk in walks for passage in walk]
@@ -176,21 +209,6 @@ class Drawn:
         return None if are_renamed((self.rows, self.signs), (rows, signs)) else "its code is another"
 
 
-class Clashing:
-    """The answer of `grid` where strands run against each other: which edge is told depends on where they are followed from."""
-
-    kind = "searched"
-
-    def __init__(self, rows):
-        self.edges = {edge for row in rows for edge in row}
-
-    def problem_with(self, status, text):
-        match = re.fullmatch(rb"rejected direction ([0-9]+)\n", text)
-        if status == REJECTED and match and int(match[1]) in self.edges:
-            return None
-        return f"status {status}, {first_line(text)!r}, and `rejected direction` is due"
-
-
 def answer_grid(_options, rows, loops, walks):
     if not rows and not loops:
         return Answer(REJECTED, "rejected empty\n")
@@ -199,7 +217,7 @@ def answer_grid(_options, rows, loops, walks):
             return Answer(REJECTED, f"rejected edge {edge}\n")
     signs = signs_of(rows)
     if signs is None:
-        return Clashing(rows)
+        return Answer(REJECTED, f"rejected direction {clash_of(rows)}\n")
     if not is_plane(rows):
         return Answer(REJECTED, "rejected plane\n")
     if walks:
