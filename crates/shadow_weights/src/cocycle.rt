@@ -67,8 +67,8 @@ impl ShadowCocycle {
     }
 }
 
-/// The cocycle of a table that obeys the laws.
-fn of_table(quandle: &Quandle, modulus: u8, table: Vec<u8>) -> ShadowCocycle
+/// The cocycle of a table that obeys the laws, in which `table[(w * order + x) * order + y]` is `θ(w, x, y)`. It tries none, and takes no memory.
+pub fn of_table(quandle: &Quandle, modulus: u8, table: Vec<u8>) -> ShadowCocycle
     requires { IsShadowCocycle (record { quandle = quandle.now; modulus = modulus; entries = table.items }) }
     ensures { result ≡ record { quandle = quandle.now; modulus = modulus; entries = table.items } }
 {

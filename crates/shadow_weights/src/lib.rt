@@ -10,6 +10,6 @@ pub mod sums;
 mod walker;
 mod weighing;
 
-pub use cocycle::ShadowCocycle;
+pub use cocycle::{ShadowCocycle, of_table};
 pub use fault::ShadowFault;
 pub use weighing::{shadow_weight, shadow_weights};
