@@ -1,0 +1,7 @@
+pub mod Congruent
+pub mod Computed
+pub mod Factors
+pub mod FormulaLaw
+pub mod Reflections
+pub mod Powers
+mod WorkedRows

@@ -1,0 +1,4 @@
+pub mod ValueRows
+pub mod ShadowAgain
+pub mod ShadowSteady
+pub mod ShadowSays

@@ -1,0 +1,2 @@
+pub mod TableRows
+pub mod Copied
