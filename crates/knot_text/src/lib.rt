@@ -21,4 +21,4 @@ pub use shapes::{
 };
 pub use verdict_core::{Diagram, Listed, ProblemText, QuandleName, Verdict};
 pub use verdicts::{TIDY_VERSION, Version, verdict_item};
-pub use weights::{WeightText, read_weights};
+pub use weights::WeightText;
