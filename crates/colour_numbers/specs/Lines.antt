@@ -6,10 +6,9 @@ use Rattle.grid_core.specs.Diagram.{Diagram}
 use Rattle.text_lines.specs.Spelled.{line_text, lines_text}
 use Rattle.colour_seeds.specs.declared.progress.Step.{Step}
 use Rattle.colour_seeds.specs.Plan.{IsPlan, seeds_in}
-use Rattle.colour_seeds.specs.Fits.{fits}
 use Rattle.knot_text.specs.Printed.{quandle_lines}
 use Rattle.number_text.specs.declared.blocks.Block.{Block}
-use Rattle.colour_numbers.specs.Numbers.{numbers, coloured_by}
+use Rattle.colour_numbers.specs.Numbers.{numbers, fits_by}
 
 abbrev pub numbers_line : List ℕ → List ℕ
 numbers_line list = line_text (codes "numbers" ∷ map decimal list)
@@ -21,7 +20,7 @@ wide_line plan = line_text (codes "wide" ∷ decimal (seeds_in plan) ∷ [])
 -- the numbers by a block, or how many seeds the plan has, where they have too many choices of colours
 abbrev pub counted_line : Diagram → List Step → Block → List ℕ
 counted_line d plan b =
-    if fits (coloured_by b.listed.table b.cocycle) plan then numbers_line (numbers b.listed.table b.cocycle d) else wide_line plan
+    if fits_by b.listed.table b.cocycle plan then numbers_line (numbers b.listed.table b.cocycle d) else wide_line plan
 
 -- a quandle as in a text, and the numbers by its block
 abbrev pub block_text : Diagram → List Step → Block → List ℕ

@@ -1,39 +1,68 @@
-//! The numbers of colourings of a diagram by a quandle, or by a cocycle.
-ghost use Rattle.std.specs.Prelude.{◌≡◌, ◌⊎◌, ◌∷◌, [], Err, IfOk, IfErr, false, length};
+//! The numbers of colourings of a diagram by a quandle, or by a cocycle of either kind.
+ghost use Rattle.std.specs.Prelude.{◌≡◌, ◌<◌, ◌-◌, ◌^◌, ◌⊎◌, ◌∷◌, [], Err, IfOk, IfErr, false, length};
 ghost use Rattle.colour_list.specs.Listing.{colourings};
-ghost use Rattle.colour_seeds.specs.Fits.{fits};
 ghost use Rattle.colour_seeds.specs.Plan.{IsPlan};
 ghost use Rattle.colour_seeds.specs.declared.counting.CountFault.TheVariants as fault;
-ghost use Rattle.colour_numbers.specs.Numbers.{coloured_by, numbers};
+ghost use Rattle.colour_numbers.specs.Numbers.{choices_of, fits_by, numbers};
 
-use cocycle_core::Cocycle;
-use colour_seeds::{CountFault, Seeding, count, weights_by_seeds};
+use colour_seeds::{CountFault, Seeding, count, fits, weights_by_seeds};
 use grid_core::Grid;
+use number_text::Weighing;
 use quandle_core::Quandle;
+use shadow_numbers::shadow_weights_by_seeds;
 use std::alloc::Global;
 
+/// How many colours are chosen by so many seeds: one for each, and by a 3-cocycle one more, for the outer region.
+pub fn choices_of(cocycle: &Option<Weighing>, seeds: usize) -> usize
+    requires { seeds < 2 ^ 64 - 1 }
+    ensures { result ≡ choices_of cocycle.now seeds }
+{
+    match cocycle {
+        None => seeds,
+        Some(Weighing::Strands(_)) => seeds,
+        Some(Weighing::Regions(_)) => seeds + 1,
+    }
+}
+
+/// Whether there are at most `MAX_CANDIDATES` choices of a colour for each seed, and by a 3-cocycle for the outer region too. Takes no memory.
+pub fn fits_by(quandle: &Quandle, cocycle: &Option<Weighing>, seeding: &Seeding) -> bool
+    ensures { result ≡ fits_by quandle.now cocycle.now seeding.now }
+{
+    match cocycle {
+        None => fits(quandle, seeding),
+        Some(Weighing::Strands(cocycle)) => fits(cocycle.quandle(), seeding),
+        Some(Weighing::Regions(shadow)) => {
+            shadow_numbers::fits(shadow.cocycle.quandle(), seeding)
+        }
+    }
+}
+
 /// Without a cocycle the number of colourings of a grid by the quandle. With one, for each weight from 0 to its modulus less one, the
-/// number of colourings by the cocycle's quandle that have this weight. They are counted by seeds of the grid, and not kept.
+/// number of colourings by the cocycle's quandle that have this weight; by a 3-cocycle, of pairs of a colouring and a colour of the outer region.
+/// They are counted by seeds of the grid, and not kept.
 ///
-/// `TooWide` exactly where the seeds have too many choices of colours.
+/// `TooWide` exactly where there are too many choices of colours.
 pub fn numbers(
     alloc: Global,
     grid: &Grid,
     quandle: &Quandle,
-    cocycle: &Option<Cocycle>,
+    cocycle: &Option<Weighing>,
     seeding: &Seeding,
 ) -> Result<Vec<u32>, CountFault>
     requires plan { IsPlan grid.now seeding.now }
     ensures numbers { IfOk result (λ v. v.items ≡ numbers quandle.now cocycle.now grid.now) }
-    ensures wide { fits (coloured_by quandle.now cocycle.now) seeding.now ≡ false → result ≡ Err (fault.TooWide) }
-    ensures fault { IfErr result (λ e. e ≡ fault.OutOfMemory ⊎ (fits (coloured_by quandle.now cocycle.now) seeding.now ≡ false) × (e ≡ fault.TooWide)) }
+    ensures wide { fits_by quandle.now cocycle.now seeding.now ≡ false → result ≡ Err (fault.TooWide) }
+    ensures fault { IfErr result (λ e. e ≡ fault.OutOfMemory ⊎ (fits_by quandle.now cocycle.now seeding.now ≡ false) × (e ≡ fault.TooWide)) }
 {
     match cocycle {
         None => {
             let total = count(alloc, grid, quandle, seeding)?;
             alone(alloc, total)
         }
-        Some(cocycle) => weights_by_seeds(alloc, grid, cocycle, seeding),
+        Some(Weighing::Strands(cocycle)) => weights_by_seeds(alloc, grid, cocycle, seeding),
+        Some(Weighing::Regions(shadow)) => {
+            shadow_weights_by_seeds(alloc, grid, &shadow.cocycle, seeding)
+        }
     }
 }
 

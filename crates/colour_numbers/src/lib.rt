@@ -5,5 +5,5 @@ mod counting;
 pub mod laws;
 mod lines;
 
-pub use counting::numbers;
+pub use counting::{choices_of, fits_by, numbers};
 pub use lines::{numbers_text, push_number_line};

@@ -13,8 +13,9 @@ use arrayvec::ArrayVec;
 use cocycle_core::Cocycle;
 use colour_numbers::push_number_line;
 use knot_text::push_quandle;
-use number_text::{Block, Counted, Evidence, Linked, THIRD_VERSION};
+use number_text::{Block, Counted, Evidence, Linked, THIRD_VERSION, Weighing};
 use quandle_core::MAX_ORDER;
+use shadow_print::push_shadow;
 use std::alloc::{AllocError, Global};
 use text_lines::{push_counted, push_number, push_word_line};
 
@@ -67,12 +68,13 @@ fn push_linking(out: &mut Vec<u8>, first: &Linked, second: &Linked) -> Result<()
 }
 
 /// Appends a cocycle, if there is one.
-fn push_perhaps(out: &mut Vec<u8>, cocycle: &Option<Cocycle>) -> Result<(), AllocError>
+fn push_perhaps(out: &mut Vec<u8>, cocycle: &Option<Weighing>) -> Result<(), AllocError>
     ensures { OnOk result (out.new.items ≡ out.old.items ++ lines_text (perhaps_cocycle cocycle.now)) }
 {
     match cocycle {
         None => Ok(()),
-        Some(cocycle) => push_cocycle(out, cocycle),
+        Some(Weighing::Strands(cocycle)) => push_cocycle(out, cocycle),
+        Some(Weighing::Regions(shadow)) => push_shadow(out, shadow),
     }
 }
 

@@ -1,13 +1,11 @@
 -- What a cause of one diagram, or none, says.
-use Rattle.std.proofs.Common.{◌≡◌, ◌==◌, ◌<◌, ◌≤◌, ◌^◌, ◌∙◌, inl, inr, ℕ, ℤ, Bool, true, false, List, Option, Some, None, length, slice_index, IfSome, refl, sym, ap, cond, subst, arith}
+use Rattle.std.proofs.Common.{◌≡◌, ◌==◌, ◌<◌, ◌≤◌, ◌+◌, ◌^◌, ◌∙◌, inl, inr, ℕ, ℤ, Bool, true, false, List, Option, Some, None, length, slice_index, IfSome, refl, sym, ap, cond, subst, arith}
 use Rattle.std.specs.Prelude.{nat_le, nat_eq}
 use Rattle.std.specs.Ordering.{int_eq}
 use Rattle.std.proofs.lemmas.Bool.{leb-true, le-leb, eqb-true, eq-eqb}
 use Rattle.std.proofs.Math.Nat.{pow-le-pow_right}
-use Rattle.quandle_core.specs.Quandle.{Table}
 use Rattle.colour_seeds.specs.declared.progress.Step.{Step}
 use Rattle.colour_seeds.specs.Plan.{seeds_in}
-use Rattle.colour_seeds.specs.Fits.{fits}
 use Rattle.std.proofs.lemmas.Bool.Decides.{Decides-eqb, Decides-int_eq}
 use Rattle.grid_core.specs.Diagram.{Diagram, size}
 use Rattle.quandle_core.specs.Fault.{or_else}
@@ -17,13 +15,16 @@ use Rattle.colour_seeds.specs.Settled.{Determine}
 use Rattle.colour_seeds.specs.Seeded.{IsFault}
 use Rattle.colour_seeds.specs.declared.seeding.SeedFault.TheVariants as fault
 use Rattle.colour_seeds.specs.declared.counting.TheConstants.{MAX_CANDIDATES}
+use Rattle.number_text.specs.declared.blocks.Weighing.{Weighing}
+use Rattle.number_text.specs.declared.blocks.Weighing.TheVariants.{Strands, Regions}
 use Rattle.number_text.specs.declared.blocks.Block.{Block}
+use Rattle.colour_numbers.specs.Numbers.{choices_of, fits_by}
 use Rattle.number_text.specs.declared.evidence.Counted.{Counted}
 use Rattle.number_text.specs.declared.evidence.Linked.{Linked}
 use Rattle.number_check.specs.declared.cause.Cause.{Cause}
 use Rattle.number_check.specs.declared.cause.Cause.TheVariants as cause
 use Rattle.number_check.specs.Unequal.{first_unequal}
-use Rattle.number_check.specs.Holds.{table_of, numbers_by, AreNumbersOf, AreLinkingOf}
+use Rattle.number_check.specs.Holds.{table_of, choices_by, numbers_by, AreNumbersOf, AreLinkingOf}
 use Rattle.number_check.specs.Cause.{place_cause, IsSeedCause, counts_cause, IsCauseOf, linked_cause}
 use Rattle.number_check.proofs.FirstUnequal.{equal_of_none, none_of_equal}
 
@@ -44,14 +45,14 @@ no_place which (Some k) none = absurd cc
 
 -- without a cause the numbers are the diagram's own
 pub numbers_hold : (b : Block) (which : ℕ) (d : Diagram) (c : Counted) → Determine c.seeds.items d → counts_cause b which d c ≡ None → AreNumbersOf b d c
-numbers_hold b which d c settled none = by (nat_le ((table_of b).order ^ length c.seeds.items) MAX_CANDIDATES) refl none
+numbers_hold b which d c settled none = by (nat_le ((table_of b).order ^ choices_by b (length c.seeds.items)) MAX_CANDIDATES) refl none
   where
-    by : (t : Bool) → nat_le ((table_of b).order ^ length c.seeds.items) MAX_CANDIDATES ≡ t
+    by : (t : Bool) → nat_le ((table_of b).order ^ choices_by b (length c.seeds.items)) MAX_CANDIDATES ≡ t
         → or_else (cond t None (Some (cause.Wide which (length c.seeds.items)))) (place_cause which (first_unequal nat_eq c.numbers (numbers_by b d))) ≡ None
         → AreNumbersOf b d c
     by true few none = record {
       settled = settled;
-      few = leb-true ((table_of b).order ^ length c.seeds.items) MAX_CANDIDATES few;
+      few = leb-true ((table_of b).order ^ choices_by b (length c.seeds.items)) MAX_CANDIDATES few;
       own = equal_of_none nat_eq eqb-true c.numbers (numbers_by b d) (no_place which (first_unequal nat_eq c.numbers (numbers_by b d)) none);
     }
     by false many none = absurd cc
@@ -59,7 +60,8 @@ numbers_hold b which d c settled none = by (nat_le ((table_of b).order ^ length 
 -- and where they are, there is none
 numbers_faultless : (b : Block) (which : ℕ) (d : Diagram) (c : Counted) → AreNumbersOf b d c → counts_cause b which d c ≡ None
 numbers_faultless b which d c are =
-    let few : nat_le ((table_of b).order ^ length c.seeds.items) MAX_CANDIDATES ≡ true = le-leb ((table_of b).order ^ length c.seeds.items) MAX_CANDIDATES are.few in
+    let few : nat_le ((table_of b).order ^ choices_by b (length c.seeds.items)) MAX_CANDIDATES ≡ true =
+    le-leb ((table_of b).order ^ choices_by b (length c.seeds.items)) MAX_CANDIDATES are.few in
     let same : first_unequal nat_eq c.numbers (numbers_by b d) ≡ None =
     ap (λ (xs : List ℕ). first_unequal nat_eq xs (numbers_by b d)) are.own ∙ none_of_equal nat_eq itself (numbers_by b d) in
     rw (few, same) refl
@@ -108,13 +110,21 @@ pub some_cause : (b : Block) (which : ℕ) (d : Diagram) (c : Counted) (o : Opti
 some_cause b which d c None settled is = tt
 some_cause b which d c (Some why) settled is = inr (settled, sym is)
 
+-- more seeds have more choices
+choices_more : (o : Option Weighing) (few many : ℕ) → few ≤ many → choices_of o few ≤ choices_of o many
+choices_more None few many le = le
+choices_more (Some (Strands w)) few many le = le
+choices_more (Some (Regions s)) few many le = let more : few + 1 ≤ many + 1 = omega (arith, le) in more
+
 -- seeds that have few choices give a plan that fits
-pub fits_there : (t : Table) (plan : List Step) (seeds : ℕ) → 1 ≤ t.order → seeds_in plan ≤ seeds → nat_le (t.order ^ seeds) MAX_CANDIDATES ≡ true
-    → fits t plan ≡ true
-fits_there t plan seeds some few narrow =
-    let up : t.order ^ seeds_in plan ≤ t.order ^ seeds = pow-le-pow_right {n = t.order} some {i = seeds_in plan} {j = seeds} few in
-    let most : t.order ^ seeds ≤ MAX_CANDIDATES = leb-true (t.order ^ seeds) MAX_CANDIDATES narrow in
-    le-leb (t.order ^ seeds_in plan) MAX_CANDIDATES (omega (arith, up, most))
+pub fits_there : (b : Block) (plan : List Step) (seeds : ℕ) → 1 ≤ (table_of b).order → seeds_in plan ≤ seeds
+    → nat_le ((table_of b).order ^ choices_by b seeds) MAX_CANDIDATES ≡ true → fits_by b.listed.table b.cocycle plan ≡ true
+fits_there b plan seeds some few narrow =
+    let up : (table_of b).order ^ choices_by b (seeds_in plan) ≤ (table_of b).order ^ choices_by b seeds =
+    pow-le-pow_right {n = (table_of b).order} some {i = choices_by b (seeds_in plan)} {j = choices_by b seeds}
+    (choices_more b.cocycle (seeds_in plan) seeds few) in
+    let most : (table_of b).order ^ choices_by b seeds ≤ MAX_CANDIDATES = leb-true ((table_of b).order ^ choices_by b seeds) MAX_CANDIDATES narrow in
+    le-leb ((table_of b).order ^ choices_by b (seeds_in plan)) MAX_CANDIDATES (omega (arith, up, most))
 
 -- a column that the seeds do not settle is a cause
 pub unsettled_cause : (b : Block) (which : ℕ) (d : Diagram) (c : Counted) (seeds : List ℕ) (column : ℕ) → seeds ≡ c.seeds.items

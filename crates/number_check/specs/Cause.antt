@@ -19,7 +19,7 @@ use Rattle.number_text.specs.declared.evidence.Evidence.TheVariants.{Numbers, Li
 use Rattle.number_check.specs.declared.cause.Cause.{Cause}
 use Rattle.number_check.specs.declared.cause.Cause.TheVariants as cause
 use Rattle.number_check.specs.Unequal.{first_unequal}
-use Rattle.number_check.specs.Holds.{table_of, numbers_by, AreNumbersOf}
+use Rattle.number_check.specs.Holds.{table_of, choices_by, numbers_by, AreNumbersOf}
 
 -- the cause of a place at which numbers differ
 abbrev pub place_cause : ℕ → Option ℕ → Option Cause
@@ -35,7 +35,7 @@ IsSeedCause which d seeds _ = ⊥
 
 -- so many seeds have too many choices of colours
 abbrev pub wide : Block → ℕ → ℕ → Option Cause
-wide b which seeds = if nat_le ((table_of b).order ^ seeds) MAX_CANDIDATES then None else Some (cause.Wide which seeds)
+wide b which seeds = if nat_le ((table_of b).order ^ choices_by b seeds) MAX_CANDIDATES then None else Some (cause.Wide which seeds)
 
 -- why its numbers are not shown to be its own by seeds that settle it
 abbrev pub counts_cause : Block → ℕ → Diagram → Counted → Option Cause

@@ -6,7 +6,7 @@ use Rattle.linking_core.specs.Component.{components}
 use Rattle.linking_core.specs.Linking.{linking}
 use Rattle.colour_seeds.specs.Settled.{Determine}
 use Rattle.colour_seeds.specs.declared.counting.TheConstants.{MAX_CANDIDATES}
-use Rattle.colour_numbers.specs.Numbers.{numbers, coloured_by}
+use Rattle.colour_numbers.specs.Numbers.{numbers, coloured_by, choices_of}
 use Rattle.number_text.specs.declared.blocks.Block.{Block}
 use Rattle.number_text.specs.declared.evidence.Counted.{Counted}
 use Rattle.number_text.specs.declared.evidence.Linked.{Linked}
@@ -17,6 +17,10 @@ use Rattle.number_text.specs.declared.evidence.Evidence.TheVariants.{Numbers, Li
 abbrev pub table_of : Block → Table
 table_of b = coloured_by b.listed.table b.cocycle
 
+-- how many colours are chosen by so many seeds
+abbrev pub choices_by : Block → ℕ → ℕ
+choices_by b seeds = choices_of b.cocycle seeds
+
 -- the diagram's own numbers by the block
 abbrev pub numbers_by : Block → Diagram → List ℕ
 numbers_by b d = numbers b.listed.table b.cocycle d
@@ -24,7 +28,7 @@ numbers_by b d = numbers b.listed.table b.cocycle d
 -- the seeds settle the diagram and have few choices of colours, and the numbers are the diagram's own
 pub record AreNumbersOf (b : Block) (d : Diagram) (c : Counted) : Type 0 where
   pub settled : Determine c.seeds.items d
-  pub few : (table_of b).order ^ length c.seeds.items ≤ MAX_CANDIDATES
+  pub few : (table_of b).order ^ choices_by b (length c.seeds.items) ≤ MAX_CANDIDATES
   pub own : c.numbers ≡ numbers_by b d
 
 -- how many components a link has, and its linking numbers

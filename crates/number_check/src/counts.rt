@@ -1,7 +1,7 @@
 //! The ruling on the numbers of colourings of one diagram.
 ghost use Rattle.std.specs.Prelude.{◌≡◌, ◌≤◌, ◌^◌, true, None, IfOk, IfSome, length, nat_le};
 ghost use Rattle.colour_seeds.specs.declared.counting.TheConstants.{MAX_CANDIDATES};
-ghost use Rattle.colour_seeds.specs.Fits.{fits};
+ghost use Rattle.colour_numbers.specs.Numbers.{fits_by};
 ghost use Rattle.colour_seeds.specs.Settled.{Determine};
 ghost use Rattle.colour_seeds.specs.Plan.{IsPlan, seeds_in};
 ghost use Rattle.number_check.specs.Holds.{AreNumbersOf, table_of, numbers_by};
@@ -9,11 +9,11 @@ ghost use Rattle.number_check.specs.Cause.{IsCauseOf, counts_cause, place_cause}
 
 use crate::cause::Cause;
 use crate::unequal::first_unequal;
-use colour_numbers::numbers;
+use colour_numbers::{choices_of, numbers};
 use colour_seeds::{CountFault, MAX_CANDIDATES, SeedFault, Seeding};
 use grid_core::Grid;
 use memory_core::OutOfMemory;
-use number_text::{Block, Counted};
+use number_text::{Block, Counted, Weighing};
 use quandle_core::Quandle;
 use std::alloc::Global;
 
@@ -69,7 +69,7 @@ fn cause_settled(
     ensures { IfOk result (λ o. o ≡ counts_cause block.now which grid.now counted.now) }
 {
     let seeds = counted.seeds.len();
-    if !are_few(colouring_quandle(block), seeds) {
+    if !are_few(colouring_quandle(block), choices_of(&block.cocycle, seeds)) {
         return Ok(Some(Cause::Wide { which, seeds }));
     }
     let own = numbers_by(alloc, grid, block, seeding)?;
@@ -87,7 +87,7 @@ pub fn numbers_by(
     seeding: &Seeding,
 ) -> Result<Vec<u32>, OutOfMemory>
     requires plan { IsPlan grid.now seeding.now }
-    requires fits { fits (table_of block.now) seeding.now ≡ true }
+    requires fits { fits_by block.now.listed.table block.now.cocycle seeding.now ≡ true }
     ensures { IfOk result (λ v. v.items ≡ numbers_by block.now grid.now) }
 {
     match numbers(alloc, grid, block.listed.quandle(), &block.cocycle, seeding) {
@@ -103,17 +103,18 @@ pub fn colouring_quandle(block: &Block) -> &Quandle
 {
     match &block.cocycle {
         None => block.listed.quandle(),
-        Some(cocycle) => cocycle.quandle(),
+        Some(Weighing::Strands(cocycle)) => cocycle.quandle(),
+        Some(Weighing::Regions(shadow)) => shadow.cocycle.quandle(),
     }
 }
 
-/// Whether so many seeds have at most `MAX_CANDIDATES` choices of colours.
-fn are_few(quandle: &Quandle, seeds: usize) -> bool
-    ensures few { result ≡ nat_le (quandle.now.order ^ seeds) MAX_CANDIDATES }
+/// Whether so many choices of a colour are at most `MAX_CANDIDATES` together.
+fn are_few(quandle: &Quandle, choices: usize) -> bool
+    ensures few { result ≡ nat_le (quandle.now.order ^ choices) MAX_CANDIDATES }
     ensures least { 1 ≤ quandle.now.order }
 {
     let _order = quandle.order();
-    let count = seeds.min(64) as u32;
+    let count = choices.min(64) as u32;
     u32::from(quandle.order()).saturating_pow(count) <= MAX_CANDIDATES
 }
 

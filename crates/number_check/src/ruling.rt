@@ -12,7 +12,7 @@ use crate::counts::cause_of_counts;
 use crate::links::cause_of_links;
 use grid_core::Grid;
 use memory_core::OutOfMemory;
-use number_text::{Block, Counted, Evidence, Linked};
+use number_text::{Block, Counted, Evidence, Linked, Weighing};
 use std::alloc::Global;
 
 /// Whether evidence by numbers tells two diagrams apart: accepted exactly where it holds, else rejected for the first cause.
@@ -88,8 +88,14 @@ pub fn laws_of(block: &Block)
 {
     let quandle = block.listed.quandle();
     let _order = quandle.order();
-    if let Some(cocycle) = &block.cocycle {
-        let _modulus = cocycle.modulus();
+    match &block.cocycle {
+        None => {}
+        Some(Weighing::Strands(cocycle)) => {
+            let _modulus = cocycle.modulus();
+        }
+        Some(Weighing::Regions(shadow)) => {
+            let _modulus = shadow.cocycle.modulus();
+        }
     }
 }
 

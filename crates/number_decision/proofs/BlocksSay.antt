@@ -3,7 +3,6 @@ use Rattle.std.proofs.Common.{◌≡◌, ℕ, zero, suc, List, [], ◌∷◌, Bo
 use Rattle.std.specs.List.{AllByRecursion}
 use Rattle.std.specs.Str.{bytes_eq}
 use Rattle.quandle_core.specs.Quandle.{Table, IsQuandle}
-use Rattle.cocycle_core.specs.Cocycle.{Cochain}
 use Rattle.text_lines.specs.Lines.{NumberedLine, Text, begins, text_of}
 use Rattle.verdict_core.specs.declared.problem.ProblemText.{ProblemText}
 use Rattle.verdict_core.proofs.Named.{named_is}
@@ -17,6 +16,9 @@ use Rattle.knot_text.proofs.Says.{Says, says_ok, says_err, says_bind, says_if}
 use Rattle.knot_text.proofs.ItemsSay.{IsWritten}
 use Rattle.knot_text.proofs.QuandleSays.{IsQuandleAt, quandle_at_says, quandle_says}
 use Rattle.knot_text.proofs.CocycleSays.{cocycle_says}
+use Rattle.shadow_print.specs.Printed.{HasShadowText}
+use Rattle.shadow_print.proofs.ShadowSays.{shadow_says}
+use Rattle.number_text.specs.declared.blocks.Weighing.TheVariants.{Strands, Regions}
 use Rattle.number_text.specs.declared.blocks.Block.{Block}
 use Rattle.number_text.specs.declared.evidence.Evidence.{Evidence}
 use Rattle.number_text.specs.declared.evidence.Evidence.TheVariants.{Numbers, Linking}
@@ -34,8 +36,11 @@ anything r = record { of = λ x is. tt }
 perhaps_says : (quandle : Table) (text : Text) → IsQuandle quandle → Says (cocycle_or_none quandle text) (λ x. HasPerhapsText quandle x.0)
 unfolding cocycle_or_none
 perhaps_says quandle text is = says_if (begins (codes "weight") text)
-    (λ some. says_bind (IsWritten (HasCocycleText quandle) cocycle_lines text) (cocycle_says quandle text is) (λ w written. says_ok (Some w.0, w.1) written.0))
-    (λ none. says_ok (None, text) tt)
+    (λ some. says_bind (IsWritten (HasCocycleText quandle) cocycle_lines text) (cocycle_says quandle text is)
+    (λ w written. says_ok (Some (Strands w.0), w.1) written.0))
+    (λ other. says_if (begins (codes "shadow") text)
+    (λ some. says_bind (λ x. HasShadowText quandle x.0) (shadow_says quandle text is) (λ s has. says_ok (Some (Regions s.0), s.1) has))
+    (λ none. says_ok (None, text) tt))
 
 block_says : (text : Text) → Says (block_item text) (λ x. HasBlockText x.0)
 unfolding block_item

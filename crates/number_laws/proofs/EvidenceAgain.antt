@@ -6,7 +6,7 @@ use Rattle.std.proofs.lemmas.Bool.{cases_lt, lt-ltb, le-ltb, or_from, eq-eqb}
 use Rattle.arrayvec.specs.ArrayVec.{ArrayVec}
 use Rattle.grid_core.specs.declared.grid.TheConstants.{MAX_SIZE}
 use Rattle.quandle_core.specs.Quandle.{Table}
-use Rattle.cocycle_core.specs.Cocycle.{Cochain}
+use Rattle.shadow_weights.specs.Cocycle.{ShadowCochain}
 use Rattle.text_lines.specs.Lines.{Text, begins}
 use Rattle.text_lines.specs.Spelled.{numbered}
 use Rattle.text_items.specs.declared.reading.TheConstants.{MAX_NUMBER}
@@ -20,6 +20,13 @@ use Rattle.knot_text.proofs.QuandleAgain.{quandle_again}
 use Rattle.knot_text.proofs.VerdictAgain.{parted}
 use Rattle.knot_text.proofs.LettersAgain.{letter_again}
 use Rattle.knot_text.proofs.CocycleAgain.{cocycle_again}
+use Rattle.shadow_text.specs.declared.shadows.Spelling.{Spelling}
+use Rattle.shadow_text.specs.declared.shadows.Spelling.TheVariants as spelling
+use Rattle.shadow_text.specs.declared.shadows.SpelledShadow.{SpelledShadow}
+use Rattle.shadow_print.specs.Printed.{lines_of, shadow_lines, HasShadowText}
+use Rattle.shadow_print.proofs.ShadowAgain.{shadow_again}
+use Rattle.number_text.specs.declared.blocks.Weighing.{Weighing}
+use Rattle.number_text.specs.declared.blocks.Weighing.TheVariants.{Strands, Regions}
 use Rattle.number_text.specs.declared.blocks.Block.{Block}
 use Rattle.number_text.specs.declared.evidence.Counted.{Counted}
 use Rattle.number_text.specs.declared.evidence.Linked.{Linked}
@@ -69,14 +76,29 @@ counted_again due n c text has =
 
 -- ---- a block with its numbers
 
-perhaps_again : (quandle : Table) (o : Option Cochain) (n : ℕ) (text : Text) → HasPerhapsText quandle o → begins (codes "weight") text ≡ false
-    → cocycle_or_none quandle (lines_before (numbered n (perhaps_cocycle o)) text) ≡ Ok (o, text)
+-- the first line of a shadow cocycle begins with its word, and with no other
+shadow_begins : (said : Spelling) (t : ShadowCochain) (n : ℕ) (text : Text)
+    → (begins (codes "weight") (lines_before (numbered n (lines_of said t)) text) ≡ false)
+    × (begins (codes "shadow") (lines_before (numbered n (lines_of said t)) text) ≡ true)
+shadow_begins spelling.Mochizuki t n text = (refl, refl)
+shadow_begins spelling.Table t n text = (refl, refl)
+
+by_shadow : (quandle : Table) (s : SpelledShadow) (n : ℕ) (text : Text) → HasShadowText quandle s
+    → cocycle_or_none quandle (lines_before (numbered n (shadow_lines s)) text) ≡ Ok (Some (Regions s), text)
 unfolding cocycle_or_none
-perhaps_again quandle None n text has other = rw other refl
-perhaps_again quandle (Some w) n text has other =
-    let t = lines_before (numbered n (perhaps_cocycle (Some w))) text in
-    let own : cocycle_or_none w.quandle t ≡ Ok (Some w, text) = rw (cocycle_again w n text has.cocycle has.few) refl in
-    subst (λ (q : Table). cocycle_or_none q t ≡ Ok (Some w, text)) has.same own
+by_shadow quandle s n text has =
+    let first = shadow_begins s.spelling s.cocycle n text in
+    rw (first.0, first.1, shadow_again quandle s n text has) refl
+
+perhaps_again : (quandle : Table) (o : Option Weighing) (n : ℕ) (text : Text) → HasPerhapsText quandle o → begins (codes "weight") text ≡ false
+    → begins (codes "shadow") text ≡ false → cocycle_or_none quandle (lines_before (numbered n (perhaps_cocycle o)) text) ≡ Ok (o, text)
+unfolding cocycle_or_none
+perhaps_again quandle None n text has other also = rw (other, also) refl
+perhaps_again quandle (Some (Strands w)) n text has other also =
+    let t = lines_before (numbered n (perhaps_cocycle (Some (Strands w)))) text in
+    let own : cocycle_or_none w.quandle t ≡ Ok (Some (Strands w), text) = rw (cocycle_again w n text has.cocycle has.few) refl in
+    subst (λ (q : Table). cocycle_or_none q t ≡ Ok (Some (Strands w), text)) has.same own
+perhaps_again quandle (Some (Regions s)) n text has other also = by_shadow quandle s n text has
 
 block_again : (n : ℕ) (b : Block) (one two : Counted) (text : Text) → HasEvidenceText (Numbers b one two)
     → numbers_evidence (line_of n (name_tokens b.listed.name b.listed.table.order))
@@ -97,7 +119,7 @@ block_again n b one two text has =
     ∙ ap (lines_before (numbered n table)) (parted m cocycle (counted_lines one ++ counted_lines two) text
     ∙ ap (lines_before (numbered m cocycle)) (parted k (counted_lines one) (counted_lines two) text)) in
     let named = quandle_again n b.listed.name b.listed.table all has.0.listed.names has.0.listed.factor in
-    let weighed = perhaps_again b.listed.table b.cocycle m both has.0.cocycle refl in
+    let weighed = perhaps_again b.listed.table b.cocycle m both has.0.cocycle refl refl in
     let first = counted_again (count_of b.cocycle) k one last has.1 in
     let second = counted_again (count_of b.cocycle) j two text has.2 in
     let read : numbers_evidence line (lines_before (numbered n table) all) ≡ Ok (Numbers b one two, text) = rw (named, weighed, first, second) refl in

@@ -31,6 +31,11 @@ use Rattle.knot_text.proofs.Choices.{by_next, choice, IsDue, IsOfNextLine, choic
 use Rattle.knot_text.proofs.QuandlesSteady.{AtOther, other_seen}
 use Rattle.knot_text.proofs.FirstFault.{anywhere_seen, then_fails, end_fails}
 use Rattle.knot_text.proofs.ShapesFail.{problem_steady}
+use Rattle.shadow_text.specs.declared.shadows.SpelledShadow.{SpelledShadow}
+use Rattle.shadow_text.specs.Shadows.{shadow_item}
+use Rattle.shadow_print.proofs.ShadowSteady.{shadow_steady}
+use Rattle.number_text.specs.declared.blocks.Weighing.{Weighing}
+use Rattle.number_text.specs.declared.blocks.Weighing.TheVariants.{Strands, Regions}
 use Rattle.number_text.specs.declared.blocks.Block.{Block}
 use Rattle.number_text.specs.declared.evidence.Counted.{Counted}
 use Rattle.number_text.specs.declared.evidence.Linked.{Linked}
@@ -87,30 +92,44 @@ linked_steady =
 
 -- ---- the numbers of both diagrams, behind a quandle
 
-abbrev block_with : NamedQuandle → Option Cochain → Block
+abbrev block_with : NamedQuandle → Option Weighing → Block
 block_with q o = record { listed = q; cocycle = o }
 
-abbrev both_counted : NamedQuandle → Option Cochain → Text → Result (Evidence × Text) TextFault
+abbrev both_counted : NamedQuandle → Option Weighing → Text → Result (Evidence × Text) TextFault
 both_counted q o text =
     counted_item (count_of o) text >>= λ first. counted_item (count_of o) first.1 >>= λ second. Ok (Numbers (block_with q o) first.0 second.0, second.1)
 
-both_steady : (q : NamedQuandle) (o : Option Cochain) → Steady Anywhere (both_counted q o)
+both_steady : (q : NamedQuandle) (o : Option Weighing) → Steady Anywhere (both_counted q o)
 both_steady q o =
     then_steady Anywhere (counted_item (count_of o))
     (λ first text. counted_item (count_of o) text >>= λ second. Ok (Numbers (block_with q o) first second.0, second.1)) (counted_steady (count_of o))
     (λ first. then_steady Anywhere (counted_item (count_of o)) (λ second text. Ok (Numbers (block_with q o) first second, text)) (counted_steady (count_of o))
     (λ second. pure_steady (Numbers (block_with q o) first second)))
 
+-- behind a cocycle of either kind, or none
 abbrev weighed : NamedQuandle → Text → Result (Evidence × Text) TextFault
-weighed q text = cocycle_item q.table text >>= λ w. both_counted q (Some w.0) w.1
+weighed q text = cocycle_item q.table text >>= λ w. both_counted q (Some (Strands w.0)) w.1
+
+abbrev shaded : NamedQuandle → Text → Result (Evidence × Text) TextFault
+shaded q text = shadow_item q.table text >>= λ s. both_counted q (Some (Regions s.0)) s.1
 
 weighed_steady : (q : NamedQuandle) → Steady Anywhere (weighed q)
 weighed_steady q =
-    then_steady Anywhere (cocycle_item q.table) (λ w text. both_counted q (Some w) text) (cocycle_steady q.table) (λ w. both_steady q (Some w))
+    then_steady Anywhere (cocycle_item q.table) (λ w text. both_counted q (Some (Strands w)) text) (cocycle_steady q.table)
+    (λ w. both_steady q (Some (Strands w)))
+
+shaded_steady : (q : NamedQuandle) → Steady Anywhere (shaded q)
+shaded_steady q =
+    then_steady Anywhere (shadow_item q.table) (λ s text. both_counted q (Some (Regions s)) text) (shadow_steady q.table)
+    (λ s. both_steady q (Some (Regions s)))
 
 weighed_due : (q : NamedQuandle) → IsDue (weighed q)
 unfolding cocycle_item next_line
 weighed_due q ending = refl
+
+shaded_due : (q : NamedQuandle) → IsDue (shaded q)
+unfolding shadow_item next_line
+shaded_due q ending = refl
 
 alone_due : (q : NamedQuandle) → IsDue (both_counted q None)
 unfolding counted_item next_line
@@ -119,27 +138,48 @@ alone_due q ending = refl
 abbrev behind_quandle : NamedQuandle → Text → Result (Evidence × Text) TextFault
 behind_quandle q text = cocycle_or_none q.table text >>= λ w. both_counted q w.0 w.1
 
-abbrev as_some : Result (Cochain × Text) TextFault → Result (Option Cochain × Text) TextFault
-as_some r = r >>= λ w. Ok (Some w.0, w.1)
+-- without a 2-cocycle
+abbrev others : NamedQuandle → Text → Result (Evidence × Text) TextFault
+others q text = choice (codes "shadow") (shaded q) (both_counted q None) text
 
-flat_cocycle : (q : NamedQuandle) (r : Result (Cochain × Text) TextFault)
-    → (as_some r >>= λ w. both_counted q w.0 w.1) ≡ (r >>= λ w. both_counted q (Some w.0) w.1)
-flat_cocycle q (Ok w) = refl
-flat_cocycle q (Err e) = refl
+others_steady : (q : NamedQuandle) → Steady Anywhere (others q)
+others_steady q =
+    choice_steady (codes "shadow") (shaded q) (both_counted q None) (shaded_due q) (alone_due q) (shaded_steady q) (both_steady q None)
 
-behind_is : (q : NamedQuandle) (text : Text) → behind_quandle q text ≡ choice (codes "weight") (weighed q) (both_counted q None) text
+others_due : (q : NamedQuandle) → IsDue (others q)
+others_due q ending = alone_due q ending
+
+abbrev as_strands : Result (Cochain × Text) TextFault → Result (Option Weighing × Text) TextFault
+as_strands r = r >>= λ w. Ok (Some (Strands w.0), w.1)
+
+abbrev as_regions : Result (SpelledShadow × Text) TextFault → Result (Option Weighing × Text) TextFault
+as_regions r = r >>= λ s. Ok (Some (Regions s.0), s.1)
+
+flat_strands : (q : NamedQuandle) (r : Result (Cochain × Text) TextFault)
+    → (as_strands r >>= λ w. both_counted q w.0 w.1) ≡ (r >>= λ w. both_counted q (Some (Strands w.0)) w.1)
+flat_strands q (Ok w) = refl
+flat_strands q (Err e) = refl
+
+flat_regions : (q : NamedQuandle) (r : Result (SpelledShadow × Text) TextFault)
+    → (as_regions r >>= λ w. both_counted q w.0 w.1) ≡ (r >>= λ s. both_counted q (Some (Regions s.0)) s.1)
+flat_regions q (Ok s) = refl
+flat_regions q (Err e) = refl
+
+behind_is : (q : NamedQuandle) (text : Text) → behind_quandle q text ≡ choice (codes "weight") (weighed q) (others q) text
 unfolding cocycle_or_none
-behind_is q text = by (first_starts (codes "weight") text.lines)
+behind_is q text = by (first_starts (codes "weight") text.lines) (first_starts (codes "shadow") text.lines)
   where
-    by : (t : Bool) → (cond t (as_some (cocycle_item q.table text)) (Ok (None, text)) >>= λ w. both_counted q w.0 w.1)
-        ≡ cond t (weighed q text) (both_counted q None text)
-    by true = flat_cocycle q (cocycle_item q.table text)
-    by false = refl
+    by : (t u : Bool)
+        → (cond t (as_strands (cocycle_item q.table text)) (cond u (as_regions (shadow_item q.table text)) (Ok (None, text))) >>= λ w. both_counted q w.0 w.1)
+        ≡ cond t (weighed q text) (cond u (shaded q text) (both_counted q None text))
+    by true u = flat_strands q (cocycle_item q.table text)
+    by false true = flat_regions q (shadow_item q.table text)
+    by false false = refl
 
 behind_steady : (q : NamedQuandle) → Steady Anywhere (behind_quandle q)
 behind_steady q =
-    same_steady Anywhere (choice (codes "weight") (weighed q) (both_counted q None)) (behind_quandle q) (behind_is q)
-    (choice_steady (codes "weight") (weighed q) (both_counted q None) (weighed_due q) (alone_due q) (weighed_steady q) (both_steady q None))
+    same_steady Anywhere (choice (codes "weight") (weighed q) (others q)) (behind_quandle q) (behind_is q)
+    (choice_steady (codes "weight") (weighed q) (others q) (weighed_due q) (others_due q) (weighed_steady q) (others_steady q))
 
 -- ---- evidence
 

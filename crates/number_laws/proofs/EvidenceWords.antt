@@ -19,6 +19,9 @@ use Rattle.knot_text.proofs.StepsAgain.{IsShort, all_short}
 use Rattle.knot_text.proofs.Tables.{row, row_below}
 use Rattle.knot_text.proofs.Words.{both_lines, front_lines, decimal_word, numbers_words, numbers_line, verdict_words}
 use Rattle.knot_text.proofs.LettersAgain.{letter_word}
+use Rattle.shadow_print.proofs.ShadowAgain.{shadow_words}
+use Rattle.number_text.specs.declared.blocks.Weighing.{Weighing}
+use Rattle.number_text.specs.declared.blocks.Weighing.TheVariants.{Strands, Regions}
 use Rattle.number_text.specs.declared.evidence.Counted.{Counted}
 use Rattle.number_text.specs.declared.evidence.Linked.{Linked}
 use Rattle.number_text.specs.declared.evidence.Evidence.{Evidence}
@@ -48,9 +51,10 @@ values_words w a (suc n) is few fits =
 cocycle_words : (w : Cochain) → IsCocycle w → w.modulus ≤ MAX_MODULUS → list_all is_line (cocycle_lines w) ≡ true
 cocycle_words w is few = rw (decimal_word w.modulus (omega (arith, few)), values_words w 0 w.quandle.order is few (omega arith)) refl
 
-perhaps_words : (quandle : Table) (o : Option Cochain) → HasPerhapsText quandle o → list_all is_line (perhaps_cocycle o) ≡ true
+perhaps_words : (quandle : Table) (o : Option Weighing) → HasPerhapsText quandle o → list_all is_line (perhaps_cocycle o) ≡ true
 perhaps_words quandle None has = refl
-perhaps_words quandle (Some w) has = cocycle_words w has.cocycle has.few
+perhaps_words quandle (Some (Strands w)) has = cocycle_words w has.cocycle has.few
+perhaps_words quandle (Some (Regions s)) has = shadow_words quandle s has
 
 -- ---- a quandle behind two words, as behind one
 

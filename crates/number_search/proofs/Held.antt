@@ -15,12 +15,12 @@ use Rattle.linking_core.specs.Linking.{linking}
 use Rattle.colour_seeds.specs.declared.progress.Step.{Step}
 use Rattle.colour_seeds.specs.declared.counting.TheConstants.{MAX_CANDIDATES}
 use Rattle.colour_seeds.specs.Plan.{IsPlan, seeds_in}
-use Rattle.colour_seeds.specs.Fits.{fits}
+use Rattle.colour_numbers.specs.Numbers.{fits_by}
 use Rattle.colour_seeds.proofs.Seeds.{seeds_are, plan_determines}
 use Rattle.number_text.specs.declared.blocks.Block.{Block}
 use Rattle.number_text.specs.declared.evidence.Linked.{Linked}
 use Rattle.number_text.specs.declared.evidence.Evidence.{Evidence}
-use Rattle.number_check.specs.Holds.{table_of, numbers_by, linked_of, AreNumbersOf, NumbersDiffer, LinkingDiffers, Holds}
+use Rattle.number_check.specs.Holds.{table_of, choices_by, numbers_by, linked_of, AreNumbersOf, NumbersDiffer, LinkingDiffers, Holds}
 use Rattle.number_check.specs.Cause.{are_same}
 use Rattle.number_search.specs.declared.seed_pair.SeedPair.{SeedPair}
 use Rattle.number_search.specs.Told.{ArePlansOf, fits_both, agree, tells, counted, evidence_by, first_telling, told_by_linking, told_by_blocks, told_apart}
@@ -55,11 +55,13 @@ linking_holds d e evidence is = by (are_same (linked_of d) (linked_of e)) refl i
 
 -- ---- the numbers of colourings
 
-numbers_are : (d : Diagram) (plan : List Step) (b : Block) → IsGrid d → IsPlan d plan → fits (table_of b) plan ≡ true
+numbers_are : (d : Diagram) (plan : List Step) (b : Block) → IsGrid d → IsPlan d plan → fits_by b.listed.table b.cocycle plan ≡ true
     → AreNumbersOf b d (counted plan (numbers_by b d))
 numbers_are d plan b grid is_plan few = record {
   settled = plan_determines d plan grid is_plan;
-  few = subst (λ (n : ℕ). (table_of b).order ^ n ≤ MAX_CANDIDATES) (sym (seeds_are plan)) (leb-true ((table_of b).order ^ seeds_in plan) MAX_CANDIDATES few);
+  few =
+      subst (λ (n : ℕ). (table_of b).order ^ choices_by b n ≤ MAX_CANDIDATES) (sym (seeds_are plan))
+      (leb-true ((table_of b).order ^ choices_by b (seeds_in plan)) MAX_CANDIDATES few);
   own = refl;
 }
 
@@ -72,7 +74,7 @@ pub numbers_differ : (d e : Diagram) (s : SeedPair) (b : Block) → IsGrid d →
     → NumbersDiffer b d e (counted s.first (numbers_by b d)) (counted s.second (numbers_by b e))
 numbers_differ d e s b one two plans is =
     let parts = and_parts (fits_both s b) (not (agree d e b)) is in
-    let fit = and_parts (fits (table_of b) s.first) (fits (table_of b) s.second) parts.0 in
+    let fit = and_parts (fits_by b.listed.table b.cocycle s.first) (fits_by b.listed.table b.cocycle s.second) parts.0 in
     record {
       first = numbers_are d s.first b one plans.first fit.0;
       second = numbers_are e s.second b two plans.second fit.1;

@@ -6,12 +6,12 @@ use Rattle.std.specs.Cmp.Lexicographic.{pointwise}
 use Rattle.grid_core.specs.Diagram.{Diagram}
 use Rattle.colour_seeds.specs.declared.progress.Step.{Step}
 use Rattle.colour_seeds.specs.Plan.{IsPlan, seed_columns}
-use Rattle.colour_seeds.specs.Fits.{fits}
+use Rattle.colour_numbers.specs.Numbers.{fits_by}
 use Rattle.number_text.specs.declared.blocks.Block.{Block}
 use Rattle.number_text.specs.declared.evidence.Counted.{Counted}
 use Rattle.number_text.specs.declared.evidence.Evidence.{Evidence}
 use Rattle.number_text.specs.declared.evidence.Evidence.TheVariants.{Numbers, Linking}
-use Rattle.number_check.specs.Holds.{table_of, numbers_by, linked_of}
+use Rattle.number_check.specs.Holds.{numbers_by, linked_of}
 use Rattle.number_check.specs.Cause.{are_same}
 use Rattle.number_search.specs.declared.seed_pair.SeedPair.{SeedPair}
 
@@ -28,9 +28,9 @@ pub record ArePlansOf (d e : Diagram) (s : SeedPair) : Type 0 where
   pub first : IsPlan d s.first
   pub second : IsPlan e s.second
 
--- a block's quandle fits both plans
+-- a block fits both plans
 abbrev pub fits_both : SeedPair → Block → Bool
-fits_both s b = fits (table_of b) s.first && fits (table_of b) s.second
+fits_both s b = fits_by b.listed.table b.cocycle s.first && fits_by b.listed.table b.cocycle s.second
 
 -- the diagrams have the same numbers of colourings by a block
 abbrev pub agree : Diagram → Diagram → Block → Bool

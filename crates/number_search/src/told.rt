@@ -6,12 +6,12 @@ ghost use Rattle.number_check.specs.Ruling.{RulesOn};
 ghost use Rattle.number_search.specs.Told.{ArePlansOf, fits_both, counted, evidence_by, told_by_linking, told_by_blocks, told_apart};
 
 use crate::seed_pair::SeedPair;
-use cocycle_core::Cocycle;
-use colour_seeds::{Seeding, fits};
+use colour_numbers::fits_by;
+use colour_seeds::Seeding;
 use grid_core::Grid;
 use memory_core::{Items, OutOfMemory};
-use number_check::{are_same, colouring_quandle, laws_of, linked_of, numbers_by};
-use number_text::{Block, Counted, Evidence};
+use number_check::{are_same, laws_of, linked_of, numbers_by};
+use number_text::{Block, Counted, Evidence, Weighing};
 use std::alloc::Global;
 
 /// Evidence that two grids are not equivalent, by their linking numbers, or else by the first of the blocks that tells them apart.
@@ -103,8 +103,9 @@ fn told_by_block(
     if one.as_slice() == two.as_slice() {
         return Ok(None);
     }
+    let block = copy_of(alloc, block)?;
     Ok(Some(Evidence::Numbers {
-        block: copy_of(block),
+        block,
         first: counted(&seeds.first, one),
         second: counted(&seeds.second, two),
     }))
@@ -120,12 +121,13 @@ pub fn count_fitting(seeds: &SeedPair, blocks: &[Block]) -> usize
         .count()
 }
 
-/// Whether a block's quandle fits the seeds of both grids.
+/// Whether a block fits the seeds of both grids.
 fn fits_both(seeds: &SeedPair, block: &Block) -> bool
     ensures { result ≡ fits_both seeds.now block.now }
 {
-    let quandle = colouring_quandle(block);
-    fits(quandle, &seeds.first) && fits(quandle, &seeds.second)
+    let quandle = block.listed.quandle();
+    fits_by(quandle, &block.cocycle, &seeds.first)
+        && fits_by(quandle, &block.cocycle, &seeds.second)
 }
 
 /// Numbers with the seeds by which they were counted.
@@ -139,21 +141,29 @@ fn counted(seeding: &Seeding, numbers: Vec<u32>) -> Counted
 }
 
 /// The same block again.
-fn copy_of(block: &Block) -> Block
-    ensures { result ≡ block.now }
+fn copy_of(alloc: Global, block: &Block) -> Result<Block, OutOfMemory>
+    ensures { IfOk result (λ b. b ≡ block.now) }
 {
-    Block {
+    let cocycle = copy_of_cocycle(alloc, &block.cocycle)?;
+    Ok(Block {
         listed: block.listed.copy(),
-        cocycle: copy_of_cocycle(&block.cocycle),
-    }
+        cocycle,
+    })
 }
 
 /// The same cocycle again, if there is one.
-fn copy_of_cocycle(cocycle: &Option<Cocycle>) -> Option<Cocycle>
-    ensures { result ≡ cocycle.now }
+fn copy_of_cocycle(
+    alloc: Global,
+    cocycle: &Option<Weighing>,
+) -> Result<Option<Weighing>, OutOfMemory>
+    ensures { IfOk result (λ o. o ≡ cocycle.now) }
 {
     match cocycle {
-        None => None,
-        Some(cocycle) => Some(cocycle.copy()),
+        None => Ok(None),
+        Some(Weighing::Strands(cocycle)) => Ok(Some(Weighing::Strands(cocycle.copy()))),
+        Some(Weighing::Regions(shadow)) => match shadow.copy(alloc) {
+            Ok(shadow) => Ok(Some(Weighing::Regions(shadow))),
+            Err(_) => Err(OutOfMemory),
+        },
     }
 }

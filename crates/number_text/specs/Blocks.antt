@@ -2,7 +2,6 @@
 use Rattle.std.specs.Prelude.{ℕ, zero, suc, List, [], ◌∷◌, map, codes, Option, Some, None, Result, Ok, Err, if◌then◌else◌}
 use Rattle.std.specs.Str.{bytes_eq}
 use Rattle.quandle_core.specs.Quandle.{Table}
-use Rattle.cocycle_core.specs.Cocycle.{Cochain}
 use Rattle.text_lines.specs.Lines.{NumberedLine, Text, text_of, begins}
 use Rattle.verdict_core.specs.Names.{NamedQuandle}
 use Rattle.text_items.specs.declared.fault.TextFault.{TextFault}
@@ -11,16 +10,25 @@ use Rattle.text_items.specs.declared.quandles.TheConstants.{MAX_QUANDLES}
 use Rattle.text_items.specs.Reading.{◌>>=◌, next_line, next_token, line_end, text_end, word, number, last_number}
 use Rattle.text_items.specs.Quandles.{written_at, quandle_item, built_in}
 use Rattle.text_items.specs.Cocycles.{cocycle_item}
+use Rattle.shadow_text.specs.Shadows.{shadow_item}
+use Rattle.number_text.specs.declared.blocks.Weighing.{Weighing}
+use Rattle.number_text.specs.declared.blocks.Weighing.TheVariants.{Strands, Regions}
 use Rattle.number_text.specs.declared.blocks.Block.{Block}
 
-abbrev pub some_cocycle : Table → Text → Result (Option Cochain × Text) TextFault
-some_cocycle quandle text = do
+abbrev pub some_strands : Table → Text → Result (Option Weighing × Text) TextFault
+some_strands quandle text = do
   cocycle ← cocycle_item quandle text
-  Ok (Some cocycle.0, cocycle.1)
+  Ok (Some (Strands cocycle.0), cocycle.1)
 
--- a cocycle of the quandle where a line that begins with `weight` is next, else nothing
-unfoldable pub cocycle_or_none : Table → Text → Result (Option Cochain × Text) TextFault
-cocycle_or_none quandle text = if begins (codes "weight") text then some_cocycle quandle text else Ok (None, text)
+abbrev pub some_regions : Table → Text → Result (Option Weighing × Text) TextFault
+some_regions quandle text = do
+  shadow ← shadow_item quandle text
+  Ok (Some (Regions shadow.0), shadow.1)
+
+-- a 2-cocycle of the quandle where a line that begins with `weight` is next, a 3-cocycle where one that begins with `shadow` is, else nothing
+unfoldable pub cocycle_or_none : Table → Text → Result (Option Weighing × Text) TextFault
+cocycle_or_none quandle text =
+    if begins (codes "weight") text then some_strands quandle text else if begins (codes "shadow") text then some_regions quandle text else Ok (None, text)
 
 -- a quandle, and perhaps a cocycle of it
 unfoldable pub block_item : Text → Result (Block × Text) TextFault

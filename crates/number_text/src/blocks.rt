@@ -1,4 +1,4 @@
-//! Blocks: a quandle, and perhaps a cocycle of it.
+//! Blocks: a quandle, and perhaps a cocycle of it, which may look at regions too.
 ghost use Rattle.std.specs.Prelude.{◌≡◌, map, IfOk, IfErr};
 ghost use Rattle.text_items.specs.Reading.{Gives};
 ghost use Rattle.text_items.specs.Quandles.{built_in};
@@ -8,41 +8,55 @@ ghost use Rattle.number_text.specs.Blocks.{alone, cocycle_or_none, block_item, o
 use cocycle_core::Cocycle;
 use memory_core::Items;
 use quandle_core::Quandle;
+use shadow_text::{SpelledShadow, shadow_item};
 use std::alloc::Global;
 use text_items::reading::{last_number, line_end, next_line, next_token, number, text_end, word};
 use text_items::{MAX_QUANDLES, TextFault, cocycle_item, quandle_item, quandle_list};
 use text_lines::{Line, Lines};
 use verdict_core::Listed;
 
+/// A cocycle by which colourings are to be weighed.
+#[derive(Drop)]
+pub enum Weighing {
+    /// A 2-cocycle, behind the word `weight`: it looks at the two strands of a crossing.
+    Strands(Cocycle),
+    /// A 3-cocycle, behind the word `shadow`: it looks at a region too.
+    Regions(SpelledShadow),
+}
+
 /// A quandle by which colourings are to be counted, and perhaps a cocycle by which they are to be weighed.
 /// A cocycle that was read is one of this quandle.
 #[derive(Drop)]
 pub struct Block {
     pub listed: Listed,
-    pub cocycle: Option<Cocycle>,
+    pub cocycle: Option<Weighing>,
 }
 
-/// A cocycle of a quandle where a line that begins with `weight` is next, else nothing.
+/// A 2-cocycle of a quandle where a line that begins with `weight` is next, a 3-cocycle where one that begins with `shadow` is, else nothing.
 #[tactic(auto, unfolding(crate::specs::Blocks::cocycle_or_none))]
 pub(crate) fn cocycle_or_none(
+    alloc: Global,
     quandle: &Quandle,
     lines: &mut Lines,
-) -> Result<Option<Cocycle>, TextFault>
+) -> Result<Option<Weighing>, TextFault>
     ensures { Gives (λ c. (c, lines.new)) result (cocycle_or_none quandle.now lines.old) }
 {
-    if !lines.begins(b"weight") {
-        return Ok(None);
+    if lines.begins(b"weight") {
+        return Ok(Some(Weighing::Strands(cocycle_item(quandle, lines)?)));
     }
-    Ok(Some(cocycle_item(quandle, lines)?))
+    if lines.begins(b"shadow") {
+        return Ok(Some(Weighing::Regions(shadow_item(alloc, quandle, lines)?)));
+    }
+    Ok(None)
 }
 
 /// A quandle item, and behind it perhaps a cocycle of the quandle.
 #[tactic(auto, unfolding(crate::specs::Blocks::block_item))]
-pub fn block_item(lines: &mut Lines) -> Result<Block, TextFault>
+pub fn block_item(alloc: Global, lines: &mut Lines) -> Result<Block, TextFault>
     ensures { Gives (λ b. (b, lines.new)) result (block_item lines.old) }
 {
     let listed = quandle_item(lines)?;
-    let cocycle = cocycle_or_none(listed.quandle(), lines)?;
+    let cocycle = cocycle_or_none(alloc, listed.quandle(), lines)?;
     Ok(Block { listed, cocycle })
 }
 
@@ -125,7 +139,7 @@ fn blocks(alloc: Global, lines: &mut Lines) -> Result<Vec<Block>, TextFault>
         if !lines.begins(b"quandle") {
             return Ok(blocks);
         }
-        blocks.push(block_item(lines)?)?;
+        blocks.push(block_item(alloc, lines)?)?;
     }
     if lines.begins(b"quandle") {
         return surplus_block(lines);

@@ -16,11 +16,11 @@ use Rattle.verdict_core.specs.Diagrams.{grid_of}
 use Rattle.knot_text.specs.Shapes.{replay_in, colour_in, close_in, lone_diagram_in}
 use Rattle.knot_text.specs.Pairs.{pair_in}
 use Rattle.knot_text.specs.BraidChecks.{braidcheck_in}
-use Rattle.knot_text.specs.Weights.{weight_in}
+use Rattle.number_text.specs.Weighed.{weighed_in}
 use Rattle.knot_text.specs.FirstBadLine.{FailsFirst}
 use Rattle.knot_text.proofs.ShapesFail.{replay_fails, colour_fails, close_fails, lone_diagram_fails, pair_fails}
 use Rattle.knot_text.proofs.BraidChecksFail.{braidcheck_fails}
-use Rattle.knot_text.proofs.WeightsFail.{weight_fails}
+use Rattle.number_laws.proofs.WeighedFails.{weighed_fails}
 use Rattle.braid_moves.specs.declared.ruling.BraidRuling.{BraidRuling}
 use Rattle.braid_moves.specs.declared.ruling.BraidRuling.TheVariants as braids
 use Rattle.braid_moves.specs.Ruling.{ruling}
@@ -249,6 +249,6 @@ never_memory Code fixed bytes is = first_fails lone_diagram_in lone_diagram_fail
 never_memory Braid fixed bytes is = first_fails colour_in colour_fails (text_of bytes) is
 never_memory Linking fixed bytes is = first_fails pair_in pair_fails (text_of bytes) is
 never_memory Braidcheck fixed bytes is = first_fails braidcheck_in braidcheck_fails (text_of bytes) is
-never_memory Weights fixed bytes is = first_fails weight_in weight_fails (text_of bytes) is
+never_memory Weights fixed bytes is = first_fails weighed_in weighed_fails (text_of bytes) is
 never_memory Numbers fixed bytes is = absurd (let wrong : false ≡ true = fixed in cc)
 never_memory Grid fixed bytes is = absurd (let wrong : false ≡ true = fixed in cc)

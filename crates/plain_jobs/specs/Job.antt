@@ -7,13 +7,13 @@ use Rattle.knot_text.specs.declared.shapes.ReplayText.{ReplayText}
 use Rattle.knot_text.specs.declared.shapes.ColourText.{ColourText}
 use Rattle.knot_text.specs.declared.shapes.CloseText.{CloseText}
 use Rattle.knot_text.specs.declared.braid_checks.BraidCheckText.{BraidCheckText}
-use Rattle.knot_text.specs.declared.weights.WeightText.{WeightText}
 use Rattle.knot_text.specs.Shapes.{replay_of, colour_of, close_of, lone_diagram_of}
 use Rattle.knot_text.specs.Pairs.{pair_of}
 use Rattle.knot_text.specs.BraidChecks.{braidcheck_of}
-use Rattle.knot_text.specs.Weights.{weight_of}
 use Rattle.number_text.specs.declared.numbered.NumbersText.{NumbersText}
 use Rattle.number_text.specs.Numbered.{numbers_of}
+use Rattle.number_text.specs.declared.weighed.WeighedText.{WeighedText}
+use Rattle.number_text.specs.Weighed.{weighed_of}
 use Rattle.number_certificates.specs.declared.said.Said.{Said}
 use Rattle.number_certificates.specs.Said.{said_of}
 use Rattle.code_text.specs.declared.whole.CodeText.{CodeText}
@@ -50,7 +50,7 @@ plain_task Code = record { Input = Diagram; read = lone_diagram_of; Replies = An
 plain_task Braid = record { Input = ColourText; read = colour_of; Replies = AnswersBraid }
 plain_task Linking = record { Input = Diagram × Diagram; read = pair_of; Replies = AnswersLinking }
 plain_task Braidcheck = record { Input = BraidCheckText; read = braidcheck_of; Replies = AnswersBraidcheck }
-plain_task Weights = record { Input = WeightText; read = weight_of; Replies = AnswersWeights }
+plain_task Weights = record { Input = WeighedText; read = weighed_of; Replies = AnswersWeights }
 plain_task Numbers = record { Input = NumbersText; read = numbers_of; Replies = AnswersNumbers }
 plain_task Grid = record { Input = CodeText; read = code_text_of; Replies = AnswersGrid }
 

@@ -7,8 +7,8 @@ use Rattle.verdict_core.specs.Diagrams.{grid_of}
 use Rattle.knot_text.specs.Pairs.{pair_of}
 use Rattle.knot_text.specs.declared.braid_checks.BraidCheckText.{BraidCheckText}
 use Rattle.knot_text.specs.BraidChecks.{braidcheck_of}
-use Rattle.knot_text.specs.declared.weights.WeightText.{WeightText}
-use Rattle.knot_text.specs.Weights.{weight_of}
+use Rattle.number_text.specs.declared.weighed.WeighedText.{WeighedText}
+use Rattle.number_text.specs.Weighed.{weighed_of}
 use Rattle.code_text.specs.TextGrid.{IsTrueDrawing}
 use Rattle.number_certificates.specs.declared.said.Said.{Said}
 use Rattle.number_certificates.specs.Said.{said_of}
@@ -39,8 +39,8 @@ pub record IsTrueLinking (bytes text : List ℕ) : Type 0 where
 -- the bytes are two diagrams, a quandle and a cocycle of it, and where the text says that the weights of their colourings differ,
 -- no list of moves joins the diagrams
 pub record IsTrueWeighing (bytes text : List ℕ) : Type 0 where
-  pub input : WeightText
-  pub read : weight_of bytes ≡ Ok input
+  pub input : WeighedText
+  pub read : weighed_of bytes ≡ Ok input
   pub apart : EndsDifferent text → Equivalent (grid_of input.first) (grid_of input.second) → ⊥
 
 -- ---- two braids between which steps were accepted

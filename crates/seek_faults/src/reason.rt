@@ -136,7 +136,7 @@ fn write_begin<W: fmt::Write>(f: &mut fmt::Formatter<W>, part: Part) -> fmt::Res
         }
         Part::Moves => "a line `moves ..` with their number is due",
         Part::Steps => "a line `steps ..` with their number is due",
-        Part::Cocycle => "a line `weight ..` with a modulus is due",
+        Part::Cocycle => "a line `weight ..` with a modulus or a line `shadow ..` is due",
     })
 }
 

@@ -79,7 +79,7 @@ impl Part {
             Part::Verdict => &[b"certificate", b"equal", b"different", b"unknown"],
             Part::Moves => &[b"moves"],
             Part::Steps => &[b"steps"],
-            Part::Cocycle => &[b"weight"],
+            Part::Cocycle => &[b"weight", b"shadow"],
         };
         words.iter().any(|word| *word == token)
     }

@@ -1,13 +1,15 @@
-//! The job `weights`: the weights of the colourings of two diagrams by a cocycle, and whether they differ.
+//! The job `weights`: the weights of the colourings of two diagrams by a cocycle of either kind, and whether they differ.
 ghost use Rattle.std.specs.Prelude.{◌≡◌, ◌≢◌, true, IfOk};
 ghost use Rattle.grid_moves.specs.Joining.{Equivalent};
 ghost use Rattle.colour_list.specs.Fits.{fits};
 ghost use Rattle.colour_weights.specs.Weights.{weights};
+ghost use Rattle.shadow_weights.specs.Weights.{shadow_weights};
+ghost use Rattle.grid_core.specs.Diagram.{Diagram as Marks};
 ghost use Rattle.verdict_core.specs.Diagrams.{grid_of};
-ghost use Rattle.knot_text.specs.Weights.{weight_of};
+ghost use Rattle.number_text.specs.Weighed.{weighed_of};
 ghost use Rattle.plain_jobs.specs.Comparison.{EndsDifferent};
 ghost use Rattle.plain_jobs.specs.Reply.{AnswersRead};
-ghost use Rattle.plain_jobs.specs.Jobs.Weights.{weighed_text, wide_line, weights_text, AnswersWeights};
+ghost use Rattle.plain_jobs.specs.Jobs.Weights.{weights_by, table_by, weighed_text, wide_line, weights_text, AnswersWeights};
 ghost use Rattle.plain_jobs.specs.Truth.{IsTrueWeighing};
 
 use crate::comparison::push_comparison;
@@ -19,28 +21,30 @@ use colour_weights::laws::equivalent_diagrams_have_equal_weights;
 use colour_weights::weights;
 use decision_core::Status;
 use grid_core::Grid;
-use knot_text::{WeightText, read_weights};
+use number_text::{WeighedText, Weighing, read_weighed};
+use quandle_core::Quandle;
+use shadow_weights::laws::equivalent_diagrams_have_equal_shadow_weights;
+use shadow_weights::{ShadowCocycle, shadow_weights};
 use std::alloc::{AllocError, Global};
 use text_lines::push_paired;
 
 /// The answer to the bytes of two diagrams, a quandle and a cocycle.
 pub(crate) fn answer(alloc: Global, bytes: &[u8]) -> Result<PlainReply, AllocError>
-    ensures answer { IfOk result (λ reply. AnswersRead AnswersWeights (weight_of bytes.now) reply) }
+    ensures answer { IfOk result (λ reply. AnswersRead AnswersWeights (weighed_of bytes.now) reply) }
     ensures claim { IfOk result (λ reply. reply.status ≡ Status.Done → IsTrueWeighing bytes.now reply.text) }
 {
-    match read_weights(alloc, bytes) {
+    match read_weighed(alloc, bytes) {
         Ok(input) => answer_input(alloc, &input),
         Err(fault) => PlainReply::to_fault(alloc, fault),
     }
 }
 
 /// The answer to two diagrams, a quandle and a cocycle.
-fn answer_input(alloc: Global, input: &WeightText) -> Result<PlainReply, AllocError>
+fn answer_input(alloc: Global, input: &WeighedText) -> Result<PlainReply, AllocError>
     ensures answer { IfOk result (λ reply. AnswersWeights input.now reply) }
     ensures claim { IfOk result (λ reply. EndsDifferent reply.text → Equivalent (grid_of input.now.first) (grid_of input.now.second) → ⊥) }
 {
-    equivalent_diagrams_have_equal_weights();
-    let _modulus = input.cocycle.modulus();
+    laws_of(&input.cocycle);
     let first = input.first.grid();
     let second = input.second.grid();
     let text = weights_text(alloc, &first, &second, &input.cocycle)?;
@@ -52,15 +56,15 @@ fn weights_text(
     alloc: Global,
     first: &Grid,
     second: &Grid,
-    cocycle: &Cocycle,
+    cocycle: &Weighing,
 ) -> Result<Vec<u8>, AllocError>
     ensures text { IfOk result (λ v. v.items ≡ weights_text cocycle.now first.now second.now) }
-    ensures apart { IfOk result (λ v. EndsDifferent v.items → weights cocycle.now first.now ≢ weights cocycle.now second.now) }
+    ensures apart { IfOk result (λ v. EndsDifferent v.items → weights_by cocycle.now first.now ≢ weights_by cocycle.now second.now) }
 {
-    if !fits(first, cocycle.quandle()) {
+    if !fits(first, quandle_of(cocycle)) {
         return wide_line(alloc, 1, first);
     }
-    if !fits(second, cocycle.quandle()) {
+    if !fits(second, quandle_of(cocycle)) {
         return wide_line(alloc, 2, second);
     }
     weighed_text(alloc, first, second, cocycle)
@@ -82,12 +86,12 @@ fn weighed_text(
     alloc: Global,
     first: &Grid,
     second: &Grid,
-    cocycle: &Cocycle,
+    cocycle: &Weighing,
 ) -> Result<Vec<u8>, AllocError>
-    requires first { fits cocycle.now.quandle first.now ≡ true }
-    requires second { fits cocycle.now.quandle second.now ≡ true }
+    requires first { fits (table_by cocycle.now) first.now ≡ true }
+    requires second { fits (table_by cocycle.now) second.now ≡ true }
     ensures text { IfOk result (λ v. v.items ≡ weighed_text cocycle.now first.now second.now) }
-    ensures apart { IfOk result (λ v. EndsDifferent v.items → weights cocycle.now first.now ≢ weights cocycle.now second.now) }
+    ensures apart { IfOk result (λ v. EndsDifferent v.items → weights_by cocycle.now first.now ≢ weights_by cocycle.now second.now) }
 {
     let one = counts(alloc, first, cocycle)?;
     let two = counts(alloc, second, cocycle)?;
@@ -98,8 +102,19 @@ fn weighed_text(
     Ok(out)
 }
 
-/// For each weight, how many colourings of a grid have it, where the cocycle's quandle fits the grid.
-fn counts(alloc: Global, grid: &Grid, cocycle: &Cocycle) -> Result<Vec<u32>, AllocError>
+/// For each weight, how many colourings of a grid have it, or pairs of one and an outer colour, where the cocycle's quandle fits the grid.
+fn counts(alloc: Global, grid: &Grid, cocycle: &Weighing) -> Result<Vec<u32>, AllocError>
+    requires { fits (table_by cocycle.now) grid.now ≡ true }
+    ensures { IfOk result (λ v. v.items ≡ weights_by cocycle.now grid.now) }
+{
+    match cocycle {
+        Weighing::Strands(cocycle) => strand_counts(alloc, grid, cocycle),
+        Weighing::Regions(shadow) => region_counts(alloc, grid, &shadow.cocycle),
+    }
+}
+
+/// The same by a 2-cocycle.
+fn strand_counts(alloc: Global, grid: &Grid, cocycle: &Cocycle) -> Result<Vec<u32>, AllocError>
     requires { fits cocycle.now.quandle grid.now ≡ true }
     ensures { IfOk result (λ v. v.items ≡ weights cocycle.now grid.now) }
 {
@@ -107,5 +122,47 @@ fn counts(alloc: Global, grid: &Grid, cocycle: &Cocycle) -> Result<Vec<u32>, All
         Ok(counts) => Ok(counts),
         Err(ListFault::OutOfMemory) => Err(AllocError),
         Err(ListFault::TooWide { .. }) => unreachable!(),
+    }
+}
+
+/// The same by a 3-cocycle.
+fn region_counts(
+    alloc: Global,
+    grid: &Grid,
+    cocycle: &ShadowCocycle,
+) -> Result<Vec<u32>, AllocError>
+    requires { fits cocycle.now.quandle grid.now ≡ true }
+    ensures { IfOk result (λ v. v.items ≡ shadow_weights cocycle.now grid.now) }
+{
+    match shadow_weights(alloc, grid, cocycle) {
+        Ok(counts) => Ok(counts),
+        Err(ListFault::OutOfMemory) => Err(AllocError),
+        Err(ListFault::TooWide { .. }) => unreachable!(),
+    }
+}
+
+/// The quandle that gives the colours.
+fn quandle_of(cocycle: &Weighing) -> &Quandle
+    ensures { result.now ≡ table_by cocycle.now }
+{
+    match cocycle {
+        Weighing::Strands(cocycle) => cocycle.quandle(),
+        Weighing::Regions(shadow) => shadow.cocycle.quandle(),
+    }
+}
+
+/// Diagrams with other weights by a cocycle are not equivalent. It does nothing.
+fn laws_of(cocycle: &Weighing)
+    ensures { (d e : Marks) → weights_by cocycle.now d ≢ weights_by cocycle.now e → Equivalent d e → ⊥ }
+{
+    match cocycle {
+        Weighing::Strands(cocycle) => {
+            equivalent_diagrams_have_equal_weights();
+            let _modulus = cocycle.modulus();
+        }
+        Weighing::Regions(shadow) => {
+            equivalent_diagrams_have_equal_shadow_weights();
+            let _modulus = shadow.cocycle.modulus();
+        }
     }
 }

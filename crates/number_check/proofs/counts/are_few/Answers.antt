@@ -7,7 +7,7 @@ use Rattle.number_check.proofs.counts.are_few.Goals as goal
 pub returns-clause-few : goal.returns-clause-few
 returns-clause-few c =
     let order : c.from.result ≡ c.args.quandle.now.order = c.from.ensures ∙ c.order.ensures.order in
-    capped c.from.result c.args.seeds c.saturating_pow.result MAX_CANDIDATES (omega (arith, order, c.order-order.ensures.quandle.least))
+    capped c.from.result c.args.choices c.saturating_pow.result MAX_CANDIDATES (omega (arith, order, c.order-order.ensures.quandle.least))
     (omega arith) (omega arith)
     (c.saturating_pow.ensures ∙ ap (λ (k : ℕ). min (c.from.result ^ k) (2 ^ 32 - 1)) c.min-count.ensures)
-    ∙ ap (λ (q : ℕ). nat_le (q ^ c.args.seeds) MAX_CANDIDATES) order
+    ∙ ap (λ (q : ℕ). nat_le (q ^ c.args.choices) MAX_CANDIDATES) order
