@@ -15,7 +15,7 @@ use Rattle.number_text.specs.declared.blocks.Block.{Block}
 use Rattle.seek.specs.declared.failure.Failure.{Failure}
 use Rattle.seek.specs.declared.failure.Failure.TheVariants as failure
 use Rattle.seek.specs.Failure.{failure_status}
-use Rattle.seek.specs.Exit.{Outside, IsUntouched, IsSoughtTo, EndsOn, EndsBy, EndsCall, IsWrittenTo, IsAnswered}
+use Rattle.seek.specs.Exit.{Outside, IsUntouched, IsSoughtTo, EndsOn, EndsBy, EndsRefused, EndsCall, IsWrittenTo, IsAnswered}
 use Rattle.seek.proofs.Found.{written_where_done}
 
 -- only Done has the number 0
@@ -69,14 +69,22 @@ answered told words old new s (inl asked) done = inr (
       | inr (inr (inr by)) ↦ cc
     ])
 
--- words that `clap` or the seeker refuses, or that ask for the help or the version
+-- words that `clap` or the seeker refuses
+refused : (words : List Text) (old new : Outside) (s : Status) (k : ErrorKind) → IsUntouched old new
+    → (k ≡ kind.OutOfMemory) ⊎ (IsShown k ⊎ AsksNothing words) → (IsShown k → ⊥) → (s ≡ status.Usage → k ≡ kind.OutOfMemory → ⊥)
+    → s ≡ status.Usage → EndsRefused words old new s
+refused words old new s k same (inl memory) other usage is = absurd (usage is memory)
+refused words old new s k same (inr (inl shown)) other usage is = absurd (other shown)
+refused words old new s k same (inr (inr none)) other usage is = record { status_is = inl is; nothing = λ at. none; untouched = same }
+
+-- the same, and words that ask for the help or the version
 pub words_refused : (told : Told) (words : List Text) (old new : Outside) (s : Status) (k : ErrorKind) → IsUntouched old new
-    → (IsShown k → AskForText words) → (k ≡ kind.OutOfMemory) ⊎ AsksNothing words
-    → (IsShown k × ((s ≡ status.Done) ⊎ (s ≡ status.WriteFault))) ⊎ ((s ≡ status.Usage) ⊎ (s ≡ status.OutOfMemory))
+    → (IsShown k → AskForText words) → (k ≡ kind.OutOfMemory) ⊎ (IsShown k ⊎ AsksNothing words)
+    → (IsShown k × ((s ≡ status.Done) ⊎ (s ≡ status.WriteFault))) ⊎ (((IsShown k → ⊥) × (s ≡ status.Usage)) ⊎ (s ≡ status.OutOfMemory))
     → (s ≡ status.Usage → k ≡ kind.OutOfMemory → ⊥) → EndsCall told words old new s
-words_refused told words old new s k same shown refused (inl (is, ends)) usage =
+words_refused told words old new s k same shown none (inl (is, ends)) usage =
     inr (inl record { asks = shown is; status_is = ends; untouched = same })
-words_refused told words old new s k same shown (inl memory) (inr ends) usage =
-    inr (inr record { status_is = ends; nothing = λ is. absurd (usage is memory); untouched = same })
-words_refused told words old new s k same shown (inr none) (inr ends) usage =
-    inr (inr record { status_is = ends; nothing = λ is. none; untouched = same })
+words_refused told words old new s k same shown none (inr (inl (other, ends))) usage =
+    inr (inr (refused words old new s k same none other usage ends))
+words_refused told words old new s k same shown none (inr (inr memory)) usage =
+    inr (inr record { status_is = inr memory; nothing = λ is. cc; untouched = same })

@@ -1,9 +1,11 @@
 -- What the status of a search says of what was written, or put at a path.
-use Rattle.std.proofs.Common.{◌≡◌, ◌≢◌, ◌⊎◌, ◌∙◌, inl, inr, ℕ, List, Option, Some, None, refl, sym, subst}
+use Rattle.std.proofs.Common.{◌≡◌, ◌≢◌, ◌⊎◌, ◌∙◌, inl, inr, ℕ, List, [], Option, Some, None, length, refl, sym, subst}
+use Rattle.std.proofs.lemmas.Bool.{cases_lt}
 use Rattle.std.specs.Borrow.{Bor}
 use Rattle.std.proofs.KnownBytes.{Keeps-refl}
 use Rattle.whole_files.specs.Places.{Standing, PutsAt}
 use Rattle.number_text.specs.declared.blocks.Block.{Block}
+use Rattle.decision_core.specs.declared.limits.TheConstants.{MAX_INPUT}
 use Rattle.decision_core.specs.declared.status.Status.{Status}
 use Rattle.decision_core.specs.declared.status.Status.TheVariants as status
 use Rattle.seek_core.specs.declared.ending.Ending.{Ending}
@@ -50,6 +52,18 @@ sought_in_memory bytes blocks before after e s ends unfailed is = record {
     long = ends.long;
     fault = λ fails. absurd (unfailed fails);
   };
+}
+
+-- a search that is done has written a text that decides an input within the limit
+pub decided : (bytes : List ℕ) (blocks : List Block) (before after : Held) (e : Ending) (text : List ℕ) → EndsSearch bytes blocks before after e
+    → e ≡ end.Done → before.bytes ≡ Some [] → after.bytes ≡ Some text → IsDecisionText bytes text
+decided bytes blocks before after e text ends done empty held = record {
+  within = elim (cases_lt MAX_INPUT (length bytes)) [
+    | inl more ↦ elim (ends.long more) [ inl is ↦ cc | inr is ↦ cc ]
+    | inr within ↦ within
+  ];
+  decides = subst (λ o. WritesDecision bytes o (Some text)) empty (subst (λ o. WritesDecision bytes before.bytes o) held
+      (subst (Ends bytes before.bytes after.bytes) done ends.ends));
 }
 
 -- memory may be wanting for any search

@@ -27,7 +27,7 @@ pub record Outside : Type 0 where
   pub output : Held
   pub files : Option Standing
 
--- nothing was given to a sink
+-- a sink holds what it held, as far as that is told, and counted no fault
 pub record IsKept (old new : Held) : Type 0 where
   pub bytes : Keeps old.bytes new.bytes
   pub faults : new.faults ≡ old.faults

@@ -1,5 +1,5 @@
 -- How a search ends whose verdict is written: to a sink, or to a file at a path.
-use Rattle.std.specs.Prelude.{◌≡◌, ◌≢◌, ◌⊎◌, ◌<◌, ℕ, List, [], Option, Some, None, length}
+use Rattle.std.specs.Prelude.{◌≡◌, ◌≢◌, ◌⊎◌, ◌<◌, ◌≤◌, ℕ, List, [], Option, Some, None, length}
 use Rattle.knot_ports.specs.Faults.{Rose}
 use Rattle.decision_core.specs.declared.limits.TheConstants.{MAX_INPUT}
 use Rattle.whole_files.specs.Places.{Standing, PutsAt}
@@ -34,9 +34,10 @@ pub record IsSoughtWith (bytes : List ℕ) (blocks : List Block) (before after :
   pub status_is : s ≡ ending_status ending
   pub ends : EndsSearch bytes blocks before after ending
 
--- a text that decides the input: a sink that held nothing holds it once it is written
-abbrev pub IsDecisionText : List ℕ → List ℕ → Type 0
-IsDecisionText bytes text = WritesDecision bytes (Some []) (Some text)
+-- a text that decides an input within the limit: a sink that held nothing holds it once it is written
+pub record IsDecisionText (bytes text : List ℕ) : Type 0 where
+  pub within : length bytes ≤ MAX_INPUT
+  pub decides : WritesDecision bytes (Some []) (Some text)
 
 -- a file with a text that decides the input was put at the path
 abbrev pub PutsDecision : List ℕ → Option Standing → Option Standing → List ℕ → Type 0

@@ -69,7 +69,7 @@ fn answer<R: Threads + Sync, F: Texts, P: Places, W: Write + Drop>(
 /// last two.
 fn answer_words(rt: &HostRuntime, error: &clap::Error) -> Status
     ensures told { (IsShown (kind_of error.now) × ((result ≡ status.Done) ⊎ (result ≡ status.WriteFault)))
-        ⊎ ((result ≡ status.Usage) ⊎ (result ≡ status.OutOfMemory)) }
+        ⊎ (((IsShown (kind_of error.now) → ⊥) × (result ≡ status.Usage)) ⊎ (result ≡ status.OutOfMemory)) }
     ensures usage { result ≡ status.Usage → kind_of error.now ≢ kind.OutOfMemory }
 {
     let printed = error.print(rt);

@@ -2,3 +2,5 @@ mod WorkedWords
 mod Shown
 mod Named
 mod Numbers
+mod Settled
+mod Flags

@@ -1,6 +1,6 @@
 -- What an error says of the words.
-use Rattle.std.proofs.Common.{◌≡◌, ◌∙◌, ◌⊎◌, inl, inr, sym, subst}
-use Rattle.std.specs.Prelude.{List, Result, Ok, Err, IfErr, OnOk, [], ◌∷◌}
+use Rattle.std.proofs.Common.{◌≡◌, ◌∙◌, ◌⊎◌, inl, inr, refl, sym, subst}
+use Rattle.std.specs.Prelude.{List, Result, Ok, Err, IfErr, OnOk, []}
 use Rattle.clap.specs.Kinds.{Kinds, IsAmong, FailsBy}
 use Rattle.clap.specs.Simple.{matches_of}
 use Rattle.clap.specs.Values.{kind_of}
@@ -8,7 +8,7 @@ use Rattle.clap.specs.Walk.{Row, Text}
 use Rattle.clap.specs.declared.error.Error.{Error}
 use Rattle.clap.specs.declared.error.kind.ErrorKind.{ErrorKind}
 use Rattle.clap.specs.declared.error.kind.ErrorKind.TheVariants as kind
-use Rattle.seek_words.specs.Words.{seek_app, IsShown, AsksNothingBy, AsksNothing}
+use Rattle.seek_words.specs.Words.{seek_app, AreTaken, IsShown, AsksNothingBy, AsksNothing}
 
 abbrev IsOfMemory : ErrorKind → Type 0
 IsOfMemory kind.OutOfMemory = Unit {0}
@@ -16,6 +16,9 @@ IsOfMemory k = ⊥
 
 abbrev pub HasShown : Kinds → Type 0
 HasShown kinds = IsAmong kind.DisplayHelp kinds ⊎ IsAmong kind.DisplayVersion kinds
+
+abbrev pub HasOther : Kinds → Type 0
+HasOther kinds = (k : ErrorKind) × (IsAmong k kinds × (IsShown k → ⊥))
 
 of_kind : (k : ErrorKind) (kinds : Kinds) → (k ≡ kind.OutOfMemory) ⊎ IsAmong k kinds → IsShown k → HasShown kinds
 of_kind k kinds (inl none) (inl help) = absurd (subst IsOfMemory (sym none ∙ help) tt)
@@ -33,20 +36,44 @@ pub taken_by : {T : Type 0} (r : Result T Error) (kinds : Kinds) → FailsBy kin
 taken_by (Ok m) kinds h = h
 taken_by (Err e) kinds h = tt
 
-some_among : (k : ErrorKind) (kinds : Kinds) → IsAmong k kinds → kinds ≡ [] → ⊥
-some_among k [] among none = among
-some_among k (x ∷ xs) among none = cc
+-- the help and the version are shown, and no other
+is_shown : (k : ErrorKind) → IsShown k ⊎ (IsShown k → ⊥)
+is_shown kind.DisplayHelp = inl (inl refl)
+is_shown kind.DisplayVersion = inl (inr refl)
+is_shown kind.InvalidValue = inr (λ is. elim is [ inl h ↦ cc | inr h ↦ cc ])
+is_shown kind.UnknownArgument = inr (λ is. elim is [ inl h ↦ cc | inr h ↦ cc ])
+is_shown kind.InvalidSubcommand = inr (λ is. elim is [ inl h ↦ cc | inr h ↦ cc ])
+is_shown kind.NoEquals = inr (λ is. elim is [ inl h ↦ cc | inr h ↦ cc ])
+is_shown kind.ValueValidation = inr (λ is. elim is [ inl h ↦ cc | inr h ↦ cc ])
+is_shown kind.TooManyValues = inr (λ is. elim is [ inl h ↦ cc | inr h ↦ cc ])
+is_shown kind.TooFewValues = inr (λ is. elim is [ inl h ↦ cc | inr h ↦ cc ])
+is_shown kind.WrongNumberOfValues = inr (λ is. elim is [ inl h ↦ cc | inr h ↦ cc ])
+is_shown kind.ArgumentConflict = inr (λ is. elim is [ inl h ↦ cc | inr h ↦ cc ])
+is_shown kind.MissingRequiredArgument = inr (λ is. elim is [ inl h ↦ cc | inr h ↦ cc ])
+is_shown kind.MissingSubcommand = inr (λ is. elim is [ inl h ↦ cc | inr h ↦ cc ])
+is_shown kind.DisplayHelpOnMissingArgumentOrSubcommand = inr (λ is. elim is [ inl h ↦ cc | inr h ↦ cc ])
+is_shown kind.Io = inr (λ is. elim is [ inl h ↦ cc | inr h ↦ cc ])
+is_shown kind.Format = inr (λ is. elim is [ inl h ↦ cc | inr h ↦ cc ])
+is_shown kind.OutOfMemory = inr (λ is. elim is [ inl h ↦ cc | inr h ↦ cc ])
 
--- an error comes for want of memory, or where the words fail
+-- a kind that may come is shown, or is a fault that is not
+refusal : (k : ErrorKind) (kinds : Kinds) → IsAmong k kinds → IsShown k ⊎ HasOther kinds
+refusal k kinds among = elim (is_shown k) [
+  | inl shown ↦ inl shown
+  | inr other ↦ inr (k, (among, other))
+]
+
+-- an error comes for want of memory, or is shown, or the words have a fault that is not
 pub refused_by : {T : Type 0} (r : Result T Error) (kinds : Kinds) → FailsBy kinds r
-    → IfErr r (λ e. (kind_of e ≡ kind.OutOfMemory) ⊎ (kinds ≡ [] → ⊥))
+    → IfErr r (λ e. (kind_of e ≡ kind.OutOfMemory) ⊎ (IsShown (kind_of e) ⊎ HasOther kinds))
 refused_by (Ok m) kinds h = tt
 refused_by (Err e) kinds (inl none) = inl none
-refused_by (Err e) kinds (inr among) = inr (some_among (kind_of e) kinds among)
+refused_by (Err e) kinds (inr among) = inr (refusal (kind_of e) kinds among)
 
 -- what is taken is refused for what its matches ask
-pub refused_for : {T : Type 0} (r : Result T Error) (words : List Text) (rows : List Row) → rows ≡ matches_of seek_app words
-    → IfErr r (λ e. (kind_of e ≡ kind.OutOfMemory) ⊎ AsksNothingBy rows) → IfErr r (λ e. (kind_of e ≡ kind.OutOfMemory) ⊎ AsksNothing words)
-refused_for (Ok asked) words rows is refused = tt
-refused_for (Err e) words rows is (inl none) = inl none
-refused_for (Err e) words rows is (inr nothing) = inr (λ taken. subst AsksNothingBy is nothing)
+pub refused_for : {T : Type 0} (r : Result T Error) (words : List Text) (rows : List Row) → AreTaken words → rows ≡ matches_of seek_app words
+    → IfErr r (λ e. (kind_of e ≡ kind.OutOfMemory) ⊎ AsksNothingBy rows)
+    → IfErr r (λ e. (kind_of e ≡ kind.OutOfMemory) ⊎ (IsShown (kind_of e) ⊎ AsksNothing words))
+refused_for (Ok asked) words rows taken is refused = tt
+refused_for (Err e) words rows taken is (inl none) = inl none
+refused_for (Err e) words rows taken is (inr nothing) = inr (inr (inr (taken, subst AsksNothingBy is nothing)))

@@ -1,12 +1,13 @@
 -- Worked command lines, by computing.
-use Rattle.std.proofs.Common.{◌≡◌, refl, [], ◌∷◌, Some, None, codes}
+use Rattle.std.proofs.Common.{◌≡◌, ◌∙◌, inl, inr, refl, sym, subst, [], ◌∷◌, Some, None, codes}
 use Rattle.std.specs.Prelude.{option_map, List}
 use Rattle.clap.specs.Faults.{fault_of}
+use Rattle.clap.specs.Kinds.{Kinds, IsAmong}
 use Rattle.clap.specs.Simple.{matches_of}
 use Rattle.clap.specs.Walk.{Text, first_of, one_of, all_of}
 use Rattle.clap.specs.declared.error.kind.ErrorKind.TheVariants as kind
 use Rattle.clap.proofs.OnLiterals.{clap_on_literals}
-use Rattle.seek_words.specs.Words.{seek_app, number_of}
+use Rattle.seek_words.specs.Words.{seek_app, number_of, AsksNothing}
 
 abbrev line : List Text
 line = codes "seek" ∷ codes "--seed" ∷ codes "7" ∷ codes "a" ∷ codes "--quiet" ∷ codes "--steps=90" ∷ codes "--quandles" ∷ codes "q" ∷ codes "b" ∷ []
@@ -71,3 +72,14 @@ help = refl
 version : fault_of seek_app (codes "seek" ∷ codes "a" ∷ codes "--version" ∷ []) ≡ kind.DisplayVersion ∷ []
 unfolding clap_on_literals
 version = refl
+
+-- a request for help isn't refused
+help_is_shown : AsksNothing (codes "seek" ∷ codes "--help" ∷ []) → ⊥
+help_is_shown (inl (k, (among, other))) =
+    other (elim (subst (λ (kinds : Kinds). IsAmong k kinds) help among) [
+      | inl is ↦ inl is
+      | inr none ↦ absurd none
+    ])
+help_is_shown (inr (taken, nothing)) =
+    let bad : kind.DisplayHelp ∷ [] ≡ [] = sym help ∙ taken in
+    cc

@@ -1,5 +1,5 @@
 -- What the words of a command line ask of the seeker, by `clap`'s meaning of one simple command: two lists, the files among them, and options.
-use Rattle.std.specs.Prelude.{◌≡◌, ◌≢◌, ◌⊎◌, ◌++◌, ◌+◌, ◌<◌, ◌^◌, ◌-◌, ℕ, Bool, true, false, List, [], ◌∷◌, Option, Some, if◌then◌else◌}
+use Rattle.std.specs.Prelude.{◌≡◌, ◌≢◌, ◌⊎◌, ◌++◌, ◌+◌, ◌<◌, ◌≤◌, ◌^◌, ◌-◌, ℕ, Bool, true, false, List, [], ◌∷◌, Option, Some, if◌then◌else◌}
 use Rattle.std.specs.Prelude.{codes, pos, map, count_by, option_map, unwrap_or, string_bytes, String}
 use Rattle.std.specs.Str.{bytes_eq}
 use Rattle.std.specs.Str.Parse.{IsNumeral, digits_value, without_leading_plus}
@@ -123,13 +123,13 @@ AreNone all = (diagrams : Diagrams) → AreNamedBy all diagrams → ⊥
 -- what is told on standard error, by what the words give of `--quiet` and `--progress`, of which the first decides
 pub record IsTalkBy (quiet progress : Option Text) (talk : Talk) : Type 0 where
   pub silent : quiet ≡ Some (codes "true") → talk ≡ Quiet
-  pub told : quiet ≡ Some (codes "false") → progress ≡ Some (codes "true") → talk ≡ Progress
-  pub plain : quiet ≡ Some (codes "false") → progress ≡ Some (codes "false") → talk ≡ Terminal
+  pub told : quiet ≢ Some (codes "true") → progress ≡ Some (codes "true") → talk ≡ Progress
+  pub plain : quiet ≢ Some (codes "true") → progress ≢ Some (codes "true") → talk ≡ Terminal
 
 -- which files of quandles with cocycles are asked for, by what the words give of `--no-weights` and `--weights`, of which the first decides
 pub record AreWeightsBy (none : Option Text) (given files : List Text) : Type 0 where
   pub dropped : none ≡ Some (codes "true") → files ≡ []
-  pub kept : none ≡ Some (codes "false") → files ≡ given
+  pub kept : none ≢ Some (codes "true") → files ≡ given
 
 -- the text that is given spells this number below 2 ^ k, in decimal digits, with a plus before them or without
 pub record IsNumberBy (k : ℕ) (given : Option Text) (n : ℕ) : Type 0 where
@@ -155,25 +155,6 @@ pub record AsksBy (rows : List Row) (asked : Asked) : Type 0 where
   pub numbers : AreNumbersBy rows asked.seed asked.steps asked.room asked.workers
   pub talk : IsTalkBy (one_of (codes "quiet") rows) (one_of (codes "progress") rows) asked.talk
 
--- `clap` takes the words: they have no fault
-abbrev pub AreTaken : List Text → Type 0
-AreTaken words = fault_of seek_app words ≡ []
-
--- the words are taken, and ask for this
-pub record Asks (words : List Text) (asked : Asked) : Type 0 where
-  pub taken : AreTaken words
-  pub by : AsksBy (matches_of seek_app words) asked
-
--- ---- what words are answered with by `clap`
-
--- an error that is the help or the version
-abbrev pub IsShown : ErrorKind → Type 0
-IsShown k = (k ≡ DisplayHelp) ⊎ (k ≡ DisplayVersion)
-
--- the words ask for the help or the version
-abbrev pub AskForText : List Text → Type 0
-AskForText words = IsAmong DisplayHelp (fault_of seek_app words) ⊎ IsAmong DisplayVersion (fault_of seek_app words)
-
 -- ---- standard input
 
 -- the path of standard input
@@ -195,6 +176,32 @@ abbrev pub inputs_read : Asked → ℕ
 inputs_read asked = diagram_inputs asked.diagrams
     + (count_by (λ s. is_input s.now) asked.quandles.items + count_by (λ s. is_input s.now) asked.weights.items)
 
+-- ---- the words
+
+-- `clap` takes the words: they have no fault
+abbrev pub AreTaken : List Text → Type 0
+AreTaken words = fault_of seek_app words ≡ []
+
+-- the words are taken, and ask for this, by which standard input is read once at most
+pub record Asks (words : List Text) (asked : Asked) : Type 0 where
+  pub taken : AreTaken words
+  pub by : AsksBy (matches_of seek_app words) asked
+  pub once : inputs_read asked ≤ 1
+
+-- ---- what words are answered with by `clap`
+
+-- an error that is the help or the version
+abbrev pub IsShown : ErrorKind → Type 0
+IsShown k = (k ≡ DisplayHelp) ⊎ (k ≡ DisplayVersion)
+
+-- `clap` refuses the words: they have a fault that is neither the help nor the version
+abbrev pub AreRefused : List Text → Type 0
+AreRefused words = (k : ErrorKind) × (IsAmong k (fault_of seek_app words) × (IsShown k → ⊥))
+
+-- the words ask for the help or the version
+abbrev pub AskForText : List Text → Type 0
+AskForText words = IsAmong DisplayHelp (fault_of seek_app words) ⊎ IsAmong DisplayVersion (fault_of seek_app words)
+
 -- ---- what words ask for nothing
 
 -- by what these matches ask for standard input is read more than once
@@ -209,6 +216,6 @@ AsksNothingBy rows =
     AreNone (all_named rows)
     ⊎ (((seed steps room workers : ℕ) → AreNumbersBy rows seed steps room workers → ⊥) ⊎ ReadsTwice rows)
 
--- `clap` refuses the words, or what they ask for is nothing that can be done
+-- `clap` refuses the words, or takes them, and what they ask for is nothing that can be done
 abbrev pub AsksNothing : List Text → Type 0
-AsksNothing words = AreTaken words → AsksNothingBy (matches_of seek_app words)
+AsksNothing words = AreRefused words ⊎ (AreTaken words × AsksNothingBy (matches_of seek_app words))

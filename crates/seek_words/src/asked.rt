@@ -1,5 +1,5 @@
 //! What the words ask for.
-ghost use Rattle.std.specs.Prelude.{◌≡◌, ◌≤◌, ◌⊎◌, [], map, unwrap_or, IfOk, IfErr, OnOk, codes};
+ghost use Rattle.std.specs.Prelude.{◌≡◌, ◌≢◌, ◌≤◌, ◌⊎◌, [], map, unwrap_or, Some, true, false, IfOk, IfErr, OnOk, codes};
 ghost use Rattle.clap.specs.Matches.{found_of, one_text};
 ghost use Rattle.clap.specs.Simple.{matches_of};
 ghost use Rattle.clap.specs.Values.{kind_of};
@@ -7,7 +7,7 @@ ghost use Rattle.clap.specs.Walk.{rows_of, all_of};
 ghost use Rattle.clap.specs.declared.error.kind.ErrorKind.TheVariants as kind;
 ghost use Rattle.seek_words.specs.Matched.{AreNumbersOf, FindsNumber, FindsNumbers};
 ghost use Rattle.seek_words.specs.Words.{texts_of, seek_app, all_named, AreNamedBy, AreWeightsBy, IsTalkBy, AreTaken, AsksBy, Asks, IsShown, AskForText};
-ghost use Rattle.seek_words.specs.Words.{AsksNothingBy, AsksNothing, inputs_read};
+ghost use Rattle.seek_words.specs.Words.{AreRefused, AsksNothingBy, AsksNothing, inputs_read};
 
 use crate::command::{
     NO_WEIGHTS, OUT, PROGRESS, QUANDLES, QUIET, ROOM, SEED, STEPS, WEIGHTS, WORKERS, command,
@@ -68,13 +68,12 @@ struct Numbers {
 }
 
 /// What the words ask for, by which standard input is read once at most. Else the text for whoever wrote them: what is wrong with them,
-/// the help, or the version. An error comes only where the words ask for nothing that can be done, or memory is wanting. `words[0]` is
-/// the program's name.
+/// the help, or the version. An error comes only where the words ask for one of these two, or for nothing that can be done, or memory is
+/// wanting. `words[0]` is the program's name.
 pub fn read_words<'a>(alloc: Global, words: &'a [String]) -> Result<Asked<'a>, Error>
     ensures asks { IfOk result (λ asked. Asks (texts_of words.entry.now) asked) }
-    ensures once { IfOk result (λ asked. inputs_read asked ≤ 1) }
     ensures shown { IfErr result (λ e. IsShown (kind_of e) → AskForText (texts_of words.entry.now)) }
-    ensures refused { IfErr result (λ e. (kind_of e ≡ kind.OutOfMemory) ⊎ AsksNothing (texts_of words.entry.now)) }
+    ensures refused { IfErr result (λ e. (kind_of e ≡ kind.OutOfMemory) ⊎ (IsShown (kind_of e) ⊎ AsksNothing (texts_of words.entry.now))) }
 {
     let matches = parse(alloc, words)?;
     asked_by(alloc, &matches)
@@ -85,7 +84,7 @@ fn parse<'a>(alloc: Global, words: &'a [String]) -> Result<ArgMatches<'a>, Error
     ensures taken { OnOk result (AreTaken (texts_of words.entry.now)) }
     ensures rows { IfOk result (λ m. rows_of (found_of m) ≡ matches_of seek_app (texts_of words.entry.now)) }
     ensures shown { IfErr result (λ e. IsShown (kind_of e) → AskForText (texts_of words.entry.now)) }
-    ensures refused { IfErr result (λ e. (kind_of e ≡ kind.OutOfMemory) ⊎ (AreTaken (texts_of words.entry.now) → ⊥)) }
+    ensures refused { IfErr result (λ e. (kind_of e ≡ kind.OutOfMemory) ⊎ (IsShown (kind_of e) ⊎ AreRefused (texts_of words.entry.now))) }
 {
     command(alloc)?.try_get_matches_from(words)
 }
@@ -142,7 +141,7 @@ fn weights_of<'a>(alloc: Global, matches: &ArgMatches<'a>) -> Result<Vec<&'a str
     ensures { IfOk result (λ v. AreWeightsBy (one_text (found_of matches.now) (codes "no-weights"))
         (unwrap_or (all_of (codes "weights") (rows_of (found_of matches.now))) []) (map (λ s. s.now) v.items)) }
 {
-    if matches.get_flag(NO_WEIGHTS) {
+    if has_flag(matches, NO_WEIGHTS) {
         return Ok(Vec::new(alloc));
     }
     values_of(alloc, matches, WEIGHTS)
@@ -173,7 +172,7 @@ fn refusal(alloc: Global, text: &str) -> Result<Error, AllocError>
     command.error(ErrorKind::WrongNumberOfValues, text)
 }
 
-/// The numbers of the options; None where one can't be read, which `clap` refuses before.
+/// The numbers of the options; None where one can't be read.
 fn numbers_of(matches: &ArgMatches) -> Option<Numbers>
     ensures { FindsNumbers matches.now result }
 {
@@ -203,11 +202,19 @@ fn number(matches: &ArgMatches, name: &str) -> Option<u32>
 fn talk_of(matches: &ArgMatches) -> Talk
     ensures { IsTalkBy (one_text (found_of matches.now) (codes "quiet")) (one_text (found_of matches.now) (codes "progress")) result }
 {
-    if matches.get_flag(QUIET) {
+    if has_flag(matches, QUIET) {
         Talk::Quiet
-    } else if matches.get_flag(PROGRESS) {
+    } else if has_flag(matches, PROGRESS) {
         Talk::Progress
     } else {
         Talk::Terminal
     }
+}
+
+/// Whether a flag is given: its text is `true`.
+fn has_flag(matches: &ArgMatches, name: &str) -> bool
+    ensures yes { one_text (found_of matches.now) name.now ≡ Some (codes "true") → result ≡ true }
+    ensures none { one_text (found_of matches.now) name.now ≢ Some (codes "true") → result ≡ false }
+{
+    matches.get_one(name).unwrap_or(false)
 }

@@ -5,6 +5,7 @@ mod asked;
 mod command;
 mod given;
 mod inputs;
+pub mod laws;
 mod limits;
 
 pub use asked::{Asked, Talk, read_words};

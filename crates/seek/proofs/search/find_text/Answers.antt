@@ -1,6 +1,11 @@
-use Rattle.std.proofs.Common.{◌∙◌, sym}
-use Rattle.seek.proofs.Found.{only_done, sought_in_memory, wanting}
+use Rattle.std.proofs.Common.{◌∙◌, Some, refl, sym, ap}
+use Rattle.whole_files.specs.Place.{HeldText}
+use Rattle.seek.proofs.Found.{decided, only_done, sought_in_memory, wanting}
 use Rattle.seek.proofs.search.find_text.Goals as goal
+
+pub returns-in-Done-clause-found : goal.returns-in-Done-clause-found
+returns-in-Done-clause-found g c =
+    decided _ _ _ _ c.run_told.result _ c.run_told.ensures c.in-Done.is (ap (λ (t : HeldText). Some t.bytes) c.new-text.ensures) refl
 
 pub returns-in-WriteFault-clause-sought : goal.returns-in-WriteFault-clause-sought
 returns-in-WriteFault-clause-sought g c = wanting _ _ _ c.tell.ensures.is
