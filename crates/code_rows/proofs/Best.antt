@@ -23,7 +23,8 @@ use Rattle.code_rows.specs.declared.row.Row.{Row}
 use Rattle.code_rows.specs.declared.signs.Tie.{Tie}
 use Rattle.code_rows.specs.Rows.{all_names, name_of, numbered, row_of, IsCodeOf}
 use Rattle.code_rows.specs.RowsFault.{ends_of, unpaired}
-use Rattle.code_rows.specs.Signs.{turned_by, value_of, tie_of, chosen_values, with_signs, AreJoined, AreBest, IsBest, IsClash, IsJoining, JoinsEnds, Reached}
+use Rattle.code_rows.specs.Refused.{IsClash}
+use Rattle.code_rows.specs.Signs.{turned_by, value_of, tie_of, chosen_values, with_signs, AreJoined, AreBest, IsBest, IsJoining, JoinsEnds, Reached}
 use Rattle.code_rows.proofs.InRange.{names_long, only_two_faults}
 use Rattle.code_rows.proofs.Signed.{crossings_back}
 use Rattle.code_rows.proofs.Joining.{joined_is, joined_twice}

@@ -12,9 +12,10 @@ use Rattle.code_faults.proofs.Ends.{four_ends, all_ends, no_end, before_is, behi
 use Rattle.code_rows.specs.declared.row.Row.{Row}
 use Rattle.code_rows.specs.Rows.{all_names}
 use Rattle.code_rows.specs.RowsFault.{ends_of}
-use Rattle.code_rows.specs.Signs.{turned_by, leaves, with_signs}
+use Rattle.code_rows.specs.Signs.{turned_by, with_signs}
 use Rattle.code_rows.proofs.InRange.{names_long}
 use Rattle.code_rows.proofs.Signed.{signs_back, signed_long}
+use Rattle.code_rows.proofs.Tied.{leaves}
 
 -- one place and two that pass are counted
 one_counted : {A : Type 0} (p : A → Bool) (xs : List A) (i : ℕ) (d : A) → i < length xs → cond (p (get_or xs i d)) 1 0 ≤ count_by p xs

@@ -3,7 +3,7 @@ use Rattle.std.proofs.Common.{◌≡◌, ◌<◌, ◌∷◌, ◌++◌, [], ℕ, 
 use Rattle.crossing_codes.specs.declared.crossing.Crossing.{Crossing}
 use Rattle.code_rows.specs.declared.row.Row.{Row}
 use Rattle.code_rows.specs.Rows.{row_of}
-use Rattle.code_rows.specs.Signs.{signed, with_signs}
+use Rattle.code_rows.specs.Signs.{with_sign, with_signs}
 
 pub rows_back : (rows : List Row) (signs : List Bool) → map row_of (with_signs rows signs) ≡ rows
 rows_back [] signs = refl
@@ -27,9 +27,9 @@ signed_long (r ∷ rows) (sign ∷ signs) = let rest = signed_long rows signs in
 
 -- one row more
 pub signed_more : (rows : List Row) (signs : List Bool) (k : ℕ) (d : Row) → k < length rows
-    → with_signs (take (suc k) rows) signs ≡ with_signs (take k rows) signs ++ signed (get_or rows k d) (get_or signs k false) ∷ []
+    → with_signs (take (suc k) rows) signs ≡ with_signs (take k rows) signs ++ with_sign (get_or rows k d) (get_or signs k false) ∷ []
 signed_more [] signs k d lt = absurd (omega (arith, lt))
 signed_more (r ∷ rows) [] zero d lt = refl
 signed_more (r ∷ rows) (sign ∷ signs) zero d lt = refl
-signed_more (r ∷ rows) [] (suc k) d lt = ap (λ (xs : List Crossing). signed r false ∷ xs) (signed_more rows [] k d (omega (arith, lt)))
-signed_more (r ∷ rows) (sign ∷ signs) (suc k) d lt = ap (λ (xs : List Crossing). signed r sign ∷ xs) (signed_more rows signs k d (omega (arith, lt)))
+signed_more (r ∷ rows) [] (suc k) d lt = ap (λ (xs : List Crossing). with_sign r false ∷ xs) (signed_more rows [] k d (omega (arith, lt)))
+signed_more (r ∷ rows) (sign ∷ signs) (suc k) d lt = ap (λ (xs : List Crossing). with_sign r sign ∷ xs) (signed_more rows signs k d (omega (arith, lt)))

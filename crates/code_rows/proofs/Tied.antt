@@ -1,11 +1,11 @@
 -- Values of ties before and after two of them are made to differ.
 use Rattle.std.proofs.Common.{◌≡◌, ◌<◌, ◌/◌, ◌%◌, ◌==◌, ◌∙◌, ℕ, Bool, true, false, not, List, map, length, get_or, refl, sym, ap, ap₂}
-use Rattle.std.specs.Prelude.{if◌then◌else◌}
+use Rattle.std.specs.Prelude.{slice_index_or, if◌then◌else◌}
 use Rattle.std.proofs.lemmas.Bool.{eqb-true, eqb-false, eq-eqb, ne_eqb}
 use Rattle.std.proofs.lemmas.List.{length-map, get_or-map}
 use Rattle.std.proofs.lemmas.Simd.{map-map}
 use Rattle.code_rows.specs.declared.signs.Tie.{Tie}
-use Rattle.code_rows.specs.Signs.{turned_by, value_of, no_tie, leaves, tie_of, replaced, tied}
+use Rattle.code_rows.specs.Signs.{turned_by, value_of, no_tie, tie_of, replaced, tied}
 
 -- of truth values
 not_turned : (b c : Bool) → turned_by (not b) c ≡ not (turned_by b c)
@@ -89,6 +89,14 @@ one_root false true true = refl
 one_root false true false = refl
 one_root false false true = refl
 one_root false false false = refl
+
+-- whether a strand leaves its crossing at an end, counted four to a crossing: of the strand under the third, of that over the second or the fourth
+abbrev pub leaves : List Bool → ℕ → Bool
+leaves signs end =
+    if end % 4 == 0 then false
+    else if end % 4 == 1 then slice_index_or signs (end / 4) false
+    else if end % 4 == 2 then true
+    else not (slice_index_or signs (end / 4) false)
 
 -- the value of the tie at an end tells whether the strand leaves there
 pub leaves_by : (values : ℕ → Bool) (ties : List Tie) → values (length ties) ≡ true → (d : ℕ) → d / 4 < length ties

@@ -1,3 +1,4 @@
 pub mod Rows
 pub mod RowsFault
+pub mod Refused
 pub mod Signs

@@ -1,46 +1,26 @@
--- Signs of the crossings of rows, and how far they make edges lead from one passage to one.
+-- Signs of the crossings of rows, and how far they make edges lead from one passage to one; only private clauses and proofs cite this file.
 use Rattle.std.specs.Prelude.{◌≡◌, ◌≢◌, ◌<◌, ◌≤◌, ◌⊎◌, ℕ, ◌+◌, ◌*◌, ◌/◌, ◌%◌, ◌==◌, ◌&&◌, ◌||◌, Bool, true, false, not, nat_lt}
-use Rattle.std.specs.Prelude.{List, [], ◌∷◌, map, length, slice_index, slice_index_or, Some, if◌then◌else◌}
+use Rattle.std.specs.Prelude.{List, [], ◌∷◌, map, length, slice_index, slice_index_or, if◌then◌else◌}
 use Rattle.crossing_codes.specs.declared.crossing.Code.{Code}
 use Rattle.crossing_codes.specs.declared.crossing.Crossing.{Crossing}
 use Rattle.code_faults.specs.Joined.{is_joined}
-use Rattle.code_faults.specs.Fault.{first_fault}
-use Rattle.code_faults.specs.Map.{is_plane}
-use Rattle.code_faults.specs.declared.fault.CodeFault.TheVariants.{Edge, Plane}
 use Rattle.code_rows.specs.declared.row.Row.{Row}
 use Rattle.code_rows.specs.declared.signs.Tie.{Tie}
-use Rattle.code_rows.specs.Rows.{all_names, name_of, IsCodeOf}
+use Rattle.code_rows.specs.Rows.{IsCodeOf}
 use Rattle.code_rows.specs.RowsFault.{ends_of}
-
--- no directions fit the edges of the rows: each code of them has an edge that doesn't lead from one passage to one, and the name is that of the
--- least edge up to which none fit, as it is at fault in one of the codes and no later one is the first at fault in any
-pub record IsClash (given : List Row) (free name : ℕ) : Type 0 where
-  pub edge : ℕ
-  pub is : name ≡ name_of (all_names given) edge
-  pub code : Code
-  pub of : IsCodeOf given free code
-  pub fault : first_fault code ≡ Some (Edge edge)
-  pub all : (c : Code) → IsCodeOf given free c → (e : ℕ) × (e ≤ edge) × (first_fault c ≡ Some (Edge e))
-
--- directions fit, since one of the codes of the rows has no edge at fault, but each of the codes is that of a map on another surface
-pub record IsUnplane (given : List Row) (free : ℕ) : Type 0 where
-  pub code : Code
-  pub of : IsCodeOf given free code
-  pub fault : first_fault code ≡ Some Plane
-  pub all : (c : Code) → IsCodeOf given free c → is_plane c.crossings ≡ false
 
 -- the first so many edges lead from one passage to one each
 abbrev pub AreJoined : List Crossing → ℕ → Type 0
 AreJoined xs count = (e : ℕ) → e < count → is_joined xs (e + 1) ≡ true
 
 -- a row with a sign, and rows with signs, false where they are too few
-abbrev pub signed : Row → Bool → Crossing
-signed r positive = record { first = r.first; second = r.second; third = r.third; fourth = r.fourth; positive = positive }
+abbrev pub with_sign : Row → Bool → Crossing
+with_sign r positive = record { first = r.first; second = r.second; third = r.third; fourth = r.fourth; positive = positive }
 
 abbrev pub with_signs : List Row → List Bool → List Crossing
 with_signs [] signs = []
-with_signs (r ∷ rows) [] = signed r false ∷ with_signs rows []
-with_signs (r ∷ rows) (sign ∷ signs) = signed r sign ∷ with_signs rows signs
+with_signs (r ∷ rows) [] = with_sign r false ∷ with_signs rows []
+with_signs (r ∷ rows) (sign ∷ signs) = with_sign r sign ∷ with_signs rows signs
 
 -- with these signs the first edges are joined, up to one with which no signs join them
 pub record AreBest (rows : List Row) (signs : List Bool) : Type 0 where
@@ -68,14 +48,6 @@ value_of values t = turned_by t.turned (values t.root)
 
 abbrev pub no_tie : Tie
 no_tie = record { root = 0; turned = false }
-
--- whether a strand leaves its crossing at an end, counted four to a crossing: of the strand under the third, of that over the second or the fourth
-abbrev pub leaves : List Bool → ℕ → Bool
-leaves signs end =
-    if end % 4 == 0 then false
-    else if end % 4 == 1 then slice_index_or signs (end / 4) false
-    else if end % 4 == 2 then true
-    else not (slice_index_or signs (end / 4) false)
 
 -- the tie at an end: the strand leaves there where its value is true; the root that is as many as the ties has the value true
 abbrev pub tie_of : List Tie → ℕ → Tie

@@ -4,7 +4,8 @@ ghost use Rattle.code_faults.specs.declared.fault.TheConstants.{MAX_CROSSINGS};
 ghost use Rattle.code_faults.specs.Fault.{first_fault};
 ghost use Rattle.code_rows.specs.Rows.{all_names, IsCodeOf};
 ghost use Rattle.code_rows.specs.RowsFault.{unpaired, as_unpaired};
-ghost use Rattle.code_rows.specs.Signs.{signed, with_signs, IsBest, IsClash, IsUnplane};
+ghost use Rattle.code_rows.specs.Refused.{IsClash, IsUnplane};
+ghost use Rattle.code_rows.specs.Signs.{with_sign, with_signs, IsBest};
 
 use crate::numbers::{name_of, names_of, numbered_rows};
 use crate::row::Row;
@@ -71,14 +72,14 @@ fn crossings_of(alloc: Global, rows: &[Row], signs: &[bool]) -> Result<Vec<Cross
 {
     let mut crossings = Vec::new(alloc);
     for k in 0..rows.len() {
-        crossings.push(signed(&rows[k], signs[k]))?;
+        crossings.push(with_sign(&rows[k], signs[k]))?;
     }
     Ok(crossings)
 }
 
 /// The crossing of a row with a sign.
-fn signed(row: &Row, positive: bool) -> Crossing
-    ensures { result ≡ signed row.now positive }
+fn with_sign(row: &Row, positive: bool) -> Crossing
+    ensures { result ≡ with_sign row.now positive }
 {
     Crossing {
         first: row.first,

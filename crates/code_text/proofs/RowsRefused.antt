@@ -4,7 +4,7 @@ use Rattle.crossing_codes.specs.declared.crossing.Code.{Code}
 use Rattle.code_rows.specs.declared.rows_fault.RowsFault.{RowsFault}
 use Rattle.code_rows.specs.declared.rows_fault.RowsFault.TheVariants as rows
 use Rattle.code_rows.specs.RowsFault.{unpaired, as_unpaired}
-use Rattle.code_rows.specs.Signs.{IsClash, IsUnplane}
+use Rattle.code_rows.specs.Refused.{IsClash, IsUnplane}
 use Rattle.code_text.specs.declared.whole.CodeText.{CodeText}
 use Rattle.code_text.specs.TextGrid.{IsRowsFault}
 

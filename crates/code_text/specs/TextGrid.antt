@@ -8,7 +8,7 @@ use Rattle.code_faults.specs.Fault.{first_fault}
 use Rattle.code_rows.specs.declared.rows_fault.RowsFault.{RowsFault}
 use Rattle.code_rows.specs.Rows.{IsCodeOf}
 use Rattle.code_rows.specs.RowsFault.{unpaired}
-use Rattle.code_rows.specs.Signs.{IsClash, IsUnplane}
+use Rattle.code_rows.specs.Refused.{IsClash, IsUnplane}
 use Rattle.code_grids.specs.Renaming.{IsRenamed}
 use Rattle.code_text.specs.declared.whole.CodeText.{CodeText}
 use Rattle.code_text.specs.declared.refusal.TextRefusal.{TextRefusal}
@@ -42,7 +42,8 @@ pub record HasWrongLines (t : CodeText) : Type 0 where
   pub code : (c : Code) × IsCodeOf t.rows t.loops c × (first_fault c ≡ None)
   pub none : SaysNone t
 
--- a fault of the rows: of their names exactly the first; behind these `Direction` where no directions fit, and `Plane` where some do
+-- a fault of the rows: of their names exactly the first; behind these `Direction` where no directions fit, and `Plane` where
+-- some do and no code is plane
 abbrev pub IsRowsFault : CodeText → RowsFault → Type 0
 IsRowsFault t rows.Empty = unpaired t.rows t.loops ≡ Some rows.Empty
 IsRowsFault t (rows.Edge name) = unpaired t.rows t.loops ≡ Some (rows.Edge name)

@@ -12,6 +12,6 @@ loop-k-preserved c =
     let signs = c.args.signs.now in
     let k = c.loop-k.k in
     c.in_ok-push.ensures.items
-    ∙ (ap (λ (xs : List Crossing). xs ++ c.signed.result ∷ []) c.loop-k.invariant
-    ∙ (ap (λ (x : Crossing). with_signs (take k rows) signs ++ x ∷ []) c.signed.ensures
+    ∙ (ap (λ (xs : List Crossing). xs ++ c.with_sign.result ∷ []) c.loop-k.invariant
+    ∙ (ap (λ (x : Crossing). with_signs (take k rows) signs ++ x ∷ []) c.with_sign.ensures
     ∙ sym (ap (λ (n : ℕ). with_signs (take n rows) signs) (add-one k) ∙ signed_more rows signs k (row_of no_crossing) (omega arith))))
