@@ -1,6 +1,7 @@
 //! What no program shows, a file a crate.
 mod braid_steps;
 mod colourings;
+mod formula;
 mod linking;
 mod names;
 mod regions;

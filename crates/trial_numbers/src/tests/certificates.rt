@@ -27,7 +27,9 @@ fn prints(rt: &impl Abort, alloc: Global, text: &[u8]) -> Result<(), Fail> {
     Ok(())
 }
 
-const TEXTS: [&[u8]; 3] = [
+const TEXTS: [&[u8]; 5] = [
+    b"certificate 3\ndifferent numbers dihedral 3\nshadow mochizuki\nseeds 0\nnumbers 9 0 0\nseeds 0 1\nnumbers 9 0 18\n",
+    b"certificate 3\ndifferent numbers table 2\n0 0\n1 1\nshadow 3\n0 0\n2 0\n0 1\n0 0\nseeds 0\nnumbers 4 0 0\nseeds 0\nnumbers 1 2 1\n",
     b"certificate 3\ndifferent numbers table 2\n0 0\n1 1\nweight 3\n0 2\n1 0\nseeds 0\nnumbers 2 0 0\nseeds 0 1\nnumbers 1 1 0\n",
     b"certificate 3\ndifferent numbers alexander 5 2\nseeds\nnumbers 5\nseeds 3\nnumbers 999999999\n",
     b"certificate 3\ndifferent linking\ncomponents 2\nnumbers -3 0 12\ncomponents 1\nnumbers\n",

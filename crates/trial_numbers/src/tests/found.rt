@@ -68,7 +68,7 @@ fn grid_of(rows: Rows) -> Result<Grid, Fail> {
 fn blocks_of(alloc: Global, texts: &[&[u8]]) -> Result<Items<Block>, Fail> {
     let mut blocks = Vec::new(alloc);
     for text in texts {
-        match block_item(&mut Lines::new(*text)) {
+        match block_item(alloc, &mut Lines::new(*text)) {
             Ok(block) => blocks.push(block)?,
             Err(_) => return Err(Fail::from("no block")),
         }
