@@ -328,6 +328,8 @@ def numbers_in_places():
         (b"check", SHIFTED + b"certificate 2\nequal 2\nshift columns 2\nshift rows 1\n"),
         (b"check", TREFOIL + UNKNOT + b"certificate 3\ndifferent numbers table 2\n0 0\n1 1\nweight 3\n0 2\n1 0\nseeds 0 1\nnumbers 2 0 0\nseeds 0\nnumbers 2 0 0\n"),
         (b"check", TREFOIL + UNKNOT + b"certificate 3\ndifferent numbers dihedral 3\nseeds 0 1\nnumbers 9\nseeds 0\nnumbers 3\n"),
+        (b"check", TREFOIL + UNKNOT + b"certificate 3\ndifferent numbers dihedral 3\nshadow mochizuki\nseeds 0 1\nnumbers 9 0 18\nseeds 0\nnumbers 9 0 0\n"),
+        (b"weights", TREFOIL + UNKNOT + b"quandle trivial 2\nshadow 3\n0 0\n0 0\n0 0\n0 0\n"),
         (b"check", TREFOIL + UNKNOT + b"certificate 3\ndifferent linking\ncomponents 2\nnumbers -1 1\ncomponents 1\nnumbers\n"),
         (b"close", b"braid 3 1 -2 1\nquandle dihedral 3\nquandle tetrahedral\n"),
         (b"braid", TREFOIL + b"quandle dihedral 3\n"), (b"linking", GOOD[b"linking"]),

@@ -30,6 +30,7 @@ A file has a subject, and is read by people. A row is a name, a call, and parts.
   error                     standard error
   taken                     the input is read: the status is 0, 1 or 8
   accepted behind it        the status is 0, and `knot check` accepts what is written behind the input
+  accepted in NAME          the same of what stands in this file
   simplified to N columns   a grid of N columns, moves and `irreducible` are written, and `knot replay` makes these moves to this grid
   equal within N columns    the verdict is `equal`, and no diagram along its moves has more than N columns
   drawn in N columns        a grid of N columns is written
@@ -75,7 +76,7 @@ ESCAPE = re.compile(r"\\(?:\{(?P<sum>[^}]*)\}|x(?P<byte>[0-9a-f]{2})|(?P<one>.))
 NUMBER = re.compile(r"(?P<front>\w+)(?: (?P<sign>[+-]) (?P<rest>[0-9]+))?")
 PART = re.compile(r"input|unreadable input|file (?P<file>\S+)|each of|(?:answer|front) (?P<status>[0-9]+)|error|taken|accepted behind it"
                   r"|(?:simplified to|equal within|drawn in) (?P<columns>[0-9]+) columns|lists of (?P<lists>[0-9]+(?: [0-9]+)*)"
-                  r"|(?:un)?written (?P<written>\S+)|(?:cut|altered) at each byte")
+                  r"|(?:(?:un)?written|accepted in) (?P<written>\S+)|(?:cut|altered) at each byte")
 
 
 class RowError(Exception):
@@ -288,7 +289,7 @@ class Runner:
     def problems(self, case):
         """What differs in a case."""
         try:
-            if not case.files and not any(part.endswith("written") for part, _, _ in case.wanted):
+            if not case.files and not any(isinstance(detail, str) for _, detail, _ in case.wanted):
                 return self.differences(case, self.call(case.words, case.given))
             with tempfile.TemporaryDirectory(prefix="knot-rows.") as folder:
                 for name, text in case.files.items():
@@ -316,8 +317,11 @@ class Runner:
     def part_taken(self, _case, ended, _number, _text):
         return [None if ended.status in TAKEN else f"the input isn't taken: status {ended.status}, {ended.text!r}"]
 
-    def part_accepted(self, case, ended, _number, _text):
-        ruled = self.call(["knot", "check"], case.given + ended.text)
+    def part_accepted(self, case, ended, name, _text):
+        found = text_in(ended.folder, name) if name else ended.text
+        if found is None:
+            return [f"no file {name} is written"]
+        ruled = self.call(["knot", "check"], case.given + found)
         return [differs("status", ended.status, 0), differs("what `check` says of it", ruled.text, b"accepted\n")]
 
     def part_simplified(self, case, ended, columns, _text):
@@ -354,11 +358,8 @@ class Runner:
                 differs("the numbers of lines", [count for count in found if count is not None], counts)]
 
     def part_written(self, _case, ended, name, text):
-        try:
-            with open(os.path.join(ended.folder, name), "rb") as file:
-                return [differs(f"the front of {name}", file.read(len(text)), text)]
-        except OSError:
-            return [f"no file {name} is written"]
+        found = text_in(ended.folder, name)
+        return [f"no file {name} is written" if found is None else differs(f"the front of {name}", found[:len(text)], text)]
 
     def part_unwritten(self, _case, ended, name, _text):
         return [f"a file {name} is written" if os.path.isfile(os.path.join(ended.folder, name)) else None]
@@ -375,6 +376,15 @@ class Runner:
             return differs(f"altered at byte {place}: the answer", (found.status, found.text), (MALFORMED, due))
 
         return [altered(place) for place in range(len(case.given))]
+
+
+def text_in(folder, name):
+    """The bytes of a file, or None where there is none."""
+    try:
+        with open(os.path.join(folder, name), "rb") as file:
+            return file.read()
+    except OSError:
+        return None
 
 
 def columns_of(words):

@@ -25,8 +25,8 @@ ROOT = os.path.dirname(HERE)
 PROGRAMS = ("knot", "seek")
 KIT = "rattle-kit-13f"
 # Of a whole build of both programs, as measured: bytes on the disk, and of memory for one crate at most.
-DISK = 7_000_000_000
-MEMORY = 4_000_000_000
+DISK = 11_500_000_000
+MEMORY = 4_200_000_000
 # So much memory is to be free for each crate that is built beside others.
 MEMORY_EACH = 3_500_000_000
 # How many lines of a log are shown where something failed.

@@ -66,6 +66,8 @@ def read_page(text, words):
     named = [("the first diagram", first, grid_of(first)), ("the second diagram", second, grid_of(second))]
     if lines.peek() == "weight":
         return weighed(lines, named, quandles)
+    if lines.peek() == "shadow":
+        raise BadText("weights by regions are shown of a certificate alone", lines.take("a verdict")[0])
     verdict, _ = certificates.read_verdict(lines, named[0][2], named[1][2])
     if isinstance(verdict, certificates.Unknown):
         raise BadText("the verdict is 'unknown', which has no evidence to be shown")
@@ -254,10 +256,11 @@ def linking_table(page):
 
 
 def weights_table(page, rows):
-    """How many colourings of each diagram have each weight."""
+    """How many colourings of each diagram have each weight, or by a shadow cocycle how many pairs."""
     heads = "".join(f"<th scope=\"col\">{weight}</th>" for weight in range(page.cocycle.modulus))
     cells = "".join(f"<tr><th scope=\"row\">{name}</th>{''.join(f'<td>{count}</td>' for count in row)}</tr>" for (name, _, _), row in zip(page.diagrams, rows))
-    return (f"<div class=\"wide\"><table><caption>How many colourings by the quandle {escape(page.quandle.name)} have each weight mod {page.cocycle.modulus}"
+    counted = "pairs of a colouring and an outer colour" if isinstance(page.cocycle, cocycles.ShadowCocycle) else "colourings"
+    return (f"<div class=\"wide\"><table><caption>How many {counted} by the quandle {escape(page.quandle.name)} have each weight mod {page.cocycle.modulus}"
             f"</caption><tr><th scope=\"col\">weight</th>{heads}</tr>{cells}</table></div>")
 
 
@@ -309,6 +312,16 @@ def walk_section(page):
             f'<details{" open" if last <= 30 else ""}><summary>All moves in words</summary><ol>{items}</ol></details></section>')
 
 
+def cocycle_part(cocycle):
+    """A cocycle's table; a shadow cocycle's is one for each region."""
+    if not isinstance(cocycle, cocycles.ShadowCocycle):
+        return table_of(cocycle.values, f"The cocycle mod {cocycle.modulus}: φ(x, y), line x and column y", "φ")
+    if cocycle.values is None:
+        return f"<p>The shadow cocycle is that of Mochizuki's formula, mod {cocycle.modulus}.</p>"
+    return "".join(table_of(square, f"The shadow cocycle mod {cocycle.modulus}: θ({region}, x, y), line x and column y", "θ")
+                   for region, square in enumerate(cocycle.values))
+
+
 def page_text(page, title, checked):
     """The whole file."""
     parts = [sentence_of(page, checked), figures_of(page)]
@@ -320,7 +333,7 @@ def page_text(page, title, checked):
     if page.quandle:
         parts.append(table_of(page.quandle.over, f"The quandle {escape(page.quandle.name)}: x ▷ y, line x and column y", "▷"))
     if page.cocycle:
-        parts.append(table_of(page.cocycle.values, f"The cocycle mod {page.cocycle.modulus}: φ(x, y), line x and column y", "φ"))
+        parts.append(cocycle_part(page.cocycle))
     ruler = {"weights": "knot weights", "moves": "knot replay"}.get(page.kind, "knot check")
     data = json.dumps(data_of(page), separators=(",", ":")).replace("<", "\\u003c")
     style, script = (calls.text_of(os.path.join(HERE, "lib", f"page.{kind}")) for kind in ("css", "js"))

@@ -30,10 +30,11 @@ from lib.fields import Field
 IDENTITY = ((1, 0), (0, 1))
 FOUR = (2, (1, 1))
 
-# What stands in the list: quandles of no cocycle, and then the tables, the fewest colours first.
+# What stands in the list: quandles of no cocycle, and then those with one, the fewest colours first. A number is the order of a dihedral
+# quandle with Mochizuki's shadow cocycle, a name one of the tables.
 LIST = "list"
 PLAIN = ("dihedral 3", "tetrahedral", "alexander 5 2", "alexander 7 2", "alexander 11 3", "alexander 17 10")
-WEIGHED = ("T5", "M20a", "M20b", "T7", "M30")
+WEIGHED = (3, 5, 7, 11, "T5", 13, 17, 19, "M20a", "M20b", 23, "T7", 29, "M30", 31)
 
 # The colours as matrices, the first of them x0; s(x) by colour; the logarithm of each element of the torus, and its order.
 Conjugates = namedtuple("Conjugates", "field colours sections logarithms modulus said")
@@ -164,7 +165,12 @@ def list_text():
     """The list that seek tries where its words name no other."""
     head = ("# Quandles, and quandles with a cocycle, by which seek counts colourings where its words name no file of --weights.\n"
             "# Made by tools/weight_tables.py.\n")
-    return head + "".join(f"quandle {name}\n" for name in PLAIN) + "".join("".join(parts_of(name)) for name in WEIGHED)
+    return head + "".join(f"quandle {name}\n" for name in PLAIN) + "".join(weighed_text(one) for one in WEIGHED)
+
+
+def weighed_text(one):
+    """A quandle with a cocycle, as it stands in the list."""
+    return f"quandle dihedral {one}\nshadow mochizuki\n" if isinstance(one, int) else "".join(parts_of(one))
 
 
 def main():

@@ -9,7 +9,7 @@ The calls run the built programs knot and seek, which the variables KNOT and SEE
 this module, or on PATH. Nothing in this module is proved: a certificate's `check` asks the checker.
 
 Diagrams      Grid, Braid, from_pd, from_code, from_table, from_sage, from_regina, from_snappy
-Quandles      quandle, Quandle, cocycle, Cocycle, built_in_list
+Quandles      quandle, Quandle, cocycle, Cocycle, ShadowCocycle, built_in_list
 Searches      seek, decide, which answer a Certificate; or None, or an Unknown
 One diagram   colour, numbers, code, simplify, braid_word, replay
 Two diagrams  linking, weights
@@ -19,7 +19,7 @@ Errors        each one is a Fault; the module faults has them all
 It needs Python 3.9 or later and nothing else.
 """
 from .certificates import Certificate, Counted, Different, DifferentLinking, DifferentNumbers, Equal, Linked, Unknown, check
-from .cocycles import Cocycle
+from .cocycles import Cocycle, ShadowCocycle
 from .codes import Code, read_code
 from .diagrams import Braid, Diagram, Grid, Move, Quandle, built_in_list, move_text
 from .faults import (BadAnswer, BadCode, BadDiagram, BadText, Failed, Fault, Illegal, Malformed, NoJob, NoProgram, OverLimit, Rejected, TimedOut,
@@ -34,6 +34,7 @@ from .table_rows import TableError
 __all__ = ("BadAnswer", "BadCode", "BadDiagram", "BadText", "Braid", "Certificate", "Cocycle", "Code", "Colourings", "Compared", "Counted", "Diagram",
            "Different", "DifferentLinking", "DifferentNumbers",
            "EntryError", "Equal", "Failed", "Fault", "Grid", "Illegal", "Linked", "Malformed", "Move", "NoJob", "NoProgram", "Numbers", "OverLimit", "Quandle",
-           "Rejected", "Replayed", "Simplified", "TableError", "TimedOut", "Unknown", "Wide", "braid_word", "built_in_list", "check", "cocycle", "code",
+           "Rejected", "Replayed",
+           "ShadowCocycle", "Simplified", "TableError", "TimedOut", "Unknown", "Wide", "braid_word", "built_in_list", "check", "cocycle", "code",
            "colour", "decide", "from_code", "from_pd", "from_regina", "from_sage", "from_snappy", "from_table", "linking", "move_text", "numbers", "path_of",
            "quandle", "read_code", "replay", "seek", "simplify", "use", "weights")

@@ -2,7 +2,7 @@
 import os
 from typing import List, NamedTuple, Optional, Sequence, Tuple, Union
 
-from .cocycles import Cocycle, read_cocycle
+from .cocycles import Cocycle, ShadowCocycle, read_cocycle, read_shadow
 from .diagrams import (Diagram, Grid, Lines, Move, Quandle, Rows, diagram_text, grid_of, move_text, number_of, quandle_named, quandle_text,
                        read_diagram, read_moves, read_quandle, read_quandles)
 from .faults import BadText, Fault, Illegal
@@ -44,10 +44,10 @@ class Counted(NamedTuple):
 
 
 class DifferentNumbers(NamedTuple):
-    """The verdict `different numbers` of version 3: a quandle, perhaps a cocycle, and how many colourings each diagram has."""
+    """The verdict `different numbers` of version 3: a quandle, perhaps a cocycle of either kind, and how many colourings each diagram has."""
 
     quandle: Quandle
-    cocycle: Optional[Cocycle]
+    cocycle: Optional[Union[Cocycle, ShadowCocycle]]
     first: Counted
     second: Counted
 
@@ -240,9 +240,16 @@ def read_third(lines: Lines) -> Union[DifferentNumbers, DifferentLinking]:
     if tokens[:2] != ["different", "numbers"]:
         raise BadText("a verdict 'different numbers' or 'different linking' is due", line)
     quandle = quandle_named(lines, line, tokens[2:])
-    weight = Cocycle(*cocycle_parts(lines, quandle)) if lines.peek() == "weight" else None
+    weight = perhaps_cocycle(lines, quandle)
     count = weight.modulus if weight else 1
     return DifferentNumbers(quandle, weight, *(Counted(numbers_behind(lines, "seeds"), numbers_behind(lines, "numbers", count)) for _ in range(2)))
+
+
+def perhaps_cocycle(lines: Lines, quandle: Quandle) -> Optional[Union[Cocycle, ShadowCocycle]]:
+    """A cocycle of either kind, if one follows."""
+    if lines.peek() == "shadow":
+        return read_shadow(lines, quandle)
+    return Cocycle(*cocycle_parts(lines, quandle)) if lines.peek() == "weight" else None
 
 
 def cocycle_parts(lines: Lines, quandle: Quandle) -> Tuple[int, Tuple[Rows, ...]]:

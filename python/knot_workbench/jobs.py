@@ -7,7 +7,7 @@ from contextlib import contextmanager
 from typing import Any, Iterable, Iterator, List, NamedTuple, Optional, Sequence, Tuple, Union
 
 from .certificates import Certificate, Unknown, numbers_behind, read_list, read_verdict
-from .cocycles import Cocycle, cocycle_fault
+from .cocycles import Cocycle, ShadowCocycle, cocycle_fault
 from .codes import Code, read_code, rows_text
 from .diagrams import (Braid, Diagram, Grid, Lines, Move, Quandle, Rows, diagram_text, grid_of, move_text, number_of, quandle_fault,
                        quandle_of, read_grid, read_moves, read_quandle)
@@ -149,12 +149,12 @@ class Numbers(NamedTuple):
     seeds: Optional[int]
 
 
-def numbers(diagram: Diagram, *blocks: Union[QuandleLike, Tuple[QuandleLike, Cocycle]]) -> List[Numbers]:
+def numbers(diagram: Diagram, *blocks: Union[QuandleLike, Tuple[QuandleLike, Union[Cocycle, ShadowCocycle]]]) -> List[Numbers]:
     """How many colourings, by `knot numbers`: each block is a quandle, or a quandle and a cocycle of it in a tuple; without a block the
     built-in list stands. Raises NoJob where the program is older than the job `numbers`."""
     text = diagram_text(diagram)
     for block in blocks:
-        is_weighed = isinstance(block, tuple) and len(block) == 2 and isinstance(block[1], Cocycle)
+        is_weighed = isinstance(block, tuple) and len(block) == 2 and isinstance(block[1], (Cocycle, ShadowCocycle))
         text += quandle(block[0]).text + block[1].text if is_weighed else quandle(block).text  # type: ignore[arg-type, union-attr]
     lines = lines_of("numbers", text)
     found = []
@@ -243,7 +243,7 @@ def linking(first: Diagram, second: Diagram) -> Compared:
     return compared(lines_of("linking", problem_text(first, second)), "numbers", "knot linking")
 
 
-def weights(first: Diagram, second: Diagram, by: QuandleLike, with_cocycle: Cocycle) -> Compared:
+def weights(first: Diagram, second: Diagram, by: QuandleLike, with_cocycle: Union[Cocycle, ShadowCocycle]) -> Compared:
     """How many colourings have each weight from 0 to k − 1, by `knot weights`, with a cocycle mod k of the quandle. Raises Wide where the
     quandle is too large for one of the diagrams, and Malformed where it has no such cocycle."""
     lines = lines_of("weights", problem_text(first, second, [quandle(by)]) + with_cocycle.text)

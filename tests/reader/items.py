@@ -7,7 +7,7 @@ from .braids import closure
 from .diagrams import CORNERS, colourings
 from .lines import (LIMIT, MALFORMED, MAX_CROSSINGS, MAX_IN_LETTER, MAX_IN_MOVE, MAX_LIST, MAX_ORDER, MAX_QUANDLES, MAX_SIZE, MAX_STRANDS,
     MAX_WEIGHTS, are_numbers, are_short, at_most, is_letter, is_number, is_short)
-from .weights import is_cocycle
+from .weights import by_formula, is_cocycle, is_dihedral_of_prime_order, is_shadow_cocycle
 
 
 def read_marks(lines, word):
@@ -92,10 +92,10 @@ def is_quandle(table):
             and all(table[table[x][y]][z] == table[table[x][z]][table[y][z]] for x in colours for y in colours for z in colours))
 
 
-def read_rows(lines, n, bound):
-    """n lines of n numbers below a bound; leaves the last one in place, for what is to be said of them all."""
+def read_rows(lines, n, bound, count=None):
+    """n lines, or so many, of n numbers below a bound; leaves the last one in place, for what is to be said of them all."""
     table = []
-    for row in range(n):
+    for row in range(n if count is None else count):
         if row:
             lines.advance()
         tokens = lines.due()
@@ -316,7 +316,7 @@ def read_evidence(lines):
         lines.advance()
         return "linking", [read_linked(lines) for _ in range(2)]
     quandle = read_name(lines, b"different", b"numbers")
-    cocycle = read_cocycle(lines, quandle) if lines.begins_with(b"weight") else None
+    cocycle = read_any_cocycle(lines, quandle) if is_cocycle_next(lines) else None
     return "numbers", quandle, cocycle, [read_counted(lines, cocycle[0] if cocycle else 1) for _ in range(2)]
 
 
@@ -430,11 +430,41 @@ def read_cocycle(lines, quandle):
     return modulus, values
 
 
+def read_shadow(lines, quandle):
+    """`shadow k`, and a shadow cocycle mod k of the quandle; or `shadow mochizuki`."""
+    tokens = lines.due()
+    named = tuple(tokens[1:]) == (b"mochizuki",)
+    lines.form(len(tokens) == 2 and tokens[0] == b"shadow" and (named or is_number(tokens[1])))
+    if named:
+        lines.content(is_dihedral_of_prime_order(quandle))
+        lines.advance()
+        return quandle.order, by_formula(quandle.order)
+    lines.limits(at_most(tokens[1], MAX_WEIGHTS))
+    modulus = int(tokens[1])
+    lines.content(modulus >= 2)
+    lines.advance()
+    rows = read_rows(lines, quandle.order, modulus, quandle.order ** 2)
+    values = [rows[first:first + quandle.order] for first in range(0, len(rows), quandle.order)]
+    lines.content(is_shadow_cocycle(quandle, modulus, values))
+    lines.advance()
+    return modulus, values
+
+
+def is_cocycle_next(lines):
+    """Whether a cocycle of either kind begins in the next line."""
+    return lines.begins_with(b"weight") or lines.begins_with(b"shadow")
+
+
+def read_any_cocycle(lines, quandle):
+    """A shadow cocycle where a line `shadow` is next, else a cocycle."""
+    return (read_shadow if lines.begins_with(b"shadow") else read_cocycle)(lines, quandle)
+
+
 def pair_and_weights(lines):
-    """Two diagrams, a quandle, and `weight k` with a cocycle mod k."""
+    """Two diagrams, a quandle, and a cocycle of it of either kind."""
     first, second = two_diagrams(lines)
     quandle = read_name(lines, b"quandle")
-    return first, second, quandle, *read_cocycle(lines, quandle)
+    return first, second, quandle, *read_any_cocycle(lines, quandle)
 
 
 def diagram_and_blocks(lines):
@@ -442,5 +472,5 @@ def diagram_and_blocks(lines):
     grid, blocks = read_diagram(lines), []
     while lines.begins_with(b"quandle"):
         quandle = read_name(lines, b"quandle", is_one_too_many=len(blocks) == MAX_QUANDLES)
-        blocks.append((quandle, read_cocycle(lines, quandle) if lines.begins_with(b"weight") else None))
+        blocks.append((quandle, read_any_cocycle(lines, quandle) if is_cocycle_next(lines) else None))
     return grid, blocks or [(quandle, None) for quandle in BUILT_IN]

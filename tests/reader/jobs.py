@@ -14,7 +14,7 @@ from .items import (braid_and_quandles, code_text, diagram_and_blocks, diagram_a
     problem, problem_and_said, two_braids_and_steps, two_diagrams)
 from .lines import DONE, Fault, LIMIT, Lines, MALFORMED, MAX_LIST, NOT_UTF8, REJECTED, USAGE
 from .numbers import answer_numbers, cause_of_linking, cause_of_numbers
-from .weights import weight
+from .weights import counts_by_weight
 
 USAGE_LINE = b"usage: knot JOB [--workers W] [--budget B] [--spare S] [--seed N]\n"
 
@@ -134,13 +134,10 @@ def answer_linking(_options, first, second):
 
 def answer_weights(_options, first, second, quandle, modulus, values):
     """How often each weight stands in the lists of two diagrams."""
-    counts = []
     for which, grid in enumerate((first, second), 1):
         if not fits(grid, quandle):
             return Answer(DONE, f"wide {which} {bottoms(grid)}\n")
-    for grid in (first, second):
-        weights = [weight(grid, quandle, modulus, values, colours) for colours in colourings(grid, quandle)]
-        counts.append([weights.count(value) for value in range(modulus)])
+    counts = [counts_by_weight(grid, quandle, modulus, values, colourings(grid, quandle)) for grid in (first, second)]
     return Answer(DONE, print_compared("weights", *counts))
 
 

@@ -5,7 +5,7 @@ from .answers import Answer
 from .codes import component_count, linking_numbers
 from .diagrams import colourings, rows_of, size_of
 from .lines import DONE, MAX_CANDIDATES
-from .weights import weight
+from .weights import choices, counts_by_weight
 
 
 def settled(rows, columns):
@@ -35,10 +35,7 @@ def seed_count(grid):
 def numbers_of(grid, quandle, cocycle):
     """How many colourings a diagram has by a quandle; by a cocycle, how many of each weight."""
     found = colourings(grid, quandle)
-    if not cocycle:
-        return [len(found)]
-    weights = [weight(grid, quandle, *cocycle, colours) for colours in found]
-    return [weights.count(value) for value in range(cocycle[0])]
+    return counts_by_weight(grid, quandle, *cocycle, found) if cocycle else [len(found)]
 
 
 def first_difference(given, own):
@@ -58,7 +55,7 @@ def cause_of_numbers(first, second, quandle, cocycle, said):
         unsettled = [column for column in range(size_of(grid)) if column not in known]
         if unsettled:
             return f"unsettled {which} {unsettled[0]}"
-        if quandle.order ** len(seeds) > MAX_CANDIDATES:
+        if quandle.order ** choices(cocycle, len(seeds)) > MAX_CANDIDATES:
             return f"wide {which} {len(seeds)}"
         place = first_difference(numbers, numbers_of(grid, quandle, cocycle))
         if place is not None:
@@ -81,7 +78,7 @@ def answer_numbers(_options, grid, blocks):
     text, seeds = "", seed_count(grid)
     for quandle, cocycle in blocks:
         text += f"quandle {quandle.printed}"
-        if quandle.order ** seeds > MAX_CANDIDATES:
+        if quandle.order ** choices(cocycle, seeds) > MAX_CANDIDATES:
             text += f"wide {seeds}\n"
             continue
         text += " ".join(["numbers", *map(str, numbers_of(grid, quandle, cocycle))]) + "\n"

@@ -35,10 +35,12 @@ class SeekTest(BatchTest):
         self.problem("a", "# seek: 0 certificate 3 / different numbers table 2 / 0 0 / 1 1 / weight 3 / 0 2 / 1 0 / seeds 0 / numbers 2 0 0 / seeds 0 1 / numbers 1 1 0\n")
         self.problem("b", "# seek: 0 certificate 3 / different linking / components 2 / numbers -1 -1 / components 2 / numbers 1 1\n")
         self.problem("c", "# seek: 0 certificate 3 / different numbers alexander 5 2 / seeds 0 1 / numbers 25 / seeds 0 / numbers 5\n")
+        self.problem("d", "# seek: 0 certificate 3 / different numbers dihedral 3 / shadow mochizuki / seeds 0 1 / numbers 9 0 18 / seeds 0 / numbers 9 0 0\n")
         status, out, errors = self.batch("--job", "seek")
-        self.assertEqual((status, out), (0, "3 problems: 3 different; 3 of 3 certificates accepted\n"), errors)
+        self.assertEqual((status, out), (0, "4 problems: 4 different; 4 of 4 certificates accepted\n"), errors)
         self.assertEqual([(row["verdict"], row["evidence"]) for row in self.rows().values()],
-                         [("different", "numbers table 2 by weight: 2 0 0 / 1 1 0"), ("different", "linking: -1 -1 / 1 1"), ("different", "numbers alexander 5 2: 25 / 5")])
+                         [("different", "numbers table 2 by weight: 2 0 0 / 1 1 0"), ("different", "linking: -1 -1 / 1 1"), ("different", "numbers alexander 5 2: 25 / 5"),
+                          ("different", "numbers dihedral 3 by weight: 9 0 18 / 9 0 0")])
         self.assertTrue(self.read("certificates", "b.txt").endswith("certificate 3\ndifferent linking\ncomponents 2\nnumbers -1 -1\ncomponents 2\nnumbers 1 1\n"))
 
     def test_where_seek_finds_nothing_the_problem_is_unknown(self):

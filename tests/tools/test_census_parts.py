@@ -164,10 +164,10 @@ class Plans(unittest.TestCase):
             self.assertIn(said, str(caught.exception))
 
     def test_blocks(self):
-        head, blocks = blocks_of("# two\nbraid 2 1\n# a quandle\nquandle table 1\n0\n\nweight 2\n0\nquandle dihedral  3\n")
+        head, blocks = blocks_of("# two\nbraid 2 1\n# a quandle\nquandle table 1\n0\n\nweight 2\n0\nquandle dihedral  3\nshadow mochizuki\n")
         self.assertEqual(head, "# two\nbraid 2 1\n# a quandle\n")
         self.assertEqual([(block.quandle, block.text, block.has_weight) for block in blocks],
-                         [("quandle table 1\n0\n", "quandle table 1\n0\nweight 2\n0\n", True), ("quandle dihedral 3\n", "quandle dihedral 3\n", False)])
+                         [("quandle table 1\n0\n", "quandle table 1\n0\nweight 2\n0\n", True), ("quandle dihedral 3\n", "quandle dihedral 3\nshadow mochizuki\n", True)])
 
 
 class Names(unittest.TestCase):

@@ -173,6 +173,36 @@ some: drawn in others
 8 cases, 8 calls, 4 different
 """
 
+ACCEPTED = """== good in a file
+knot job
+input
+    good
+file made
+    good
+accepted in made
+
+== bad in a file
+knot job
+input
+    good
+file made
+    bad
+accepted in made
+
+== in no file
+knot job
+input
+    good
+accepted in made
+"""
+
+NOT_ACCEPTED = """some: bad in a file
+    what `check` says of it is b'malformed line 2\\n', and not b'accepted\\n'
+some: in no file
+    no file made is written
+3 cases, 5 calls, 2 different
+"""
+
 # What is no row, and a part of what is said of it.
 NO_ROWS = (
     ("knot job\n", "a row begins with a line"),
@@ -231,6 +261,9 @@ class Rows(unittest.TestCase):
 
     def test_what_a_call_writes(self):
         self.assertEqual(self.found(WRITTEN), (1, NOT_WRITTEN))
+
+    def test_what_is_accepted_in_a_file(self):
+        self.assertEqual(self.found(ACCEPTED), (1, NOT_ACCEPTED))
 
     def test_an_empty_line_within_a_part_counts(self):
         self.assertEqual(self.found("== one\nknot job\ninput\n    good\n\n    good\n\nanswer 3\n    malformed line 2\n")[0], 0)

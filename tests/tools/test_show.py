@@ -109,6 +109,19 @@ class Pages(unittest.TestCase):
         self.assertIn("The cocycle mod 5", read(out).text)
         self.assertEqual({line[-1] for line in data(out)["lists"][0]}, {0, 4})
 
+    def test_numbers_by_a_shadow_cocycle(self):
+        begin = common.read("examples", "check", "trefoils-by-regions.txt")
+        out = page(begin)
+        self.assertIn("How many pairs of a colouring and an outer colour by the quandle dihedral 3 have each weight mod 3", read(out).text)
+        self.assertIn("The shadow cocycle is that of Mochizuki's formula, mod 3.", read(out).text)
+        table = "shadow 2\n" + "0 1 1 0\n1 0 1 0\n1 1 0 0\n0 0 0 0\n" * 4
+        out = page(common.read("examples", "weights", "trefoils-regions.txt").split("\nquandle")[0]
+                   + f"\ncertificate 3\ndifferent numbers tetrahedral\n{table}seeds 0 1\nnumbers 16 48\nseeds 0 1\nnumbers 48 16\n")
+        self.assertIn("The shadow cocycle mod 2: θ(3, x, y), line x and column y", read(out).text)
+        status, out, said = common.run("show.py", text=common.read("examples", "weights", "trefoils-regions.txt"))
+        self.assertEqual((status, out), (1, ""))
+        self.assertIn("weights by regions are shown of a certificate alone", said)
+
     def test_numbers_of_the_third_version(self):
         weight = "weight 2\n0 1 1 0\n1 0 1 0\n1 1 0 0\n0 0 0 0\n"
         begin = "braid 2 1 1 1\nbraid 2\ncertificate 3\n"

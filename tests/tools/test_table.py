@@ -67,6 +67,14 @@ class Shown(unittest.TestCase):
         self.assertIn("left: 3_1 and mirror image of 3_1", out)
         self.assertIn("3 of 3 certificates accepted", out)
 
+    def test_a_line_for_each_pair(self):
+        rows = [row("3_1-mirror", "different", "numbers dihedral 3 by weight: 9 0 18 / 9 18 0"), row("4_1-mirror", "unknown", check="")]
+        out = io.StringIO()
+        with contextlib.redirect_stdout(out):
+            table.show_each(rows, self.found, {})
+        self.assertEqual(out.getvalue(), "3_1 and mirror image of 3_1 | different | dihedral 3 with a cocycle mod 3: 9 0 18 / 9 18 0 | accepted | 0.5 s\n"
+                                         "4_1 and mirror image of 4_1 | unknown |  | no certificate | 0.5 s\n\n")
+
     def test_wrong_verdicts_and_certificates_are_named(self):
         for one in (row("3_1-4_1", "equal", "5"), row("3_1-mirror", "equal", "5"), row("4_1-mirror", "different", "dihedral 3"),
                     row("3_1-4_1", "different", "dihedral 3", "rejected samelength"), row("3_1-4_1", "none", check="")):

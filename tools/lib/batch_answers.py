@@ -66,7 +66,7 @@ def says(body):
         return ""
     if lines[0].startswith(("different numbers", "different linking")):
         numbers = [line.partition(" ")[2] for line in lines if line.partition(" ")[0] == "numbers"]
-        return f"{lines[0]}{' by weight' if any(line.startswith('weight ') for line in lines) else ''}: {' / '.join(numbers)}"
+        return f"{lines[0]}{' by weight' if any(line.startswith(('weight ', 'shadow ')) for line in lines) else ''}: {' / '.join(numbers)}"
     if lines[-1] in ("different", "alike") and len(lines) > 1:
         return lines[-1] + " " + " / ".join(line.rstrip() for line in lines[:-1])
     words = lines[0].split()

@@ -8,7 +8,7 @@ from lib.diagrams import MAX_QUANDLES
 # kind: linking, numbers, decide or seek. words: the options of decide and seek. blocks: what `numbers` counts by.
 Step = collections.namedtuple("Step", "name kind words blocks")
 
-# A quandle, with its cocycle where one stands behind it. quandle: the lines of the quandle alone. text: all lines. key: their digest.
+# A quandle, with its cocycle, of either kind, where one stands behind it. quandle: the lines of the quandle alone. text: all lines. key: their digest.
 # source: the name of the file it came from.
 Block = collections.namedtuple("Block", "quandle text has_weight key source")
 
@@ -31,7 +31,7 @@ def order_of(block):
 
 def block_of(lines, source=""):
     """The quandle of these lines, with a cocycle where one stands among them."""
-    place = next((place for place, line in enumerate(lines) if line.split()[0] == "weight"), len(lines))
+    place = next((place for place, line in enumerate(lines) if line.split()[0] in ("weight", "shadow")), len(lines))
     text = "".join(line + "\n" for line in lines)
     return Block("".join(line + "\n" for line in lines[:place]), text, place < len(lines), digest(text.encode()), source)
 
