@@ -5,6 +5,7 @@
     python3 bench/table.py --folder FOLDER      keeps problems, certificates and the summary there; called again, it goes on
     python3 bench/table.py --only mirrors       one kind of pairs: mirrors, knots or turned
     python3 bench/table.py --first 10           the pairs of the first ten knots
+    python3 bench/table.py --each               also a line for each pair: its verdict, the evidence with its numbers, the ruling and the seconds
     python3 bench/table.py -- --processes 1     words behind -- go to tools/batch.py
 
 `mirrors` has each knot and its mirror image, `knots` each two knots, and `turned` each knot and the mirror image of each other one. The
@@ -85,6 +86,16 @@ def wrong(row, pair):
     return f"said to be {row['verdict']}" if row["verdict"] == ("different" if same else "equal") else None
 
 
+def show_each(rows, found, tables):
+    """Prints a line for each pair."""
+    for row in rows:
+        pair, different = found[row["name"]], row["verdict"] == "different"
+        numbers = row["evidence"].partition(": ")[2]
+        said = f"{evidence_of(row, tables)}{': ' if numbers else ''}{numbers}" if different else ""
+        print(" | ".join((f"{pair.first} and {pair.second}", row["verdict"], said, row["check"] or "no certificate", f"{row['seconds']} s")))
+    print()
+
+
 def show(rows, found, tables):
     """Prints how many pairs of each kind came to what, by which evidence, and which are left: whether anything is wrong."""
     print(f"{'pairs':36} {'all':>5} {'told apart':>11} {'joined':>7} {'left':>5} {'seconds':>8}")
@@ -119,6 +130,7 @@ def main():
     words.add_argument("--folder")
     words.add_argument("--only", choices=sorted(KINDS))
     words.add_argument("--first", type=int)
+    words.add_argument("--each", action="store_true")
     words.add_argument("words", nargs="*", help="words of batch.py")
     asked = words.parse_args()
     built()
@@ -134,7 +146,10 @@ def main():
         with open(os.path.join(answers, "summary.csv"), encoding="utf-8", newline="") as source:
             rows = [row for row in csv.DictReader(source) if row["name"] in found]
         with open(LIST, encoding="utf-8") as text:
-            sys.exit(show(rows, found, names_of_tables(text.read())))
+            tables = names_of_tables(text.read())
+        if asked.each:
+            show_each(rows, found, tables)
+        sys.exit(show(rows, found, tables))
 
 
 if __name__ == "__main__":
