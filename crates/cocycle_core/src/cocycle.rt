@@ -4,8 +4,8 @@ ghost use Rattle.std.specs.Result.{result_err};
 ghost use Rattle.cocycle_core.specs.Cocycle.{IsCocycle, value};
 ghost use Rattle.cocycle_core.specs.Fault.{first_fault};
 
-use crate::draft::Draft;
-use crate::fault::CocycleFault;
+use crate::fault::{CocycleFault, table_fault};
+use crate::values::Values;
 use arrayvec::ArrayVec;
 use quandle_core::{MAX_TABLE, Quandle};
 use std::marker::Model;
@@ -37,8 +37,7 @@ impl Cocycle {
         ensures cocycle { IfOk result (λ c. c ≡ record { quandle = quandle.now; modulus = modulus; entries = table.now }) }
     {
         let _order = quandle.order();
-        let draft = Draft::new(quandle, modulus, table);
-        match draft.first_fault() {
+        match table_fault(quandle.operations(), modulus, table) {
             Some(fault) => Err(fault),
             None => Ok(of_table(quandle, modulus, table)),
         }
@@ -56,6 +55,17 @@ impl Cocycle {
         ensures { result.now ≡ self.now.quandle }
     {
         &self.quandle
+    }
+
+    /// Its values, with the operations of its quandle. Takes no memory.
+    pub fn values(&self) -> Values<'_>
+        ensures { result ≡ self.now }
+    {
+        Values::of_table(
+            self.quandle.operations(),
+            self.modulus,
+            self.table.as_slice(),
+        )
     }
 
     /// The modulus k, from 2 to 255. Weights are below it.

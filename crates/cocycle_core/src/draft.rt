@@ -3,13 +3,13 @@ ghost use Rattle.std.specs.Prelude.{◌≡◌, ◌<◌, ◌*◌, length};
 ghost use Rattle.quandle_core.specs.Quandle.{IsQuandle, over};
 ghost use Rattle.cocycle_core.specs.Cocycle.{value};
 
-use quandle_core::Quandle;
+use quandle_core::Operations;
 use std::marker::Model;
 
 /// Numbers for the pairs of colours of a quandle, row by row, to be taken mod a modulus. Contracts see a `Cochain`.
 #[derive(Drop)]
 pub(crate) struct Draft<'a> {
-    quandle: &'a Quandle,
+    quandle: Operations<'a>,
     modulus: u8,
     table: &'a [u8],
 }
@@ -19,13 +19,13 @@ impl<'a> Model for Draft<'a> {
 
     ghost Value = { Cochain };
 
-    ghost view = { λ d. record { quandle = d.quandle.now; modulus = d.modulus; entries = d.table.now } };
+    ghost view = { λ d. record { quandle = d.quandle; modulus = d.modulus; entries = d.table.now } };
 }
 
 impl<'a> Draft<'a> {
     /// The draft of a table.
-    pub(crate) fn new(quandle: &'a Quandle, modulus: u8, table: &'a [u8]) -> Draft<'a>
-        ensures { result ≡ record { quandle = quandle.now; modulus = modulus; entries = table.now } }
+    pub(crate) fn new(quandle: Operations<'a>, modulus: u8, table: &'a [u8]) -> Draft<'a>
+        ensures { result ≡ record { quandle = quandle.entry; modulus = modulus; entries = table.now } }
     {
         Draft {
             quandle,

@@ -4,6 +4,7 @@ ghost use Rattle.quandle_core.specs.Fault.{or_else};
 ghost use Rattle.cocycle_core.specs.Fault.{modulus_fault, length_fault, range_fault, diagonal_fault, law_fault, first_fault, obeys};
 
 use crate::draft::Draft;
+use quandle_core::Operations;
 
 /// The first law that a table of numbers breaks, with its lexicographically first case.
 #[derive(Clone, Copy, Debug, PartialEq, Eq)]
@@ -20,9 +21,20 @@ pub enum CocycleFault {
     Law { x: u8, y: u8, z: u8 },
 }
 
+/// The first law that a table of numbers breaks, or None where it is a cocycle.
+pub(crate) fn table_fault(
+    quandle: Operations<'_>,
+    modulus: u8,
+    table: &[u8],
+) -> Option<CocycleFault>
+    ensures { result ≡ first_fault (record { quandle = quandle.entry; modulus = modulus; entries = table.now }) }
+{
+    Draft::new(quandle, modulus, table).first_fault()
+}
+
 impl<'a> Draft<'a> {
     /// The first law that the table breaks, or None where it is a cocycle.
-    pub(crate) fn first_fault(&self) -> Option<CocycleFault>
+    fn first_fault(&self) -> Option<CocycleFault>
         ensures { result ≡ first_fault self.now }
     {
         if let Some(fault) = self.shape_fault() {

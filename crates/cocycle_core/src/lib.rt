@@ -5,9 +5,13 @@
 mod cocycle;
 mod draft;
 mod fault;
+mod large;
 pub mod laws;
 #[cfg(test)]
 mod tests;
+mod values;
 
 pub use cocycle::Cocycle;
 pub use fault::CocycleFault;
+pub use large::LargeCocycle;
+pub use values::Values;

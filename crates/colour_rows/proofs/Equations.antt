@@ -25,7 +25,7 @@ reverse-map h (x ∷ xs) =
     reverse-append (h x ∷ []) (map h xs)
     ∙ (ap (λ ys. ys ++ h x ∷ []) (reverse-map h xs) ∙ (sym (map-append h (reverse xs) (x ∷ [])) ∙ ap (map h) (sym (reverse-append (x ∷ []) xs))))
 
-abbrev pass_of : Diagram → ℕ → Pass
+abbrev pub pass_of : Diagram → ℕ → Pass
 pass_of d c = record { column = c; up = is_up d c }
 
 pub walk_same : (t : Table) (d : Diagram) (f : List ℕ) (r : ℕ) → walk_of t (equation d r) f ≡ walk t d f r
@@ -36,7 +36,7 @@ walk_back_same t d f r =
     ap (fold (λ x (p : Pass). passed_leftward t p.up x (get_or f p.column 0)) (get_or f (right d r) 0)) (reverse-map (pass_of d) (passed d r))
     ∙ fold-map (λ x (p : Pass). passed_leftward t p.up x (get_or f p.column 0)) (pass_of d) (reverse (passed d r)) (get_or f (right d r) 0)
 
-pass_map : (d : Diagram) (c : ℕ) (t : Bool) → map (pass_of d) (cond t (c ∷ []) []) ≡ cond t (pass_of d c ∷ []) []
+pub pass_map : (d : Diagram) (c : ℕ) (t : Bool) → map (pass_of d) (cond t (c ∷ []) []) ≡ cond t (pass_of d c ∷ []) []
 pass_map d c true = refl
 pass_map d c false = refl
 

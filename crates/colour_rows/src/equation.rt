@@ -6,11 +6,11 @@ ghost use Rattle.colour_rows.specs.Equation.{equation, passes, walk_of, walk_bac
 ghost use Rattle.colour_rows.specs.Spans.{spans_of};
 
 use crate::spans::Spans;
-use crate::walking::{passed_leftward, passed_rightward};
+use crate::walking::{leftward, rightward};
 use arrayvec::ArrayVec;
 use grid_core::{Grid, MAX_SIZE};
 use lane_spans::has_bit;
-use quandle_core::Quandle;
+use quandle_core::{Operations, Quandle};
 use std::marker::Model;
 
 /// A column that a row passes under.
@@ -92,10 +92,19 @@ impl Row {
         requires below { All (λ y. y < quandle.now.order) colours.now }
         ensures { result ≡ walk_of quandle.now self.now colours.now }
     {
+        self.walk_by(&quandle.operations(), colours)
+    }
+
+    /// The same by the operations of a quandle of any size.
+    pub fn walk_by(&self, quandle: &Operations, colours: &[u8]) -> u8
+        requires within { self.now.right_end < length colours.now }
+        requires below { All (λ y. y < quandle.now.order) colours.now }
+        ensures { result ≡ walk_of quandle.now self.now colours.now }
+    {
         let _order = quandle.order();
         let mut colour = colours[self.left as usize];
         for pass in self.passed.as_slice() {
-            colour = passed_rightward(quandle, pass.up, colour, colours[pass.column as usize]);
+            colour = rightward(quandle, pass.up, colour, colours[pass.column as usize]);
         }
         colour
     }
@@ -107,12 +116,21 @@ impl Row {
         requires below { All (λ y. y < quandle.now.order) colours.now }
         ensures { result ≡ walk_back_of quandle.now self.now colours.now }
     {
+        self.walk_back_by(&quandle.operations(), colours)
+    }
+
+    /// The same by the operations of a quandle of any size.
+    pub fn walk_back_by(&self, quandle: &Operations, colours: &[u8]) -> u8
+        requires within { self.now.right_end < length colours.now }
+        requires below { All (λ y. y < quandle.now.order) colours.now }
+        ensures { result ≡ walk_back_of quandle.now self.now colours.now }
+    {
         let _order = quandle.order();
         let mut colour = colours[self.right as usize];
         let passed = self.passed.as_slice();
         for done in 0..passed.len() {
             let pass = passed[passed.len() - 1 - done];
-            colour = passed_leftward(quandle, pass.up, colour, colours[pass.column as usize]);
+            colour = leftward(quandle, pass.up, colour, colours[pass.column as usize]);
         }
         colour
     }

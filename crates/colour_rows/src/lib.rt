@@ -15,4 +15,4 @@ mod walking;
 pub use colouring::{Colouring, is_colouring};
 pub use equation::{Pass, Row};
 pub use spans::Spans;
-pub use walking::{passed_leftward, passed_rightward, walk};
+pub use walking::{leftward, passed_leftward, passed_rightward, rightward, walk};

@@ -7,12 +7,12 @@ ghost use Rattle.colour_rows.specs.Colouring.{AreColours};
 use crate::colouring::Colouring;
 use crate::equation::Row;
 use grid_core::Grid;
-use quandle_core::Quandle;
+use quandle_core::{Operations, Quandle};
 
 /// What a colour becomes under a column, from left to right: `colour ◁ column` where the column is up, and else `colour ▷ column`.
 ///
 /// Both are colours below the order, the second that of the column.
-pub fn passed_rightward(quandle: &Quandle, up: bool, colour: u8, column: u8) -> u8
+pub fn rightward(quandle: &Operations, up: bool, colour: u8, column: u8) -> u8
     requires { (colour < quandle.now.order) × (column < quandle.now.order) }
     ensures is { result ≡ passed_rightward quandle.now up colour column }
     ensures below { result < quandle.now.order }
@@ -25,16 +25,34 @@ pub fn passed_rightward(quandle: &Quandle, up: bool, colour: u8, column: u8) -> 
     }
 }
 
+/// The same by a quandle.
+pub fn passed_rightward(quandle: &Quandle, up: bool, colour: u8, column: u8) -> u8
+    requires { (colour < quandle.now.order) × (column < quandle.now.order) }
+    ensures is { result ≡ passed_rightward quandle.now up colour column }
+    ensures below { result < quandle.now.order }
+{
+    rightward(&quandle.operations(), up, colour, column)
+}
+
 /// What a colour becomes under a column, from right to left: what it was before it passed to the right.
 ///
 /// Both are colours below the order, the second that of the column.
 #[tactic(auto, using(crate::proofs::Turning::leftward_by_turning))]
+pub fn leftward(quandle: &Operations, up: bool, colour: u8, column: u8) -> u8
+    requires { (colour < quandle.now.order) × (column < quandle.now.order) }
+    ensures is { result ≡ passed_leftward quandle.now up colour column }
+    ensures below { result < quandle.now.order }
+{
+    rightward(quandle, !up, colour, column)
+}
+
+/// The same by a quandle.
 pub fn passed_leftward(quandle: &Quandle, up: bool, colour: u8, column: u8) -> u8
     requires { (colour < quandle.now.order) × (column < quandle.now.order) }
     ensures is { result ≡ passed_leftward quandle.now up colour column }
     ensures below { result < quandle.now.order }
 {
-    passed_rightward(quandle, !up, colour, column)
+    leftward(&quandle.operations(), up, colour, column)
 }
 
 /// The last colour of the walk of a row, which starts with the colour of the row's left end.

@@ -34,7 +34,7 @@ use Rattle.colour_seeds.proofs.Settlings.{one_leaf, spread_more, one_times, seed
 use Rattle.colour_seeds.proofs.Levels.{cut, cut_as_often, equally_many, plan_level}
 
 -- lists of the same numbers
-by_place : (n : ℕ) (xs ys : List ℕ) → length xs ≡ n → length ys ≡ n → ((v : ℕ) → v < n → get_or xs v 0 ≡ get_or ys v 0) → xs ≡ ys
+pub by_place : (n : ℕ) (xs ys : List ℕ) → length xs ≡ n → length ys ≡ n → ((v : ℕ) → v < n → get_or xs v 0 ≡ get_or ys v 0) → xs ≡ ys
 by_place n xs ys long as_long same = same_number_lists xs ys (long ∙ sym as_long) (λ v lt. same v (omega (arith, lt, long)))
 
 tallied_at : (w : Cochain) (d : Diagram) (counts : List ℕ) (level : List (List ℕ)) (v : ℕ) → v < w.modulus
@@ -80,7 +80,7 @@ tallied_one w d counts f u n long is below next =
     ])
 
 -- at most so many leaves
-each_length : (s : List ℕ → List (List ℕ)) (m c : ℕ) (f : List ℕ) → ((g : List ℕ) → length (s g) ≤ m) → (n : ℕ) → length (flat_map s (spread n c f)) ≤ n * m
+pub each_length : (s : List ℕ → List (List ℕ)) (m c : ℕ) (f : List ℕ) → ((g : List ℕ) → length (s g) ≤ m) → (n : ℕ) → length (flat_map s (spread n c f)) ≤ n * m
 each_length s m c f each zero = omega arith
 each_length s m c f each (suc n) =
     let e = ap length (ap (λ (k : ℕ). flat_map s (spread k c f)) (sym (add-one n)) ∙ spread_more s c n f) ∙ length-append (flat_map s (spread n c f)) (s (set f c n)) in
@@ -155,7 +155,7 @@ same_counts p xs ys same once =
     sym (length-filter p xs)
     ∙ (equally_many (filter p xs) (filter p ys) (λ f. same_once p xs ys same f (p f) refl) (λ f. at_most_once p ys once f (p f) refl) ∙ length-filter p ys)
 
-cut_colourings : (t : Table) (d : Diagram) → IsGrid d → (level : List (List ℕ)) → IsLevelAt t d (size d) level → All (IsColouring t d) (cut d level)
+pub cut_colourings : (t : Table) (d : Diagram) → IsGrid d → (level : List (List ℕ)) → IsLevelAt t d (size d) level → All (IsColouring t d) (cut d level)
 cut_colourings t d grid level l =
     All-map (IsColouring t d) (take (size d)) level (All-weaker (Ends t d) (λ g. IsColouring t d (take (size d) g)) (cut_colouring t d grid) level l.sound)
 

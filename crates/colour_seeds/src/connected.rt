@@ -2,20 +2,20 @@
 ghost use Rattle.std.specs.Prelude.{◌≡◌, ◌<◌, ℕ, Bool, None, true, false, slice_index_or, length, IfSome};
 ghost use Rattle.std.specs.List.{list_all, range_with_len};
 ghost use Rattle.quandle_core.specs.Quandle.{over, back};
-ghost use Rattle.quandle_core.specs.declared.quandle.TheConstants.{MAX_ORDER};
+ghost use Rattle.quandle_core.specs.declared.operations.TheConstants.{MAX_LARGE_ORDER};
 ghost use Rattle.colour_seeds.specs.Connected.{IsConnected, IsStable};
 
-use quandle_core::{MAX_ORDER, Quandle};
+use quandle_core::{MAX_LARGE_ORDER, Operations};
 
 /// Whether a quandle is connected (Joyce 1982): from each colour, a chain of operations `x ▷ y` and `x ◁ y` leads to each other.
 ///
 /// Takes no memory.
-pub fn is_connected(quandle: &Quandle) -> bool
+pub fn is_connected(quandle: &Operations) -> bool
     ensures connected { result ≡ true → IsConnected quandle.now }
     ensures only { IsConnected quandle.now → result ≡ true }
 {
     let _order = quandle.order();
-    let mut reached = [false; MAX_ORDER];
+    let mut reached = [false; MAX_LARGE_ORDER];
     reached[0] = true;
     while let Some(colour) = next_reached(quandle, &reached) {
         reached[colour as usize] = true;
@@ -24,7 +24,7 @@ pub fn is_connected(quandle: &Quandle) -> bool
 }
 
 /// Whether each colour is reached.
-fn reaches_all(quandle: &Quandle, reached: &[bool; MAX_ORDER]) -> bool
+fn reaches_all(quandle: &Operations, reached: &[bool; MAX_LARGE_ORDER]) -> bool
     ensures { result ≡ list_all (λ x. slice_index_or reached.now x false) (range_with_len 0 quandle.now.order) }
 {
     let _order = quandle.order();
@@ -32,7 +32,7 @@ fn reaches_all(quandle: &Quandle, reached: &[bool; MAX_ORDER]) -> bool
 }
 
 /// A colour that is not reached yet, and that an operation gives of one that is.
-fn next_reached(quandle: &Quandle, reached: &[bool; MAX_ORDER]) -> Option<u8>
+fn next_reached(quandle: &Operations, reached: &[bool; MAX_LARGE_ORDER]) -> Option<u8>
     ensures fresh { IfSome result (λ z. (z < quandle.now.order) × (slice_index_or reached.now z false ≡ false)) }
     ensures only { IfSome result (λ z. (p : ℕ → Bool) → IsStable quandle.now p
         → ((x : ℕ) → x < quandle.now.order → slice_index_or reached.now x false ≡ true → p x ≡ true) → p z ≡ true) }
@@ -50,7 +50,7 @@ fn next_reached(quandle: &Quandle, reached: &[bool; MAX_ORDER]) -> Option<u8>
 }
 
 /// A colour that is not reached yet, and that an operation gives of this one.
-fn next_from(quandle: &Quandle, reached: &[bool; MAX_ORDER], colour: u8) -> Option<u8>
+fn next_from(quandle: &Operations, reached: &[bool; MAX_LARGE_ORDER], colour: u8) -> Option<u8>
     requires colour { colour < quandle.now.order }
     ensures fresh { IfSome result (λ z. (z < quandle.now.order) × (slice_index_or reached.now z false ≡ false)) }
     ensures only { IfSome result (λ z. (p : ℕ → Bool) → IsStable quandle.now p → p colour ≡ true → p z ≡ true) }

@@ -19,7 +19,7 @@ use crate::seeding::Seeding;
 use crate::settling::{Colours, closes, row_at, settle_left, settle_right};
 use colour_rows::{Row, Spans};
 use grid_core::{Grid, MAX_SIZE};
-use quandle_core::Quandle;
+use quandle_core::Operations;
 use std::alloc::{AllocFailed, Global};
 
 /// The greatest number of choices of a colour for each seed that is tried.
@@ -55,7 +55,7 @@ impl From<AllocFailed<u32>> for CountFault {
 }
 
 /// Whether the order of the quandle to the power of the number of seeds is at most `MAX_CANDIDATES`. Takes no memory.
-pub fn fits(quandle: &Quandle, seeding: &Seeding) -> bool
+pub fn fits(quandle: &Operations, seeding: &Seeding) -> bool
     ensures { result ≡ fits quandle.now seeding.now }
 {
     let _order = quandle.order();
@@ -76,7 +76,7 @@ fn seed_count(steps: &[Step]) -> usize
 pub fn count(
     alloc: Global,
     grid: &Grid,
-    quandle: &Quandle,
+    quandle: &Operations,
     seeding: &Seeding,
 ) -> Result<u32, CountFault>
     requires plan { IsPlan grid.now seeding.now }
@@ -94,7 +94,7 @@ pub fn count(
 }
 
 /// How many colourings the steps of a plan find. Of a connected quandle as many have each colour in the first seed, so that it takes the colour 0 alone.
-fn count_all(grid: &Grid, rows: &[Row], quandle: &Quandle, steps: &[Step]) -> u32
+fn count_all(grid: &Grid, rows: &[Row], quandle: &Operations, steps: &[Step]) -> u32
     requires rows { rows.now ≡ map (equation grid.now) (range_with_len 0 (size grid.now)) }
     requires plan { IsPlan grid.now steps.now }
     requires few { quandle.now.order ^ seeds_in steps.now ≤ MAX_CANDIDATES }
@@ -128,7 +128,7 @@ pub(crate) fn rows_of(alloc: Global, grid: &Grid) -> Result<Vec<Row>, AllocFaile
 fn count_from(
     grid: &Grid,
     rows: &[Row],
-    quandle: &Quandle,
+    quandle: &Operations,
     steps: &[Step],
     colours: &mut Colours,
 ) -> u32
@@ -172,7 +172,7 @@ fn count_from(
 fn count_each(
     grid: &Grid,
     rows: &[Row],
-    quandle: &Quandle,
+    quandle: &Operations,
     steps: &[Step],
     colours: &Colours,
     column: u8,

@@ -17,11 +17,11 @@ use crate::counting::{CountFault, fits, rows_of};
 use crate::progress::Step;
 use crate::seeding::Seeding;
 use crate::settling::{Colours, closes, row_at, settle_left, settle_right};
-use cocycle_core::Cocycle;
+use cocycle_core::Values;
 use colour_rows::Row;
 use colour_weights::weight_by_rows;
 use grid_core::{Grid, MAX_SIZE};
-use quandle_core::Quandle;
+use quandle_core::Operations;
 use std::alloc::{AllocFailed, Global};
 
 /// For each weight from 0 to the modulus less one, the number of colourings of the grid that have it, by seeds of the grid. The colourings are not kept.
@@ -30,7 +30,7 @@ use std::alloc::{AllocFailed, Global};
 pub fn weights_by_seeds(
     alloc: Global,
     grid: &Grid,
-    cocycle: &Cocycle,
+    cocycle: &Values,
     seeding: &Seeding,
 ) -> Result<Vec<u32>, CountFault>
     requires plan { IsPlan grid.now seeding.now }
@@ -75,8 +75,8 @@ fn zeros(alloc: Global, modulus: u8) -> Result<Vec<u32>, AllocFailed<u32>>
 fn tally_from(
     grid: &Grid,
     rows: &[Row],
-    cocycle: &Cocycle,
-    quandle: &Quandle,
+    cocycle: &Values,
+    quandle: &Operations,
     steps: &[Step],
     colours: &mut Colours,
     counts: &mut [u32],
@@ -123,8 +123,8 @@ fn tally_from(
 fn tally_each(
     grid: &Grid,
     rows: &[Row],
-    cocycle: &Cocycle,
-    quandle: &Quandle,
+    cocycle: &Values,
+    quandle: &Operations,
     steps: &[Step],
     colours: &Colours,
     column: u8,
@@ -151,8 +151,8 @@ fn tally_each(
 /// One more of the weight of a list of colours.
 fn count_weight(
     grid: &Grid,
-    cocycle: &Cocycle,
-    quandle: &Quandle,
+    cocycle: &Values,
+    quandle: &Operations,
     colours: &Colours,
     counts: &mut [u32],
 )

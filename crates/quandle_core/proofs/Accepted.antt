@@ -9,7 +9,7 @@ use Rattle.std.proofs.lemmas.List.Sums.{passes_at_first, fails_before_first}
 use Rattle.std.proofs.lemmas.Map.Keys.{IsDistinct-from_apart}
 use Rattle.std.proofs.lemmas.Map.Steps.{length-le_from_distinct_below}
 use Rattle.quandle_core.specs.Quandle.{Table, IsQuandle, over, back}
-use Rattle.quandle_core.specs.Fault.{first, order_fault, length_fault, range_fault, idempotent_fault, collision_fault, distributive_fault, first_fault, range_case, idempotent_case, collision_case, distributive_case, collides, distributes, or_else}
+use Rattle.quandle_core.specs.Fault.{first, order_fault, length_fault, range_fault, idempotent_fault, collision_fault, distributive_fault, law_fault, first_fault_within, first_fault, range_case, idempotent_case, collision_case, distributive_case, collides, distributes, or_else}
 use Rattle.quandle_core.specs.declared.fault.QuandleFault.TheVariants.{Order, Length, Range, Idempotent, Collision, Distributive}
 use Rattle.quandle_core.specs.declared.quandle.TheConstants.{MAX_ORDER}
 use Rattle.quandle_core.proofs.Firsts.{first_none, first_all, unless_none, unless_true, both_none, none_else}
@@ -102,18 +102,17 @@ over_back_is t x y lt =
     (passes_at_first (λ z. over t z y == x) (range_with_len 0 t.order) 0 (omega (arith, length-range_with_len 0 t.order)))
 
 -- a table that keeps below its order, with its first and third law, and with no two equal entries in a column
-pub quandle_from : (t : Table) → 1 ≤ t.order → t.order ≤ MAX_ORDER → length t.entries ≡ t.order * t.order
+pub quandle_from : (t : Table) → 1 ≤ t.order → length t.entries ≡ t.order * t.order
     → ((x y : ℕ) → x < t.order → y < t.order → over t x y < t.order)
     → ((x : ℕ) → x < t.order → over t x x ≡ x)
     → ((x z y : ℕ) → x < t.order → z < t.order → y < t.order → over t x y ≡ over t z y → x ≡ z)
     → ((x y z : ℕ) → x < t.order → y < t.order → z < t.order → over t (over t x y) z ≡ over t (over t x z) (over t y z))
     → IsQuandle t
-quandle_from t least most square within idempotent apart distributive =
+quandle_from t least square within idempotent apart distributive =
     let found : (x y : ℕ) → x < t.order → y < t.order → back t x y < t.order =
     λ x y at by_y. reached (λ z. over t z y) t.order x (λ z lt. within z y lt by_y) (λ a b lt also e. apart a b y lt also by_y e) at in
     record {
       least = least;
-      most = most;
       square = square;
       within = within;
       idempotent = idempotent;
@@ -126,19 +125,23 @@ quandle_from t least most square within idempotent apart distributive =
       distributive = distributive;
     }
 
--- a table without a fault is a quandle
-pub quandle_from_none : (t : Table) → first_fault t ≡ None → IsQuandle t
-quandle_from_none t none =
-    let one = both_none (order_fault t)
-    (or_else (length_fault t) (or_else (range_fault t) (or_else (idempotent_fault t) (or_else (collision_fault t) (distributive_fault t))))) none in
+-- a table without a fault is a quandle whose order is within the bound
+pub quandle_within : (most : ℕ) (t : Table) → first_fault_within most t ≡ None → IsQuandle t × (t.order ≤ most)
+quandle_within most t none =
+    let one = both_none (order_fault most t) (law_fault t) none in
     let two = both_none (length_fault t) (or_else (range_fault t) (or_else (idempotent_fault t) (or_else (collision_fault t) (distributive_fault t)))) one.1 in
     let three = both_none (range_fault t) (or_else (idempotent_fault t) (or_else (collision_fault t) (distributive_fault t))) two.1 in
     let four = both_none (idempotent_fault t) (or_else (collision_fault t) (distributive_fault t)) three.1 in
     let five = both_none (collision_fault t) (distributive_fault t) four.1 in
-    let orders = and_parts (nat_le 1 t.order) (nat_le t.order MAX_ORDER) (unless_none (nat_le 1 t.order && nat_le t.order MAX_ORDER) Order one.0) in
-    quandle_from t (leb-true 1 t.order orders.0) (leb-true t.order MAX_ORDER orders.1)
-    (eqb-true (length t.entries) (t.order * t.order) (unless_none (length t.entries == t.order * t.order) Length two.0))
-    (all_within t three.0) (all_idempotent t four.0) (λ x z y at also by_y e. injective t five.0 x z y at also by_y e) (all_distributive t five.1)
+    let orders = and_parts (nat_le 1 t.order) (nat_le t.order most) (unless_none (nat_le 1 t.order && nat_le t.order most) Order one.0) in (
+      quandle_from t (leb-true 1 t.order orders.0)
+          (eqb-true (length t.entries) (t.order * t.order) (unless_none (length t.entries == t.order * t.order) Length two.0))
+          (all_within t three.0) (all_idempotent t four.0) (λ x z y at also by_y e. injective t five.0 x z y at also by_y e) (all_distributive t five.1),
+      leb-true t.order most orders.1,
+    )
+
+pub quandle_from_none : (t : Table) → first_fault t ≡ None → IsQuandle t
+quandle_from_none t none = (quandle_within MAX_ORDER t none).0
 
 -- a quandle takes no value twice in a column
 pub apart_in_column : (t : Table) → IsQuandle t → (x z y : ℕ) → x < t.order → z < t.order → y < t.order → over t x y ≡ over t z y → x ≡ z
@@ -150,11 +153,11 @@ no_two t q x z y at also by_y false is = refl
 no_two t q x z y at also by_y true is =
     ne_eqb (over t x y) (over t z y) (λ e. let same = apart_in_column t q x z y at also by_y e in let less = ltb-true x z is in absurd (omega arith))
 
--- a quandle has no fault
-pub none_from_quandle : (t : Table) → IsQuandle t → first_fault t ≡ None
-none_from_quandle t q =
-    none_else (order_fault t) _ (unless_true (nat_le 1 t.order && nat_le t.order MAX_ORDER) Order
-    (and_from (nat_le 1 t.order) (nat_le t.order MAX_ORDER) (le-leb 1 t.order q.least) (le-leb t.order MAX_ORDER q.most)))
+-- a quandle whose order is within the bound has no fault
+pub none_within : (most : ℕ) (t : Table) → IsQuandle t → t.order ≤ most → first_fault_within most t ≡ None
+none_within most t q few =
+    none_else (order_fault most t) _ (unless_true (nat_le 1 t.order && nat_le t.order most) Order
+    (and_from (nat_le 1 t.order) (nat_le t.order most) (le-leb 1 t.order q.least) (le-leb t.order most few)))
     (none_else (length_fault t) _ (unless_true (length t.entries == t.order * t.order) Length (eq-eqb (length t.entries) (t.order * t.order) q.square))
     (none_else (range_fault t) _
     (first_all (λ x. first t.order (λ y. range_case t x y)) t.order
@@ -172,3 +175,10 @@ none_from_quandle t q =
     (λ y by_y. first_all (λ z. distributive_case t x y z) t.order
     (λ z by_z. unless_true (distributes t x y z) (Distributive x y z)
     (eq-eqb (over t (over t x y) z) (over t (over t x z) (over t y z)) (q.distributive x y z at by_y by_z))))))))))
+
+pub none_from_quandle : (t : Table) → IsQuandle t → t.order ≤ MAX_ORDER → first_fault t ≡ None
+none_from_quandle t q few = none_within MAX_ORDER t q few
+
+-- where the order is within the bound, the bound doesn't matter
+pub same_fault : (most : ℕ) (t : Table) → t.order ≤ most → first_fault_within t.order t ≡ first_fault_within most t
+same_fault most t few = rw (le-leb t.order t.order (omega arith), le-leb t.order most few) refl

@@ -27,10 +27,9 @@ cell_apart : (cells : List ℕ) (y x k j a : ℕ) → y * MAX_ORDER + x ≢ k * 
 cell_apart cells y x k j a other = get_or-set_other cells (y * MAX_ORDER + x) (k * MAX_ORDER + j) a 0 (λ e. other (sym e))
 
 -- one colour more in column y
-pub laid_out_more : (t : Table) → IsQuandle t → (forward backward : List ℕ) (y x z : ℕ) → y < t.order → x < t.order → z ≡ over t x y
+pub laid_out_more : (t : Table) → IsQuandle t → t.order ≤ MAX_ORDER → (forward backward : List ℕ) (y x z : ℕ) → y < t.order → x < t.order → z ≡ over t x y
     → IsLaidOut t forward backward y x → IsLaidOut t (set forward (y * MAX_ORDER + x) z) (set backward (y * MAX_ORDER + z) x) y (x + 1)
-laid_out_more t q forward backward y x z by_y at z_is so_far =
-    let most = q.most in
+laid_out_more t q most forward backward y x z by_y at z_is so_far =
     record {
       long = length-set forward (y * MAX_ORDER + x) z ∙ so_far.long;
       as_long = length-set backward (y * MAX_ORDER + z) x ∙ so_far.as_long;

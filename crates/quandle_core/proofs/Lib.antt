@@ -4,6 +4,7 @@ pub mod Accepted
 pub mod Leasts
 pub mod FirstFaults
 pub mod Columns
+pub mod LargeColumns
 pub mod Lengths
 pub mod Distributed
 pub mod Linear

@@ -59,7 +59,7 @@ linear_is n a b u least most one unit =
     let f : ℕ → ℕ → ℕ = λ x y. (a * x + b * y) % n in
     let small : (x y : ℕ) → f x y < n = λ x y. mod_below (a * x + b * y) n least in
     let at : (x y : ℕ) → x < n → y < n → over (linear n a b) x y ≡ f x y = λ x y lt also. entry n f x y lt also in
-    quandle_from (linear n a b) least most (length_entries n f)
+    quandle_from (linear n a b) least (length_entries n f)
     (λ x y lt also. let e = at x y lt also in let s = small x y in omega arith)
     (λ x lt. at x x lt lt ∙ same_first n a b x one lt)
     (λ x z y lt also by_y e.

@@ -1,6 +1,7 @@
 -- Worked examples, by computing.
 use Rattle.std.proofs.Common.{◌≡◌, ◌∷◌, [], refl, None, Some, true, false}
 use Rattle.quandle_core.specs.declared.quandle.TheConstants.{MAX_ORDER}
+use Rattle.quandle_core.specs.declared.operations.TheConstants.{MAX_LARGE_ORDER}
 use Rattle.quandle_core.specs.Quandle.{over, back}
 use Rattle.quandle_core.specs.Tables.{dihedral, alexander, tetrahedral, is_unit}
 use Rattle.quandle_core.specs.Fault.{first_fault}
@@ -10,6 +11,10 @@ use Rattle.quandle_core.specs.declared.fault.QuandleFault.TheVariants.{Order, Le
 -- the one place that says the largest order by its number, beside the constant
 largest_order : MAX_ORDER ≡ 32
 largest_order = refl
+
+-- and the one that says that of larger quandles
+largest_large_order : MAX_LARGE_ORDER ≡ 128
+largest_large_order = refl
 
 -- 0 ▷ 1 = 2 in the dihedral quandle of order 3
 reflected : over (dihedral 3) 0 1 ≡ 2

@@ -24,8 +24,9 @@ first_of at (x ∷ xs) = or_else (at x) (first_of at xs)
 abbrev pub first : {A : Type 0} → ℕ → (ℕ → Option A) → Option A
 first n at = first_of at (range_with_len 0 n)
 
-abbrev pub order_fault : Table → Option QuandleFault
-order_fault t = unless (nat_le 1 t.order && nat_le t.order MAX_ORDER) Order
+-- the order lies from 1 to the greatest
+abbrev pub order_fault : ℕ → Table → Option QuandleFault
+order_fault most t = unless (nat_le 1 t.order && nat_le t.order most) Order
 
 abbrev pub length_fault : Table → Option QuandleFault
 length_fault t = unless (length t.entries == t.order * t.order) Length
@@ -67,7 +68,14 @@ collision_fault t = first t.order (λ x. first t.order (λ z. first t.order (λ 
 abbrev pub distributive_fault : Table → Option QuandleFault
 distributive_fault t = first t.order (λ x. first t.order (λ y. first t.order (λ z. distributive_case t x y z)))
 
--- order, length, range, idempotent, collision, distributive, in this order
+-- length, range, idempotent, collision, distributive, in this order
+abbrev pub law_fault : Table → Option QuandleFault
+law_fault t = or_else (length_fault t) (or_else (range_fault t) (or_else (idempotent_fault t) (or_else (collision_fault t) (distributive_fault t))))
+
+-- the order, which is to be at most the first number, and then the laws
+abbrev pub first_fault_within : ℕ → Table → Option QuandleFault
+first_fault_within most t = or_else (order_fault most t) (law_fault t)
+
+-- the same where the order is to be at most MAX_ORDER
 abbrev pub first_fault : Table → Option QuandleFault
-first_fault t =
-    or_else (order_fault t) (or_else (length_fault t) (or_else (range_fault t) (or_else (idempotent_fault t) (or_else (collision_fault t) (distributive_fault t)))))
+first_fault t = first_fault_within MAX_ORDER t

@@ -1,7 +1,6 @@
 -- Finite quandles (Joyce 1982), also called distributive groupoids (Matveev 1982).
 use Rattle.std.specs.Prelude.{◌≡◌, ◌<◌, ◌≤◌, ◌+◌, ◌*◌, ◌==◌, ℕ, List, length, slice_index}
 use Rattle.std.specs.List.{range_with_len, position_or_len}
-use Rattle.quandle_core.specs.declared.quandle.TheConstants.{MAX_ORDER}
 
 -- the table of an operation on the numbers below the order, row by row
 pub record Table : Type 0 where
@@ -19,7 +18,6 @@ back t x y = position_or_len (λ z. over t z y == x) (range_with_len 0 t.order)
 -- a table with the three laws of a quandle
 pub record IsQuandle (t : Table) : Type 0 where
   pub least : 1 ≤ t.order
-  pub most : t.order ≤ MAX_ORDER
   pub square : length t.entries ≡ t.order * t.order
   pub within : (x y : ℕ) → x < t.order → y < t.order → over t x y < t.order
   -- x ▷ x = x

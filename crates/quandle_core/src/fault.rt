@@ -1,14 +1,12 @@
 //! Why a table is no quandle.
 ghost use Rattle.std.specs.Prelude.{◌≡◌, ◌<◌, ◌*◌, length, None};
-ghost use Rattle.quandle_core.specs.Quandle.{over};
-ghost use Rattle.quandle_core.specs.Fault.{or_else, order_fault, length_fault, range_fault, idempotent_fault, collision_fault, distributive_fault, collides, distributes};
-
-use crate::quandle::MAX_ORDER;
+ghost use Rattle.quandle_core.specs.Quandle.{Table, over};
+ghost use Rattle.quandle_core.specs.Fault.{or_else, order_fault, length_fault, range_fault, idempotent_fault, collision_fault, distributive_fault, first_fault_within, collides, distributes};
 
 /// The first law that a table breaks, with its lexicographically first case.
 #[derive(Clone, Copy, Debug, PartialEq, Eq)]
 pub enum QuandleFault {
-    /// The order lies outside 1 to `MAX_ORDER`.
+    /// The order lies outside 1 to the greatest.
     Order,
     /// The table's length is not the order squared.
     Length,
@@ -33,11 +31,30 @@ pub(crate) fn entry(order: u8, table: &[u8], x: u8, y: u8) -> u8
     table[x as usize * order as usize + y as usize]
 }
 
-/// Whether the order or the length is wrong.
-pub(crate) fn shape_fault(order: u8, table: &[u8]) -> Option<QuandleFault>
-    ensures { result ≡ or_else (order_fault (record { order = order; entries = table.now })) (length_fault (record { order = order; entries = table.now })) }
+/// The first law that a table breaks, whose order is to be at most `most`, with its lexicographically first case.
+pub(crate) fn table_fault(most: usize, order: u8, table: &[u8]) -> Option<QuandleFault>
+    ensures { result ≡ first_fault_within most (record { order = order; entries = table.now }) }
 {
-    if order < 1 || order as usize > MAX_ORDER {
+    if let Some(fault) = shape_fault(most, order, table) {
+        return Some(fault);
+    }
+    if let Some(fault) = range_fault(order, table) {
+        return Some(fault);
+    }
+    if let Some(fault) = idempotent_fault(order, table) {
+        return Some(fault);
+    }
+    if let Some(fault) = collision_fault(order, table) {
+        return Some(fault);
+    }
+    distributive_fault(order, table)
+}
+
+/// Whether the order or the length is wrong.
+fn shape_fault(most: usize, order: u8, table: &[u8]) -> Option<QuandleFault>
+    ensures { let t : Table = record { order = order; entries = table.now } in result ≡ or_else (order_fault most t) (length_fault t) }
+{
+    if order < 1 || order as usize > most {
         return Some(QuandleFault::Order);
     }
     if table.len() != order as usize * order as usize {
@@ -47,7 +64,7 @@ pub(crate) fn shape_fault(order: u8, table: &[u8]) -> Option<QuandleFault>
 }
 
 /// The first entry outside the order.
-pub(crate) fn range_fault(order: u8, table: &[u8]) -> Option<QuandleFault>
+fn range_fault(order: u8, table: &[u8]) -> Option<QuandleFault>
     requires square { length table.now ≡ order * order }
     ensures { result ≡ range_fault (record { order = order; entries = table.now }) }
 {
@@ -62,7 +79,7 @@ pub(crate) fn range_fault(order: u8, table: &[u8]) -> Option<QuandleFault>
 }
 
 /// The first `x` with another `x ▷ x`.
-pub(crate) fn idempotent_fault(order: u8, table: &[u8]) -> Option<QuandleFault>
+fn idempotent_fault(order: u8, table: &[u8]) -> Option<QuandleFault>
     requires square { length table.now ≡ order * order }
     ensures { result ≡ idempotent_fault (record { order = order; entries = table.now }) }
 {
@@ -75,7 +92,7 @@ pub(crate) fn idempotent_fault(order: u8, table: &[u8]) -> Option<QuandleFault>
 }
 
 /// The first two equal entries of a column.
-pub(crate) fn collision_fault(order: u8, table: &[u8]) -> Option<QuandleFault>
+fn collision_fault(order: u8, table: &[u8]) -> Option<QuandleFault>
     requires square { length table.now ≡ order * order }
     ensures { result ≡ collision_fault (record { order = order; entries = table.now }) }
 {
@@ -92,7 +109,7 @@ pub(crate) fn collision_fault(order: u8, table: &[u8]) -> Option<QuandleFault>
 }
 
 /// The first case that breaks the third law.
-pub(crate) fn distributive_fault(order: u8, table: &[u8]) -> Option<QuandleFault>
+fn distributive_fault(order: u8, table: &[u8]) -> Option<QuandleFault>
     requires square { length table.now ≡ order * order }
     requires within { range_fault (record { order = order; entries = table.now }) ≡ None }
     ensures { result ≡ distributive_fault (record { order = order; entries = table.now }) }

@@ -2,19 +2,19 @@
 ghost use Rattle.std.specs.Prelude.{◌≡◌, ◌<◌, ◌≤◌, ◌↔◌, ℕ, Some, None, true};
 ghost use Rattle.quandle_core.specs.Quandle.{Table, IsQuandle, over, back};
 ghost use Rattle.quandle_core.specs.Tables.{trivial, dihedral, alexander, tetrahedral, is_unit};
-ghost use Rattle.quandle_core.specs.Fault.{first_fault};
+ghost use Rattle.quandle_core.specs.Fault.{first_fault_within};
 ghost use Rattle.quandle_core.specs.Cases.{IsFirstFault};
 ghost use Rattle.quandle_core.specs.declared.fault.QuandleFault.{QuandleFault};
 ghost use Rattle.quandle_core.specs.declared.quandle.TheConstants.{MAX_ORDER};
 
-/// A table has no fault exactly where it is a quandle.
+/// A table has no fault exactly where it is a quandle whose order is within the bound.
 pub fn no_fault_is_a_quandle()
-    ensures { (t : Table) → (first_fault t ≡ None) ↔ IsQuandle t }
+    ensures { (most : ℕ) (t : Table) → (first_fault_within most t ≡ None) ↔ IsQuandle t × (t.order ≤ most) }
 {}
 
 /// The first fault is exactly the one whose case fails, where no earlier law fails and no lexicographically smaller case of its own law.
 pub fn the_first_fault_comes_first()
-    ensures { (t : Table) (fault : QuandleFault) → (first_fault t ≡ Some fault) ↔ IsFirstFault t fault }
+    ensures { (most : ℕ) (t : Table) (fault : QuandleFault) → (first_fault_within most t ≡ Some fault) ↔ IsFirstFault most t fault }
 {}
 
 /// `x ◁ y` is the one z with `z ▷ y = x`.

@@ -3,11 +3,15 @@
 #![tactic(auto)]
 
 mod fault;
+mod large;
 pub mod laws;
+mod operations;
 mod quandle;
 mod tables;
 #[cfg(test)]
 mod tests;
 
 pub use fault::QuandleFault;
+pub use large::{LargeFault, LargeQuandle};
+pub use operations::{MAX_LARGE_ORDER, Operations};
 pub use quandle::{MAX_ORDER, MAX_TABLE, Quandle};

@@ -1,13 +1,13 @@
 //! A quandle and its two operations.
-ghost use Rattle.std.specs.Prelude.{◌≡◌, ◌<◌, ◌*◌, IfOk};
+ghost use Rattle.std.specs.Prelude.{◌≡◌, ◌<◌, ◌≤◌, ◌*◌, IfOk};
 ghost use Rattle.std.specs.Result.{result_err};
 ghost use Rattle.quandle_core.specs.Quandle.{IsQuandle, over, back};
+ghost use Rattle.quandle_core.specs.declared.quandle.TheConstants.{MAX_ORDER};
 ghost use Rattle.quandle_core.specs.Fault.{first_fault};
 
-use crate::fault::{
-    QuandleFault, collision_fault, distributive_fault, entry, idempotent_fault, range_fault,
-    shape_fault,
-};
+use crate::fault::{QuandleFault, entry, table_fault};
+use crate::operations::Operations;
+use arrayvec::ArrayVec;
 use std::marker::Model;
 
 /// The greatest order of a quandle.
@@ -28,7 +28,8 @@ pub struct Quandle {
 }
 
 impl Model for Quandle {
-    ghost use Rattle.std.specs.Prelude.{◌≡◌, ◌<◌, ℕ};
+    ghost use Rattle.std.specs.Prelude.{◌≡◌, ◌<◌, ◌≤◌, ℕ};
+    ghost use Rattle.quandle_core.specs.declared.quandle.TheConstants.{MAX_ORDER};
     ghost use Rattle.quandle_core.specs.Quandle.{Table, IsQuandle, back};
     ghost use Rattle.quandle_core.specs.Tables.{table_of};
     ghost use Rattle.quandle_core.specs.Columns.{cell};
@@ -37,7 +38,7 @@ impl Model for Quandle {
 
     ghost view = { λ q. table_of q.order (cell q.forward) };
 
-    ghost invariant = { λ q. IsQuandle (table_of q.order (cell q.forward))
+    ghost invariant = { λ q. IsQuandle (table_of q.order (cell q.forward)) × (q.order ≤ MAX_ORDER)
         × ((x y : ℕ) → x < q.order → y < q.order → cell q.backward x y ≡ back (table_of q.order (cell q.forward)) x y) };
 }
 
@@ -49,22 +50,19 @@ impl Quandle {
         ensures fault { result_err result ≡ first_fault (record { order = order; entries = table.now }) }
         ensures quandle { IfOk result (λ q. q ≡ record { order = order; entries = table.now }) }
     {
-        if let Some(fault) = shape_fault(order, table) {
-            return Err(fault);
+        match table_fault(MAX_ORDER, order, table) {
+            Some(fault) => Err(fault),
+            None => Ok(of_table(order, table)),
         }
-        if let Some(fault) = range_fault(order, table) {
-            return Err(fault);
-        }
-        if let Some(fault) = idempotent_fault(order, table) {
-            return Err(fault);
-        }
-        if let Some(fault) = collision_fault(order, table) {
-            return Err(fault);
-        }
-        if let Some(fault) = distributive_fault(order, table) {
-            return Err(fault);
-        }
-        Ok(of_table(order, table))
+    }
+
+    /// The quandle of operations on at most `MAX_ORDER` colours. Takes no memory.
+    pub fn of(quandle: &Operations) -> Quandle
+        requires few { quandle.now.order ≤ MAX_ORDER }
+        ensures { result ≡ quandle.now }
+    {
+        let order = quandle.order();
+        of_table(order, entries_of(order, quandle).as_slice())
     }
 
     /// The same quandle again.
@@ -81,9 +79,17 @@ impl Quandle {
     /// The number of colours, from 1 to `MAX_ORDER`.
     pub fn order(&self) -> u8
         ensures order { result ≡ self.now.order }
+        ensures few { result ≤ MAX_ORDER }
         ensures quandle { IsQuandle self.now }
     {
         self.order
+    }
+
+    /// Its operations. Takes no memory.
+    pub fn operations(&self) -> Operations<'_>
+        ensures { result ≡ self.now }
+    {
+        Operations::of_columns(self.order, MAX_ORDER as u8, &self.forward, &self.backward)
     }
 
     /// `x ▷ y`, for colours x and y below the order.
@@ -103,9 +109,26 @@ impl Quandle {
     }
 }
 
+/// The table of a quandle, row by row.
+fn entries_of(order: u8, quandle: &Operations) -> ArrayVec<u8, MAX_TABLE>
+    requires order { order ≡ quandle.now.order }
+    requires few { order ≤ MAX_ORDER }
+    requires laws { IsQuandle quandle.now }
+    ensures { result.items ≡ quandle.now.entries }
+{
+    let size = order as usize;
+    let mut entries = ArrayVec::new();
+    for place in 0..size * size {
+        let value = quandle.over((place / size) as u8, (place % size) as u8);
+        entries.push(value);
+    }
+    entries
+}
+
 /// The quandle of a table that has the three laws.
 pub(crate) fn of_table(order: u8, table: &[u8]) -> Quandle
-    requires { IsQuandle (record { order = order; entries = table.now }) }
+    requires laws { IsQuandle (record { order = order; entries = table.now }) }
+    requires few { order ≤ MAX_ORDER }
     ensures { result ≡ record { order = order; entries = table.now } }
 {
     let mut forward = [0; MAX_TABLE];

@@ -1,7 +1,10 @@
 //! The built-in tables and broken tables, against plain loops.
 use crate::fault::QuandleFault;
+use crate::large::{LargeFault, LargeQuandle};
+use crate::operations::MAX_LARGE_ORDER;
 use crate::quandle::{MAX_ORDER, MAX_TABLE, Quandle};
 use arrayvec::ArrayVec;
+use std::alloc::Global;
 use std::process::Abort;
 use std::test::Fail;
 
@@ -162,6 +165,51 @@ fn broken_tables_are_refused_with_their_first_case(rt: HostRuntime) -> Result<()
     assert_eq!(rt;
         broken,
         Some(QuandleFault::Distributive { x: 0, y: 1, z: 0 })
+    );
+    Ok(())
+}
+
+/// The dihedral table of an order, row by row.
+fn turned(alloc: Global, order: u8) -> Result<Vec<u8>, Fail> {
+    let size = u32::from(order);
+    let mut table = Vec::new(alloc);
+    for x in 0..size {
+        for y in 0..size {
+            table.push(((2 * y + (size - x)) % size) as u8)?;
+        }
+    }
+    Ok(table)
+}
+
+#[test]
+fn larger_tables_are_taken_or_refused_with_their_first_case(rt: HostRuntime) -> Result<(), Fail> {
+    for order in [MAX_ORDER as u8 + 1, 67, MAX_LARGE_ORDER as u8] {
+        let mut table = turned(rt.alloc(), order)?;
+        let Ok(quandle) = LargeQuandle::new(rt.alloc(), order, table.as_slice()) else {
+            return Err(Fail::from("no quandle"));
+        };
+        let operations = quandle.operations();
+        for x in 0..operations.order() {
+            for y in 0..operations.order() {
+                let over = operations.over(x, y);
+                let back = operations.back(x, y);
+                assert_eq!(rt; over, at(table.as_slice(), order, x, y));
+                assert_eq!(rt; at(table.as_slice(), order, back, y), x);
+            }
+        }
+        if table.len() > 1 {
+            table[1] = order;
+        }
+        let fault = QuandleFault::Range { x: 0, y: 1 };
+        assert_eq!(rt;
+            LargeQuandle::new(rt.alloc(), order, table.as_slice()).err(),
+            Some(LargeFault::Broken { fault })
+        );
+    }
+    let fault = QuandleFault::Order;
+    assert_eq!(rt;
+        LargeQuandle::new(rt.alloc(), MAX_LARGE_ORDER as u8 + 1, &[]).err(),
+        Some(LargeFault::Broken { fault })
     );
     Ok(())
 }

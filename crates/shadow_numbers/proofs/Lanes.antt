@@ -1,5 +1,5 @@
 -- Lanes within their diagram, and their weights, which are those of the rows.
-use Rattle.std.proofs.Common.{◌≡◌, ◌<◌, ◌≤◌, ◌+◌, ◌-◌, ◌%◌, ◌++◌, ◌∙◌, ℕ, List, [], ◌∷◌, Bool, true, false, cond, length, map, filter, fold, take, get_or, refl, sym, ap, ap₂, subst, arith, add-one}
+use Rattle.std.proofs.Common.{◌≡◌, ◌<◌, ◌≤◌, ◌+◌, ◌-◌, ◌%◌, ◌++◌, ◌∙◌, ℕ, List, [], ◌∷◌, cond, length, map, filter, fold, take, get_or, refl, sym, ap, ap₂, subst, arith, add-one}
 use Rattle.std.specs.Prelude.{slice_index, if◌then◌else◌}
 use Rattle.std.specs.List.{All, range_with_len, sum_by}
 use Rattle.std.proofs.lemmas.List.{map-append}
@@ -15,6 +15,7 @@ use Rattle.quandle_core.specs.Quandle.{Table}
 use Rattle.colour_rows.specs.declared.equation.Pass.{Pass}
 use Rattle.colour_rows.specs.Walk.{under, passed_rightward}
 use Rattle.colour_rows.proofs.Ranges.{range_longer}
+use Rattle.colour_rows.proofs.Equations.{pass_of, pass_map}
 use Rattle.shadow_weights.specs.declared.walker.Walker.{Walker}
 use Rattle.shadow_weights.specs.Cocycle.{ShadowCochain}
 use Rattle.shadow_weights.specs.WalkSum as walk_sum
@@ -23,13 +24,6 @@ use Rattle.shadow_weights.proofs.RowCounts.{add_mod}
 use Rattle.shadow_numbers.specs.declared.lane.Lane.{Lane}
 use Rattle.shadow_numbers.specs.Lanes.{covering, lane, region_left, region_start, walked, lane_weight, weight_of}
 use Rattle.shadow_numbers.specs.Weighing.{IsWithin}
-
-abbrev pub pass_of : Diagram → ℕ → Pass
-pass_of d c = record { column = c; up = is_up d c }
-
-pass_map : (d : Diagram) (c : ℕ) (b : Bool) → map (pass_of d) (cond b (c ∷ []) []) ≡ cond b (pass_of d c ∷ []) []
-pass_map d c true = refl
-pass_map d c false = refl
 
 -- one column more
 pub covering_more : (d : Diagram) (r from to : ℕ) → from ≤ to → covering d r from (to + 1) ≡ covering d r from to ++ cond (covers d to r) (pass_of d to ∷ []) []

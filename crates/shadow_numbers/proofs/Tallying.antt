@@ -1,11 +1,10 @@
 -- Counts of shadow weights, list by list and colour by colour of the outer region, and all of them at the end.
-use Rattle.std.proofs.Common.{◌≡◌, ◌<◌, ◌≤◌, ◌+◌, ◌*◌, ◌^◌, ◌++◌, ◌==◌, ◌∙◌, ℕ, zero, suc, List, [], ◌∷◌, Bool, cond, length, map, take, get_or, set, replicate, count_by, refl, sym, ap, subst, arith, add-one}
+use Rattle.std.proofs.Common.{◌≡◌, ◌<◌, ◌≤◌, ◌+◌, ◌*◌, ◌^◌, ◌++◌, ◌==◌, ◌∙◌, ℕ, List, [], ◌∷◌, Bool, cond, length, map, take, get_or, replicate, count_by, refl, sym, ap, subst, arith, add-one}
 use Rattle.std.specs.Prelude.{slice_index, slice_set}
-use Rattle.std.specs.List.{All, flat_map, range_with_len, sum_by}
+use Rattle.std.specs.List.{flat_map, range_with_len, sum_by}
 use Rattle.std.proofs.Math.Nat.{pow-suc, mul-le-mul_right}
 use Rattle.std.proofs.lemmas.Bool.{cond-true, cond-false, eq-eqb, ne_eqb}
-use Rattle.std.proofs.lemmas.List.{length-append}
-use Rattle.std.proofs.lemmas.List.Elements.{All-map, All-weaker}
+use Rattle.std.proofs.lemmas.List.Elements.{All-weaker}
 use Rattle.std.proofs.lemmas.List.FromFn.{get_or-map-range_with_len, length-map-range_with_len, length-range_with_len}
 use Rattle.std.proofs.lemmas.List.Sums.{sum_by-cons, sum_by-append, count_by-le-length}
 use Rattle.grid_core.specs.declared.grid.TheConstants.{MAX_SIZE}
@@ -16,9 +15,7 @@ use Rattle.colour_rows.proofs.Ranges.{range_longer}
 use Rattle.colour_list.specs.Listing.{colourings}
 use Rattle.colour_list.specs.Level.{spread, IsLevelAt}
 use Rattle.colour_list.proofs.Counts.{count-cons, count-map, count_agree_on}
-use Rattle.colour_list.proofs.Cut.{Ends, cut_colouring}
 use Rattle.colour_list.proofs.Choices.{listed_most}
-use Rattle.colour_laws.proofs.ByPlaces.{same_at}
 use Rattle.shadow_weights.specs.Cocycle.{ShadowCochain, IsShadowCocycle}
 use Rattle.shadow_weights.specs.Weight.{shadow_weight}
 use Rattle.shadow_weights.specs.WalkSum.{weight_by_rows}
@@ -30,9 +27,9 @@ use Rattle.colour_seeds.specs.declared.progress.Step.{Step}
 use Rattle.colour_seeds.specs.declared.counting.TheConstants.{MAX_CANDIDATES}
 use Rattle.colour_seeds.specs.Plan.{IsPlan, seeds_in}
 use Rattle.colour_seeds.specs.Leaves.{leaves}
-use Rattle.colour_seeds.proofs.Settlings.{spread_more, one_times}
+use Rattle.colour_seeds.proofs.Settlings.{one_times}
 use Rattle.colour_seeds.proofs.Levels.{cut, cut_as_often, plan_level}
-use Rattle.colour_seeds.proofs.Tallying.{length_leaves, same_counts}
+use Rattle.colour_seeds.proofs.Tallying.{by_place, each_length, length_leaves, same_counts, cut_colourings}
 use Rattle.shadow_numbers.specs.Tallies.{has_weight, outers_of, tallied}
 
 -- ---- counts with those of further lists
@@ -44,9 +41,6 @@ tallied_at t d counts level v lt =
 
 pub tallied_long : (t : ShadowCochain) (d : Diagram) (counts : List ℕ) (level : List (List ℕ)) → length (tallied t d counts level) ≡ t.modulus
 tallied_long t d counts level = length-map-range_with_len (λ v. get_or counts v 0 + sum_by (outers_of t d v) level) 0 t.modulus
-
-by_place : (n : ℕ) (xs ys : List ℕ) → length xs ≡ n → length ys ≡ n → ((v : ℕ) → v < n → get_or xs v 0 ≡ get_or ys v 0) → xs ≡ ys
-by_place n xs ys long as_long same = same_at xs ys (long ∙ sym as_long) (λ v lt. same v (omega (arith, lt, as_long)))
 
 pub tallied_none : (t : ShadowCochain) (d : Diagram) (counts : List ℕ) → length counts ≡ t.modulus → counts ≡ tallied t d counts []
 tallied_none t d counts long =
@@ -132,16 +126,6 @@ sum_small t d v (f ∷ level) =
     let cons = sum_by-cons (outers_of t d v) f level in
     omega arith
 
-spread_length : (s : List ℕ → List (List ℕ)) (m c : ℕ) (f : List ℕ) → ((g : List ℕ) → length (s g) ≤ m) → (n : ℕ) → length (flat_map s (spread n c f)) ≤ n * m
-spread_length s m c f each zero = omega arith
-spread_length s m c f each (suc n) =
-    let e = ap length (ap (λ (k : ℕ). flat_map s (spread k c f)) (sym (add-one n)) ∙ spread_more s c n f)
-    ∙ length-append (flat_map s (spread n c f)) (s (set f c n)) in
-    let so_far = spread_length s m c f each n in
-    let here = each (set f c n) in
-    let times = ap (λ (k : ℕ). k * m) (sym (add-one n)) ∙ one_times n m in
-    omega arith
-
 -- there is room for the lists of one colour more
 pub room_each : (w : ShadowCochain) (t : Table) (d : Diagram) (steps : List Step) (counts after : List ℕ) (c n v : ℕ) (f : List ℕ) → v < w.modulus → n < t.order
     → t ≡ w.quandle → after ≡ tallied w d counts (flat_map (leaves t d steps) (spread n c f))
@@ -153,7 +137,7 @@ room_each w t d steps counts after c n v f lt more same is room =
     let at = ap (λ (xs : List ℕ). get_or xs v 0) is ∙ tallied_at w d counts level v lt in
     let order : w.quandle.order ≡ t.order = ap (λ (t : Table). t.order) (sym same) in
     let few = subst (λ (q : ℕ). sum_by (outers_of w d v) level ≤ length level * q) order (sum_small w d v level) in
-    let long : length level * q ≤ n * m * q = mul-le-mul_right q (spread_length (leaves t d steps) m c f (length_leaves t d steps) n) in
+    let long : length level * q ≤ n * m * q = mul-le-mul_right q (each_length (leaves t d steps) m c f (length_leaves t d steps) n) in
     let up : (n + 1) * m * q ≤ t.order * m * q = mul-le-mul_right q (mul-le-mul_right m (omega arith)) in
     let times : (n + 1) * m * q ≡ n * m * q + m * q = ap (λ (k : ℕ). k * q) (one_times n m) ∙ parts (n * m) m q in
     omega (arith, at, few, long, up, times, room)
@@ -183,10 +167,6 @@ swapped p us (f ∷ level) =
         let left = count-cons (p f) u us in
         let right = sum_by-cons (λ u. count_by (λ g. p g u) level) u us in
         omega (arith, whole, one, left, right, added us)
-
-cut_colourings : (t : Table) (d : Diagram) → IsGrid d → (level : List (List ℕ)) → IsLevelAt t d (size d) level → All (IsColouring t d) (cut d level)
-cut_colourings t d grid level l =
-    All-map (IsColouring t d) (take (size d)) level (All-weaker (Ends t d) (λ g. IsColouring t d (take (size d) g)) (cut_colouring t d grid) level l.sound)
 
 -- with one colour of the outer region
 shadow_count : (t : ShadowCochain) (d : Diagram) → IsShadowCocycle t → IsGrid d → (level : List (List ℕ)) → IsLevelAt t.quandle d (size d) level → (v u : ℕ)

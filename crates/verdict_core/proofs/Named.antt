@@ -1,5 +1,5 @@
 -- What a name names.
-use Rattle.std.proofs.Common.{◌≡◌, ◌≢◌, ◌≤◌, ◌&&◌, true, ℕ, Some, refl, sym, subst, nat_le}
+use Rattle.std.proofs.Common.{◌≡◌, ◌≢◌, ◌≤◌, ◌&&◌, true, ℕ, Some, refl, sym, subst, nat_le, arith}
 use Rattle.std.proofs.lemmas.Bool.{le-leb, leb-true, and_parts, and_from}
 use Rattle.std.proofs.lemmas.Option.{cond_some}
 use Rattle.quandle_core.specs.declared.quandle.TheConstants.{MAX_ORDER}
@@ -8,18 +8,42 @@ use Rattle.quandle_core.specs.Tables.{trivial, dihedral, alexander, tetrahedral,
 use Rattle.quandle_core.proofs.Linear.{trivial_is, dihedral_is, alexander_is, tetrahedral_is}
 use Rattle.verdict_core.specs.declared.names.QuandleName.{QuandleName}
 use Rattle.verdict_core.specs.declared.names.QuandleName.TheVariants as name
-use Rattle.verdict_core.specs.Names.{NamedQuandle, IsOrder, Names, is_order, called, quandle_named}
+use Rattle.verdict_core.specs.Names.{NamedQuandle, IsOrder, NamesWithin, Names, is_order, called, quandle_named}
 
 -- it is a quandle
+pub named_within : (most : ℕ) (n : QuandleName) (t : Table) → NamesWithin most n t → IsQuandle t
+named_within most (name.Trivial n) t is = subst IsQuandle (sym is.1) (trivial_is n is.0.0 is.0.1)
+named_within most (name.Dihedral n) t is = subst IsQuandle (sym is.1) (dihedral_is n is.0.0 is.0.1)
+named_within most name.Tetrahedral t is = subst IsQuandle (sym is) tetrahedral_is
+named_within most (name.Alexander n a) t is = subst IsQuandle (sym is.2) (alexander_is n a is.0.0 is.0.1 is.1)
+named_within most name.Table t is = is.0
+
 pub named_is : (n : QuandleName) (t : Table) → Names n t → IsQuandle t
-named_is (name.Trivial n) t is = subst IsQuandle (sym is.1) (trivial_is n is.0.0 is.0.1)
-named_is (name.Dihedral n) t is = subst IsQuandle (sym is.1) (dihedral_is n is.0.0 is.0.1)
-named_is name.Tetrahedral t is = subst IsQuandle (sym is) tetrahedral_is
-named_is (name.Alexander n a) t is = subst IsQuandle (sym is.2) (alexander_is n a is.0.0 is.0.1 is.1)
-named_is name.Table t is = is
+named_is n t is = named_within MAX_ORDER n t is
+
+-- what it names within a bound it names within each greater one
+pub named_wider : (less most : ℕ) (n : QuandleName) (t : Table) → less ≤ most → NamesWithin less n t → NamesWithin most n t
+named_wider less most (name.Trivial n) t wide is = is
+named_wider less most (name.Dihedral n) t wide is = is
+named_wider less most name.Tetrahedral t wide is = is
+named_wider less most (name.Alexander n a) t wide is = is
+named_wider less most name.Table t wide is = (is.0, omega (arith, is.1, wide))
+
+-- the same name of the same quandle
+pub named_alike : (most : ℕ) (n m : QuandleName) (t u : Table) → n ≡ m → t ≡ u → NamesWithin most m u → NamesWithin most n t
+named_alike most n m t u named tabled is =
+    subst (λ (k : QuandleName). NamesWithin most k t) (sym named) (subst (λ (v : Table). NamesWithin most m v) (sym tabled) is)
+
+-- of a bound that is no less than MAX_ORDER, the order is at most the bound
+pub order_within : (most : ℕ) (n : QuandleName) (t : Table) → MAX_ORDER ≤ most → NamesWithin most n t → t.order ≤ most
+order_within most (name.Trivial n) t wide is = subst (λ (u : Table). u.order ≤ most) (sym is.1) (omega (arith, is.0.1, wide))
+order_within most (name.Dihedral n) t wide is = subst (λ (u : Table). u.order ≤ most) (sym is.1) (omega (arith, is.0.1, wide))
+order_within most name.Tetrahedral t wide is = subst (λ (u : Table). u.order ≤ most) (sym is) (omega (arith, wide))
+order_within most (name.Alexander n a) t wide is = subst (λ (u : Table). u.order ≤ most) (sym is.2) (omega (arith, is.0.1, wide))
+order_within most name.Table t wide is = is.1
 
 pub names_order : (n : QuandleName) (t : Table) → Names n t → t.order ≤ MAX_ORDER
-names_order n t is = (named_is n t is).most
+names_order n t is = order_within MAX_ORDER n t (omega arith) is
 
 -- ---- the test of an order
 

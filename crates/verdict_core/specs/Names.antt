@@ -15,13 +15,17 @@ pub record NamedQuandle : Type 0 where
 abbrev pub IsOrder : ℕ → Type 0
 IsOrder n = (1 ≤ n) × (n ≤ MAX_ORDER)
 
--- the name gives the quandle; `Table` is a name of each one
+-- the name gives the quandle; `Table` is a name of each one whose order is at most the first number
+abbrev pub NamesWithin : ℕ → QuandleName → Table → Type 0
+NamesWithin most (name.Trivial n) t = IsOrder n × (t ≡ trivial n)
+NamesWithin most (name.Dihedral n) t = IsOrder n × (t ≡ dihedral n)
+NamesWithin most name.Tetrahedral t = t ≡ tetrahedral
+NamesWithin most (name.Alexander n a) t = IsOrder n × (is_unit n a ≡ true) × (t ≡ alexander n a)
+NamesWithin most name.Table t = IsQuandle t × (t.order ≤ most)
+
+-- the same where the order is at most MAX_ORDER
 abbrev pub Names : QuandleName → Table → Type 0
-Names (name.Trivial n) t = IsOrder n × (t ≡ trivial n)
-Names (name.Dihedral n) t = IsOrder n × (t ≡ dihedral n)
-Names name.Tetrahedral t = t ≡ tetrahedral
-Names (name.Alexander n a) t = IsOrder n × (is_unit n a ≡ true) × (t ≡ alexander n a)
-Names name.Table t = IsQuandle t
+Names = NamesWithin MAX_ORDER
 
 -- the same order as a test
 abbrev pub is_order : ℕ → Bool

@@ -1,16 +1,18 @@
 //! Laws of names and evidence, over the definitions alone.
-ghost use Rattle.std.specs.Prelude.{◌≡◌, ◌≢◌, ◌↔◌, Some};
+ghost use Rattle.std.specs.Prelude.{◌≡◌, ◌≢◌, ◌≤◌, ◌↔◌, ℕ, Some};
 ghost use Rattle.grid_core.specs.Diagram.{Diagram};
+ghost use Rattle.quandle_core.specs.declared.quandle.TheConstants.{MAX_ORDER};
 ghost use Rattle.quandle_core.specs.Quandle.{Table, IsQuandle};
-ghost use Rattle.verdict_core.specs.Names.{NamedQuandle, Names, quandle_named};
+ghost use Rattle.verdict_core.specs.Names.{NamedQuandle, NamesWithin, Names, quandle_named};
 ghost use Rattle.verdict_core.specs.Evidence.{Holds, HasEvidence};
 
 use crate::names::QuandleName;
 use crate::verdict::Verdict;
 
-/// What a name names is a quandle.
+/// What a name names within a bound is a quandle. Its order is at most the bound, which is no less than `MAX_ORDER`.
 pub fn what_a_name_names_is_a_quandle()
-    ensures { (name : QuandleName) (t : Table) → Names name t → IsQuandle t }
+    ensures quandle { (most : ℕ) (name : QuandleName) (t : Table) → NamesWithin most name t → IsQuandle t }
+    ensures few { (most : ℕ) (name : QuandleName) (t : Table) → MAX_ORDER ≤ most → NamesWithin most name t → t.order ≤ most }
 {}
 
 /// Each name but `Table` has one quandle at most, which it names: that of `quandle_named`, where there is one.

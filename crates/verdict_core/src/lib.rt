@@ -3,12 +3,14 @@
 #![tactic(auto)]
 
 mod diagrams;
+mod large_names;
 pub mod laws;
 mod names;
 mod problem;
 mod verdict;
 
 pub use diagrams::Diagram;
+pub use large_names::LargeListed;
 pub use names::{Listed, QuandleName};
 pub use problem::ProblemText;
 pub use verdict::Verdict;

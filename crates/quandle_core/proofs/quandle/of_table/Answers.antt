@@ -7,7 +7,8 @@ use Rattle.quandle_core.proofs.quandle.of_table.Goals as goal
 pub loop-x-preserved : goal.loop-x-preserved
 loop-x-preserved c =
     let t : Table = record { order = c.args.order; entries = c.args.table.now } in
-    laid_out_more t c.requires c.loop-x.forward c.loop-x.backward c.loop-y.y c.loop-x.x c.entry-z.result c.loop-y-test.true c.loop-x-test.true c.entry-z.ensures
+    laid_out_more t c.requires.laws c.requires.few c.loop-x.forward c.loop-x.backward c.loop-y.y c.loop-x.x c.entry-z.result
+    c.loop-y-test.true c.loop-x-test.true c.entry-z.ensures
     c.loop-x.invariant
 
 pub loop-y-preserved : goal.loop-y-preserved
@@ -18,13 +19,14 @@ loop-y-preserved c =
 pub invariant_of-result : goal.invariant_of-result
 invariant_of-result c =
     let t : Table = record { order = c.args.order; entries = c.args.table.now } in
-    let same = laid_out_table t c.requires c.loop-y.forward c.loop-y.backward c.loop-y.y c.loop-y-test.false c.loop-y.invariant in (
-      subst IsQuandle (sym same) c.requires,
+    let same = laid_out_table t c.requires.laws c.loop-y.forward c.loop-y.backward c.loop-y.y c.loop-y-test.false c.loop-y.invariant in (
+      subst IsQuandle (sym same) c.requires.laws,
+      c.requires.few,
       subst (λ (u : Table). (x y : ℕ) → x < c.args.order → y < c.args.order → cell c.loop-y.backward x y ≡ back u x y) (sym same)
-          (laid_out_back t c.requires c.loop-y.forward c.loop-y.backward c.loop-y.y c.loop-y-test.false c.loop-y.invariant),
+          (laid_out_back t c.requires.laws c.loop-y.forward c.loop-y.backward c.loop-y.y c.loop-y-test.false c.loop-y.invariant),
     )
 
 pub returns : goal.returns
 returns c =
     let t : Table = record { order = c.args.order; entries = c.args.table.now } in
-    laid_out_table t c.requires c.loop-y.forward c.loop-y.backward c.loop-y.y c.loop-y-test.false c.loop-y.invariant
+    laid_out_table t c.requires.laws c.loop-y.forward c.loop-y.backward c.loop-y.y c.loop-y-test.false c.loop-y.invariant

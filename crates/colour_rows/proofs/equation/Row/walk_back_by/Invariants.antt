@@ -1,7 +1,7 @@
 use Rattle.std.proofs.Common.{◌≡◌, ◌<◌, ℕ, fold, take, get_or, reverse}
 use Rattle.colour_rows.specs.declared.equation.Pass.{Pass}
 use Rattle.colour_rows.specs.Walk.{passed_leftward}
-use Rattle.colour_rows.proofs.equation.Row.walk_back.Given as goal
+use Rattle.colour_rows.proofs.equation.Row.walk_back_by.Given as goal
 
 abbrev pub invariant-loop-done : goal.invariant-loop-done
 invariant-loop-done l =
