@@ -105,7 +105,7 @@ impl<'a> fmt::Display for QuandleReason<'a> {
             QuandleReason::Order { order } => {
                 write!(
                     f,
-                    "the order {order} is above {MAX_ORDER}, the largest of a quandle"
+                    "the order {order} is above {MAX_ORDER}, the largest of a quandle here"
                 )
             }
             QuandleReason::Factor { order, factor } => {

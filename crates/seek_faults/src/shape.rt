@@ -2,7 +2,7 @@
 
 use colour_list::MAX_COLOURINGS;
 use grid_core::MAX_SIZE;
-use quandle_core::MAX_ORDER;
+use quandle_core::{MAX_LARGE_ORDER, MAX_ORDER};
 use std::fmt;
 use text_lines::MAX_DIGITS;
 
@@ -92,10 +92,16 @@ pub(crate) struct Limits(pub(crate) Part);
 impl fmt::Display for Limits {
     fn fmt<W: fmt::Write>(&self, f: &mut fmt::Formatter<W>) -> fmt::Result {
         match self.0 {
-            Part::Verdict => write!(
-                f,
-                "a list has at most {MAX_COLOURINGS} lines, a quandle at most {MAX_ORDER} elements, a number of a move is at most {MAX_BYTE}, "
-            ),
+            Part::Verdict => {
+                write!(
+                    f,
+                    "a list has at most {MAX_COLOURINGS} lines, a quandle at most {MAX_ORDER} elements, "
+                )?;
+                write!(
+                    f,
+                    "by a table in evidence by numbers at most {MAX_LARGE_ORDER} without `shadow`, a number of a move is at most {MAX_BYTE}, "
+                )
+            }
             Part::Moves => write!(
                 f,
                 "a number of a move is at most {MAX_BYTE}, a quandle has at most {MAX_ORDER} elements, a diagram at most {MAX_SIZE} columns, "

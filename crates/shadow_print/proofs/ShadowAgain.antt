@@ -9,6 +9,7 @@ use Rattle.std.proofs.lemmas.Nat.{div-add-mod', div_below, mod_below}
 use Rattle.std.proofs.lemmas.Bool.{le-leb, and_from}
 use Rattle.std.proofs.lemmas.List.{length-map}
 use Rattle.std.proofs.lemmas.List.FromFn.{length-range_with_len}
+use Rattle.quandle_core.specs.declared.quandle.TheConstants.{MAX_ORDER}
 use Rattle.quandle_core.specs.Quandle.{Table, over}
 use Rattle.shadow_weights.specs.Cocycle.{ShadowCochain, IsShadowCocycle}
 use Rattle.shadow_weights.specs.Fault.{first_fault}
@@ -119,48 +120,51 @@ no_name k few =
     turned true e = absurd (cc)
     turned false e = refl
 
-modulus_again : (q : Table) (k n : ℕ) → 2 ≤ k → k ≤ MAX_MODULUS → head_at q (line_of n (codes "shadow" ∷ decimal k ∷ [])) ≡ Ok (head.Table k)
+modulus_again : (q : Table) (k n : ℕ) → q.order ≤ MAX_ORDER → 2 ≤ k → k ≤ MAX_MODULUS
+    → head_at q (line_of n (codes "shadow" ∷ decimal k ∷ [])) ≡ Ok (head.Table k)
 unfolding head_at next_token line_end
-modulus_again q k n some few =
+modulus_again q k n small some few =
     rw (
       word_again (codes "shadow") n (decimal k ∷ []),
       no_name k few,
       decimal_read k (omega (arith, few)),
+      most_again MAX_ORDER n q.order small,
       most_again MAX_MODULUS n k few,
       le-leb 2 k some,
     ) refl
 
-name_again : (q : Table) (n : ℕ) → has_formula q ≡ true → head_at q (line_of n (codes "shadow" ∷ codes "mochizuki" ∷ [])) ≡ Ok head.Mochizuki
+name_again : (q : Table) (n : ℕ) → q.order ≤ MAX_ORDER → has_formula q ≡ true
+    → head_at q (line_of n (codes "shadow" ∷ codes "mochizuki" ∷ [])) ≡ Ok head.Mochizuki
 unfolding head_at next_token line_end
-name_again q n formula = rw (word_again (codes "shadow") n (codes "mochizuki" ∷ []), formula) refl
+name_again q n small formula = rw (word_again (codes "shadow") n (codes "mochizuki" ∷ []), most_again MAX_ORDER n q.order small, formula) refl
 
 -- ---- the whole
 
-table_again : (t : ShadowCochain) (n : ℕ) (text : Text) → IsShadowCocycle t → t.modulus ≤ MAX_MODULUS
+table_again : (t : ShadowCochain) (n : ℕ) (text : Text) → IsShadowCocycle t → t.quandle.order ≤ MAX_ORDER → t.modulus ≤ MAX_MODULUS
     → shadow_item t.quandle (lines_before (numbered n (lines_of spelling.Table t)) text) ≡ Ok (spelled spelling.Table t, text)
 unfolding shadow_item next_line
-table_again t n text is few =
+table_again t n text is small few =
     let some : 0 < t.quandle.order * t.quandle.order = mul-pos (omega (arith, is.quandle.least)) (omega (arith, is.quandle.least)) in
     let size : t.quandle.order * t.quandle.order ≡ suc (t.quandle.order * t.quandle.order - 1) = omega (arith, some) in
-    rw (modulus_again t.quandle t.modulus (n + 1) is.least few) (cochain_by t (n + 1) (t.quandle.order * t.quandle.order - 1) text is few size)
+    rw (modulus_again t.quandle t.modulus (n + 1) small is.least few) (cochain_by t (n + 1) (t.quandle.order * t.quandle.order - 1) text is few size)
 
-formula_again : (q : Table) (n : ℕ) (text : Text) → has_formula q ≡ true
+formula_again : (q : Table) (n : ℕ) (text : Text) → q.order ≤ MAX_ORDER → has_formula q ≡ true
     → shadow_item q (lines_before (numbered n (lines_of spelling.Mochizuki (mochizuki q.order))) text)
     ≡ Ok (spelled spelling.Mochizuki (mochizuki q.order), text)
 unfolding shadow_item next_line
-formula_again q n text formula = rw (name_again q (n + 1) formula) refl
+formula_again q n text small formula = rw (name_again q (n + 1) small formula) refl
 
-by_spelling : (said : Spelling) (t : ShadowCochain) (n : ℕ) (text : Text) → IsShadowCocycle t → Spells said t
+by_spelling : (said : Spelling) (t : ShadowCochain) (n : ℕ) (text : Text) → IsShadowCocycle t → t.quandle.order ≤ MAX_ORDER → Spells said t
     → shadow_item t.quandle (lines_before (numbered n (lines_of said t)) text) ≡ Ok (spelled said t, text)
-by_spelling spelling.Mochizuki t n text is spells =
-    formula_again t.quandle n text spells.0 ∙ ap (λ (w : ShadowCochain). Ok (spelled spelling.Mochizuki w, text)) (sym spells.1)
-by_spelling spelling.Table t n text is spells = table_again t n text is spells
+by_spelling spelling.Mochizuki t n text is small spells =
+    formula_again t.quandle n text small spells.0 ∙ ap (λ (w : ShadowCochain). Ok (spelled spelling.Mochizuki w, text)) (sym spells.1)
+by_spelling spelling.Table t n text is small spells = table_again t n text is small spells
 
 pub shadow_again : (q : Table) (s : SpelledShadow) (n : ℕ) (text : Text) → HasShadowText q s
     → shadow_item q (lines_before (numbered n (shadow_lines s)) text) ≡ Ok (s, text)
 shadow_again q s n text has =
     subst (λ (p : Table). shadow_item p (lines_before (numbered n (shadow_lines s)) text) ≡ Ok (s, text)) has.same
-    (by_spelling s.spelling s.cocycle n text has.cocycle has.spells)
+    (by_spelling s.spelling s.cocycle n text has.cocycle has.few has.spells)
 
 -- ---- lines of words
 

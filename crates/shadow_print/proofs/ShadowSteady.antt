@@ -2,6 +2,7 @@
 use Rattle.std.proofs.Common.{ℕ, ◌*◌, ◌-◌, ◌∙◌, List, Bool, codes, nat_le}
 use Rattle.std.specs.Prelude.{is_none}
 use Rattle.std.specs.Str.{bytes_eq}
+use Rattle.quandle_core.specs.declared.quandle.TheConstants.{MAX_ORDER}
 use Rattle.quandle_core.specs.Quandle.{Table}
 use Rattle.shadow_weights.specs.Fault.{first_fault}
 use Rattle.text_lines.specs.Lines.{NumberedLine}
@@ -17,17 +18,21 @@ use Rattle.shadow_text.specs.declared.shadows.Spelling.TheVariants as spelling
 use Rattle.shadow_text.specs.declared.shadows.SpelledShadow.{SpelledShadow}
 use Rattle.shadow_text.specs.declared.shadows.Head.{Head}
 use Rattle.shadow_text.specs.declared.shadows.Head.TheVariants as head
-use Rattle.shadow_text.specs.Shadows.{modulus_of, head_of, head_at, spelled, cochain, cochain_item, shadow_of, shadow_item}
+use Rattle.shadow_text.specs.Shadows.{formula_of, modulus_of, head_of, head_at, spelled, cochain, cochain_item, shadow_of, shadow_item}
 
 -- ---- the first line
 
-modulus_of_at : (n value : ℕ) → At n (modulus_of n value)
-modulus_of_at n value = at_bind (at_most_at MAX_MODULUS n value) (λ modulus e. at_cond (nat_le 2 modulus) at_ok at_malformed)
+formula_of_at : (q : Table) (n : ℕ) → At n (formula_of q n)
+formula_of_at q n = at_bind (at_most_at MAX_ORDER n q.order) (λ order e. at_cond (has_formula q) at_ok at_malformed)
+
+modulus_of_at : (q : Table) (n value : ℕ) → At n (modulus_of q n value)
+modulus_of_at q n value = at_bind (at_most_at MAX_ORDER n q.order) (λ order e.
+    at_bind (at_most_at MAX_MODULUS n value) (λ modulus f. at_cond (nat_le 2 modulus) at_ok at_malformed))
 
 head_of_at : (q : Table) (n : ℕ) (token : List ℕ) → At n (head_of q n token)
 head_of_at q n token =
-    at_cond (bytes_eq token (codes "mochizuki")) (at_cond (has_formula q) at_ok at_malformed)
-    (at_bind (or_malformed_at n (number_of token)) (λ value e. modulus_of_at n value))
+    at_cond (bytes_eq token (codes "mochizuki")) (formula_of_at q n)
+    (at_bind (or_malformed_at n (number_of token)) (λ value e. modulus_of_at q n value))
 
 head_at_at : (q : Table) (line : NumberedLine) → At line.number (head_at q line)
 unfolding head_at

@@ -1,13 +1,11 @@
 -- The rows of a table of values, of which there are more than the order, and its entries.
-use Rattle.std.proofs.Common.{◌≡◌, ℕ, zero, suc, ◌<◌, ◌≤◌, ◌+◌, ◌*◌, List, [], ◌∷◌, ◌++◌, length, map, take, drop, sym, ap, ap₂, subst, ◌∙◌, arith}
+use Rattle.std.proofs.Common.{◌≡◌, ℕ, zero, suc, ◌<◌, ◌≤◌, ◌+◌, ◌*◌, List, [], ◌∷◌, ◌++◌, length, map, take, drop, sym, ap, ◌∙◌, arith}
 use Rattle.std.specs.List.{AllByRecursion, flat_map, range_with_len}
-use Rattle.std.proofs.Math.Seq.{take-add}
-use Rattle.std.proofs.lemmas.List.{get_or-drop, get_or-take, length-take, length-drop, take_all, append-nil, drop-drop}
+use Rattle.std.proofs.lemmas.List.{take_all, append-nil}
 use Rattle.std.proofs.lemmas.List.Concat.{flat_map-append}
-use Rattle.std.proofs.lemmas.List.FromFn.{fill_by_all}
 use Rattle.grid_core.proofs.OneEach.{range_more}
 use Rattle.quandle_core.specs.Quandle.{Table, over}
-use Rattle.knot_text.proofs.Tables.{row}
+use Rattle.knot_text.proofs.Tables.{row, rows_slice}
 
 -- the numbers of so many rows lie below a bound
 abbrev pub AreWithin : Table → ℕ → ℕ → Type 0
@@ -19,31 +17,6 @@ each_below f bound a (suc n) each = (each a (omega arith) (omega arith), each_be
 
 pub value_row_below : (t : Table) (many bound x : ℕ) → AreWithin t many bound → x < many → AllByRecursion (λ k. k < bound) (row t x)
 value_row_below t many bound x within lt = each_below (over t x) bound 0 t.order (λ y low high. within x y lt (omega arith))
-
--- a row is a slice of the entries
-row_slice : (t : Table) (x : ℕ) → x * t.order + t.order ≤ length t.entries → row t x ≡ take t.order (drop (x * t.order) t.entries)
-row_slice t x fits =
-    let n = t.order in
-    let slice = take n (drop (x * n) t.entries) in
-    let len : length slice ≡ n = omega (arith, length-take n (drop (x * n) t.entries), length-drop (x * n) t.entries) in
-    sym (fill_by_all (over t x) slice n 0 len (λ k lt. get_or-take n (drop (x * n) t.entries) k 0 lt ∙ get_or-drop (x * n) t.entries k 0))
-
--- rows one behind the other are a slice too
-rows_slice : (t : Table) (a k : ℕ) → (a + k) * t.order ≤ length t.entries
-    → flat_map (row t) (range_with_len a k) ≡ take (k * t.order) (drop (a * t.order) t.entries)
-rows_slice t a zero fits = let e : 0 * t.order ≡ 0 = omega arith in ap (λ (j : ℕ). take j (drop (a * t.order) t.entries)) (sym e)
-rows_slice t a (suc k) fits =
-    let n = t.order in
-    let tail = drop (a * n) t.entries in
-    let sum : (a + suc k) * n ≡ a * n + n + k * n = omega arith in
-    let next : a + 1 + k ≡ a + suc k = omega arith in
-    let within : (a + 1 + k) * n ≤ length t.entries = subst (λ (j : ℕ). j * n ≤ length t.entries) (sym next) fits in
-    let first = row_slice t a (omega (arith, sum, fits)) in
-    let rest = rows_slice t (a + 1) k within in
-    let step : (a + 1) * n ≡ a * n + n = omega arith in
-    let dropped : drop ((a + 1) * n) t.entries ≡ drop n tail = ap (λ (j : ℕ). drop j t.entries) step ∙ sym (drop-drop n (a * n) t.entries) in
-    let count : n + k * n ≡ suc k * n = omega arith in
-    ap₂ (λ (xs ys : List ℕ). xs ++ ys) first (rest ∙ ap (take (k * n)) dropped) ∙ sym (take-add n (k * n) tail) ∙ ap (λ (j : ℕ). take j tail) count
 
 rows_all : (t : Table) (many : ℕ) → length t.entries ≡ many * t.order → flat_map (row t) (range_with_len 0 many) ≡ t.entries
 rows_all t many size =

@@ -2,6 +2,7 @@
 use Rattle.std.specs.Prelude.{◌≡◌, ◌≤◌, ◌*◌, ℕ, true, List, [], ◌∷◌, codes, map}
 use Rattle.std.specs.Fmt.{decimal}
 use Rattle.std.specs.List.{range_with_len}
+use Rattle.quandle_core.specs.declared.quandle.TheConstants.{MAX_ORDER}
 use Rattle.quandle_core.specs.Quandle.{Table}
 use Rattle.shadow_weights.specs.Cocycle.{ShadowCochain, IsShadowCocycle}
 use Rattle.text_lines.specs.Spelled.{lines_text}
@@ -35,8 +36,9 @@ abbrev pub Spells : Spelling → ShadowCochain → Type 0
 Spells spelling.Mochizuki t = (has_formula t.quandle ≡ true) × (t ≡ mochizuki t.quandle.order)
 Spells spelling.Table t = t.modulus ≤ MAX_MODULUS
 
--- a shadow cocycle of the quandle, which its spelling gives
+-- a shadow cocycle of the quandle, which its spelling gives; the quandle has at most MAX_ORDER colours
 pub record HasShadowText (quandle : Table) (s : SpelledShadow) : Type 0 where
   pub cocycle : IsShadowCocycle s.cocycle
   pub same : s.cocycle.quandle ≡ quandle
+  pub few : s.cocycle.quandle.order ≤ MAX_ORDER
   pub spells : Spells s.spelling s.cocycle

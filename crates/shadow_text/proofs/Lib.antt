@@ -1,2 +1,1 @@
-pub mod TableRows
 pub mod Copied

@@ -1,6 +1,7 @@
 -- A shadow cocycle of a quandle as a text: `shadow mochizuki`, or `shadow` with the modulus, and the lines of its table.
 use Rattle.std.specs.Prelude.{ℕ, ◌*◌, ◌-◌, List, ◌++◌, codes, Result, Ok, Err, is_none, nat_le, if◌then◌else◌}
 use Rattle.std.specs.Str.{bytes_eq}
+use Rattle.quandle_core.specs.declared.quandle.TheConstants.{MAX_ORDER}
 use Rattle.quandle_core.specs.Quandle.{Table}
 use Rattle.shadow_weights.specs.Cocycle.{ShadowCochain}
 use Rattle.shadow_weights.specs.Fault.{first_fault}
@@ -19,19 +20,26 @@ use Rattle.shadow_text.specs.declared.shadows.Head.{Head}
 use Rattle.shadow_text.specs.declared.shadows.Head.TheVariants as head
 use Rattle.shadow_formula.specs.Mochizuki.{has_formula, mochizuki}
 
--- a modulus is within its limit, and then at least 2
-abbrev pub modulus_of : ℕ → ℕ → Result Head TextFault
-modulus_of n value = do
+-- the formula is meant: the quandle's order is within the limit, and then the quandle has the formula
+abbrev pub formula_of : Table → ℕ → Result Head TextFault
+formula_of quandle n = do
+  order ← at_most MAX_ORDER n quandle.order
+  if has_formula quandle then Ok head.Mochizuki else Err (Malformed n)
+
+-- the quandle's order and a modulus are within their limits, and then the modulus is at least 2
+abbrev pub modulus_of : Table → ℕ → ℕ → Result Head TextFault
+modulus_of quandle n value = do
+  order ← at_most MAX_ORDER n quandle.order
   modulus ← at_most MAX_MODULUS n value
   if nat_le 2 modulus then Ok (head.Table modulus) else Err (Malformed n)
 
--- `mochizuki`, where the quandle has the formula, or a modulus
+-- `mochizuki`, or a modulus
 abbrev pub head_of : Table → ℕ → List ℕ → Result Head TextFault
-head_of quandle n token = if bytes_eq token (codes "mochizuki") then (if has_formula quandle then Ok head.Mochizuki else Err (Malformed n)) else (do
+head_of quandle n token = if bytes_eq token (codes "mochizuki") then formula_of quandle n else (do
   value ← or_malformed n (number_of token)
-  modulus_of n value)
+  modulus_of quandle n value)
 
--- the first line: its form, its limit, and its content
+-- the first line: its form, its limits, and its content
 unfoldable pub head_at : Table → NumberedLine → Result Head TextFault
 head_at quandle line = do
   rest ← word (codes "shadow") line

@@ -1,16 +1,15 @@
 //! Shadow cocycles.
-ghost use Rattle.std.specs.Prelude.{◌≡◌, ◌<◌, ◌≤◌, ◌*◌, ◌++◌, slice_index, Ok, Err, true, IfOk, OnOk, if◌then◌else◌};
+ghost use Rattle.std.specs.Prelude.{◌≡◌, ◌<◌, ◌≤◌, ◌*◌, slice_index, true, IfOk};
 ghost use Rattle.quandle_core.specs.declared.quandle.TheConstants.{MAX_ORDER};
-ghost use Rattle.text_items.specs.Reading.{Gives};
-ghost use Rattle.text_items.specs.Quandles.{table_row, table_rows};
-ghost use Rattle.shadow_text.specs.Shadows.{spelled, head_at, head_of, modulus_of, cochain_item, shadow_of, shadow_item};
+ghost use Rattle.text_items.specs.Reading.{Gives, at_most};
+ghost use Rattle.shadow_text.specs.Shadows.{spelled, head_at, head_of, formula_of, modulus_of, cochain_item, shadow_of, shadow_item};
 ghost use Rattle.shadow_formula.specs.Mochizuki.{has_formula, mochizuki};
 
-use grid_core::Rows;
-use quandle_core::Quandle;
+use large_tables::table_rows;
+use quandle_core::{MAX_ORDER, Operations, Quandle};
 use shadow_formula::{has_formula, mochizuki};
 use shadow_weights::{ShadowCocycle, of_table};
-use std::alloc::{AllocError, AllocFailed, Global};
+use std::alloc::{AllocFailed, Global};
 use text_items::numbers::numbers_below;
 use text_items::reading::{line_end, next_line, next_token, word};
 use text_items::{MAX_MODULUS, TextFault};
@@ -93,11 +92,12 @@ pub enum Head {
 /// A shadow cocycle of a quandle: the line `shadow k` with its modulus, from 2 to `MAX_MODULUS`, and for each colour w of a region and each colour x
 /// a line of numbers below k, the y-th of which is `θ(w, x, y)`. Or the line `shadow mochizuki`, of a dihedral quandle of prime order.
 ///
-/// Else the fault of the first bad line, or want of memory. A table that fails a law of shadow cocycles is malformed at its last line.
+/// Else the fault of the first bad line, or want of memory. The first line exceeds a limit where the quandle has more than `MAX_ORDER` colours.
+/// A table that fails a law of shadow cocycles is malformed at its last line.
 #[tactic(auto, unfolding(crate::specs::Shadows::shadow_item))]
 pub fn shadow_item(
     alloc: Global,
-    quandle: &Quandle,
+    quandle: &Operations,
     lines: &mut Lines,
 ) -> Result<SpelledShadow, TextFault>
     ensures { Gives (λ s. (s, lines.new)) result (shadow_item quandle.now lines.old) }
@@ -109,8 +109,9 @@ pub fn shadow_item(
 
 /// The first line.
 #[tactic(auto, unfolding(crate::specs::Shadows::head_at))]
-fn head_at(quandle: &Quandle, line: &mut Line) -> Result<Head, TextFault>
+fn head_at(quandle: &Operations, line: &mut Line) -> Result<Head, TextFault>
     ensures head { Gives (λ h. h) result (head_at quandle.now line.old) }
+    ensures few { IfOk result (λ h. quandle.now.order ≤ MAX_ORDER) }
     ensures formula { IfOk result (λ h. h ≡ Head.Mochizuki → has_formula quandle.now ≡ true) }
 {
     let at = line.number();
@@ -121,36 +122,61 @@ fn head_at(quandle: &Quandle, line: &mut Line) -> Result<Head, TextFault>
 }
 
 /// The name of the formula, or a modulus, in line `at`.
-fn head_of(quandle: &Quandle, at: usize, token: &[u8]) -> Result<Head, TextFault>
+fn head_of(quandle: &Operations, at: usize, token: &[u8]) -> Result<Head, TextFault>
     ensures head { Gives (λ h. h) result (head_of quandle.now at token.now) }
+    ensures few { IfOk result (λ h. quandle.now.order ≤ MAX_ORDER) }
     ensures formula { IfOk result (λ h. h ≡ Head.Mochizuki → has_formula quandle.now ≡ true) }
 {
     if token == b"mochizuki".as_slice() {
         return formula_of(quandle, at);
     }
     match text_lines::number(token) {
-        Some(value) => modulus_of(at, value),
+        Some(value) => modulus_of(quandle, at, value),
         None => Err(TextFault::Malformed { line: at }),
     }
 }
 
 /// The name of the formula, in line `at`.
-fn formula_of(quandle: &Quandle, at: usize) -> Result<Head, TextFault>
-    ensures head { Gives (λ h. h) result (if has_formula quandle.now then Ok Head.Mochizuki else Err (TextFault.Malformed at)) }
+fn formula_of(quandle: &Operations, at: usize) -> Result<Head, TextFault>
+    ensures head { Gives (λ h. h) result (formula_of quandle.now at) }
+    ensures few { IfOk result (λ h. quandle.now.order ≤ MAX_ORDER) }
     ensures formula { IfOk result (λ h. has_formula quandle.now ≡ true) }
 {
-    if has_formula(quandle) {
+    few_colours(quandle, at)?;
+    if is_of_formula(quandle) {
         Ok(Head::Mochizuki)
     } else {
         Err(TextFault::Malformed { line: at })
     }
 }
 
+/// Whether a quandle of few colours has the formula.
+fn is_of_formula(quandle: &Operations) -> bool
+    requires few { quandle.now.order ≤ MAX_ORDER }
+    ensures { result ≡ has_formula quandle.now }
+{
+    has_formula(&Quandle::of(quandle))
+}
+
+/// Line `at` exceeds a limit where the quandle has more than `MAX_ORDER` colours.
+fn few_colours(quandle: &Operations, at: usize) -> Result<(), TextFault>
+    ensures order { Gives (λ _. quandle.now.order) result (at_most MAX_ORDER at quandle.now.order) }
+    ensures few { IfOk result (λ _. quandle.now.order ≤ MAX_ORDER) }
+{
+    if quandle.order() as usize <= MAX_ORDER {
+        Ok(())
+    } else {
+        Err(TextFault::Limit { line: at })
+    }
+}
+
 /// A modulus, in line `at`.
-fn modulus_of(at: usize, value: u32) -> Result<Head, TextFault>
-    ensures head { Gives (λ h. h) result (modulus_of at value) }
+fn modulus_of(quandle: &Operations, at: usize, value: u32) -> Result<Head, TextFault>
+    ensures head { Gives (λ h. h) result (modulus_of quandle.now at value) }
+    ensures few { IfOk result (λ h. quandle.now.order ≤ MAX_ORDER) }
     ensures table { IfOk result (λ h. h ≡ Head.Mochizuki → ⊥) }
 {
+    few_colours(quandle, at)?;
     if value > MAX_MODULUS {
         return Err(TextFault::Limit { line: at });
     }
@@ -162,6 +188,21 @@ fn modulus_of(at: usize, value: u32) -> Result<Head, TextFault>
 
 /// What the first line means, with the lines behind it that a table takes.
 fn shadow_of(
+    alloc: Global,
+    quandle: &Operations,
+    head: Head,
+    lines: &mut Lines,
+) -> Result<SpelledShadow, TextFault>
+    requires few { quandle.now.order ≤ MAX_ORDER }
+    requires formula { head ≡ Head.Mochizuki → has_formula quandle.now ≡ true }
+    ensures { Gives (λ s. (s, lines.new)) result (shadow_of quandle.now head lines.old) }
+{
+    let own = Quandle::of(quandle);
+    shadow_by(alloc, &own, head, lines)
+}
+
+/// The same of a quandle of few colours.
+fn shadow_by(
     alloc: Global,
     quandle: &Quandle,
     head: Head,
@@ -189,42 +230,6 @@ fn by_formula(alloc: Global, quandle: &Quandle) -> Result<SpelledShadow, AllocFa
     })
 }
 
-/// A line of a table.
-#[tactic(auto, unfolding(text_items::specs::Quandles::table_row))]
-fn table_row(order: u8, modulus: u8, lines: &mut Lines) -> Result<Rows, TextFault>
-    requires { order ≤ MAX_ORDER }
-    ensures { Gives (λ r. (r.items, lines.new)) result (table_row order modulus lines.old) }
-{
-    let mut line = next_line(lines)?;
-    numbers_below(order, modulus, &mut line)
-}
-
-/// So many lines of a table.
-fn table_rows(
-    alloc: Global,
-    order: u8,
-    modulus: u8,
-    count: usize,
-    lines: &mut Lines,
-) -> Result<Vec<u8>, TextFault>
-    requires { order ≤ MAX_ORDER }
-    ensures { Gives (λ v. (v.items, lines.new)) result (table_rows order modulus count lines.old) }
-{
-    let mut entries = Vec::new(alloc);
-    for _ in 0..count {
-        let row = table_row(order, modulus, lines)?;
-        append(&mut entries, row.as_slice())?;
-    }
-    Ok(entries)
-}
-
-/// Appends a line of a table to its entries.
-fn append(entries: &mut Vec<u8>, row: &[u8]) -> Result<(), AllocError>
-    ensures { OnOk result (entries.new.items ≡ entries.old.items ++ row.now) }
-{
-    entries.extend_from_slice(row)
-}
-
 /// The lines of a table of numbers below the modulus, which has the laws of a shadow cocycle, or is malformed at its last line.
 #[tactic(auto, unfolding(crate::specs::Shadows::cochain_item))]
 fn cochain_item(
@@ -241,7 +246,7 @@ fn cochain_item(
     let mut line = next_line(lines)?;
     let at = line.number();
     let row = numbers_below(order, modulus, &mut line)?;
-    append(&mut entries, row.as_slice())?;
+    entries.extend_from_slice(row.as_slice())?;
     match ShadowCocycle::new(quandle, modulus, entries) {
         Ok(cocycle) => Ok(SpelledShadow {
             spelling: Spelling::Table,

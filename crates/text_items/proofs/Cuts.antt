@@ -84,6 +84,20 @@ below_bad kept width order line fits most read long bad =
     let content : are_below read.values width order ≡ false = sym (below_test kept read.values width order fits most read.tells) ∙ bad in
     rw (read.is, test, content) refl
 
+-- the same of all numbers of a line
+pub all_bad : (width order : ℕ) (line : NumberedLine) (values : List ℕ) → numbers line ≡ Ok values → list_any is_long values ≡ false
+    → are_below values width order ≡ false → numbers_below width order line ≡ Err (Malformed line.number)
+unfolding numbers_below
+all_bad width order line values read long content = rw (read, long, content) refl
+
+pub all_good : (width order : ℕ) (line : NumberedLine) (values bytes : List ℕ) → order ≤ 255 → numbers line ≡ Ok values → list_any is_long values ≡ false
+    → are_below values width order ≡ true → bytes ≡ map low values → numbers_below width order line ≡ Ok bytes
+unfolding numbers_below
+all_good width order line values bytes most read long content is =
+    let parts = and_parts (length values == width) (list_all (λ v. nat_lt v order) values) content in
+    let one : numbers_below width order line ≡ Ok values = rw (read, long, content) refl in
+    one ∙ ap (λ (vs : List ℕ). Ok vs) (sym (is ∙ same_low order values most parts.1))
+
 record GoodLine (kept : Kept) (width order : ℕ) (line : NumberedLine) : Type 0 where
   is : numbers_below width order line ≡ Ok kept.first.items
   len : length kept.first.items ≡ width

@@ -6,4 +6,5 @@ pub mod GridLines
 pub mod BraidLines
 pub mod ColoursLines
 pub mod TableLines
+pub mod TableLaws
 pub mod Lists

@@ -15,36 +15,36 @@ regroup_rows : (front row : List ℕ) (read : Result (List ℕ × Text) TextFaul
 regroup_rows front row (Ok x) = ap (λ ns. Ok (ns, x.1)) (sym (append_assoc front row x.0))
 regroup_rows front row (Err e) = refl
 
-pub row_more : (front : List ℕ) (order bound i : ℕ) (text : Text) (row : List ℕ) (after : Text) (total : Result (List ℕ × Text) TextFault) → i < order
+pub row_more : (front : List ℕ) (order bound count i : ℕ) (text : Text) (row : List ℕ) (after : Text) (total : Result (List ℕ × Text) TextFault) → i < count
     → table_row order bound text ≡ Ok (row, after)
-    → with_front front (table_rows order bound (order - i) text) ≡ total → with_front (front ++ row) (table_rows order bound (order - (i + 1)) after) ≡ total
+    → with_front front (table_rows order bound (count - i) text) ≡ total → with_front (front ++ row) (table_rows order bound (count - (i + 1)) after) ≡ total
 unfolding table_rows
-row_more front order bound i text row after total lt h so_far =
-    let k : order - i ≡ suc (order - (i + 1)) = omega arith in
-    let one : with_front front (table_rows order bound (order - i) text) ≡ with_front (front ++ row) (table_rows order bound (order - (i + 1)) after) =
-    rw (k, h) (regroup_rows front row (table_rows order bound (order - (i + 1)) after)) in
+row_more front order bound count i text row after total lt h so_far =
+    let k : count - i ≡ suc (count - (i + 1)) = omega arith in
+    let one : with_front front (table_rows order bound (count - i) text) ≡ with_front (front ++ row) (table_rows order bound (count - (i + 1)) after) =
+    rw (k, h) (regroup_rows front row (table_rows order bound (count - (i + 1)) after)) in
     sym one ∙ so_far
 
-pub row_fails : (e : TextFault) (front : List ℕ) (order bound i : ℕ) (text : Text) (total : Result (List ℕ × Text) TextFault) → i < order
+pub row_fails : (e : TextFault) (front : List ℕ) (order bound count i : ℕ) (text : Text) (total : Result (List ℕ × Text) TextFault) → i < count
     → Fails e (table_row order bound text)
-    → with_front front (table_rows order bound (order - i) text) ≡ total → Fails e total
+    → with_front front (table_rows order bound (count - i) text) ≡ total → Fails e total
 unfolding table_rows
-row_fails fault.OutOfMemory front order bound i text total lt h so_far = tt
-row_fails (fault.Malformed n) front order bound i text total lt h so_far =
-    let k : order - i ≡ suc (order - (i + 1)) = omega arith in
-    let one : with_front front (table_rows order bound (order - i) text) ≡ Err (fault.Malformed n) = rw (k, h) refl in
+row_fails fault.OutOfMemory front order bound count i text total lt h so_far = tt
+row_fails (fault.Malformed n) front order bound count i text total lt h so_far =
+    let k : count - i ≡ suc (count - (i + 1)) = omega arith in
+    let one : with_front front (table_rows order bound (count - i) text) ≡ Err (fault.Malformed n) = rw (k, h) refl in
     sym so_far ∙ one
-row_fails (fault.Limit n) front order bound i text total lt h so_far =
-    let k : order - i ≡ suc (order - (i + 1)) = omega arith in
-    let one : with_front front (table_rows order bound (order - i) text) ≡ Err (fault.Limit n) = rw (k, h) refl in
+row_fails (fault.Limit n) front order bound count i text total lt h so_far =
+    let k : count - i ≡ suc (count - (i + 1)) = omega arith in
+    let one : with_front front (table_rows order bound (count - i) text) ≡ Err (fault.Limit n) = rw (k, h) refl in
     sym so_far ∙ one
 
-pub rows_done : (front : List ℕ) (order bound i : ℕ) (text : Text) (total : Result (List ℕ × Text) TextFault) → order ≤ i
-    → with_front front (table_rows order bound (order - i) text) ≡ total → total ≡ Ok (front, text)
+pub rows_done : (front : List ℕ) (order bound count i : ℕ) (text : Text) (total : Result (List ℕ × Text) TextFault) → count ≤ i
+    → with_front front (table_rows order bound (count - i) text) ≡ total → total ≡ Ok (front, text)
 unfolding table_rows
-rows_done front order bound i text total le so_far =
-    let k : order - i ≡ 0 = omega arith in
-    let one : with_front front (table_rows order bound (order - i) text) ≡ Ok (front, text) = rw k (ap (λ ns. Ok (ns, text)) (append-nil front)) in
+rows_done front order bound count i text total le so_far =
+    let k : count - i ≡ 0 = omega arith in
+    let one : with_front front (table_rows order bound (count - i) text) ≡ Ok (front, text) = rw k (ap (λ ns. Ok (ns, text)) (append-nil front)) in
     sym so_far ∙ one
 
 -- one row more

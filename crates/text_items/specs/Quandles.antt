@@ -3,7 +3,7 @@ use Rattle.std.specs.Prelude.{ℕ, zero, suc, ◌-◌, ◌||◌, Bool, false, Li
 use Rattle.std.specs.Prelude.{nat_le, nat_lt, if◌then◌else◌}
 use Rattle.std.specs.Str.{bytes_eq}
 use Rattle.quandle_core.specs.declared.quandle.TheConstants.{MAX_ORDER}
-use Rattle.quandle_core.specs.Fault.{first_fault}
+use Rattle.quandle_core.specs.Fault.{first_fault_within}
 use Rattle.quandle_core.specs.Tables.{trivial, dihedral, tetrahedral}
 use Rattle.text_lines.specs.Lines.{NumberedLine, Text, begins}
 use Rattle.text_items.specs.declared.fault.TextFault.{TextFault}
@@ -46,13 +46,13 @@ written_at line = do
 
 -- ---- its limits
 
--- an order above MAX_ORDER, or a factor of too many digits
-abbrev pub is_over : Written → Bool
-is_over (written.Trivial n) = nat_lt MAX_ORDER n
-is_over (written.Dihedral n) = nat_lt MAX_ORDER n
-is_over written.Tetrahedral = false
-is_over (written.Alexander n a) = nat_lt MAX_ORDER n || is_long a
-is_over (written.Table n) = nat_lt MAX_ORDER n
+-- an order above MAX_ORDER, that of a table above the first number, or a factor of too many digits
+abbrev pub is_over : ℕ → Written → Bool
+is_over most (written.Trivial n) = nat_lt MAX_ORDER n
+is_over most (written.Dihedral n) = nat_lt MAX_ORDER n
+is_over most written.Tetrahedral = false
+is_over most (written.Alexander n a) = nat_lt MAX_ORDER n || is_long a
+is_over most (written.Table n) = nat_lt most n
 
 -- ---- its content
 
@@ -85,7 +85,7 @@ table_item order text = do
   front ← table_rows order order (order - 1) text
   line ← next_line front.1
   row ← numbers_below order order line.0
-  if is_none (first_fault (record { order = order; entries = front.0 ++ row }))
+  if is_none (first_fault_within order (record { order = order; entries = front.0 ++ row }))
       then Ok (called name.Table (record { order = order; entries = front.0 ++ row }), line.1)
       else Err (Malformed line.0.number)
 
@@ -96,11 +96,15 @@ quandle_of n w text = do
   quandle ← or_malformed n (meant w)
   Ok (quandle, text)
 
+-- its limits, and then what it means. The order of a table is at most the first number
+abbrev pub judged : ℕ → ℕ → Written → Text → Result (NamedQuandle × Text) TextFault
+judged most n w text = if is_over most w then Err (Limit n) else quandle_of n w text
+
 -- a name at the end of a line: form, limits, content
-unfoldable pub quandle_at : NumberedLine → Text → Result (NamedQuandle × Text) TextFault
-quandle_at line text = do
+unfoldable pub quandle_at : ℕ → NumberedLine → Text → Result (NamedQuandle × Text) TextFault
+quandle_at most line text = do
   name ← written_at line
-  if is_over name.0 then Err (Limit name.1.number) else quandle_of name.1.number name.0 text
+  judged most name.1.number name.0 text
 
 -- ---- the item, and a list of items
 
@@ -108,7 +112,7 @@ unfoldable pub quandle_item : Text → Result (NamedQuandle × Text) TextFault
 quandle_item text = do
   line ← next_line text
   rest ← word (codes "quandle") line.0
-  quandle_at rest line.1
+  quandle_at MAX_ORDER rest line.1
 
 -- one quandle more than a text may have: its form is tried before the limit
 unfoldable pub surplus_quandle : Text → Result (List NamedQuandle × Text) TextFault

@@ -24,9 +24,9 @@ pub fn cocycle_item(quandle: &Quandle, lines: &mut Lines) -> Result<Cocycle, Tex
     cochain_item(quandle, modulus, lines)
 }
 
-/// The line of a modulus.
+/// The line `weight` with a modulus from 2 to `MAX_MODULUS`. A greater one exceeds a limit, a smaller one is malformed.
 #[tactic(auto, unfolding(crate::specs::Cocycles::modulus_at))]
-fn modulus_at(line: &mut Line) -> Result<u8, TextFault>
+pub fn modulus_at(line: &mut Line) -> Result<u8, TextFault>
     ensures { Gives (λ k. k) result (modulus_at line.old) }
 {
     word(line, b"weight")?;

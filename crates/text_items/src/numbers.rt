@@ -55,7 +55,7 @@ fn keep(kept: &mut Kept, value: u32)
 }
 
 /// The number, or 255 where it is larger.
-fn low(value: u32) -> u8
+pub fn low(value: u32) -> u8
     ensures { result ≡ low value }
 {
     if value < 255 { value as u8 } else { 255 }

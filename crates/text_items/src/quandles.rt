@@ -1,8 +1,9 @@
 //! Quandles by name or table.
-ghost use Rattle.std.specs.Prelude.{◌≡◌, ◌≤◌, ◌+◌, ◌-◌, ◌*◌, ◌++◌, false, length, IfOk, IfErr};
+ghost use Rattle.std.specs.Prelude.{◌≡◌, ◌≤◌, ◌+◌, ◌-◌, ◌*◌, ◌++◌, false, is_none, is_some, length, IfOk, IfErr, IfSome};
 ghost use Rattle.arrayvec.specs.ArrayVec.{array_vec_len};
 ghost use Rattle.quandle_core.specs.declared.quandle.TheConstants.{MAX_TABLE};
 ghost use Rattle.quandle_core.specs.declared.quandle.TheConstants.{MAX_ORDER};
+ghost use Rattle.quandle_core.specs.Fault.{first_fault_within};
 ghost use Rattle.text_items.specs.Reading.{Gives, Fails};
 ghost use Rattle.text_items.specs.Quandles.{written_at, alexander_at, tetrahedral_at, is_over, meant, table_row, table_rows, table_item, quandle_of, quandle_at, quandle_item, surplus_quandle, quandles, quandle_list};
 ghost use Rattle.text_items.specs.Quandles.{built_in};
@@ -50,9 +51,9 @@ fn tetrahedral_at(line: &mut Line) -> Result<Written, TextFault>
     Ok(Written::Tetrahedral)
 }
 
-/// A name at the end of a line.
+/// A name at the end of a line, with numbers of any size. A line of another form is malformed.
 #[tactic(auto, unfolding(crate::specs::Quandles::written_at))]
-fn written_at(line: &mut Line) -> Result<Written, TextFault>
+pub fn written_at(line: &mut Line) -> Result<Written, TextFault>
     ensures { Gives (λ w. (w, line.new)) result (written_at line.old) }
 {
     let family = next_token(line)?;
@@ -73,9 +74,9 @@ fn written_at(line: &mut Line) -> Result<Written, TextFault>
     }
 }
 
-/// Whether a name exceeds a limit.
-fn is_over(written: Written) -> bool
-    ensures { result ≡ is_over written }
+/// Whether a name exceeds a limit: it has more than `MAX_ORDER` colours, or a factor above `MAX_NUMBER`.
+pub fn is_over(written: Written) -> bool
+    ensures { result ≡ is_over MAX_ORDER written }
 {
     match written {
         Written::Trivial(n) | Written::Dihedral(n) | Written::Table(n) => n as usize > MAX_ORDER,
@@ -86,7 +87,7 @@ fn is_over(written: Written) -> bool
 
 /// The quandle of a name without a table, which exceeds no limit.
 fn meant(written: Written) -> Option<Listed>
-    requires { is_over written ≡ false }
+    requires { is_over MAX_ORDER written ≡ false }
     ensures { result ≡ meant written }
 {
     match written {
@@ -148,15 +149,27 @@ fn table_item(order: u8, lines: &mut Lines) -> Result<Listed, TextFault>
     let at = line.number();
     let row = numbers_below(order, order, &mut line)?;
     append(&mut entries, row.as_slice());
-    match Quandle::new(order, entries.as_slice()) {
-        Ok(quandle) => Ok(Listed::table(quandle)),
-        Err(_) => Err(TextFault::Malformed { line: at }),
+    match quandle_by(order, entries.as_slice()) {
+        Some(quandle) => Ok(Listed::table(quandle)),
+        None => Err(TextFault::Malformed { line: at }),
+    }
+}
+
+/// The quandle of a table, if it has the laws.
+fn quandle_by(order: u8, table: &[u8]) -> Option<Quandle>
+    requires { order ≤ MAX_ORDER }
+    ensures laws { is_some result ≡ is_none (first_fault_within order (record { order = order; entries = table.now })) }
+    ensures quandle { IfSome result (λ q. q ≡ record { order = order; entries = table.now }) }
+{
+    match Quandle::new(order, table) {
+        Ok(quandle) => Some(quandle),
+        Err(_) => None,
     }
 }
 
 /// What a name in line `at` means, with the lines behind it that a table takes. The name exceeds no limit.
-fn quandle_of(at: usize, written: Written, lines: &mut Lines) -> Result<Listed, TextFault>
-    requires { is_over written ≡ false }
+pub fn quandle_of(at: usize, written: Written, lines: &mut Lines) -> Result<Listed, TextFault>
+    requires { is_over MAX_ORDER written ≡ false }
     ensures { Gives (λ q. (q, lines.new)) result (quandle_of at written lines.old) }
 {
     if let Written::Table(order) = written {
@@ -174,7 +187,7 @@ fn quandle_of(at: usize, written: Written, lines: &mut Lines) -> Result<Listed, 
 /// A name at the end of a line, with the lines behind it that a table takes.
 #[tactic(auto, unfolding(crate::specs::Quandles::quandle_at))]
 pub fn quandle_at(line: &mut Line, lines: &mut Lines) -> Result<Listed, TextFault>
-    ensures { Gives (λ q. (q, lines.new)) result (quandle_at line.old lines.old) }
+    ensures { Gives (λ q. (q, lines.new)) result (quandle_at MAX_ORDER line.old lines.old) }
 {
     let written = written_at(line)?;
     let at = line.number();

@@ -1,4 +1,4 @@
-use Rattle.std.proofs.Common.{◌∙◌, ap, arith}
+use Rattle.std.proofs.Common.{◌∙◌, ap}
 use Rattle.std.proofs.lemmas.Bool.{and_parts}
 use Rattle.shadow_weights.specs.Cocycle.{ShadowCochain}
 use Rattle.shadow_text.specs.declared.shadows.Spelling.TheVariants as spelling
@@ -11,7 +11,7 @@ mochizuki-requires-clause-prime c =
     ap is_prime c.order-order.ensures.order ∙ (and_parts (is_prime c.args.quandle.now.order) (is_dihedral c.args.quandle.now) c.requires).0
 
 pub mochizuki-requires-clause-most : goal.mochizuki-requires-clause-most
-mochizuki-requires-clause-most c = omega (arith, c.order-order.ensures.order, c.order-order.ensures.quandle.most)
+mochizuki-requires-clause-most c = c.order-order.ensures.few
 
 pub returns : goal.returns
 returns c = ap (λ (t : ShadowCochain). spelled spelling.Mochizuki t) (c.in_ok-cocycle.ensures ∙ ap mochizuki c.order-order.ensures.order)

@@ -7,7 +7,7 @@ use Rattle.text_items.proofs.quandles.table_front.Goals as goal
 pub returns-in_err-row-clause-rows : goal.returns-in_err-row-clause-rows
 returns-in_err-row-clause-rows c =
     let p = err_from_is_err_and c.from_residual.result c.from_residual.ensures.1 in
-    rw (p.1, p.2) (row_fails c.in_err-row.field-0.0 c.loop.entries.items c.args.order c.args.bound c.loop.counter c.loop.lines
+    rw (p.1, p.2) (row_fails c.in_err-row.field-0.0 c.loop.entries.items c.args.order c.args.bound c.args.order c.loop.counter c.loop.lines
     (table_rows c.args.order c.args.bound (c.args.order - 1) c.args.lines.now) c.loop-test.true c.in_err-row.ensures.row c.loop.invariant.read)
 
 pub loop-preserved : goal.loop-preserved
@@ -19,7 +19,7 @@ loop-preserved c =
     ap (λ (xs : List ℕ). length xs) appended ∙ length-append before row ∙ ap (λ (n : ℕ). length before + n) c.in_ok-row.ensures.len in
     record {
       len = longer ∙ ap (λ (n : ℕ). n + c.args.order) c.loop.invariant.len ∙ row_adds c.args.order c.loop.counter (omega arith);
-      read = rw appended (row_more before c.args.order c.args.bound c.loop.counter c.loop.lines row c.table_row.new.lines
+      read = rw appended (row_more before c.args.order c.args.bound c.args.order c.loop.counter c.loop.lines row c.table_row.new.lines
           (table_rows c.args.order c.args.bound (c.args.order - 1) c.args.lines.now) c.loop-test.true c.in_ok-row.ensures.row c.loop.invariant.read);
     }
 
@@ -29,5 +29,5 @@ append-requires c =
     omega (arith, len, c.loop.invariant.len, row_fits c.args.order (c.loop.counter - 1) (omega arith) (omega arith))
 
 pub returns-clause-rows : goal.returns-clause-rows
-returns-clause-rows c = rows_done c.loop.entries.items c.args.order c.args.bound c.loop.counter c.loop.lines
+returns-clause-rows c = rows_done c.loop.entries.items c.args.order c.args.bound c.args.order c.loop.counter c.loop.lines
     (table_rows c.args.order c.args.bound (c.args.order - 1) c.args.lines.now) c.loop-test.false c.loop.invariant.read

@@ -1,0 +1,10 @@
+//! Tables of quandles and cocycles of larger orders, read onto the heap, or refused at their first bad line.
+#![tactic(auto)]
+
+mod cocycles;
+mod quandles;
+mod rows;
+
+pub use cocycles::large_cocycle_item;
+pub use quandles::large_quandle_at;
+pub use rows::table_rows;
