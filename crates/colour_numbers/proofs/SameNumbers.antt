@@ -6,11 +6,11 @@ use Rattle.quandle_core.specs.Quandle.{Table, IsQuandle}
 use Rattle.colour_laws.proofs.Counted.{equivalent_lengths}
 use Rattle.colour_weights.proofs.Counted.{equivalent_weights}
 use Rattle.shadow_weights.proofs.Counted as shadows
-use Rattle.number_text.specs.declared.blocks.Weighing.{Weighing}
-use Rattle.number_text.specs.declared.blocks.Weighing.TheVariants.{Strands, Regions}
+use Rattle.number_text.specs.declared.blocks.LargeWeighing.{LargeWeighing}
+use Rattle.number_text.specs.declared.blocks.LargeWeighing.TheVariants.{Strands, Regions}
 use Rattle.colour_numbers.specs.Numbers.{numbers, IsCocycleOrNone}
 
-pub same_numbers : (t : Table) (o : Option Weighing) (d e : Diagram) → IsQuandle t → IsCocycleOrNone o → Equivalent d e → numbers t o d ≡ numbers t o e
+pub same_numbers : (t : Table) (o : Option LargeWeighing) (d e : Diagram) → IsQuandle t → IsCocycleOrNone o → Equivalent d e → numbers t o d ≡ numbers t o e
 same_numbers t None d e quandle none joined = ap (λ (n : ℕ). n ∷ []) (equivalent_lengths t quandle d e joined)
 same_numbers t (Some (Strands w)) d e quandle cocycle joined = equivalent_weights w cocycle d e joined
 same_numbers t (Some (Regions s)) d e quandle cocycle joined = shadows.equivalent_weights s.cocycle cocycle d e joined

@@ -10,33 +10,33 @@ use Rattle.shadow_weights.specs.Weights.{shadow_weights}
 use Rattle.colour_seeds.specs.declared.progress.Step.{Step}
 use Rattle.colour_seeds.specs.declared.counting.TheConstants.{MAX_CANDIDATES}
 use Rattle.colour_seeds.specs.Plan.{seeds_in}
-use Rattle.number_text.specs.declared.blocks.Weighing.{Weighing}
-use Rattle.number_text.specs.declared.blocks.Weighing.TheVariants.{Strands, Regions}
+use Rattle.number_text.specs.declared.blocks.LargeWeighing.{LargeWeighing}
+use Rattle.number_text.specs.declared.blocks.LargeWeighing.TheVariants.{Strands, Regions}
 
 -- the number of colourings; with a cocycle, for each weight the number of those that have it, and with one that looks at regions
 -- the number of pairs of a colouring and a colour of the outer region that have it
-abbrev pub numbers : Table → Option Weighing → Diagram → List ℕ
+abbrev pub numbers : Table → Option LargeWeighing → Diagram → List ℕ
 numbers t None d = length (colourings t d) ∷ []
 numbers t (Some (Strands w)) d = weights w d
 numbers t (Some (Regions s)) d = shadow_weights s.cocycle d
 
 -- the quandle that gives the colours; a cocycle has its own
-abbrev pub coloured_by : Table → Option Weighing → Table
+abbrev pub coloured_by : Table → Option LargeWeighing → Table
 coloured_by t None = t
 coloured_by t (Some (Strands w)) = w.quandle
 coloured_by t (Some (Regions s)) = s.cocycle.quandle
 
 -- how many colours are chosen by so many seeds: one for each, and with regions one more, for the outer one
-abbrev pub choices_of : Option Weighing → ℕ → ℕ
+abbrev pub choices_of : Option LargeWeighing → ℕ → ℕ
 choices_of None seeds = seeds
 choices_of (Some (Strands w)) seeds = seeds
 choices_of (Some (Regions s)) seeds = seeds + 1
 
 -- there are at most MAX_CANDIDATES choices of colours
-abbrev pub fits_by : Table → Option Weighing → List Step → Bool
+abbrev pub fits_by : Table → Option LargeWeighing → List Step → Bool
 fits_by t o plan = nat_le ((coloured_by t o).order ^ choices_of o (seeds_in plan)) MAX_CANDIDATES
 
-abbrev pub IsCocycleOrNone : Option Weighing → Type 0
+abbrev pub IsCocycleOrNone : Option LargeWeighing → Type 0
 IsCocycleOrNone None = Unit {0}
 IsCocycleOrNone (Some (Strands w)) = IsCocycle w
 IsCocycleOrNone (Some (Regions s)) = IsShadowCocycle s.cocycle

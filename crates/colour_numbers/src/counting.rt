@@ -1,40 +1,51 @@
 //! The numbers of colourings of a diagram by a quandle, or by a cocycle of either kind.
 ghost use Rattle.std.specs.Prelude.{◌≡◌, ◌<◌, ◌-◌, ◌^◌, ◌⊎◌, ◌∷◌, [], Err, IfOk, IfErr, false, length};
 ghost use Rattle.colour_list.specs.Listing.{colourings};
+ghost use Rattle.colour_weights.specs.Weights.{weights};
+ghost use Rattle.colour_seeds.specs.Fits.{fits};
 ghost use Rattle.colour_seeds.specs.Plan.{IsPlan};
 ghost use Rattle.colour_seeds.specs.declared.counting.CountFault.TheVariants as fault;
 ghost use Rattle.colour_numbers.specs.Numbers.{choices_of, fits_by, numbers};
 
+use cocycle_core::LargeCocycle;
 use colour_seeds::{CountFault, Seeding, count, fits, weights_by_seeds};
 use grid_core::Grid;
-use number_text::Weighing;
-use quandle_core::Quandle;
+use number_text::LargeWeighing;
+use quandle_core::Operations;
 use shadow_numbers::shadow_weights_by_seeds;
 use std::alloc::Global;
 
 /// How many colours are chosen by so many seeds: one for each, and by a 3-cocycle one more, for the outer region.
-pub fn choices_of(cocycle: &Option<Weighing>, seeds: usize) -> usize
+pub fn choices_of(cocycle: &Option<LargeWeighing>, seeds: usize) -> usize
     requires { seeds < 2 ^ 64 - 1 }
     ensures { result ≡ choices_of cocycle.now seeds }
 {
     match cocycle {
         None => seeds,
-        Some(Weighing::Strands(_)) => seeds,
-        Some(Weighing::Regions(_)) => seeds + 1,
+        Some(LargeWeighing::Strands(_)) => seeds,
+        Some(LargeWeighing::Regions(_)) => seeds + 1,
     }
 }
 
 /// Whether there are at most `MAX_CANDIDATES` choices of a colour for each seed, and by a 3-cocycle for the outer region too. Takes no memory.
-pub fn fits_by(quandle: &Quandle, cocycle: &Option<Weighing>, seeding: &Seeding) -> bool
+pub fn fits_by(quandle: &Operations, cocycle: &Option<LargeWeighing>, seeding: &Seeding) -> bool
     ensures { result ≡ fits_by quandle.now cocycle.now seeding.now }
 {
     match cocycle {
         None => fits(quandle, seeding),
-        Some(Weighing::Strands(cocycle)) => fits(cocycle.quandle(), seeding),
-        Some(Weighing::Regions(shadow)) => {
+        Some(LargeWeighing::Strands(cocycle)) => strands_fit(cocycle, seeding),
+        Some(LargeWeighing::Regions(shadow)) => {
             shadow_numbers::fits(shadow.cocycle.quandle(), seeding)
         }
     }
+}
+
+/// The same by a 2-cocycle.
+fn strands_fit(cocycle: &LargeCocycle, seeding: &Seeding) -> bool
+    ensures { result ≡ fits cocycle.now.quandle seeding.now }
+{
+    let quandle = cocycle.quandle();
+    fits(&quandle, seeding)
 }
 
 /// Without a cocycle the number of colourings of a grid by the quandle. With one, for each weight from 0 to its modulus less one, the
@@ -45,8 +56,8 @@ pub fn fits_by(quandle: &Quandle, cocycle: &Option<Weighing>, seeding: &Seeding)
 pub fn numbers(
     alloc: Global,
     grid: &Grid,
-    quandle: &Quandle,
-    cocycle: &Option<Weighing>,
+    quandle: &Operations,
+    cocycle: &Option<LargeWeighing>,
     seeding: &Seeding,
 ) -> Result<Vec<u32>, CountFault>
     requires plan { IsPlan grid.now seeding.now }
@@ -59,11 +70,27 @@ pub fn numbers(
             let total = count(alloc, grid, quandle, seeding)?;
             alone(alloc, total)
         }
-        Some(Weighing::Strands(cocycle)) => weights_by_seeds(alloc, grid, cocycle, seeding),
-        Some(Weighing::Regions(shadow)) => {
+        Some(LargeWeighing::Strands(cocycle)) => strand_weights(alloc, grid, cocycle, seeding),
+        Some(LargeWeighing::Regions(shadow)) => {
             shadow_weights_by_seeds(alloc, grid, &shadow.cocycle, seeding)
         }
     }
+}
+
+/// The same by a 2-cocycle.
+fn strand_weights(
+    alloc: Global,
+    grid: &Grid,
+    cocycle: &LargeCocycle,
+    seeding: &Seeding,
+) -> Result<Vec<u32>, CountFault>
+    requires plan { IsPlan grid.now seeding.now }
+    ensures weights { IfOk result (λ v. v.items ≡ weights cocycle.now grid.now) }
+    ensures wide { fits cocycle.now.quandle seeding.now ≡ false → result ≡ Err (fault.TooWide) }
+    ensures fault { IfErr result (λ e. e ≡ fault.OutOfMemory ⊎ (fits cocycle.now.quandle seeding.now ≡ false) × (e ≡ fault.TooWide)) }
+{
+    let values = cocycle.values();
+    weights_by_seeds(alloc, grid, &values, seeding)
 }
 
 /// A list of one number.

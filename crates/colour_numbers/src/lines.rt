@@ -9,7 +9,7 @@ ghost use Rattle.colour_numbers.specs.Lines.{counted_line, block_text, text_by, 
 use crate::counting::numbers;
 use colour_seeds::{CountFault, Seeding, seeds_of};
 use grid_core::Grid;
-use knot_text::push_quandle;
+use knot_text::push_large;
 use number_text::Block;
 use std::alloc::{AllocError, Global};
 use text_lines::{push_counted, push_number};
@@ -53,7 +53,7 @@ fn push_block(
     requires plan { IsPlan grid.now seeding.now }
     ensures { OnOk result (out.new.items ≡ out.old.items ++ block_text grid.now seeding.now block.now) }
 {
-    push_quandle(out, b"quandle", &block.listed)?;
+    push_large(out, b"quandle", &block.listed)?;
     push_counted_line(alloc, out, grid, seeding, block)
 }
 
@@ -68,7 +68,8 @@ fn push_counted_line(
     requires plan { IsPlan grid.now seeding.now }
     ensures { OnOk result (out.new.items ≡ out.old.items ++ counted_line grid.now seeding.now block.now) }
 {
-    match numbers(alloc, grid, block.listed.quandle(), &block.cocycle, seeding) {
+    let quandle = block.listed.operations();
+    match numbers(alloc, grid, &quandle, &block.cocycle, seeding) {
         Ok(list) => push_number_line(out, b"numbers", list.as_slice()),
         Err(CountFault::TooWide) => push_counted(out, b"wide ", seeding.seeds().len() as u64),
         Err(CountFault::OutOfMemory) => Err(AllocError),

@@ -3,14 +3,15 @@ use Rattle.std.specs.Prelude.{◌≡◌, ◌≤◌, ℕ, ℤ, unsigned_abs, List
 use Rattle.std.specs.Fmt.{decimal}
 use Rattle.std.specs.List.{AllByRecursion}
 use Rattle.grid_core.specs.declared.grid.TheConstants.{MAX_SIZE}
+use Rattle.quandle_core.specs.declared.operations.TheConstants.{MAX_LARGE_ORDER}
 use Rattle.quandle_core.specs.Quandle.{Table}
 use Rattle.text_lines.specs.Spelled.{lines_text}
 use Rattle.text_items.specs.declared.reading.TheConstants.{MAX_NUMBER}
-use Rattle.knot_text.specs.Printed.{letter_token, name_tokens, table_lines, HasQuandleText}
+use Rattle.knot_text.specs.Printed.{letter_token, name_tokens, table_lines, HasQuandleTextWithin}
 use Rattle.knot_text.specs.WrittenThere.{cocycle_lines, HasCocycleText}
 use Rattle.shadow_print.specs.Printed.{shadow_lines, HasShadowText}
-use Rattle.number_text.specs.declared.blocks.Weighing.{Weighing}
-use Rattle.number_text.specs.declared.blocks.Weighing.TheVariants.{Strands, Regions}
+use Rattle.number_text.specs.declared.blocks.LargeWeighing.{LargeWeighing}
+use Rattle.number_text.specs.declared.blocks.LargeWeighing.TheVariants.{Strands, Regions}
 use Rattle.number_text.specs.declared.blocks.Block.{Block}
 use Rattle.number_text.specs.declared.evidence.Counted.{Counted}
 use Rattle.number_text.specs.declared.evidence.Linked.{Linked}
@@ -20,7 +21,7 @@ use Rattle.number_text.specs.declared.evidence_items.TheConstants.{THIRD_VERSION
 use Rattle.number_text.specs.Evidence.{count_of}
 
 -- the lines of a cocycle, if there is one
-abbrev pub perhaps_cocycle : Option Weighing → List (List (List ℕ))
+abbrev pub perhaps_cocycle : Option LargeWeighing → List (List (List ℕ))
 perhaps_cocycle None = []
 perhaps_cocycle (Some (Strands w)) = cocycle_lines w
 perhaps_cocycle (Some (Regions s)) = shadow_lines s
@@ -48,14 +49,14 @@ third_text evidence = lines_text (third_lines evidence)
 
 -- ---- what has a text
 
-abbrev pub HasPerhapsText : Table → Option Weighing → Type 0
+abbrev pub HasPerhapsText : Table → Option LargeWeighing → Type 0
 HasPerhapsText quandle None = Unit {0}
 HasPerhapsText quandle (Some (Strands w)) = HasCocycleText quandle w
 HasPerhapsText quandle (Some (Regions s)) = HasShadowText quandle s
 
 -- a quandle, and perhaps a cocycle of this quandle
 pub record HasBlockText (b : Block) : Type 0 where
-  pub listed : HasQuandleText b.listed
+  pub listed : HasQuandleTextWithin MAX_LARGE_ORDER b.listed
   pub cocycle : HasPerhapsText b.listed.table b.cocycle
 
 -- few enough seeds, each of at most 255 as in what is read, and as many numbers as are due

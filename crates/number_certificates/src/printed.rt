@@ -10,11 +10,11 @@ ghost use Rattle.number_text.specs.declared.evidence.Evidence.TheVariants.{Numbe
 ghost use Rattle.number_certificates.specs.Printed.{perhaps_cocycle, counted_lines, linked_lines, evidence_lines, third_text};
 
 use arrayvec::ArrayVec;
-use cocycle_core::Cocycle;
+use cocycle_core::Values;
 use colour_numbers::push_number_line;
-use knot_text::push_quandle;
-use number_text::{Block, Counted, Evidence, Linked, THIRD_VERSION, Weighing};
-use quandle_core::MAX_ORDER;
+use knot_text::push_large;
+use number_text::{Block, Counted, Evidence, LargeWeighing, Linked, THIRD_VERSION};
+use quandle_core::MAX_LARGE_ORDER;
 use shadow_print::push_shadow;
 use std::alloc::{AllocError, Global};
 use text_lines::{push_counted, push_number, push_word_line};
@@ -52,7 +52,7 @@ fn push_numbers(
 ) -> Result<(), AllocError>
     ensures { OnOk result (out.new.items ≡ out.old.items ++ lines_text (evidence_lines (Numbers block.now first.now second.now))) }
 {
-    push_quandle(out, b"different numbers", &block.listed)?;
+    push_large(out, b"different numbers", &block.listed)?;
     push_perhaps(out, &block.cocycle)?;
     push_counts(out, first)?;
     push_counts(out, second)
@@ -68,18 +68,18 @@ fn push_linking(out: &mut Vec<u8>, first: &Linked, second: &Linked) -> Result<()
 }
 
 /// Appends a cocycle, if there is one.
-fn push_perhaps(out: &mut Vec<u8>, cocycle: &Option<Weighing>) -> Result<(), AllocError>
+fn push_perhaps(out: &mut Vec<u8>, cocycle: &Option<LargeWeighing>) -> Result<(), AllocError>
     ensures { OnOk result (out.new.items ≡ out.old.items ++ lines_text (perhaps_cocycle cocycle.now)) }
 {
     match cocycle {
         None => Ok(()),
-        Some(Weighing::Strands(cocycle)) => push_cocycle(out, cocycle),
-        Some(Weighing::Regions(shadow)) => push_shadow(out, shadow),
+        Some(LargeWeighing::Strands(cocycle)) => push_cocycle(out, &cocycle.values()),
+        Some(LargeWeighing::Regions(shadow)) => push_shadow(out, shadow),
     }
 }
 
 /// Appends the modulus of a cocycle, and its table.
-fn push_cocycle(out: &mut Vec<u8>, cocycle: &Cocycle) -> Result<(), AllocError>
+fn push_cocycle(out: &mut Vec<u8>, cocycle: &Values) -> Result<(), AllocError>
     ensures { OnOk result (out.new.items ≡ out.old.items ++ lines_text (cocycle_lines cocycle.now)) }
 {
     push_counted(out, b"weight ", u64::from(cocycle.modulus()))?;
@@ -87,7 +87,7 @@ fn push_cocycle(out: &mut Vec<u8>, cocycle: &Cocycle) -> Result<(), AllocError>
 }
 
 /// Appends a line for each colour.
-fn push_values(out: &mut Vec<u8>, cocycle: &Cocycle) -> Result<(), AllocError>
+fn push_values(out: &mut Vec<u8>, cocycle: &Values) -> Result<(), AllocError>
     ensures { OnOk result (out.new.items ≡ out.old.items ++ lines_text (value_lines cocycle.now)) }
 {
     let _modulus = cocycle.modulus();
@@ -98,7 +98,7 @@ fn push_values(out: &mut Vec<u8>, cocycle: &Cocycle) -> Result<(), AllocError>
 }
 
 /// The values of a colour with each colour.
-fn values_of(cocycle: &Cocycle, x: u8) -> ArrayVec<u8, MAX_ORDER>
+fn values_of(cocycle: &Values, x: u8) -> ArrayVec<u8, MAX_LARGE_ORDER>
     requires { x < cocycle.now.quandle.order }
     ensures { result.items ≡ map (value cocycle.now x) (range_with_len 0 cocycle.now.quandle.order) }
 {

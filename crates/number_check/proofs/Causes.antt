@@ -15,8 +15,8 @@ use Rattle.colour_seeds.specs.Settled.{Determine}
 use Rattle.colour_seeds.specs.Seeded.{IsFault}
 use Rattle.colour_seeds.specs.declared.seeding.SeedFault.TheVariants as fault
 use Rattle.colour_seeds.specs.declared.counting.TheConstants.{MAX_CANDIDATES}
-use Rattle.number_text.specs.declared.blocks.Weighing.{Weighing}
-use Rattle.number_text.specs.declared.blocks.Weighing.TheVariants.{Strands, Regions}
+use Rattle.number_text.specs.declared.blocks.LargeWeighing.{LargeWeighing}
+use Rattle.number_text.specs.declared.blocks.LargeWeighing.TheVariants.{Strands, Regions}
 use Rattle.number_text.specs.declared.blocks.Block.{Block}
 use Rattle.colour_numbers.specs.Numbers.{choices_of, fits_by}
 use Rattle.number_text.specs.declared.evidence.Counted.{Counted}
@@ -111,7 +111,7 @@ some_cause b which d c None settled is = tt
 some_cause b which d c (Some why) settled is = inr (settled, sym is)
 
 -- more seeds have more choices
-choices_more : (o : Option Weighing) (few many : ℕ) → few ≤ many → choices_of o few ≤ choices_of o many
+choices_more : (o : Option LargeWeighing) (few many : ℕ) → few ≤ many → choices_of o few ≤ choices_of o many
 choices_more None few many le = le
 choices_more (Some (Strands w)) few many le = le
 choices_more (Some (Regions s)) few many le = let more : few + 1 ≤ many + 1 = omega (arith, le) in more

@@ -13,8 +13,8 @@ use colour_numbers::{choices_of, numbers};
 use colour_seeds::{CountFault, MAX_CANDIDATES, SeedFault, Seeding};
 use grid_core::Grid;
 use memory_core::OutOfMemory;
-use number_text::{Block, Counted, Weighing};
-use quandle_core::Quandle;
+use number_text::{Block, Counted, LargeWeighing};
+use quandle_core::Operations;
 use std::alloc::Global;
 
 /// Why what is said of the numbers of a diagram does not hold: the first cause, if there is one.
@@ -69,7 +69,7 @@ fn cause_settled(
     ensures { IfOk result (λ o. o ≡ counts_cause block.now which grid.now counted.now) }
 {
     let seeds = counted.seeds.len();
-    if !are_few(colouring_quandle(block), choices_of(&block.cocycle, seeds)) {
+    if !are_few(&colouring_quandle(block), choices_of(&block.cocycle, seeds)) {
         return Ok(Some(Cause::Wide { which, seeds }));
     }
     let own = numbers_by(alloc, grid, block, seeding)?;
@@ -90,26 +90,27 @@ pub fn numbers_by(
     requires fits { fits_by block.now.listed.table block.now.cocycle seeding.now ≡ true }
     ensures { IfOk result (λ v. v.items ≡ numbers_by block.now grid.now) }
 {
-    match numbers(alloc, grid, block.listed.quandle(), &block.cocycle, seeding) {
+    let quandle = block.listed.operations();
+    match numbers(alloc, grid, &quandle, &block.cocycle, seeding) {
         Ok(own) => Ok(own),
         Err(CountFault::OutOfMemory) => Err(OutOfMemory),
         Err(CountFault::TooWide) => unreachable!(),
     }
 }
 
-/// The quandle that gives a block's colours: that of its cocycle, if it has one.
-pub fn colouring_quandle(block: &Block) -> &Quandle
-    ensures { result.now ≡ table_of block.now }
+/// The operations of the quandle that gives a block's colours: that of its cocycle, if it has one.
+pub fn colouring_quandle(block: &Block) -> Operations<'_>
+    ensures { result ≡ table_of block.now }
 {
     match &block.cocycle {
-        None => block.listed.quandle(),
-        Some(Weighing::Strands(cocycle)) => cocycle.quandle(),
-        Some(Weighing::Regions(shadow)) => shadow.cocycle.quandle(),
+        None => block.listed.operations(),
+        Some(LargeWeighing::Strands(cocycle)) => cocycle.quandle(),
+        Some(LargeWeighing::Regions(shadow)) => shadow.cocycle.quandle().operations(),
     }
 }
 
 /// Whether so many choices of a colour are at most `MAX_CANDIDATES` together.
-fn are_few(quandle: &Quandle, choices: usize) -> bool
+fn are_few(quandle: &Operations, choices: usize) -> bool
     ensures few { result ≡ nat_le (quandle.now.order ^ choices) MAX_CANDIDATES }
     ensures least { 1 ≤ quandle.now.order }
 {

@@ -12,7 +12,7 @@ use crate::counts::cause_of_counts;
 use crate::links::cause_of_links;
 use grid_core::Grid;
 use memory_core::OutOfMemory;
-use number_text::{Block, Counted, Evidence, Linked, Weighing};
+use number_text::{Block, Counted, Evidence, LargeWeighing, Linked};
 use std::alloc::Global;
 
 /// Whether evidence by numbers tells two diagrams apart: accepted exactly where it holds, else rejected for the first cause.
@@ -86,14 +86,15 @@ pub fn laws_of(block: &Block)
     ensures quandle { IsQuandle block.now.listed.table }
     ensures cocycle { IsCocycleOrNone block.now.cocycle }
 {
-    let quandle = block.listed.quandle();
+    let quandle = block.listed.operations();
     let _order = quandle.order();
     match &block.cocycle {
         None => {}
-        Some(Weighing::Strands(cocycle)) => {
-            let _modulus = cocycle.modulus();
+        Some(LargeWeighing::Strands(cocycle)) => {
+            let values = cocycle.values();
+            let _modulus = values.modulus();
         }
-        Some(Weighing::Regions(shadow)) => {
+        Some(LargeWeighing::Regions(shadow)) => {
             let _modulus = shadow.cocycle.modulus();
         }
     }

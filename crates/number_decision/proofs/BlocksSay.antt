@@ -1,28 +1,30 @@
 -- A block that was read has a text, and so has the block of evidence that was read.
-use Rattle.std.proofs.Common.{◌≡◌, ℕ, zero, suc, List, [], ◌∷◌, Bool, true, false, cond, Option, Some, None, Result, Ok, Err, ap, codes}
+use Rattle.std.proofs.Common.{◌≡◌, ◌≤◌, ℕ, zero, suc, List, [], ◌∷◌, Bool, true, false, cond, Option, Some, None, Result, Ok, Err, ap, codes, arith}
 use Rattle.std.specs.List.{AllByRecursion}
 use Rattle.std.specs.Str.{bytes_eq}
+use Rattle.quandle_core.specs.declared.operations.TheConstants.{MAX_LARGE_ORDER}
 use Rattle.quandle_core.specs.Quandle.{Table, IsQuandle}
 use Rattle.text_lines.specs.Lines.{NumberedLine, Text, begins, text_of}
 use Rattle.verdict_core.specs.declared.problem.ProblemText.{ProblemText}
-use Rattle.verdict_core.proofs.Named.{named_is}
+use Rattle.verdict_core.specs.Names.{NamedQuandle}
+use Rattle.verdict_core.proofs.Named.{named_within, named_wider}
 use Rattle.text_items.specs.declared.fault.TextFault.{TextFault}
 use Rattle.text_items.specs.Reading.{◌>>=◌, next_line, next_token, line_end, word, text_end}
-use Rattle.knot_text.specs.Printed.{quandle_lines, HasQuandleText}
+use Rattle.knot_text.specs.Printed.{HasQuandleTextWithin}
 use Rattle.knot_text.specs.WrittenThere.{cocycle_lines, HasCocycleText}
 use Rattle.knot_text.specs.Shapes.{problem_item, check_of}
 use Rattle.knot_text.proofs.Steady.{bind_ok, ok_is}
-use Rattle.knot_text.proofs.Says.{Says, says_ok, says_err, says_bind, says_if}
+use Rattle.knot_text.proofs.Says.{Says, says_ok, says_err, says_bind, says_if, says_more}
 use Rattle.knot_text.proofs.ItemsSay.{IsWritten}
-use Rattle.knot_text.proofs.QuandleSays.{IsQuandleAt, quandle_at_says, quandle_says}
+use Rattle.knot_text.proofs.QuandleSays.{IsQuandleAt, quandle_at_says}
 use Rattle.knot_text.proofs.CocycleSays.{cocycle_says}
 use Rattle.shadow_print.specs.Printed.{HasShadowText}
 use Rattle.shadow_print.proofs.ShadowSays.{shadow_says}
-use Rattle.number_text.specs.declared.blocks.Weighing.TheVariants.{Strands, Regions}
+use Rattle.number_text.specs.declared.blocks.LargeWeighing.TheVariants.{Strands, Regions}
 use Rattle.number_text.specs.declared.blocks.Block.{Block}
 use Rattle.number_text.specs.declared.evidence.Evidence.{Evidence}
 use Rattle.number_text.specs.declared.evidence.Evidence.TheVariants.{Numbers, Linking}
-use Rattle.number_text.specs.Blocks.{cocycle_or_none, block_item, name_form, surplus_block, blocks}
+use Rattle.number_text.specs.Blocks.{cocycle_or_none, block_quandle, block_item, name_form, surplus_block, blocks}
 use Rattle.number_text.specs.Evidence.{count_of, counted_item, numbers_evidence, linked_item, linking_evidence, evidence_at, head_at, third_item}
 use Rattle.number_certificates.specs.declared.said.Said.{Said}
 use Rattle.number_certificates.specs.declared.said.Said.TheVariants as said
@@ -42,11 +44,21 @@ perhaps_says quandle text is = says_if (begins (codes "weight") text)
     (λ some. says_bind (λ x. HasShadowText quandle x.0) (shadow_says quandle text is) (λ s has. says_ok (Some (Regions s.0), s.1) has))
     (λ none. says_ok (None, text) tt))
 
-block_says : (text : Text) → Says (block_item text) (λ x. HasBlockText x.0)
+-- what has a text within a bound has one as a block's quandle
+block_named : (most : ℕ) (q : NamedQuandle) → most ≤ MAX_LARGE_ORDER → HasQuandleTextWithin most q → HasQuandleTextWithin MAX_LARGE_ORDER q
+block_named most q few has = record { names = named_wider most MAX_LARGE_ORDER q.name q.table few has.names; factor = has.factor }
+
+quandle_says : (most : ℕ) (text : Text) → most ≤ MAX_LARGE_ORDER → Says (block_quandle most text) (λ x. HasQuandleTextWithin MAX_LARGE_ORDER x.0)
+unfolding block_quandle
+quandle_says most text few = says_bind (λ x. Unit {0}) (anything (next_line text)) (λ line there.
+    says_bind (λ x. Unit {0}) (anything (word (codes "quandle") line.0)) (λ rest named.
+    says_more (λ q is. block_named most q.0 few is.text) (quandle_at_says most (omega (arith, few)) rest line.1)))
+
+block_says : (most : ℕ) (text : Text) → most ≤ MAX_LARGE_ORDER → Says (block_item most text) (λ x. HasBlockText x.0)
 unfolding block_item
-block_says text = says_bind (IsWritten HasQuandleText (quandle_lines (codes "quandle")) text) (quandle_says text) (λ q named.
-    says_bind (λ x. HasPerhapsText q.0.table x.0) (perhaps_says q.0.table q.1 (named_is q.0.name q.0.table named.0.names)) (λ w cocycle.
-    says_ok (record { listed = q.0; cocycle = w.0 }, w.1) (record { listed = named.0; cocycle = cocycle })))
+block_says most text few = says_bind (λ x. HasQuandleTextWithin MAX_LARGE_ORDER x.0) (quandle_says most text few) (λ q named.
+    says_bind (λ x. HasPerhapsText q.0.table x.0) (perhaps_says q.0.table q.1 (named_within MAX_LARGE_ORDER q.0.name q.0.table named.names)) (λ w cocycle.
+    says_ok (record { listed = q.0; cocycle = w.0 }, w.1) (record { listed = named; cocycle = cocycle })))
 
 surplus_says : (text : Text) → Says (surplus_block text) (λ x. AllByRecursion HasBlockText x.0)
 unfolding surplus_block
@@ -54,19 +66,20 @@ surplus_says text = says_bind (λ x. Unit {0}) (anything (next_line text)) (λ l
     says_bind (λ x. Unit {0}) (anything (word (codes "quandle") line.0)) (λ rest named.
     says_bind (λ x. Unit {0}) (anything (name_form rest)) (λ form is. says_err)))
 
-blocks_say : (room : ℕ) (text : Text) → Says (blocks room text) (λ x. AllByRecursion HasBlockText x.0)
+blocks_say : (most : ℕ) → most ≤ MAX_LARGE_ORDER → (room : ℕ) (text : Text) → Says (blocks most room text) (λ x. AllByRecursion HasBlockText x.0)
 unfolding blocks
-blocks_say zero text = says_if (begins (codes "quandle") text) (λ more. surplus_says text) (λ none. says_ok ([], text) tt)
-blocks_say (suc room) text = says_if (begins (codes "quandle") text) (λ more.
-    says_bind (λ x. HasBlockText x.0) (block_says text) (λ first has.
-    says_bind (λ x. AllByRecursion HasBlockText x.0) (blocks_say room first.1) (λ others each. says_ok (first.0 ∷ others.0, others.1) (has, each))))
+blocks_say most few zero text = says_if (begins (codes "quandle") text) (λ more. surplus_says text) (λ none. says_ok ([], text) tt)
+blocks_say most few (suc room) text = says_if (begins (codes "quandle") text) (λ more.
+    says_bind (λ x. HasBlockText x.0) (block_says most text few) (λ first has.
+    says_bind (λ x. AllByRecursion HasBlockText x.0) (blocks_say most few room first.1) (λ others each. says_ok (first.0 ∷ others.0, others.1) (has, each))))
     (λ none. says_ok ([], text) tt)
 
-pub block_text : (text rest : Text) (b : Block) → block_item text ≡ Ok (b, rest) → HasBlockText b
-block_text text rest b read = (block_says text).of (b, rest) read
+pub block_text : (most : ℕ) (text rest : Text) (b : Block) → most ≤ MAX_LARGE_ORDER → block_item most text ≡ Ok (b, rest) → HasBlockText b
+block_text most text rest b few read = (block_says most text few).of (b, rest) read
 
-pub blocks_text : (room : ℕ) (text rest : Text) (bs : List Block) → blocks room text ≡ Ok (bs, rest) → AllByRecursion HasBlockText bs
-blocks_text room text rest bs read = (blocks_say room text).of (bs, rest) read
+pub blocks_text : (most room : ℕ) (text rest : Text) (bs : List Block) → most ≤ MAX_LARGE_ORDER → blocks most room text ≡ Ok (bs, rest)
+    → AllByRecursion HasBlockText bs
+blocks_text most room text rest bs few read = (blocks_say most few room text).of (bs, rest) read
 
 -- ---- evidence
 
@@ -77,8 +90,8 @@ HasBlock (Linking one two) = Unit {0}
 
 numbers_say : (line : NumberedLine) (text : Text) → Says (numbers_evidence line text) (λ x. HasBlock x.0)
 unfolding numbers_evidence
-numbers_say line text = says_bind (IsQuandleAt line.tokens text) (quandle_at_says line text) (λ q named.
-    says_bind (λ x. HasPerhapsText q.0.table x.0) (perhaps_says q.0.table q.1 (named_is q.0.name q.0.table named.text.names)) (λ w cocycle.
+numbers_say line text = says_bind (IsQuandleAt MAX_LARGE_ORDER line.tokens text) (quandle_at_says MAX_LARGE_ORDER (omega arith) line text) (λ q named.
+    says_bind (λ x. HasPerhapsText q.0.table x.0) (perhaps_says q.0.table q.1 (named_within MAX_LARGE_ORDER q.0.name q.0.table named.text.names)) (λ w cocycle.
     says_bind (λ x. Unit {0}) (anything (counted_item (count_of w.0) w.1)) (λ first one.
     says_bind (λ x. Unit {0}) (anything (counted_item (count_of w.0) first.1)) (λ second two.
     says_ok (Numbers (record { listed = q.0; cocycle = w.0 }) first.0 second.0, second.1) (record { listed = named.text; cocycle = cocycle })))))

@@ -2,16 +2,17 @@
 use Rattle.std.proofs.Common.{◌≡◌, ◌++◌, ℕ, List, Bool, true, false, Option, Some, None, Ok, codes, refl, sym, subst, ◌∙◌, if◌then◌else◌}
 use Rattle.grid_core.specs.Diagram.{Diagram}
 use Rattle.grid_moves.specs.Joining.{Equivalent}
+use Rattle.quandle_core.specs.declared.operations.TheConstants.{MAX_LARGE_ORDER}
 use Rattle.quandle_core.specs.Quandle.{Table, IsQuandle}
 use Rattle.text_lines.specs.Lines.{are_whole_lines}
 use Rattle.verdict_core.specs.declared.problem.ProblemText.{ProblemText}
 use Rattle.verdict_core.specs.Diagrams.{grid_of}
-use Rattle.verdict_core.proofs.Named.{named_is}
+use Rattle.verdict_core.proofs.Named.{named_within}
 use Rattle.knot_text.specs.Shapes.{problem_of}
 use Rattle.knot_text.proofs.Steady.{ok_is}
 use Rattle.colour_numbers.specs.Numbers.{IsCocycleOrNone}
-use Rattle.number_text.specs.declared.blocks.Weighing.{Weighing}
-use Rattle.number_text.specs.declared.blocks.Weighing.TheVariants.{Strands, Regions}
+use Rattle.number_text.specs.declared.blocks.LargeWeighing.{LargeWeighing}
+use Rattle.number_text.specs.declared.blocks.LargeWeighing.TheVariants.{Strands, Regions}
 use Rattle.number_text.specs.declared.evidence.Evidence.{Evidence}
 use Rattle.number_text.specs.declared.evidence.Evidence.TheVariants.{Numbers, Linking}
 use Rattle.number_certificates.specs.declared.said.Said.TheVariants as said
@@ -25,14 +26,15 @@ use Rattle.number_decision.proofs.BlocksSay.{HasBlock, said_block}
 
 -- ---- it tells apart
 
-cocycle_or_none : (t : Table) (o : Option Weighing) → HasPerhapsText t o → IsCocycleOrNone o
+cocycle_or_none : (t : Table) (o : Option LargeWeighing) → HasPerhapsText t o → IsCocycleOrNone o
 cocycle_or_none t None has = tt
 cocycle_or_none t (Some (Strands w)) has = has.cocycle
 cocycle_or_none t (Some (Regions s)) has = has.cocycle
 
 held_apart : (d e : Diagram) (evidence : Evidence) → HasBlock evidence → Holds d e evidence → Equivalent d e → ⊥
 held_apart d e (Numbers b one two) has holds =
-    numbers_apart d e b one two (named_is b.listed.name b.listed.table has.listed.names) (cocycle_or_none b.listed.table b.cocycle has.cocycle) holds
+    numbers_apart d e b one two (named_within MAX_LARGE_ORDER b.listed.name b.listed.table has.listed.names)
+    (cocycle_or_none b.listed.table b.cocycle has.cocycle) holds
 held_apart d e (Linking one two) has holds = linking_apart d e one two holds
 
 block_of : (evidence : Evidence) → HasEvidenceText evidence → HasBlock evidence

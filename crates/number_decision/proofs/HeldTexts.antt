@@ -9,10 +9,11 @@ use Rattle.std.proofs.lemmas.List.FromFn.{length-map-range_with_len, length-rang
 use Rattle.std.proofs.lemmas.List.Sums.{count_by-le-length, sum_by-cons}
 use Rattle.grid_core.specs.declared.grid.TheConstants.{MAX_SIZE}
 use Rattle.grid_core.specs.Diagram.{Diagram, IsGrid, size}
+use Rattle.quandle_core.specs.declared.operations.TheConstants.{MAX_LARGE_ORDER}
 use Rattle.quandle_core.specs.Quandle.{Table, IsQuandle}
 use Rattle.colour_list.specs.Listing.{colourings}
 use Rattle.colour_weights.specs.Weight.{weight}
-use Rattle.verdict_core.proofs.Named.{named_is}
+use Rattle.verdict_core.proofs.Named.{named_within}
 use Rattle.text_items.specs.declared.reading.TheConstants.{MAX_NUMBER}
 use Rattle.colour_seeds.specs.declared.counting.TheConstants.{MAX_CANDIDATES}
 use Rattle.colour_seeds.specs.Settled.{Determine}
@@ -23,8 +24,8 @@ use Rattle.shadow_weights.specs.Cocycle.{ShadowCochain}
 use Rattle.shadow_weights.specs.Weight.{shadow_weight}
 use Rattle.shadow_weights.specs.Weights.{shadows_of}
 use Rattle.colour_numbers.specs.Numbers.{numbers, coloured_by, choices_of}
-use Rattle.number_text.specs.declared.blocks.Weighing.{Weighing}
-use Rattle.number_text.specs.declared.blocks.Weighing.TheVariants.{Strands, Regions}
+use Rattle.number_text.specs.declared.blocks.LargeWeighing.{LargeWeighing}
+use Rattle.number_text.specs.declared.blocks.LargeWeighing.TheVariants.{Strands, Regions}
 use Rattle.number_text.specs.declared.blocks.Block.{Block}
 use Rattle.number_text.specs.declared.evidence.Counted.{Counted}
 use Rattle.number_text.specs.declared.evidence.Linked.{Linked}
@@ -58,7 +59,7 @@ each_number f most [] few = tt
 each_number f most (x ∷ xs) few = (few x, each_number f most xs few)
 
 -- what is counted of so many colourings: they, or pairs of each and a colour of the outer region
-abbrev pairs_of : Option Weighing → ℕ → ℕ
+abbrev pairs_of : Option LargeWeighing → ℕ → ℕ
 pairs_of None n = n
 pairs_of (Some (Strands w)) n = n
 pairs_of (Some (Regions s)) n = s.cocycle.quandle.order * n
@@ -79,7 +80,7 @@ shadows_few t d v =
     subst (λ (n : ℕ). sum_by (shadows_of t d v) (range_with_len 0 t.quandle.order) ≤ n * length (colourings t.quandle d))
     (length-range_with_len 0 t.quandle.order) all
 
-numbers_few : (t : Table) (o : Option Weighing) (d : Diagram) (most : ℕ) → pairs_of o (length (colourings (coloured_by t o) d)) ≤ most
+numbers_few : (t : Table) (o : Option LargeWeighing) (d : Diagram) (most : ℕ) → pairs_of o (length (colourings (coloured_by t o) d)) ≤ most
     → AreFew (count_of o) most (numbers t o d)
 numbers_few t None d most few = record { many = refl; each = (few, tt) }
 numbers_few t (Some (Strands w)) d most few = record {
@@ -102,7 +103,7 @@ numbers_few t (Some (Regions s)) d most few = record {
 }
 
 -- few choices of colours leave few of them
-pairs_few : (t : Table) (o : Option Weighing) (n seeds : ℕ) → n ≤ (coloured_by t o).order ^ seeds
+pairs_few : (t : Table) (o : Option LargeWeighing) (n seeds : ℕ) → n ≤ (coloured_by t o).order ^ seeds
     → (coloured_by t o).order ^ choices_of o seeds ≤ MAX_CANDIDATES → pairs_of o n ≤ MAX_NUMBER
 pairs_few t None n seeds most few =
     let all : n ≤ t.order ^ seeds = most in
@@ -128,8 +129,8 @@ each_below n (x ∷ xs) fits all = (omega (arith, all.0, fits), each_below n xs 
 colours_quandle : (b : Block) → HasBlockText b → IsQuandle (table_of b)
 colours_quandle b has = by b.cocycle has.cocycle
   where
-    by : (o : Option Weighing) → HasPerhapsText b.listed.table o → IsQuandle (coloured_by b.listed.table o)
-    by None none = named_is b.listed.name b.listed.table has.listed.names
+    by : (o : Option LargeWeighing) → HasPerhapsText b.listed.table o → IsQuandle (coloured_by b.listed.table o)
+    by None none = named_within MAX_LARGE_ORDER b.listed.name b.listed.table has.listed.names
     by (Some (Strands w)) some = some.cocycle.quandle
     by (Some (Regions s)) some = some.cocycle.quandle
 

@@ -1,7 +1,8 @@
 //! Laws of written evidence, over the definitions alone.
-ghost use Rattle.std.specs.Prelude.{◌≡◌, ℕ, List, Ok};
+ghost use Rattle.std.specs.Prelude.{◌≡◌, ◌≤◌, ℕ, List, Ok};
 ghost use Rattle.std.specs.List.{AllByRecursion};
 ghost use Rattle.grid_core.specs.Diagram.{Diagram, IsGrid};
+ghost use Rattle.quandle_core.specs.declared.operations.TheConstants.{MAX_LARGE_ORDER};
 ghost use Rattle.text_lines.specs.Lines.{Text};
 ghost use Rattle.verdict_core.specs.declared.problem.ProblemText.{ProblemText};
 ghost use Rattle.verdict_core.specs.Diagrams.{grid_of};
@@ -28,10 +29,11 @@ pub fn evidence_that_holds_has_a_text()
         → HasEvidenceText evidence }
 {}
 
-/// A block that was read has a text, and so has each of a list.
+/// A block that was read has a text, whatever the bound of its order up to `MAX_LARGE_ORDER`, and so has each of a list.
 pub fn a_block_that_was_read_has_a_text()
-    ensures one { (text rest : Text) (block : Block) → block_item text ≡ Ok (block, rest) → HasBlockText block }
-    ensures each { (room : ℕ) (text rest : Text) (list : List Block) → blocks room text ≡ Ok (list, rest) → AllByRecursion HasBlockText list }
+    ensures one { (most : ℕ) (text rest : Text) (block : Block) → most ≤ MAX_LARGE_ORDER → block_item most text ≡ Ok (block, rest) → HasBlockText block }
+    ensures each { (most room : ℕ) (text rest : Text) (list : List Block) → most ≤ MAX_LARGE_ORDER → blocks most room text ≡ Ok (list, rest)
+        → AllByRecursion HasBlockText list }
 {}
 
 /// Where a text is evidence on an input, or bytes are read as evidence that is accepted, no list of moves joins the two diagrams.

@@ -5,6 +5,7 @@ use Rattle.std.specs.Fmt.{decimal}
 use Rattle.std.proofs.lemmas.Bool.{cases_lt, lt-ltb, le-ltb, or_from, eq-eqb}
 use Rattle.arrayvec.specs.ArrayVec.{ArrayVec}
 use Rattle.grid_core.specs.declared.grid.TheConstants.{MAX_SIZE}
+use Rattle.quandle_core.specs.declared.operations.TheConstants.{MAX_LARGE_ORDER}
 use Rattle.quandle_core.specs.Quandle.{Table}
 use Rattle.shadow_weights.specs.Cocycle.{ShadowCochain}
 use Rattle.text_lines.specs.Lines.{Text, begins}
@@ -16,7 +17,7 @@ use Rattle.text_items.specs.Kept.{low}
 use Rattle.text_items.specs.Braids.{letter_of, is_long_letter}
 use Rattle.knot_text.specs.Printed.{letter_token, name_tokens, table_lines}
 use Rattle.knot_text.proofs.StepsAgain.{line_of, lines_before, IsShort, word_again, count_again, values_again, none_long}
-use Rattle.knot_text.proofs.QuandleAgain.{quandle_again}
+use Rattle.knot_text.proofs.QuandleAgain.{quandle_within_again}
 use Rattle.knot_text.proofs.VerdictAgain.{parted}
 use Rattle.knot_text.proofs.LettersAgain.{letter_again}
 use Rattle.knot_text.proofs.CocycleAgain.{cocycle_again}
@@ -25,8 +26,8 @@ use Rattle.shadow_text.specs.declared.shadows.Spelling.TheVariants as spelling
 use Rattle.shadow_text.specs.declared.shadows.SpelledShadow.{SpelledShadow}
 use Rattle.shadow_print.specs.Printed.{lines_of, shadow_lines, HasShadowText}
 use Rattle.shadow_print.proofs.ShadowAgain.{shadow_again}
-use Rattle.number_text.specs.declared.blocks.Weighing.{Weighing}
-use Rattle.number_text.specs.declared.blocks.Weighing.TheVariants.{Strands, Regions}
+use Rattle.number_text.specs.declared.blocks.LargeWeighing.{LargeWeighing}
+use Rattle.number_text.specs.declared.blocks.LargeWeighing.TheVariants.{Strands, Regions}
 use Rattle.number_text.specs.declared.blocks.Block.{Block}
 use Rattle.number_text.specs.declared.evidence.Counted.{Counted}
 use Rattle.number_text.specs.declared.evidence.Linked.{Linked}
@@ -90,7 +91,7 @@ by_shadow quandle s n text has =
     let first = shadow_begins s.spelling s.cocycle n text in
     rw (first.0, first.1, shadow_again quandle s n text has) refl
 
-perhaps_again : (quandle : Table) (o : Option Weighing) (n : ℕ) (text : Text) → HasPerhapsText quandle o → begins (codes "weight") text ≡ false
+perhaps_again : (quandle : Table) (o : Option LargeWeighing) (n : ℕ) (text : Text) → HasPerhapsText quandle o → begins (codes "weight") text ≡ false
     → begins (codes "shadow") text ≡ false → cocycle_or_none quandle (lines_before (numbered n (perhaps_cocycle o)) text) ≡ Ok (o, text)
 unfolding cocycle_or_none
 perhaps_again quandle None n text has other also = rw (other, also) refl
@@ -118,7 +119,7 @@ block_again n b one two text has =
     let text_is = parted n table (cocycle ++ (counted_lines one ++ counted_lines two)) text
     ∙ ap (lines_before (numbered n table)) (parted m cocycle (counted_lines one ++ counted_lines two) text
     ∙ ap (lines_before (numbered m cocycle)) (parted k (counted_lines one) (counted_lines two) text)) in
-    let named = quandle_again n b.listed.name b.listed.table all has.0.listed.names has.0.listed.factor in
+    let named = quandle_within_again MAX_LARGE_ORDER n b.listed.name b.listed.table all (omega arith) has.0.listed.names has.0.listed.factor in
     let weighed = perhaps_again b.listed.table b.cocycle m both has.0.cocycle refl refl in
     let first = counted_again (count_of b.cocycle) k one last has.1 in
     let second = counted_again (count_of b.cocycle) j two text has.2 in

@@ -4,6 +4,7 @@ use Rattle.std.specs.List.{list_any}
 use Rattle.std.specs.Str.{bytes_eq}
 use Rattle.arrayvec.specs.ArrayVec.{ArrayVec}
 use Rattle.cocycle_core.specs.Cocycle.{Cochain}
+use Rattle.quandle_core.specs.declared.operations.TheConstants.{MAX_LARGE_ORDER}
 use Rattle.text_lines.specs.Lines.{NumberedLine, Text, first_starts}
 use Rattle.verdict_core.specs.Names.{NamedQuandle}
 use Rattle.verdict_core.specs.Diagrams.{columns}
@@ -34,8 +35,8 @@ use Rattle.knot_text.proofs.ShapesFail.{problem_steady}
 use Rattle.shadow_text.specs.declared.shadows.SpelledShadow.{SpelledShadow}
 use Rattle.shadow_text.specs.Shadows.{shadow_item}
 use Rattle.shadow_print.proofs.ShadowSteady.{shadow_steady}
-use Rattle.number_text.specs.declared.blocks.Weighing.{Weighing}
-use Rattle.number_text.specs.declared.blocks.Weighing.TheVariants.{Strands, Regions}
+use Rattle.number_text.specs.declared.blocks.LargeWeighing.{LargeWeighing}
+use Rattle.number_text.specs.declared.blocks.LargeWeighing.TheVariants.{Strands, Regions}
 use Rattle.number_text.specs.declared.blocks.Block.{Block}
 use Rattle.number_text.specs.declared.evidence.Counted.{Counted}
 use Rattle.number_text.specs.declared.evidence.Linked.{Linked}
@@ -92,14 +93,14 @@ linked_steady =
 
 -- ---- the numbers of both diagrams, behind a quandle
 
-abbrev block_with : NamedQuandle → Option Weighing → Block
+abbrev block_with : NamedQuandle → Option LargeWeighing → Block
 block_with q o = record { listed = q; cocycle = o }
 
-abbrev both_counted : NamedQuandle → Option Weighing → Text → Result (Evidence × Text) TextFault
+abbrev both_counted : NamedQuandle → Option LargeWeighing → Text → Result (Evidence × Text) TextFault
 both_counted q o text =
     counted_item (count_of o) text >>= λ first. counted_item (count_of o) first.1 >>= λ second. Ok (Numbers (block_with q o) first.0 second.0, second.1)
 
-both_steady : (q : NamedQuandle) (o : Option Weighing) → Steady Anywhere (both_counted q o)
+both_steady : (q : NamedQuandle) (o : Option LargeWeighing) → Steady Anywhere (both_counted q o)
 both_steady q o =
     then_steady Anywhere (counted_item (count_of o))
     (λ first text. counted_item (count_of o) text >>= λ second. Ok (Numbers (block_with q o) first second.0, second.1)) (counted_steady (count_of o))
@@ -149,10 +150,10 @@ others_steady q =
 others_due : (q : NamedQuandle) → IsDue (others q)
 others_due q ending = alone_due q ending
 
-abbrev as_strands : Result (Cochain × Text) TextFault → Result (Option Weighing × Text) TextFault
+abbrev as_strands : Result (Cochain × Text) TextFault → Result (Option LargeWeighing × Text) TextFault
 as_strands r = r >>= λ w. Ok (Some (Strands w.0), w.1)
 
-abbrev as_regions : Result (SpelledShadow × Text) TextFault → Result (Option Weighing × Text) TextFault
+abbrev as_regions : Result (SpelledShadow × Text) TextFault → Result (Option LargeWeighing × Text) TextFault
 as_regions r = r >>= λ s. Ok (Some (Regions s.0), s.1)
 
 flat_strands : (q : NamedQuandle) (r : Result (Cochain × Text) TextFault)
@@ -202,7 +203,7 @@ branch_steady (inr u) =
 
 abbrev branches : List ℕ → NumberedLine → Result Branch TextFault
 branches t rest =
-    cond (bytes_eq t (codes "numbers")) (plan rest >>= λ p. Ok (inl p))
+    cond (bytes_eq t (codes "numbers")) (plan MAX_LARGE_ORDER rest >>= λ p. Ok (inl p))
     (cond (bytes_eq t (codes "linking")) (line_end rest >>= λ end. Ok (inr tt)) (Err (Malformed rest.number)))
 
 abbrev branch : NumberedLine → Result Branch TextFault
@@ -211,7 +212,7 @@ branch line = word (codes "different") line >>= λ rest. next_token rest >>= λ 
 branch_at : (line : NumberedLine) → At line.number (branch line)
 branch_at line =
     at_bind (word_at (codes "different") line) (λ rest e. at_same ((word_keeps (codes "different") line).of rest e)
-    (chosen_at branches rest (λ t last. at_cond (bytes_eq t (codes "numbers")) (at_bind (plan_at last) (λ p f. at_ok))
+    (chosen_at branches rest (λ t last. at_cond (bytes_eq t (codes "numbers")) (at_bind (plan_at MAX_LARGE_ORDER last) (λ p f. at_ok))
     (at_cond (bytes_eq t (codes "linking")) (at_bind (line_end_at last) (λ end f. at_ok)) at_malformed))))
 
 flat_planned : (s : Result Plan TextFault) (text : Text)
@@ -219,9 +220,9 @@ flat_planned : (s : Result Plan TextFault) (text : Text)
 flat_planned (Ok p) text = refl
 flat_planned (Err e) text = refl
 
-flat_numbers : (rest : NumberedLine) (text : Text) → numbers_evidence rest text ≡ ((plan rest >>= λ p. Ok (inl p)) >>= λ c. take_branch c text)
+flat_numbers : (rest : NumberedLine) (text : Text) → numbers_evidence rest text ≡ ((plan MAX_LARGE_ORDER rest >>= λ p. Ok (inl p)) >>= λ c. take_branch c text)
 unfolding numbers_evidence
-flat_numbers rest text = ap (λ r. r >>= λ q. behind_quandle q.0 q.1) (flat_quandle rest text) ∙ flat_planned (plan rest) text
+flat_numbers rest text = ap (λ r. r >>= λ q. behind_quandle q.0 q.1) (flat_quandle MAX_LARGE_ORDER rest text) ∙ flat_planned (plan MAX_LARGE_ORDER rest) text
 
 flat_ended : (s : Result NumberedLine TextFault) (text : Text)
     → (s >>= λ end. both_linked text) ≡ ((s >>= λ end. Ok (inr tt)) >>= λ c. take_branch c text)
@@ -240,7 +241,7 @@ flat_kind (Err e) text = refl
 flat_kind (Ok kind) text =
     let f = λ (c : Branch). take_branch c text in
     flat_choice (bytes_eq kind.0 (codes "numbers")) (numbers_evidence kind.1 text)
-    (cond (bytes_eq kind.0 (codes "linking")) (linking_evidence kind.1 text) (Err (Malformed kind.1.number))) (plan kind.1 >>= λ p. Ok (inl p))
+    (cond (bytes_eq kind.0 (codes "linking")) (linking_evidence kind.1 text) (Err (Malformed kind.1.number))) (plan MAX_LARGE_ORDER kind.1 >>= λ p. Ok (inl p))
     (cond (bytes_eq kind.0 (codes "linking")) (line_end kind.1 >>= λ end. Ok (inr tt)) (Err (Malformed kind.1.number))) f (flat_numbers kind.1 text)
     (flat_choice (bytes_eq kind.0 (codes "linking")) (linking_evidence kind.1 text) (Err (Malformed kind.1.number)) (line_end kind.1 >>= λ end. Ok (inr tt))
     (Err (Malformed kind.1.number)) f (flat_linking kind.1 text) refl)

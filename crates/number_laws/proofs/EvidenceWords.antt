@@ -2,26 +2,26 @@
 use Rattle.std.proofs.Common.{◌≡◌, ℕ, zero, suc, ◌<◌, ◌≤◌, ◌+◌, ℤ, unsigned_abs, List, [], ◌∷◌, ◌++◌, length, map, true, Option, Some, None, refl, ◌∙◌, subst, arith, codes}
 use Rattle.std.specs.List.{AllByRecursion, list_all, range_with_len}
 use Rattle.std.specs.Fmt.{decimal}
-use Rattle.std.proofs.lemmas.Bool.{and_parts, and_from}
+use Rattle.std.proofs.lemmas.Bool.{and_from}
 use Rattle.std.proofs.lemmas.List.{length-map}
 use Rattle.std.proofs.lemmas.List.FromFn.{length-range_with_len}
+use Rattle.quandle_core.specs.declared.operations.TheConstants.{MAX_LARGE_ORDER}
 use Rattle.quandle_core.specs.Quandle.{Table, over}
 use Rattle.cocycle_core.specs.Cocycle.{Cochain, IsCocycle}
 use Rattle.text_lines.specs.Spelled.{is_word, is_line}
 use Rattle.text_items.specs.declared.reading.TheConstants.{MAX_NUMBER}
 use Rattle.text_items.specs.declared.cocycles.TheConstants.{MAX_MODULUS}
-use Rattle.verdict_core.specs.declared.verdict.Verdict.TheVariants.{Different}
 use Rattle.verdict_core.specs.Names.{NamedQuandle}
-use Rattle.knot_text.specs.Printed.{letter_token, name_tokens, table_lines, list_lines, quandle_lines, verdict_lines, HasQuandleText, HasListText}
+use Rattle.knot_text.specs.Printed.{letter_token, name_tokens, table_lines, HasQuandleTextWithin}
 use Rattle.knot_text.specs.WrittenThere.{value_tokens, cocycle_lines}
 use Rattle.knot_text.proofs.LineTexts.{map_decimals}
 use Rattle.knot_text.proofs.StepsAgain.{IsShort, all_short}
 use Rattle.knot_text.proofs.Tables.{row, row_below}
-use Rattle.knot_text.proofs.Words.{both_lines, front_lines, decimal_word, numbers_words, numbers_line, verdict_words}
+use Rattle.knot_text.proofs.Words.{both_lines, decimal_word, name_words, table_words, numbers_words, numbers_line}
 use Rattle.knot_text.proofs.LettersAgain.{letter_word}
 use Rattle.shadow_print.proofs.ShadowAgain.{shadow_words}
-use Rattle.number_text.specs.declared.blocks.Weighing.{Weighing}
-use Rattle.number_text.specs.declared.blocks.Weighing.TheVariants.{Strands, Regions}
+use Rattle.number_text.specs.declared.blocks.LargeWeighing.{LargeWeighing}
+use Rattle.number_text.specs.declared.blocks.LargeWeighing.TheVariants.{Strands, Regions}
 use Rattle.number_text.specs.declared.evidence.Counted.{Counted}
 use Rattle.number_text.specs.declared.evidence.Linked.{Linked}
 use Rattle.number_text.specs.declared.evidence.Evidence.{Evidence}
@@ -51,7 +51,7 @@ values_words w a (suc n) is few fits =
 cocycle_words : (w : Cochain) → IsCocycle w → w.modulus ≤ MAX_MODULUS → list_all is_line (cocycle_lines w) ≡ true
 cocycle_words w is few = rw (decimal_word w.modulus (omega (arith, few)), values_words w 0 w.quandle.order is few (omega arith)) refl
 
-perhaps_words : (quandle : Table) (o : Option Weighing) → HasPerhapsText quandle o → list_all is_line (perhaps_cocycle o) ≡ true
+perhaps_words : (quandle : Table) (o : Option LargeWeighing) → HasPerhapsText quandle o → list_all is_line (perhaps_cocycle o) ≡ true
 perhaps_words quandle None has = refl
 perhaps_words quandle (Some (Strands w)) has = cocycle_words w has.cocycle has.few
 perhaps_words quandle (Some (Regions s)) has = shadow_words quandle s has
@@ -61,13 +61,12 @@ perhaps_words quandle (Some (Regions s)) has = shadow_words quandle s has
 abbrev named_lines : NamedQuandle → List (List (List ℕ))
 named_lines q = (codes "different" ∷ codes "numbers" ∷ name_tokens q.name q.table.order) ∷ table_lines q.name q.table
 
-named_words : (q : NamedQuandle) → HasQuandleText q → list_all is_line (named_lines q) ≡ true
+named_words : (q : NamedQuandle) → HasQuandleTextWithin MAX_LARGE_ORDER q → list_all is_line (named_lines q) ≡ true
 named_words q has =
-    let none : HasListText 1 q.table.order [] = record { count = omega arith; each = tt } in
-    let all : list_all is_line (verdict_lines (Different q [] [])) ≡ true = verdict_words 1 1 (Different q [] []) (omega arith) (omega arith) (has, none, none) in
-    let front = front_lines (quandle_lines (codes "different") q) (list_lines [] ++ list_lines []) all in
-    let both = and_parts (is_line (codes "different" ∷ name_tokens q.name q.table.order)) (list_all is_line (table_lines q.name q.table)) front in
-    and_from (is_line (codes "different" ∷ codes "numbers" ∷ name_tokens q.name q.table.order)) (list_all is_line (table_lines q.name q.table)) both.0 both.1
+    let first : is_line (codes "different" ∷ name_tokens q.name q.table.order) ≡ true =
+    name_words MAX_LARGE_ORDER q.name q.table (omega arith) has.names has.factor in
+    and_from (is_line (codes "different" ∷ codes "numbers" ∷ name_tokens q.name q.table.order)) (list_all is_line (table_lines q.name q.table)) first
+    (table_words MAX_LARGE_ORDER q.name q.table (omega arith) has.names)
 
 -- ---- what is said of a diagram
 

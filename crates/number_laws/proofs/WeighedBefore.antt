@@ -16,7 +16,7 @@ use Rattle.text_items.specs.Diagrams.{diagram_item}
 use Rattle.knot_text.specs.declared.weights.WeightText.{WeightText}
 use Rattle.knot_text.specs.Weights.{weight_in}
 use Rattle.knot_text.proofs.Steady.{bind_ok, ok_is}
-use Rattle.number_text.specs.declared.blocks.Weighing.TheVariants.{Strands}
+use Rattle.number_text.specs.declared.weighed.Weighing.TheVariants.{Strands}
 use Rattle.number_text.specs.declared.weighed.WeighedText.{WeighedText}
 use Rattle.number_text.specs.Weighed.{cocycle_due, weighed_in}
 

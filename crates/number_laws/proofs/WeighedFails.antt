@@ -15,7 +15,7 @@ use Rattle.knot_text.proofs.ShapesFail.{diagram_steady}
 use Rattle.knot_text.proofs.WeightsFail.{cocycle_steady}
 use Rattle.shadow_text.specs.Shadows.{shadow_item}
 use Rattle.shadow_print.proofs.ShadowSteady.{shadow_steady}
-use Rattle.number_text.specs.declared.blocks.Weighing.TheVariants.{Strands, Regions}
+use Rattle.number_text.specs.declared.weighed.Weighing.TheVariants.{Strands, Regions}
 use Rattle.number_text.specs.Weighed.{strands_item, regions_item, cocycle_due, weighed_in}
 
 strands_steady : (q : Table) → Steady Anywhere (strands_item q)

@@ -7,7 +7,7 @@ ghost use Rattle.knot_text.specs.Weights.{weight_of};
 ghost use Rattle.number_text.specs.declared.evidence.Evidence.{Evidence};
 ghost use Rattle.number_text.specs.Evidence.{third_item};
 ghost use Rattle.number_text.specs.Weighed.{weighed_in, weighed_of};
-ghost use Rattle.number_text.specs.declared.blocks.Weighing.TheVariants.{Strands};
+ghost use Rattle.number_text.specs.declared.weighed.Weighing.TheVariants.{Strands};
 ghost use Rattle.number_certificates.specs.declared.said.Said.TheVariants as said;
 ghost use Rattle.number_certificates.specs.Said.{said_in, said_of};
 ghost use Rattle.number_certificates.specs.Printed.{third_lines, third_text, HasEvidenceText};

@@ -11,7 +11,7 @@ use colour_seeds::Seeding;
 use grid_core::Grid;
 use memory_core::{Items, OutOfMemory};
 use number_check::{are_same, laws_of, linked_of, numbers_by};
-use number_text::{Block, Counted, Evidence, Weighing};
+use number_text::{Block, Counted, Evidence, LargeWeighing};
 use std::alloc::Global;
 
 /// Evidence that two grids are not equivalent, by their linking numbers, or else by the first of the blocks that tells them apart.
@@ -125,9 +125,9 @@ pub fn count_fitting(seeds: &SeedPair, blocks: &[Block]) -> usize
 fn fits_both(seeds: &SeedPair, block: &Block) -> bool
     ensures { result ≡ fits_both seeds.now block.now }
 {
-    let quandle = block.listed.quandle();
-    fits_by(quandle, &block.cocycle, &seeds.first)
-        && fits_by(quandle, &block.cocycle, &seeds.second)
+    let quandle = block.listed.operations();
+    fits_by(&quandle, &block.cocycle, &seeds.first)
+        && fits_by(&quandle, &block.cocycle, &seeds.second)
 }
 
 /// Numbers with the seeds by which they were counted.
@@ -144,25 +144,26 @@ fn counted(seeding: &Seeding, numbers: Vec<u32>) -> Counted
 fn copy_of(alloc: Global, block: &Block) -> Result<Block, OutOfMemory>
     ensures { IfOk result (λ b. b ≡ block.now) }
 {
+    let listed = block.listed.copy(alloc)?;
     let cocycle = copy_of_cocycle(alloc, &block.cocycle)?;
-    Ok(Block {
-        listed: block.listed.copy(),
-        cocycle,
-    })
+    Ok(Block { listed, cocycle })
 }
 
 /// The same cocycle again, if there is one.
 fn copy_of_cocycle(
     alloc: Global,
-    cocycle: &Option<Weighing>,
-) -> Result<Option<Weighing>, OutOfMemory>
+    cocycle: &Option<LargeWeighing>,
+) -> Result<Option<LargeWeighing>, OutOfMemory>
     ensures { IfOk result (λ o. o ≡ cocycle.now) }
 {
     match cocycle {
         None => Ok(None),
-        Some(Weighing::Strands(cocycle)) => Ok(Some(Weighing::Strands(cocycle.copy()))),
-        Some(Weighing::Regions(shadow)) => match shadow.copy(alloc) {
-            Ok(shadow) => Ok(Some(Weighing::Regions(shadow))),
+        Some(LargeWeighing::Strands(cocycle)) => match cocycle.copy(alloc) {
+            Ok(cocycle) => Ok(Some(LargeWeighing::Strands(cocycle))),
+            Err(_) => Err(OutOfMemory),
+        },
+        Some(LargeWeighing::Regions(shadow)) => match shadow.copy(alloc) {
+            Ok(shadow) => Ok(Some(LargeWeighing::Regions(shadow))),
             Err(_) => Err(OutOfMemory),
         },
     }

@@ -9,41 +9,41 @@ use Rattle.number_text.specs.declared.blocks.Block.{Block}
 use Rattle.number_text.specs.Blocks.{name_form, block_item, surplus_block, blocks}
 use Rattle.text_items.proofs.Turns.{with_front, regroup}
 
-pub block_more : (front : List Block) (most i : ℕ) (text : Text) (q : Block) (after : Text)
-    (total : Result (List Block × Text) TextFault) → i < most → begins (codes "quandle") text ≡ true → block_item text ≡ Ok (q, after)
-    → with_front front (blocks (most - i) text) ≡ total → with_front (front ++ q ∷ []) (blocks (most - (i + 1)) after) ≡ total
+pub block_more : (limit : ℕ) (front : List Block) (most i : ℕ) (text : Text) (q : Block) (after : Text)
+    (total : Result (List Block × Text) TextFault) → i < most → begins (codes "quandle") text ≡ true → block_item limit text ≡ Ok (q, after)
+    → with_front front (blocks limit (most - i) text) ≡ total → with_front (front ++ q ∷ []) (blocks limit (most - (i + 1)) after) ≡ total
 unfolding blocks
-block_more front most i text q after total lt more h so_far =
+block_more limit front most i text q after total lt more h so_far =
     let k : most - i ≡ suc (most - (i + 1)) = omega arith in
-    let one : with_front front (blocks (most - i) text) ≡ with_front (front ++ q ∷ []) (blocks (most - (i + 1)) after) =
-    rw (k, more, h) (regroup front q (blocks (most - (i + 1)) after)) in
+    let one : with_front front (blocks limit (most - i) text) ≡ with_front (front ++ q ∷ []) (blocks limit (most - (i + 1)) after) =
+    rw (k, more, h) (regroup front q (blocks limit (most - (i + 1)) after)) in
     sym one ∙ so_far
 
-pub block_fails : (e : TextFault) (front : List Block) (most i : ℕ) (text : Text) (total : Result (List Block × Text) TextFault)
-    → i < most → begins (codes "quandle") text ≡ true → Fails e (block_item text)
-    → with_front front (blocks (most - i) text) ≡ total → Fails e total
+pub block_fails : (limit : ℕ) (e : TextFault) (front : List Block) (most i : ℕ) (text : Text) (total : Result (List Block × Text) TextFault)
+    → i < most → begins (codes "quandle") text ≡ true → Fails e (block_item limit text)
+    → with_front front (blocks limit (most - i) text) ≡ total → Fails e total
 unfolding blocks
-block_fails fault.OutOfMemory front most i text total lt more h so_far = tt
-block_fails (fault.Malformed n) front most i text total lt more h so_far =
+block_fails limit fault.OutOfMemory front most i text total lt more h so_far = tt
+block_fails limit (fault.Malformed n) front most i text total lt more h so_far =
     let k : most - i ≡ suc (most - (i + 1)) = omega arith in
-    let one : with_front front (blocks (most - i) text) ≡ Err (fault.Malformed n) = rw (k, more, h) refl in
+    let one : with_front front (blocks limit (most - i) text) ≡ Err (fault.Malformed n) = rw (k, more, h) refl in
     sym so_far ∙ one
-block_fails (fault.Limit n) front most i text total lt more h so_far =
+block_fails limit (fault.Limit n) front most i text total lt more h so_far =
     let k : most - i ≡ suc (most - (i + 1)) = omega arith in
-    let one : with_front front (blocks (most - i) text) ≡ Err (fault.Limit n) = rw (k, more, h) refl in
+    let one : with_front front (blocks limit (most - i) text) ≡ Err (fault.Limit n) = rw (k, more, h) refl in
     sym so_far ∙ one
 
 -- another line, or none
-ended : (k : ℕ) (text : Text) → begins (codes "quandle") text ≡ false → blocks k text ≡ Ok ([], text)
+ended : (limit k : ℕ) (text : Text) → begins (codes "quandle") text ≡ false → blocks limit k text ≡ Ok ([], text)
 unfolding blocks
-ended zero text other = rw other refl
-ended (suc k) text other = rw other refl
+ended limit zero text other = rw other refl
+ended limit (suc k) text other = rw other refl
 
-pub blocks_end : (front : List Block) (k : ℕ) (text : Text) (total : Result (List Block × Text) TextFault)
+pub blocks_end : (limit : ℕ) (front : List Block) (k : ℕ) (text : Text) (total : Result (List Block × Text) TextFault)
     → begins (codes "quandle") text ≡ false
-    → with_front front (blocks k text) ≡ total → total ≡ Ok (front, text)
-blocks_end front k text total other so_far =
-    sym so_far ∙ ap (with_front front) (ended k text other) ∙ ap (λ ns. Ok (ns, text)) (append-nil front)
+    → with_front front (blocks limit k text) ≡ total → total ≡ Ok (front, text)
+blocks_end limit front k text total other so_far =
+    sym so_far ∙ ap (with_front front) (ended limit k text other) ∙ ap (λ ns. Ok (ns, text)) (append-nil front)
 
 -- ---- one quandle too many
 
@@ -59,11 +59,11 @@ surplus_front front text =
     front_same front (word (codes "quandle") line.0) (λ rest. name_form rest >>= λ form. Err (fault.Limit line.0.number)) (λ rest.
     front_same front (name_form rest) (λ form. Err (fault.Limit line.0.number)) (λ form. refl)))
 
-pub blocks_over : (front : List Block) (most i : ℕ) (text : Text) (total : Result (List Block × Text) TextFault) → most ≤ i
+pub blocks_over : (limit : ℕ) (front : List Block) (most i : ℕ) (text : Text) (total : Result (List Block × Text) TextFault) → most ≤ i
     → begins (codes "quandle") text ≡ true
-    → with_front front (blocks (most - i) text) ≡ total → total ≡ surplus_block text
+    → with_front front (blocks limit (most - i) text) ≡ total → total ≡ surplus_block text
 unfolding blocks
-blocks_over front most i text total le more so_far =
+blocks_over limit front most i text total le more so_far =
     let k : most - i ≡ 0 = omega arith in
-    let one : with_front front (blocks (most - i) text) ≡ with_front front (surplus_block text) = rw (k, more) refl in
+    let one : with_front front (blocks limit (most - i) text) ≡ with_front front (surplus_block text) = rw (k, more) refl in
     sym so_far ∙ one ∙ surplus_front front text

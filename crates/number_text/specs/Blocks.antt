@@ -1,6 +1,8 @@
 -- Blocks as a text: a quandle item, and perhaps a cocycle of this quandle behind it.
 use Rattle.std.specs.Prelude.{ℕ, zero, suc, List, [], ◌∷◌, map, codes, Option, Some, None, Result, Ok, Err, if◌then◌else◌}
 use Rattle.std.specs.Str.{bytes_eq}
+use Rattle.quandle_core.specs.declared.quandle.TheConstants.{MAX_ORDER}
+use Rattle.quandle_core.specs.declared.operations.TheConstants.{MAX_LARGE_ORDER}
 use Rattle.quandle_core.specs.Quandle.{Table}
 use Rattle.text_lines.specs.Lines.{NumberedLine, Text, text_of, begins}
 use Rattle.verdict_core.specs.Names.{NamedQuandle}
@@ -8,32 +10,39 @@ use Rattle.text_items.specs.declared.fault.TextFault.{TextFault}
 use Rattle.text_items.specs.declared.fault.TextFault.TheVariants.{Malformed, Limit}
 use Rattle.text_items.specs.declared.quandles.TheConstants.{MAX_QUANDLES}
 use Rattle.text_items.specs.Reading.{◌>>=◌, next_line, next_token, line_end, text_end, word, number, last_number}
-use Rattle.text_items.specs.Quandles.{written_at, quandle_item, built_in}
+use Rattle.text_items.specs.Quandles.{written_at, quandle_at, built_in}
 use Rattle.text_items.specs.Cocycles.{cocycle_item}
 use Rattle.shadow_text.specs.Shadows.{shadow_item}
-use Rattle.number_text.specs.declared.blocks.Weighing.{Weighing}
-use Rattle.number_text.specs.declared.blocks.Weighing.TheVariants.{Strands, Regions}
+use Rattle.number_text.specs.declared.blocks.LargeWeighing.{LargeWeighing}
+use Rattle.number_text.specs.declared.blocks.LargeWeighing.TheVariants.{Strands, Regions}
 use Rattle.number_text.specs.declared.blocks.Block.{Block}
 
-abbrev pub some_strands : Table → Text → Result (Option Weighing × Text) TextFault
+abbrev pub some_strands : Table → Text → Result (Option LargeWeighing × Text) TextFault
 some_strands quandle text = do
   cocycle ← cocycle_item quandle text
   Ok (Some (Strands cocycle.0), cocycle.1)
 
-abbrev pub some_regions : Table → Text → Result (Option Weighing × Text) TextFault
+abbrev pub some_regions : Table → Text → Result (Option LargeWeighing × Text) TextFault
 some_regions quandle text = do
   shadow ← shadow_item quandle text
   Ok (Some (Regions shadow.0), shadow.1)
 
 -- a 2-cocycle of the quandle where a line that begins with `weight` is next, a 3-cocycle where one that begins with `shadow` is, else nothing
-unfoldable pub cocycle_or_none : Table → Text → Result (Option Weighing × Text) TextFault
+unfoldable pub cocycle_or_none : Table → Text → Result (Option LargeWeighing × Text) TextFault
 cocycle_or_none quandle text =
     if begins (codes "weight") text then some_strands quandle text else if begins (codes "shadow") text then some_regions quandle text else Ok (None, text)
 
--- a quandle, and perhaps a cocycle of it
-unfoldable pub block_item : Text → Result (Block × Text) TextFault
-block_item text = do
-  quandle ← quandle_item text
+-- a quandle, of an order of at most the first number where it is by a table
+unfoldable pub block_quandle : ℕ → Text → Result (NamedQuandle × Text) TextFault
+block_quandle most text = do
+  line ← next_line text
+  rest ← word (codes "quandle") line.0
+  quandle_at most rest line.1
+
+-- the same, and perhaps a cocycle of it
+unfoldable pub block_item : ℕ → Text → Result (Block × Text) TextFault
+block_item most text = do
+  quandle ← block_quandle most text
   cocycle ← cocycle_or_none quandle.0.table quandle.1
   Ok (record { listed = quandle.0; cocycle = cocycle.0 }, cocycle.1)
 
@@ -82,12 +91,12 @@ surplus_block text = do
   form ← name_form rest
   Err (Limit line.0.number)
 
--- all blocks up to the first line behind one that does not begin with `quandle`, of which there may be so many
-unfoldable pub blocks : ℕ → Text → Result (List Block × Text) TextFault
-blocks zero text = if begins (codes "quandle") text then surplus_block text else Ok ([], text)
-blocks (suc room) text = if begins (codes "quandle") text then (do
-  first ← block_item text
-  others ← blocks room first.1
+-- all blocks up to the first line behind one that does not begin with `quandle`, of which there may be as many as the second number
+unfoldable pub blocks : ℕ → ℕ → Text → Result (List Block × Text) TextFault
+blocks most zero text = if begins (codes "quandle") text then surplus_block text else Ok ([], text)
+blocks most (suc room) text = if begins (codes "quandle") text then (do
+  first ← block_item most text
+  others ← blocks most room first.1
   Ok (first.0 ∷ others.0, others.1)) else Ok ([], text)
 
 -- a quandle without a cocycle
@@ -99,18 +108,18 @@ abbrev pub or_built_in : List Block → List Block
 or_built_in [] = map alone built_in
 or_built_in (block ∷ blocks) = block ∷ blocks
 
--- the same of at most MAX_QUANDLES
+-- the same of at most MAX_QUANDLES, of orders of at most MAX_ORDER
 unfoldable pub block_list : Text → Result (List Block × Text) TextFault
 block_list text = do
-  listed ← blocks MAX_QUANDLES text
+  listed ← blocks MAX_ORDER MAX_QUANDLES text
   Ok (or_built_in listed.0, listed.1)
 
 -- ---- a text of blocks alone
 
--- the blocks, and nothing behind them
+-- the blocks, of orders of at most MAX_LARGE_ORDER, and nothing behind them
 unfoldable pub blocks_in : Text → Result (List Block) TextFault
 blocks_in text = do
-  listed ← blocks MAX_QUANDLES text
+  listed ← blocks MAX_LARGE_ORDER MAX_QUANDLES text
   end ← text_end listed.1
   Ok listed.0
 

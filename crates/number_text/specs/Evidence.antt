@@ -3,6 +3,7 @@ use Rattle.std.specs.Prelude.{ℕ, ℤ, ◌==◌, List, map, length, codes, Opti
 use Rattle.std.specs.List.{list_any}
 use Rattle.std.specs.Str.{bytes_eq}
 use Rattle.arrayvec.specs.ArrayVec.{ArrayVec}
+use Rattle.quandle_core.specs.declared.operations.TheConstants.{MAX_LARGE_ORDER}
 use Rattle.text_lines.specs.Lines.{NumberedLine, Text}
 use Rattle.text_items.specs.declared.fault.TextFault.{TextFault}
 use Rattle.text_items.specs.declared.fault.TextFault.TheVariants.{Malformed, Limit}
@@ -11,8 +12,8 @@ use Rattle.text_items.specs.Numbers.{numbers, numbers_behind, is_long}
 use Rattle.text_items.specs.Kept.{low}
 use Rattle.text_items.specs.Braids.{letters, is_long_letter}
 use Rattle.text_items.specs.Quandles.{quandle_at}
-use Rattle.number_text.specs.declared.blocks.Weighing.{Weighing}
-use Rattle.number_text.specs.declared.blocks.Weighing.TheVariants.{Strands, Regions}
+use Rattle.number_text.specs.declared.blocks.LargeWeighing.{LargeWeighing}
+use Rattle.number_text.specs.declared.blocks.LargeWeighing.TheVariants.{Strands, Regions}
 use Rattle.number_text.specs.declared.evidence.Counted.{Counted}
 use Rattle.number_text.specs.declared.evidence.Linked.{Linked}
 use Rattle.number_text.specs.declared.evidence.Evidence.{Evidence}
@@ -44,7 +45,7 @@ counted_item count text = do
   Ok (record { seeds = seeds; numbers = list }, two.1)
 
 -- one number without a cocycle, else one for each weight
-abbrev pub count_of : Option Weighing → ℕ
+abbrev pub count_of : Option LargeWeighing → ℕ
 count_of None = 1
 count_of (Some (Strands w)) = w.modulus
 count_of (Some (Regions s)) = s.cocycle.modulus
@@ -52,7 +53,7 @@ count_of (Some (Regions s)) = s.cocycle.modulus
 -- behind `different numbers`: a quandle, perhaps a cocycle of it, and the seeds and numbers of each diagram
 unfoldable pub numbers_evidence : NumberedLine → Text → Result (Evidence × Text) TextFault
 numbers_evidence line text = do
-  quandle ← quandle_at line text
+  quandle ← quandle_at MAX_LARGE_ORDER line text
   cocycle ← cocycle_or_none quandle.0.table quandle.1
   first ← counted_item (count_of cocycle.0) cocycle.1
   second ← counted_item (count_of cocycle.0) first.1

@@ -8,8 +8,8 @@ use Rattle.text_items.specs.Quandles.{quandle_item}
 use Rattle.text_items.specs.Cocycles.{cocycle_item}
 use Rattle.text_items.specs.Diagrams.{diagram_item}
 use Rattle.shadow_text.specs.Shadows.{shadow_item}
-use Rattle.number_text.specs.declared.blocks.Weighing.{Weighing}
-use Rattle.number_text.specs.declared.blocks.Weighing.TheVariants.{Strands, Regions}
+use Rattle.number_text.specs.declared.weighed.Weighing.{Weighing}
+use Rattle.number_text.specs.declared.weighed.Weighing.TheVariants.{Strands, Regions}
 use Rattle.number_text.specs.declared.weighed.WeighedText.{WeighedText}
 
 abbrev pub strands_item : Table → Text → Result (Weighing × Text) TextFault

@@ -1,26 +1,28 @@
 //! Blocks: a quandle, and perhaps a cocycle of it, which may look at regions too.
-ghost use Rattle.std.specs.Prelude.{◌≡◌, map, IfOk, IfErr};
+ghost use Rattle.std.specs.Prelude.{◌≡◌, ◌≤◌, map, IfOk, IfErr};
+ghost use Rattle.quandle_core.specs.declared.operations.TheConstants.{MAX_LARGE_ORDER};
 ghost use Rattle.text_items.specs.Reading.{Gives};
 ghost use Rattle.text_items.specs.Quandles.{built_in};
 ghost use Rattle.text_items.specs.declared.fault.TextFault.TheVariants as fault;
-ghost use Rattle.number_text.specs.Blocks.{alone, cocycle_or_none, block_item, order_form, factor_form, end_form, spelled_form, name_form, surplus_block, blocks, block_list, blocks_of};
+ghost use Rattle.number_text.specs.Blocks.{alone, cocycle_or_none, block_quandle, block_item, order_form, factor_form, end_form, spelled_form, name_form, surplus_block, blocks, block_list, blocks_of};
 
-use cocycle_core::Cocycle;
+use cocycle_core::LargeCocycle;
+use large_tables::{large_cocycle_item, large_quandle_at};
 use memory_core::Items;
-use quandle_core::Quandle;
+use quandle_core::{MAX_LARGE_ORDER, MAX_ORDER, Operations};
 use shadow_text::{SpelledShadow, shadow_item};
 use std::alloc::Global;
 use text_items::reading::{last_number, line_end, next_line, next_token, number, text_end, word};
-use text_items::{MAX_QUANDLES, TextFault, cocycle_item, quandle_item, quandle_list};
+use text_items::{MAX_QUANDLES, TextFault, quandle_list};
 use text_lines::{Line, Lines};
-use verdict_core::Listed;
+use verdict_core::{LargeListed, Listed};
 
-/// A cocycle by which colourings are to be weighed.
+/// A cocycle by which colourings are to be weighed, of a quandle that may be larger where the cocycle looks at strands alone.
 #[derive(Drop)]
-pub enum Weighing {
+pub enum LargeWeighing {
     /// A 2-cocycle, behind the word `weight`: it looks at the two strands of a crossing.
-    Strands(Cocycle),
-    /// A 3-cocycle, behind the word `shadow`: it looks at a region too.
+    Strands(LargeCocycle),
+    /// A 3-cocycle, behind the word `shadow`: it looks at a region too. Its quandle has at most `MAX_ORDER` colours.
     Regions(SpelledShadow),
 }
 
@@ -28,36 +30,63 @@ pub enum Weighing {
 /// A cocycle that was read is one of this quandle.
 #[derive(Drop)]
 pub struct Block {
-    pub listed: Listed,
-    pub cocycle: Option<Weighing>,
+    pub listed: LargeListed,
+    pub cocycle: Option<LargeWeighing>,
 }
 
 /// A 2-cocycle of a quandle where a line that begins with `weight` is next, a 3-cocycle where one that begins with `shadow` is, else nothing.
 #[tactic(auto, unfolding(crate::specs::Blocks::cocycle_or_none))]
-pub(crate) fn cocycle_or_none(
+fn cocycle_or_none(
     alloc: Global,
-    quandle: &Quandle,
+    quandle: &Operations,
     lines: &mut Lines,
-) -> Result<Option<Weighing>, TextFault>
+) -> Result<Option<LargeWeighing>, TextFault>
     ensures { Gives (λ c. (c, lines.new)) result (cocycle_or_none quandle.now lines.old) }
 {
     if lines.begins(b"weight") {
-        return Ok(Some(Weighing::Strands(cocycle_item(quandle, lines)?)));
+        let cocycle = large_cocycle_item(alloc, quandle, lines)?;
+        return Ok(Some(LargeWeighing::Strands(cocycle)));
     }
     if lines.begins(b"shadow") {
-        return Ok(Some(Weighing::Regions(shadow_item(alloc, quandle, lines)?)));
+        let shadow = shadow_item(alloc, quandle, lines)?;
+        return Ok(Some(LargeWeighing::Regions(shadow)));
     }
     Ok(None)
 }
 
-/// A quandle item, and behind it perhaps a cocycle of the quandle.
-#[tactic(auto, unfolding(crate::specs::Blocks::block_item))]
-pub fn block_item(alloc: Global, lines: &mut Lines) -> Result<Block, TextFault>
-    ensures { Gives (λ b. (b, lines.new)) result (block_item lines.old) }
+/// A quandle, of an order of at most `most` where it is by a table.
+#[tactic(auto, unfolding(crate::specs::Blocks::block_quandle))]
+fn block_quandle(alloc: Global, most: usize, lines: &mut Lines) -> Result<LargeListed, TextFault>
+    requires { most ≤ MAX_LARGE_ORDER }
+    ensures { Gives (λ q. (q, lines.new)) result (block_quandle most lines.old) }
 {
-    let listed = quandle_item(lines)?;
-    let cocycle = cocycle_or_none(alloc, listed.quandle(), lines)?;
+    let mut line = next_line(lines)?;
+    word(&mut line, b"quandle")?;
+    large_quandle_at(alloc, most, &mut line, lines)
+}
+
+/// A quandle, of an order of at most `most` where it is by a table, and behind it perhaps a cocycle of the quandle.
+/// Else the fault of the first bad line, or want of memory.
+#[tactic(auto, unfolding(crate::specs::Blocks::block_item))]
+pub fn block_item(alloc: Global, most: usize, lines: &mut Lines) -> Result<Block, TextFault>
+    requires { most ≤ MAX_LARGE_ORDER }
+    ensures { Gives (λ b. (b, lines.new)) result (block_item most lines.old) }
+{
+    let listed = block_quandle(alloc, most, lines)?;
+    let cocycle = perhaps_cocycle(alloc, &listed, lines)?;
     Ok(Block { listed, cocycle })
+}
+
+/// The same of a block's quandle.
+pub(crate) fn perhaps_cocycle(
+    alloc: Global,
+    listed: &LargeListed,
+    lines: &mut Lines,
+) -> Result<Option<LargeWeighing>, TextFault>
+    ensures { Gives (λ c. (c, lines.new)) result (cocycle_or_none listed.now.table lines.old) }
+{
+    let operations = listed.operations();
+    cocycle_or_none(alloc, &operations, lines)
 }
 
 /// A number, and the end of a line.
@@ -130,16 +159,17 @@ fn surplus_block(lines: &mut Lines) -> Result<Vec<Block>, TextFault>
     Err(TextFault::Limit { line: at })
 }
 
-/// All blocks up to the first line behind one that does not begin with `quandle`.
-fn blocks(alloc: Global, lines: &mut Lines) -> Result<Vec<Block>, TextFault>
-    ensures { Gives (λ v. (v.items, lines.new)) result (blocks MAX_QUANDLES lines.old) }
+/// All blocks up to the first line behind one that does not begin with `quandle`, of orders of at most `most` where they are by tables.
+fn blocks(alloc: Global, most: usize, lines: &mut Lines) -> Result<Vec<Block>, TextFault>
+    requires { most ≤ MAX_LARGE_ORDER }
+    ensures { Gives (λ v. (v.items, lines.new)) result (blocks most MAX_QUANDLES lines.old) }
 {
     let mut blocks = Vec::new(alloc);
     for _ in 0..MAX_QUANDLES {
         if !lines.begins(b"quandle") {
             return Ok(blocks);
         }
-        blocks.push(block_item(alloc, lines)?)?;
+        blocks.push(block_item(alloc, most, lines)?)?;
     }
     if lines.begins(b"quandle") {
         return surplus_block(lines);
@@ -164,12 +194,20 @@ fn built_in_blocks(alloc: Global) -> Result<Vec<Block>, TextFault>
     let quandles = built_in(alloc)?;
     let mut blocks = Vec::new(alloc);
     for listed in quandles.as_slice() {
-        blocks.push(Block {
-            listed: listed.copy(),
-            cocycle: None,
-        })?;
+        blocks.push(alone(alloc, listed)?)?;
     }
     Ok(blocks)
+}
+
+/// A quandle without a cocycle.
+fn alone(alloc: Global, listed: &Listed) -> Result<Block, TextFault>
+    ensures ok { IfOk result (λ b. b ≡ alone listed.now) }
+    ensures err { IfErr result (λ e. e ≡ fault.OutOfMemory) }
+{
+    Ok(Block {
+        listed: LargeListed::listed(alloc, listed)?,
+        cocycle: None,
+    })
 }
 
 /// All blocks, or the built-in quandles where there are none.
@@ -177,14 +215,15 @@ fn built_in_blocks(alloc: Global) -> Result<Vec<Block>, TextFault>
 pub(crate) fn block_list(alloc: Global, lines: &mut Lines) -> Result<Items<Block>, TextFault>
     ensures { Gives (λ b. (b, lines.new)) result (block_list lines.old) }
 {
-    let blocks = blocks(alloc, lines)?;
+    let blocks = blocks(alloc, MAX_ORDER, lines)?;
     if blocks.is_empty() {
         return Ok(Items::from_vec(built_in_blocks(alloc)?));
     }
     Ok(Items::from_vec(blocks))
 }
 
-/// All blocks of a text of blocks alone, at most `MAX_QUANDLES`: none stand for an empty list.
+/// All blocks of a text of blocks alone, at most `MAX_QUANDLES`, of orders of at most `MAX_LARGE_ORDER` where they are by tables: none stand for
+/// an empty list.
 ///
 /// Else the fault of the first bad line, or want of memory.
 #[tactic(auto, unfolding(crate::specs::Blocks::blocks_in))]
@@ -192,7 +231,7 @@ pub fn read_blocks(alloc: Global, bytes: &[u8]) -> Result<Items<Block>, TextFaul
     ensures { Gives (λ b. b) result (blocks_of bytes.now) }
 {
     let mut lines = Lines::new(bytes);
-    let blocks = blocks(alloc, &mut lines)?;
+    let blocks = blocks(alloc, MAX_LARGE_ORDER, &mut lines)?;
     text_end(&mut lines)?;
     Ok(Items::from_vec(blocks))
 }

@@ -3,25 +3,27 @@ ghost use Rattle.std.specs.Prelude.{◌≡◌};
 ghost use Rattle.text_items.specs.Reading.{Gives};
 ghost use Rattle.number_text.specs.Evidence.{numbers_evidence, linking_evidence, evidence_at, head_at, third_item, count_of};
 
-use crate::blocks::{Block, Weighing, cocycle_or_none};
+use crate::blocks::{Block, LargeWeighing, perhaps_cocycle};
 use crate::evidence::Evidence;
 use crate::number_lines::{counted_item, linked_item};
+use large_tables::large_quandle_at;
+use quandle_core::MAX_LARGE_ORDER;
 use std::alloc::Global;
+use text_items::TextFault;
 use text_items::reading::{last_count, line_end, next_line, next_token, word};
-use text_items::{TextFault, quandle_at};
 use text_lines::{Line, Lines};
 
 /// The number in the head line of evidence by numbers.
 pub const THIRD_VERSION: u32 = 3;
 
 /// How many numbers a diagram has: one, or as many as the modulus.
-fn count_of(cocycle: &Option<Weighing>) -> u8
+fn count_of(cocycle: &Option<LargeWeighing>) -> u8
     ensures { result ≡ count_of cocycle.now }
 {
     match cocycle {
         None => 1,
-        Some(Weighing::Strands(cocycle)) => cocycle.modulus(),
-        Some(Weighing::Regions(shadow)) => shadow.cocycle.modulus(),
+        Some(LargeWeighing::Strands(cocycle)) => cocycle.values().modulus(),
+        Some(LargeWeighing::Regions(shadow)) => shadow.cocycle.modulus(),
     }
 }
 
@@ -34,8 +36,8 @@ fn numbers_evidence(
 ) -> Result<Evidence, TextFault>
     ensures { Gives (λ e. (e, lines.new)) result (numbers_evidence line.old lines.old) }
 {
-    let listed = quandle_at(line, lines)?;
-    let cocycle = cocycle_or_none(alloc, listed.quandle(), lines)?;
+    let listed = large_quandle_at(alloc, MAX_LARGE_ORDER, line, lines)?;
+    let cocycle = perhaps_cocycle(alloc, &listed, lines)?;
     let count = count_of(&cocycle);
     let first = counted_item(alloc, count, lines)?;
     let second = counted_item(alloc, count, lines)?;

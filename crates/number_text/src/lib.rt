@@ -9,8 +9,8 @@ mod number_lines;
 mod numbered;
 mod weighed;
 
-pub use blocks::{Block, Weighing, block_item, read_blocks};
+pub use blocks::{Block, LargeWeighing, block_item, read_blocks};
 pub use evidence::{Counted, Evidence, Linked};
 pub use evidence_items::{THIRD_VERSION, third_item};
 pub use numbered::{NumbersText, read_numbers};
-pub use weighed::{WeighedText, read_weighed};
+pub use weighed::{WeighedText, Weighing, read_weighed};

@@ -2,7 +2,6 @@
 ghost use Rattle.std.specs.Prelude.{◌≡◌};
 ghost use Rattle.std.specs.List.{list_any};
 ghost use Rattle.text_items.specs.Reading.{Gives};
-ghost use Rattle.text_items.specs.Numbers.{is_long, numbers};
 ghost use Rattle.text_items.specs.Braids.{is_long_letter, letter_of, letters};
 ghost use Rattle.number_text.specs.Evidence.{seeds_at, numbers_at, counted_item, components_at, letters_at, linked_item};
 
@@ -10,32 +9,10 @@ use crate::evidence::{Counted, Linked};
 use grid_core::Rows;
 use memory_core::Items;
 use std::alloc::Global;
-use text_items::TextFault;
 use text_items::numbers::numbers_behind;
 use text_items::reading::{MAX_NUMBER, last_count, next_line, word};
+use text_items::{TextFault, any_long, number_list};
 use text_lines::{Line, Lines};
-
-/// All tokens that are left of a line, as numbers of any size.
-fn number_list(alloc: Global, line: &mut Line) -> Result<Vec<u32>, TextFault>
-    ensures { Gives (λ v. v.items) result (numbers line.old) }
-{
-    let at = line.number();
-    let mut list = Vec::new(alloc);
-    while let Some(token) = line.next_token() {
-        let Some(value) = text_lines::number(token) else {
-            return Err(TextFault::Malformed { line: at });
-        };
-        list.push(value)?;
-    }
-    Ok(list)
-}
-
-/// Whether a number has too many digits.
-fn any_long(list: &[u32]) -> bool
-    ensures { result ≡ list_any is_long list.now }
-{
-    list.iter().any(|value| *value > MAX_NUMBER)
-}
 
 /// The word `numbers`, and so many numbers.
 #[tactic(auto, unfolding(crate::specs::Evidence::numbers_at))]

@@ -1,16 +1,26 @@
 //! The text of two diagrams, a quandle and a cocycle of it, which may look at regions.
 ghost use Rattle.std.specs.Prelude.{◌≡◌};
 ghost use Rattle.text_items.specs.Reading.{Gives};
+ghost use Rattle.shadow_text.specs.Shadows.{shadow_item};
 ghost use Rattle.number_text.specs.Weighed.{cocycle_due, weighed_of};
 
-use crate::blocks::Weighing;
+use cocycle_core::Cocycle;
 use quandle_core::Quandle;
-use shadow_text::shadow_item;
+use shadow_text::{SpelledShadow, shadow_item};
 use std::alloc::Global;
 use text_items::reading::text_end;
 use text_items::{TextFault, cocycle_item, diagram_item, quandle_item};
 use text_lines::Lines;
 use verdict_core::{Diagram, Listed};
+
+/// A cocycle by which colourings are to be weighed.
+#[derive(Drop)]
+pub enum Weighing {
+    /// A 2-cocycle, behind the word `weight`: it looks at the two strands of a crossing.
+    Strands(Cocycle),
+    /// A 3-cocycle, behind the word `shadow`: it looks at a region too.
+    Regions(SpelledShadow),
+}
 
 /// Two diagrams, a quandle, and a cocycle of this quandle by which the colourings of both are to be weighed.
 #[derive(Drop)]
@@ -27,9 +37,21 @@ fn cocycle_due(alloc: Global, quandle: &Quandle, lines: &mut Lines) -> Result<We
     ensures { Gives (λ c. (c, lines.new)) result (cocycle_due quandle.now lines.old) }
 {
     if lines.begins(b"shadow") {
-        return Ok(Weighing::Regions(shadow_item(alloc, quandle, lines)?));
+        return Ok(Weighing::Regions(shadow_due(alloc, quandle, lines)?));
     }
     Ok(Weighing::Strands(cocycle_item(quandle, lines)?))
+}
+
+/// A 3-cocycle of a quandle.
+fn shadow_due(
+    alloc: Global,
+    quandle: &Quandle,
+    lines: &mut Lines,
+) -> Result<SpelledShadow, TextFault>
+    ensures { Gives (λ s. (s, lines.new)) result (shadow_item quandle.now lines.old) }
+{
+    let operations = quandle.operations();
+    shadow_item(alloc, &operations, lines)
 }
 
 /// Two diagrams, a quandle item, and a cocycle of this quandle of either kind. Nothing stands behind them.

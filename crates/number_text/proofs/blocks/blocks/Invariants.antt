@@ -5,4 +5,4 @@ use Rattle.text_items.proofs.Turns.{with_front}
 use Rattle.number_text.proofs.blocks.blocks.Given as goal
 
 abbrev pub invariant-loop : goal.invariant-loop
-invariant-loop l = with_front l.blocks.items (blocks (MAX_QUANDLES - l.counter) l.lines) ≡ blocks MAX_QUANDLES l.fn.lines
+invariant-loop l = with_front l.blocks.items (blocks l.most (MAX_QUANDLES - l.counter) l.lines) ≡ blocks l.most MAX_QUANDLES l.fn.lines
