@@ -1,5 +1,6 @@
 -- A block with three marks has both marks of one of its columns.
-use Rattle.std.proofs.Common.{◌≡◌, ◌≢◌, ◌<◌, ◌≤◌, ◌+◌, ◌==◌, ◌&&◌, ◌||◌, ◌⊎◌, ◌∙◌, ℕ, Bool, true, false, cond, nat_le, Option, Some, None, arith, sym, refl, ap, inl, inr}
+use Rattle.std.proofs.Common.{◌≡◌, ◌≢◌, ◌<◌, ◌≤◌, ◌+◌, ◌==◌, ◌&&◌, ◌||◌, ◌⊎◌, ◌∙◌, ℕ, Bool, true, false, cond, nat_le, Option, Some, None, arith, sym, refl, ap}
+use Rattle.std.proofs.Common.{inl, inr}
 use Rattle.std.specs.Option.{is_none}
 use Rattle.std.proofs.lemmas.Bool.{eqb-true, or_cases}
 use Rattle.grid_core.specs.declared.mark.Kind.{Kind}
@@ -17,7 +18,8 @@ use Rattle.grid_keys.proofs.Translated.{row_of-translate, translate-grid, size-t
 use Rattle.next_moves.specs.Tries.{shift_before, place_after_shift, try_destabilisation}
 use Rattle.grid_moves.specs.SizeAfter.{size_after}
 use Rattle.next_moves.specs.Offers.{is_offered}
-use Rattle.next_moves.specs.Extends.{next, row_of_both}
+use Rattle.short_grids.specs.ShortTrades.{next}
+use Rattle.next_moves.specs.Blocks.{row_of_both}
 use Rattle.next_moves.proofs.Sides.{shift_before-below, place_after_shift-below, next-below, first_origin, second_origin, from_first, from_second, pair_of_rows}
 
 three_of : (a b c d : Bool) → 0 + cond a 1 0 + cond b 1 0 + cond c 1 0 + cond d 1 0 ≡ 3 → ((a ≡ true) × (b ≡ true)) ⊎ ((c ≡ true) × (d ≡ true))

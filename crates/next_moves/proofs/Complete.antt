@@ -16,7 +16,8 @@ use Rattle.next_moves.specs.declared.links.Offer.{Offer}
 use Rattle.grid_moves.specs.Kinds.{is_shift}
 use Rattle.next_moves.specs.Neighbours.{IsNeighbour}
 use Rattle.grid_core.specs.Corners.{corners}
-use Rattle.next_moves.specs.Tries.{Try, tries, try_column_exchange, try_column_slide, column_trades, try_row_exchange, try_row_slide, row_trades, try_destabilisation, block_tries, try_stabilisation, stabilisation_tries}
+use Rattle.next_moves.specs.Tries.{Try, tries, try_column_exchange, try_column_slide, column_trades, try_row_exchange, try_row_slide, row_trades}
+use Rattle.next_moves.specs.Tries.{try_destabilisation, block_tries, try_stabilisation, stabilisation_tries}
 use Rattle.next_moves.specs.Offers.{is_offered, Leads, IsOfferOf, IsOfferList, try_of}
 use Rattle.next_moves.proofs.Extended.{legal_offered}
 use Rattle.next_moves.proofs.Members.{contains_filter, filter_contains, mapped_from}

@@ -19,7 +19,8 @@ use Rattle.next_moves.specs.Offers.{Leads, IsOfferOf, IsOfferList, try_of}
 -- the forms to which two links with one try lead
 form_once : (d e f : Diagram) (link other : Link) → Leads d link e → Leads d other f
     → ◌≡◌ {A = Try} (record { before = link.before; step = link.step }) (record { before = other.before; step = other.step })
-    → ◌≡◌ {A = LeastForm} (record { grid = e; columns = link.after.0; rows = link.after.1 }) (record { grid = f; columns = other.after.0; rows = other.after.1 })
+    → ◌≡◌ {A = LeastForm} (record { grid = e; columns = link.after.0; rows = link.after.1 })
+    (record { grid = f; columns = other.after.0; rows = other.after.1 })
 form_once d e f link other one two same =
     let P : Try → Type 0 = λ t. Step (translate d t.before.0 t.before.1) t.step one.moved in
     let here : Step (translate d other.before.0 other.before.1) other.step one.moved =

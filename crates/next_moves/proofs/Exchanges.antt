@@ -8,7 +8,8 @@ use Rattle.grid_core.specs.Diagram.{Diagram}
 use Rattle.next_moves.specs.declared.links.Offer.{Offer}
 use Rattle.grid_core.specs.Corners.{corners}
 use Rattle.grid_moves.specs.Kinds.{is_exchange}
-use Rattle.next_moves.specs.Tries.{Try, tries, trades, exchanges, try_column_exchange, column_trades, try_row_exchange, row_trades, try_destabilisation, block_tries, all_block_tries, try_stabilisation, stabilisation_tries, all_stabilisation_tries}
+use Rattle.next_moves.specs.Tries.{Try, tries, trade_tries, exchanges, try_column_exchange, column_trades, try_row_exchange, row_trades, try_destabilisation}
+use Rattle.next_moves.specs.Tries.{block_tries, all_block_tries, try_stabilisation, stabilisation_tries, all_stabilisation_tries}
 use Rattle.next_moves.specs.Offers.{is_offered, IsOfferOf, AreOffersOf, try_of, exchanges_among}
 use Rattle.next_moves.proofs.Members.{map_filter, filter_swap, filter_none}
 use Rattle.next_moves.proofs.Complete.{ranged, flat_ranged}
@@ -40,15 +41,15 @@ no_stabilisation n =
 
 pub exchanges_of_tries : (n : ℕ) → filter exchanges_in (tries n) ≡ exchanges n
 exchanges_of_tries n =
-    filter-append exchanges_in (trades n ++ all_block_tries n) (all_stabilisation_tries n)
+    filter-append exchanges_in (trade_tries n ++ all_block_tries n) (all_stabilisation_tries n)
     ∙ ap₂ (λ (ts us : List Try). ts ++ us)
-    (filter-append exchanges_in (trades n) (all_block_tries n)
+    (filter-append exchanges_in (trade_tries n) (all_block_tries n)
     ∙ ap₂ (λ (ts us : List Try). ts ++ us) of_trades (filter_none exchanges_in (all_block_tries n) (no_destabilisation n))
     ∙ append-nil (exchanges n))
     (filter_none exchanges_in (all_stabilisation_tries n) (no_stabilisation n))
     ∙ append-nil (exchanges n)
   where
-    of_trades : filter exchanges_in (trades n) ≡ exchanges n
+    of_trades : filter exchanges_in (trade_tries n) ≡ exchanges n
     of_trades =
         filter-append exchanges_in (flat_map (column_trades n) (range_with_len 0 n)) (flat_map (row_trades n) (range_with_len 0 n))
         ∙ ap₂ (λ (ts us : List Try). ts ++ us) (of_columns n (range_with_len 0 n)) (of_rows n (range_with_len 0 n))

@@ -1,5 +1,6 @@
 -- Lists of offers that are made longer.
-use Rattle.std.proofs.Common.{◌≡◌, ◌<◌, ◌≤◌, ◌+◌, ◌∷◌, ◌++◌, ◌∙◌, ◌&&◌, [], ℕ, List, Bool, true, false, cond, map, take, get_or, length, nat_le, Option, Some, None, sym, refl, ap, ap₂, subst, add-one, zero-add, append_assoc}
+use Rattle.std.proofs.Common.{◌≡◌, ◌<◌, ◌≤◌, ◌+◌, ◌∷◌, ◌++◌, ◌∙◌, ◌&&◌, [], ℕ, List, Bool, true, false, cond, map, take, get_or, length, nat_le, Option, Some}
+use Rattle.std.proofs.Common.{None, sym, refl, ap, ap₂, subst, add-one, zero-add, append_assoc}
 use Rattle.std.specs.List.{All, range_with_len, flat_map}
 use Rattle.std.specs.Option.{is_none}
 use Rattle.std.proofs.lemmas.Bool.{le-leb, lt-leb}

@@ -1,5 +1,6 @@
 -- Of the blocks of a column and the next one, those of one row, or of two rows, are all that are offered.
-use Rattle.std.proofs.Common.{◌≡◌, ◌≢◌, ◌<◌, ◌≤◌, ◌∷◌, ◌++◌, ◌∙◌, ◌⊎◌, [], ℕ, zero, suc, List, Bool, false, cond, map, filter, arith, sym, refl, ap, subst, inl, inr, add-one, append-nil}
+use Rattle.std.proofs.Common.{◌≡◌, ◌≢◌, ◌<◌, ◌≤◌, ◌∷◌, ◌++◌, ◌∙◌, ◌⊎◌, [], ℕ, zero, suc, List, Bool, false, cond, map, filter, arith, sym, refl, ap, subst, inl}
+use Rattle.std.proofs.Common.{inr, add-one, append-nil}
 use Rattle.std.specs.List.{range_with_len}
 use Rattle.std.proofs.lemmas.Bool.{lt-ltb, le-ltb, cases_order}
 use Rattle.std.proofs.lemmas.List.{map-append}
@@ -8,7 +9,9 @@ use Rattle.grid_core.specs.Diagram.{Diagram, IsGrid, size}
 use Rattle.next_moves.specs.declared.links.Offer.{Offer}
 use Rattle.next_moves.specs.Tries.{Try, try_destabilisation, block_tries}
 use Rattle.next_moves.specs.Offers.{is_offered}
-use Rattle.next_moves.specs.Extends.{Extends, next, row_of_both, if_below}
+use Rattle.short_grids.specs.ShortTrades.{next}
+use Rattle.next_moves.specs.Blocks.{row_of_both, if_below}
+use Rattle.next_moves.specs.Extends.{Extends}
 use Rattle.next_moves.proofs.Extended.{map_range_more, extends_none}
 use Rattle.next_moves.proofs.BlockRows.{no_other_block}
 

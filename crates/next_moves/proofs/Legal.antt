@@ -1,5 +1,6 @@
 -- The exchanges and slides of neighbours round the circle, legal or not by the spans of the diagram as it is.
-use Rattle.std.proofs.Common.{◌≡◌, ◌<◌, ◌≤◌, ◌+◌, ◌%◌, ◌∙◌, ◌&&◌, ◌||◌, ℕ, List, Bool, true, false, cond, not, nat_lt, Option, Some, None, map, set, length, get_or, subst, arith, zero-add, sym, refl, ap, ap₂, ◌≢◌, inl, inr}
+use Rattle.std.proofs.Common.{◌≡◌, ◌<◌, ◌≤◌, ◌+◌, ◌%◌, ◌∙◌, ◌&&◌, ◌||◌, ℕ, List, Bool, true, false, cond, not, nat_lt, Option, Some, None, map, set, length}
+use Rattle.std.proofs.Common.{get_or, subst, arith, zero-add, sym, refl, ap, ap₂, ◌≢◌, inl, inr}
 use Rattle.std.specs.Prelude.{slice_index}
 use Rattle.std.specs.List.{range_with_len}
 use Rattle.std.specs.Option.{is_none}
@@ -20,14 +21,13 @@ use Rattle.grid_moves.specs.declared.step.MoveFault.TheVariants.{Range, Touching
 use Rattle.grid_moves.specs.MoveFault.{exchange_fault, slide_fault}
 use Rattle.grid_moves.specs.Shift.{shifted}
 use Rattle.grid_keys.specs.Translation.{translate}
-use Rattle.short_grids.specs.ShortTrades.{Trades, trades_of}
+use Rattle.short_grids.specs.ShortTrades.{Trades, trades_of, next}
 use Rattle.grid_keys.proofs.Translated.{origin, shifted-origin, size-translate, row_of-translate}
 use Rattle.grid_keys.proofs.Joined.{unshifted}
 use Rattle.lane_spans.specs.Span.{Span as Lane, may_trade_places}
 use Rattle.lane_spans.specs.Columns.{span_at, trades, next_column, AreSpans}
 use Rattle.next_moves.specs.Tries.{shift_before, place_after_shift, try_column_exchange, try_column_slide, try_row_exchange, try_row_slide}
 use Rattle.next_moves.specs.Offers.{is_legal}
-use Rattle.next_moves.specs.Extends.{next}
 use Rattle.next_moves.proofs.Sides.{shift_before-below, place_after_shift-below, next-below, first_origin, second_origin, shift_before_cases}
 use Rattle.next_moves.proofs.TranslatedMoves.{column_of-translate}
 use Rattle.std.proofs.Math.Nat.{mod-eq_of_lt, mod_self}
@@ -86,7 +86,8 @@ module _ (d : Diagram) (c : ℕ) (grid : IsGrid d) (lt : c < size d) where
           ∙ unshifted (size d) (column_of kind d q) (column_mark d grid kind q hq).inside
 
   rows_asked : (F : Span → Span → Option MoveFault)
-      → is_none (cond (nat_lt (place + 1) (size (translate d 0 shift))) (F (ends (translate d 0 shift) place) (ends (translate d 0 shift) (place + 1))) (Some Range))
+      → is_none
+      (cond (nat_lt (place + 1) (size (translate d 0 shift))) (F (ends (translate d 0 shift) place) (ends (translate d 0 shift) (place + 1))) (Some Range))
       ≡ is_none (F (ends d c) (ends d (next (size d) c)))
   rows_asked F =
       asked F (ends (translate d 0 shift) place) (ends (translate d 0 shift) (place + 1)) (ends d c) (ends d (next (size d) c)) (place + 1)

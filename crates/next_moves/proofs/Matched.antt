@@ -8,7 +8,8 @@ use Rattle.grid_core.specs.declared.mark.Corner.{Corner}
 use Rattle.grid_core.specs.Diagram.{Diagram, IsGrid, size, row_of}
 use Rattle.grid_core.proofs.Marks.{row_below, mark_below}
 use Rattle.grid_moves.specs.declared.step.Move.{Move}
-use Rattle.grid_moves.specs.declared.step.Move.TheVariants.{ShiftColumns, ShiftRows, ExchangeColumns, ExchangeRows, SlideColumns, SlideRows, Stabilise, Destabilise}
+use Rattle.grid_moves.specs.declared.step.Move.TheVariants.{ShiftColumns, ShiftRows, ExchangeColumns, ExchangeRows, SlideColumns, SlideRows, Stabilise}
+use Rattle.grid_moves.specs.declared.step.Move.TheVariants.{Destabilise}
 use Rattle.grid_moves.specs.Shift.{shifted}
 use Rattle.grid_moves.specs.Step.{Step}
 use Rattle.grid_moves.proofs.Shifted.{shifted_below}
@@ -19,7 +20,8 @@ use Rattle.grid_keys.proofs.LeastTranslates.{translates_contains, flat_map_conta
 use Rattle.grid_moves.specs.Kinds.{is_shift, is_exchange}
 use Rattle.grid_core.specs.Corners.{corners}
 use Rattle.grid_core.proofs.CornerList.{corner_listed}
-use Rattle.next_moves.specs.Tries.{Try, shift_before, place_after_shift, tries, try_column_exchange, try_column_slide, column_trades, try_row_exchange, try_row_slide, row_trades, try_destabilisation, block_tries, try_stabilisation, stabilisation_tries}
+use Rattle.next_moves.specs.Tries.{Try, shift_before, place_after_shift, tries, try_column_exchange, try_column_slide, column_trades, try_row_exchange}
+use Rattle.next_moves.specs.Tries.{try_row_slide, row_trades, try_destabilisation, block_tries, try_stabilisation, stabilisation_tries}
 use Rattle.next_moves.proofs.Members.{contains_first, contains_later}
 use Rattle.next_moves.proofs.Sides.{shift_before-below, place_after_shift-below, first_origin}
 use Rattle.next_moves.proofs.Rounds.{brought, brought_next, brought_from}
@@ -148,7 +150,9 @@ match_column_exchange d a b c e grid ha hb step =
     record {
       try = try_column_exchange (size d) r.q;
       alike = refl;
-      among = tries_column (size d) r.q (try_column_exchange (size d) r.q) r.below (contains_first (try_column_exchange (size d) r.q) (try_column_slide (size d) r.q ∷ []));
+      among =
+          tries_column (size d) r.q (try_column_exchange (size d) r.q) r.below
+          (contains_first (try_column_exchange (size d) r.q) (try_column_slide (size d) r.q ∷ []));
       columns = r.shift;
       rows = omega (arith, hb);
       result = translate e r.k r.l;
@@ -258,7 +262,8 @@ match_row_slide d a b c e grid ha hb step =
       alike = refl;
       among =
           tries_row (size d) r.q (try_row_slide (size d) r.q) r.below
-          (contains_later (try_row_exchange (size d) r.q) (try_row_slide (size d) r.q ∷ []) (try_row_slide (size d) r.q) (contains_first (try_row_slide (size d) r.q) []));
+          (contains_later (try_row_exchange (size d) r.q) (try_row_slide (size d) r.q ∷ []) (try_row_slide (size d) r.q)
+          (contains_first (try_row_slide (size d) r.q) []));
       columns = omega (arith, ha);
       rows = r.shift;
       result = translate e r.k r.l;

@@ -1,5 +1,6 @@
 -- How many of the tries are offered: of each number one exchange or slide of columns and one of rows, two destabilisations and eight stabilisations.
-use Rattle.std.proofs.Common.{◌⊎◌, ◌≡◌, ◌<◌, ◌≤◌, ◌+◌, ◌*◌, ◌++◌, ◌∷◌, ◌∙◌, [], ℕ, zero, suc, List, Bool, false, cond, filter, map, length, arith, sym, ap, inl, inr, add-one}
+use Rattle.std.proofs.Common.{◌⊎◌, ◌≡◌, ◌<◌, ◌≤◌, ◌+◌, ◌*◌, ◌++◌, ◌∷◌, ◌∙◌, [], ℕ, zero, suc, List, Bool, false, cond, filter, map, length, arith, sym, ap, inl}
+use Rattle.std.proofs.Common.{inr, add-one}
 use Rattle.std.specs.List.{range_with_len, flat_map}
 use Rattle.std.proofs.lemmas.Bool.{cases_eq}
 use Rattle.std.proofs.lemmas.Bool.Decides.{nat_tests}
@@ -7,9 +8,11 @@ use Rattle.std.proofs.lemmas.List.{length-append}
 use Rattle.std.proofs.lemmas.List.Elements.{filter-append}
 use Rattle.std.proofs.lemmas.List.Sums.{length-filter, count_by-le-length}
 use Rattle.grid_core.specs.Diagram.{Diagram, IsGrid, size}
-use Rattle.next_moves.specs.Tries.{Try, try_column_exchange, try_column_slide, column_trades, try_row_exchange, try_row_slide, row_trades, try_destabilisation, block_tries, stabilisation_tries, trades, all_block_tries, all_stabilisation_tries}
+use Rattle.next_moves.specs.Tries.{Try, try_column_exchange, try_column_slide, column_trades, try_row_exchange, try_row_slide, row_trades, try_destabilisation}
+use Rattle.next_moves.specs.Tries.{block_tries, stabilisation_tries, trade_tries, all_block_tries, all_stabilisation_tries}
 use Rattle.next_moves.specs.Offers.{is_offered}
-use Rattle.next_moves.specs.Extends.{next, row_of_both, counted, passed}
+use Rattle.short_grids.specs.ShortTrades.{next}
+use Rattle.next_moves.specs.Blocks.{row_of_both, counted, passed}
 use Rattle.next_moves.proofs.Extended.{map_range_more, flat_map_range_more}
 use Rattle.next_moves.proofs.Sides.{passed_more, passed_le}
 use Rattle.next_moves.proofs.BlockRows.{no_other_block}
@@ -56,7 +59,8 @@ block_counted d cap c r grid hc hr =
     ]
 
 blocks_passed : (d : Diagram) (cap c m : ℕ) → IsGrid d → c < size d → m ≤ size d
-    → length (filter (is_offered d cap) (map (try_destabilisation (size d) c) (range_with_len 0 m))) ≤ passed (row_of_both d c) m + passed (row_of_both d (next (size d) c)) m
+    → length (filter (is_offered d cap) (map (try_destabilisation (size d) c) (range_with_len 0 m)))
+    ≤ passed (row_of_both d c) m + passed (row_of_both d (next (size d) c)) m
 blocks_passed d cap c zero grid hc le = omega arith
 blocks_passed d cap c (suc m) grid hc le =
     let p = is_offered d cap in
@@ -99,7 +103,7 @@ one_kept d cap s t once =
       | inr e ↦ omega (arith, both, none_kept p t e, kept_le p (s ∷ []))
     ]
 
-pub trades_offered : (d : Diagram) (cap : ℕ) → length (filter (is_offered d cap) (trades (size d))) ≤ 2 * size d
+pub trades_offered : (d : Diagram) (cap : ℕ) → length (filter (is_offered d cap) (trade_tries (size d))) ≤ 2 * size d
 trades_offered d cap =
     let n : ℕ = size d in
     let p = is_offered d cap in
@@ -111,4 +115,5 @@ trades_offered d cap =
     )
 
 pub stabilisations_offered : (d : Diagram) (cap : ℕ) → length (filter (is_offered d cap) (all_stabilisation_tries (size d))) ≤ 8 * size d
-stabilisations_offered d cap = omega (arith, kept_each (is_offered d cap) stabilisation_tries 8 (size d) (λ c hc. kept_le (is_offered d cap) (stabilisation_tries c)))
+stabilisations_offered d cap =
+    omega (arith, kept_each (is_offered d cap) stabilisation_tries 8 (size d) (λ c hc. kept_le (is_offered d cap) (stabilisation_tries c)))

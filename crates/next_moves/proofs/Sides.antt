@@ -7,7 +7,8 @@ use Rattle.grid_keys.proofs.Translated.{origin, origin_cases, origin-shifted}
 use Rattle.grid_moves.specs.declared.step.Move.{Move}
 use Rattle.grid_moves.specs.declared.step.Move.TheVariants.{Destabilise}
 use Rattle.next_moves.specs.Tries.{Try, shift_before, place_after_shift, try_destabilisation}
-use Rattle.next_moves.specs.Extends.{next, first_of_pair, counted, passed}
+use Rattle.short_grids.specs.ShortTrades.{next}
+use Rattle.next_moves.specs.Blocks.{first_of_pair, counted, passed}
 
 -- the last, or any other
 pub shift_before_cases : (n c : ℕ) → c < n → ((c + 1 ≡ n) × (shift_before n c ≡ 1) × (place_after_shift n c ≡ n - 2) × (next n

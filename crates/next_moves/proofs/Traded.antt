@@ -25,7 +25,8 @@ legal_step d try grid columns rows legal =
     moved_step (translate d try.before.0 try.before.1) try.step (translate-grid d try.before.0 try.before.1 grid columns rows)
     (none_of (first_fault (translate d try.before.0 try.before.1) try.step) legal)
 
-module _ (d : Diagram) (c by place : ℕ) (grid : IsGrid d) (lt : c < size d) (shift : by ≡ shift_before (size d) c) (stands : place ≡ place_after_shift (size d) c) where
+module _ (d : Diagram) (c by place : ℕ) (grid : IsGrid d) (lt : c < size d) (shift : by ≡ shift_before (size d) c)
+    (stands : place ≡ place_after_shift (size d) c) where
   shift_inside : shift_before (size d) c < size d
   shift_inside = shift_before-below (size d) c grid.least lt
 
@@ -37,14 +38,16 @@ module _ (d : Diagram) (c by place : ℕ) (grid : IsGrid d) (lt : c < size d) (s
       → Step (translate d by 0) (step place) (columns_exchanged place (translate d by 0))
   columns_at step is =
       subst (λ (z : ℕ). Step (translate d z 0) (step place) (columns_exchanged place (translate d z 0))) (sym shift)
-      (subst (λ (z : ℕ). Step (translate d (shift_before (size d) c) 0) (step z) (columns_exchanged z (translate d (shift_before (size d) c) 0))) (sym stands) is)
+      (subst (λ (z : ℕ). Step (translate d (shift_before (size d) c) 0) (step z) (columns_exchanged z (translate d (shift_before (size d) c) 0)))
+      (sym stands) is)
 
   rows_at : (step : ℕ → Move) → Step (translate d 0 (shift_before (size d) c)) (step (place_after_shift (size d) c))
       (rows_exchanged (place_after_shift (size d) c) (translate d 0 (shift_before (size d) c)))
       → Step (translate d 0 by) (step place) (rows_exchanged place (translate d 0 by))
   rows_at step is =
       subst (λ (z : ℕ). Step (translate d 0 z) (step place) (rows_exchanged place (translate d 0 z))) (sym shift)
-      (subst (λ (z : ℕ). Step (translate d 0 (shift_before (size d) c)) (step z) (rows_exchanged z (translate d 0 (shift_before (size d) c)))) (sym stands) is)
+      (subst (λ (z : ℕ). Step (translate d 0 (shift_before (size d) c)) (step z) (rows_exchanged z (translate d 0 (shift_before (size d) c))))
+      (sym stands) is)
 
   pub columns_exchanged_step : is_legal d (try_column_exchange (size d) c) ≡ true
       → Step (translate d by 0) (ExchangeColumns place) (columns_exchanged place (translate d by 0))

@@ -1,5 +1,6 @@
 -- Of the exchange and the slide of two neighbours at most one is legal.
-use Rattle.std.proofs.Common.{◌≡◌, ◌∙◌, ◌⊎◌, ◌+◌, ◌∷◌, ◌&&◌, ◌||◌, [], ℕ, List, Bool, true, false, cond, nat_lt, nat_le, Option, Some, None, refl, sym, ap, inl, inr}
+use Rattle.std.proofs.Common.{◌≡◌, ◌∙◌, ◌⊎◌, ◌+◌, ◌∷◌, ◌&&◌, ◌||◌, [], ℕ, List, Bool, true, false, cond, nat_lt, nat_le, Option, Some, None, refl, sym, ap, inl}
+use Rattle.std.proofs.Common.{inr}
 use Rattle.std.specs.Option.{is_none}
 use Rattle.std.proofs.lemmas.Bool.{cases_Bool, cond-true, cond-false}
 use Rattle.grid_core.specs.declared.span.Span.{Span}
@@ -13,7 +14,8 @@ use Rattle.grid_moves.specs.declared.step.MoveFault.TheVariants.{Range, Touching
 use Rattle.grid_moves.specs.MoveFault.{first_fault, exchange_fault, slide_fault}
 use Rattle.grid_keys.specs.Translation.{translate}
 use Rattle.next_moves.specs.declared.links.Offer.{Offer}
-use Rattle.next_moves.specs.Tries.{Try, shift_before, place_after_shift, try_column_exchange, try_column_slide, try_row_exchange, try_row_slide, column_trades, row_trades}
+use Rattle.next_moves.specs.Tries.{Try, shift_before, place_after_shift, try_column_exchange, try_column_slide, try_row_exchange, try_row_slide, column_trades}
+use Rattle.next_moves.specs.Tries.{row_trades}
 use Rattle.grid_moves.specs.SizeAfter.{size_after}
 use Rattle.next_moves.specs.Offers.{is_legal, is_offered}
 use Rattle.next_moves.specs.Extends.{Extends}
@@ -107,7 +109,8 @@ columns_exchanged d cap n c old new legal one =
     let p : ℕ = place_after_shift n c in
     let translated : Diagram = translate d (shift_before n c) 0 in
     extends_first d cap (try_column_exchange n c) (try_column_slide n c) old new
-    (illegal d cap (try_column_slide n c) (only_exchanged (nat_lt (p + 1) (size translated)) (column_span translated p) (column_span translated (p + 1)) legal)) one
+    (illegal d cap (try_column_slide n c)
+    (only_exchanged (nat_lt (p + 1) (size translated)) (column_span translated p) (column_span translated (p + 1)) legal)) one
 
 pub columns_slid : (d : Diagram) (cap n c : ℕ) (old new : List Offer) → is_legal d (try_column_exchange n c) ≡ false
     → Extends d cap (try_column_slide n c ∷ []) old new → Extends d cap (column_trades n c) old new

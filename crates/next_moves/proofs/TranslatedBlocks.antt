@@ -33,7 +33,8 @@ placed : (e : Diagram) (kind : Kind) (x y x' y' : ℕ) → x ≡ x' → y ≡ y'
 placed e kind x y x' y' ex ey mark = subst (λ (z : ℕ). HasMark e kind z y') ex (subst (λ (z : ℕ). HasMark e kind x z) ey mark)
 
 pub stabilises_translated : (c : ℕ) (kind : Kind) (corner : Corner) (r : ℕ) (d e : Diagram) (p u : ℕ) → IsGrid d → IsGrid e → Stabilises c kind corner r d e
-    → p < size d → u < size d → Stabilises p kind corner u (translate d (shifted (size d) p c) (shifted (size d) u r)) (translate e (shifted (size d + 1) p c) (shifted (size d + 1) u r))
+    → p < size d → u < size d
+    → Stabilises p kind corner u (translate d (shifted (size d) p c) (shifted (size d) u r)) (translate e (shifted (size d + 1) p c) (shifted (size d + 1) u r))
 stabilises_translated c kind corner r d e p u grid gride stab hp hu =
     let m : ℕ = size d in
     let hc : c < m = stab.marked.inside in
@@ -113,7 +114,9 @@ stabilises_translated c kind corner r d e p u grid gride stab hp hu =
 
 -- as steps
 pub stabilise_translated : (c : ℕ) (kind : Kind) (corner : Corner) (d e : Diagram) (p u : ℕ) (step : Step d (Stabilise c kind corner) e) → p < size d
-    → u < size d → Step (translate d (shifted (size d) p c) (shifted (size d) u (row_of kind d c))) (Stabilise p kind corner) (translate e (shifted (size d + 1) p c) (shifted (size d + 1) u (row_of kind d c)))
+    → u < size d
+    → Step (translate d (shifted (size d) p c) (shifted (size d) u (row_of kind d c))) (Stabilise p kind corner)
+    (translate e (shifted (size d + 1) p c) (shifted (size d + 1) u (row_of kind d c)))
 stabilise_translated c kind corner d e p u step hp hu =
     let stab = step.marks.1.1 in
     let hc = stab.marked.inside in

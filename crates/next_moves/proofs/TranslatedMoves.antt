@@ -15,7 +15,8 @@ use Rattle.grid_moves.specs.Slide.{MaySlide}
 use Rattle.grid_moves.specs.Step.{Step}
 use Rattle.grid_moves.proofs.Exchanged.{exchanged-below}
 use Rattle.grid_keys.specs.Translation.{translate}
-use Rattle.grid_keys.proofs.Translated.{origin, origin-below, shifted-origin, shifted-permutes, size-translate, row_of-translate, translate-renumbered, translate-grid}
+use Rattle.grid_keys.proofs.Translated.{origin, origin-below, shifted-origin, shifted-permutes, size-translate, row_of-translate, translate-renumbered}
+use Rattle.grid_keys.proofs.Translated.{translate-grid}
 use Rattle.next_moves.proofs.Circle.{may_exchange_shifted, may_slide_shifted}
 use Rattle.next_moves.proofs.Rounds.{exchanged_along}
 

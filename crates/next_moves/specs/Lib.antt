@@ -1,5 +1,6 @@
 pub mod Neighbours
 pub mod Tries
+pub mod Blocks
 pub mod Offers
 pub mod Links
 pub mod Extends

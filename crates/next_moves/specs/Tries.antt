@@ -60,9 +60,17 @@ try_stabilisation c kind corner = unshifted (Stabilise c kind corner)
 abbrev pub stabilisation_tries : ℕ → List Try
 stabilisation_tries c = map unshifted (moves.stabilisations c)
 
--- neighbouring columns, and neighbouring rows, that trade places
-abbrev pub trades : ℕ → List Try
-trades n = flat_map (column_trades n) (range_with_len 0 n) ++ flat_map (row_trades n) (range_with_len 0 n)
+-- neighbouring columns that trade places, by column
+abbrev pub all_column_trades : ℕ → List Try
+all_column_trades n = flat_map (column_trades n) (range_with_len 0 n)
+
+-- neighbouring rows that do, by row
+abbrev pub all_row_trades : ℕ → List Try
+all_row_trades n = flat_map (row_trades n) (range_with_len 0 n)
+
+-- both
+abbrev pub trade_tries : ℕ → List Try
+trade_tries n = all_column_trades n ++ all_row_trades n
 
 -- of these the exchanges alone
 abbrev pub exchanges : ℕ → List Try
@@ -78,4 +86,4 @@ all_stabilisation_tries n = flat_map stabilisation_tries (range_with_len 0 n)
 
 -- all of them, in the order of the offers
 abbrev pub tries : ℕ → List Try
-tries n = trades n ++ all_block_tries n ++ all_stabilisation_tries n
+tries n = trade_tries n ++ all_block_tries n ++ all_stabilisation_tries n

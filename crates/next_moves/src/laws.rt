@@ -15,7 +15,7 @@ ghost use Rattle.grid_keys.specs.Translation.{translate, translates};
 ghost use Rattle.grid_keys.specs.CanonicalForm.{IsCanonicalForm, IsCanonical};
 ghost use Rattle.grid_keys.specs.Key.{key_of};
 ghost use Rattle.next_moves.specs.Neighbours.{IsNeighbour};
-ghost use Rattle.next_moves.specs.Tries.{trades, try_column_exchange, try_row_exchange, all_block_tries, all_stabilisation_tries};
+ghost use Rattle.next_moves.specs.Tries.{trade_tries, try_column_exchange, try_row_exchange, all_block_tries, all_stabilisation_tries};
 ghost use Rattle.next_moves.specs.Offers.{is_legal, is_offered, Leads, IsOfferList, Neighbourhood, IsWhole};
 ghost use Rattle.next_moves.specs.Links.{link_moves};
 ghost use Rattle.next_moves.specs.Reach.{IsReached, AreMembers, HasMembers, HasMoreMembers};
@@ -120,7 +120,7 @@ pub fn every_offer_is_a_neighbour()
 
 /// Of the tries on a grid of size n at most 2n exchanges and slides together, 2n destabilisations and 8n stabilisations are offered.
 pub fn how_many_tries_are_offered()
-    ensures trades { (d : Diagram) (cap : ℕ) → length (filter (is_offered d cap) (trades (size d))) ≤ 2 * size d }
+    ensures trades { (d : Diagram) (cap : ℕ) → length (filter (is_offered d cap) (trade_tries (size d))) ≤ 2 * size d }
     ensures destabilisations { (d : Diagram) (cap : ℕ)
         → IsGrid d
         → length (filter (is_offered d cap) (all_block_tries (size d))) ≤ 2 * size d }

@@ -1,7 +1,8 @@
 //! Neighbours on the circle of columns, or of rows.
 ghost use Rattle.std.specs.Prelude.{◌≡◌, ◌<◌, ◌≤◌, ◌+◌, ◌-◌};
 ghost use Rattle.next_moves.specs.Tries.{shift_before, place_after_shift};
-ghost use Rattle.next_moves.specs.Extends.{next};
+ghost use Rattle.next_moves.specs.Blocks.{first_of_pair};
+ghost use Rattle.short_grids.specs.ShortTrades.{next};
 
 /// The next number, round the circle of as many as the size.
 pub(crate) fn next(c: u8, size: u8) -> u8
@@ -23,4 +24,19 @@ pub(crate) fn shift_before(c: u8, size: u8) -> u8
     ensures inside { c - result + 1 < size }
 {
     if c + 1 == size { 1 } else { 0 }
+}
+
+/// The first of two numbers that are neighbours on the circle of as many as the size, or the size where they are none.
+pub(crate) fn first_of_pair(x: u8, o: u8, size: u8) -> u8
+    requires first { x < size }
+    requires second { o < size }
+    ensures { result ≡ first_of_pair size x o }
+{
+    if next(x, size) == o {
+        x
+    } else if next(o, size) == x {
+        o
+    } else {
+        size
+    }
 }

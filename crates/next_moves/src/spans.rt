@@ -5,7 +5,7 @@ ghost use Rattle.grid_core.specs.Diagram.{size};
 ghost use Rattle.grid_core.specs.Parts.{column_of, column_lows, column_highs, row_lows, row_highs};
 ghost use Rattle.grid_core.specs.Span.{share_one_end};
 ghost use Rattle.lane_spans.specs.Columns.{has_bit, trades, AreSpans};
-ghost use Rattle.next_moves.specs.Extends.{next};
+ghost use Rattle.short_grids.specs.ShortTrades.{next};
 
 use crate::side_by_side::next;
 use arrayvec::ArrayVec;
@@ -20,15 +20,23 @@ pub(crate) struct Spans {
 }
 
 impl Spans {
+    /// None yet.
+    fn new() -> Spans
+        ensures lows { result.lows.items ≡ [] }
+        ensures highs { result.highs.items ≡ [] }
+    {
+        Spans {
+            lows: ArrayVec::new(),
+            highs: ArrayVec::new(),
+        }
+    }
+
     /// Those of the columns: each from the row of the lower mark to that of the higher one.
     pub(crate) fn of_columns(grid: &Grid) -> Spans
         ensures lows { result.lows.items ≡ column_lows grid.now }
         ensures highs { result.highs.items ≡ column_highs grid.now }
     {
-        let mut spans = Spans {
-            lows: ArrayVec::new(),
-            highs: ArrayVec::new(),
-        };
+        let mut spans = Spans::new();
         for c in 0..grid.size() {
             spans.push(grid.column_span(c));
         }
@@ -42,10 +50,7 @@ impl Spans {
     {
         let crosses = columns_by_row(grid, Kind::Cross);
         let rings = columns_by_row(grid, Kind::Ring);
-        let mut spans = Spans {
-            lows: ArrayVec::new(),
-            highs: ArrayVec::new(),
-        };
+        let mut spans = Spans::new();
         for r in 0..grid.size() {
             spans.push(Span::between(crosses[r as usize], rings[r as usize]));
         }

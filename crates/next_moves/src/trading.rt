@@ -1,6 +1,5 @@
 //! The exchanges and slides of neighbouring columns and of neighbouring rows, in their order.
 ghost use Rattle.std.specs.Prelude.{◌≡◌, ◌<◌, ◌≤◌, ◌+◌, ◌∷◌, [], length, true, false};
-ghost use Rattle.std.specs.List.{range_with_len, flat_map};
 ghost use Rattle.grid_core.specs.Diagram.{size};
 ghost use Rattle.grid_core.specs.Parts.{column_span, ends, column_lows, column_highs, row_lows, row_highs};
 ghost use Rattle.grid_moves.specs.Step.{Step};
@@ -8,7 +7,8 @@ ghost use Rattle.grid_moves.specs.Exchanged.{columns_exchanged, rows_exchanged};
 ghost use Rattle.grid_keys.specs.Translation.{translate};
 ghost use Rattle.short_grids.specs.ShortTrades.{trades_of};
 ghost use Rattle.next_moves.specs.declared.offers.TheConstants.{MAX_OFFERS};
-ghost use Rattle.next_moves.specs.Tries.{try_column_exchange, try_column_slide, try_row_exchange, try_row_slide, column_trades, row_trades};
+ghost use Rattle.next_moves.specs.Tries.{try_column_exchange, try_column_slide, column_trades, all_column_trades};
+ghost use Rattle.next_moves.specs.Tries.{try_row_exchange, try_row_slide, row_trades, all_row_trades};
 ghost use Rattle.next_moves.specs.Offers.{is_legal};
 ghost use Rattle.lane_spans.specs.Columns.{has_bit, trades};
 ghost use Rattle.next_moves.specs.Extends.{Extends};
@@ -25,7 +25,7 @@ impl<'a> Tries<'a> {
     /// Appends the exchanges and slides of neighbouring columns.
     pub(crate) fn trade_columns(&self, list: &mut OfferList)
         requires room { length list.old.items + size self.now.diagram ≤ MAX_OFFERS }
-        ensures offered { Extends self.now.diagram self.now.cap (flat_map (column_trades (size self.now.diagram)) (range_with_len 0 (size self.now.diagram))) list.old.items list.new.items }
+        ensures offered { Extends self.now.diagram self.now.cap (all_column_trades (size self.now.diagram)) list.old.items list.new.items }
         ensures fits { length list.new.items ≤ length list.old.items + size self.now.diagram }
     {
         let _size = self.size();
@@ -39,7 +39,7 @@ impl<'a> Tries<'a> {
     fn trade_short_columns(&self, list: &mut OfferList, trades: &ShortTrades)
         requires trades { trades.now ≡ trades_of (size self.now.diagram) (column_span self.now.diagram) }
         requires room { length list.old.items + size self.now.diagram ≤ MAX_OFFERS }
-        ensures offered { Extends self.now.diagram self.now.cap (flat_map (column_trades (size self.now.diagram)) (range_with_len 0 (size self.now.diagram))) list.old.items list.new.items }
+        ensures offered { Extends self.now.diagram self.now.cap (all_column_trades (size self.now.diagram)) list.old.items list.new.items }
         ensures fits { length list.new.items ≤ length list.old.items + size self.now.diagram }
     {
         let size = self.size();
@@ -67,7 +67,7 @@ impl<'a> Tries<'a> {
     /// Appends them where there is no short grid, by the spans of all columns.
     fn trade_long_columns(&self, list: &mut OfferList)
         requires room { length list.old.items + size self.now.diagram ≤ MAX_OFFERS }
-        ensures offered { Extends self.now.diagram self.now.cap (flat_map (column_trades (size self.now.diagram)) (range_with_len 0 (size self.now.diagram))) list.old.items list.new.items }
+        ensures offered { Extends self.now.diagram self.now.cap (all_column_trades (size self.now.diagram)) list.old.items list.new.items }
         ensures fits { length list.new.items ≤ length list.old.items + size self.now.diagram }
     {
         let size = self.size();
@@ -147,7 +147,7 @@ impl<'a> Tries<'a> {
     /// Appends the exchanges and slides of neighbouring rows.
     pub(crate) fn trade_rows(&self, list: &mut OfferList)
         requires room { length list.old.items + size self.now.diagram ≤ MAX_OFFERS }
-        ensures offered { Extends self.now.diagram self.now.cap (flat_map (row_trades (size self.now.diagram)) (range_with_len 0 (size self.now.diagram))) list.old.items list.new.items }
+        ensures offered { Extends self.now.diagram self.now.cap (all_row_trades (size self.now.diagram)) list.old.items list.new.items }
         ensures fits { length list.new.items ≤ length list.old.items + size self.now.diagram }
     {
         let _size = self.size();
@@ -161,7 +161,7 @@ impl<'a> Tries<'a> {
     fn trade_short_rows(&self, list: &mut OfferList, trades: &ShortTrades)
         requires trades { trades.now ≡ trades_of (size self.now.diagram) (ends self.now.diagram) }
         requires room { length list.old.items + size self.now.diagram ≤ MAX_OFFERS }
-        ensures offered { Extends self.now.diagram self.now.cap (flat_map (row_trades (size self.now.diagram)) (range_with_len 0 (size self.now.diagram))) list.old.items list.new.items }
+        ensures offered { Extends self.now.diagram self.now.cap (all_row_trades (size self.now.diagram)) list.old.items list.new.items }
         ensures fits { length list.new.items ≤ length list.old.items + size self.now.diagram }
     {
         let size = self.size();
@@ -189,7 +189,7 @@ impl<'a> Tries<'a> {
     /// Appends them where there is no short grid, by the spans of all rows.
     fn trade_long_rows(&self, list: &mut OfferList)
         requires room { length list.old.items + size self.now.diagram ≤ MAX_OFFERS }
-        ensures offered { Extends self.now.diagram self.now.cap (flat_map (row_trades (size self.now.diagram)) (range_with_len 0 (size self.now.diagram))) list.old.items list.new.items }
+        ensures offered { Extends self.now.diagram self.now.cap (all_row_trades (size self.now.diagram)) list.old.items list.new.items }
         ensures fits { length list.new.items ≤ length list.old.items + size self.now.diagram }
     {
         let size = self.size();

@@ -1,6 +1,5 @@
 //! The tries one by one, in their order; those of exchanges and slides stand in `trading`.
 ghost use Rattle.std.specs.Prelude.{◌≡◌, ◌<◌, ◌≤◌, ◌+◌, ◌*◌, ◌∷◌, ◌++◌, [], length, map};
-ghost use Rattle.std.specs.List.{range_with_len, flat_map};
 ghost use Rattle.grid_core.specs.Corners.{corners};
 ghost use Rattle.grid_core.specs.Diagram.{IsGrid, size};
 ghost use Rattle.grid_core.specs.Parts.{column_span, column_lows, column_highs};
@@ -8,13 +7,14 @@ ghost use Rattle.grid_moves.specs.Step.{Step};
 ghost use Rattle.grid_keys.specs.Translation.{translate};
 ghost use Rattle.short_grids.specs.ShortTrades.{trades_of};
 ghost use Rattle.next_moves.specs.declared.offers.TheConstants.{MAX_OFFERS};
-ghost use Rattle.next_moves.specs.Tries.{try_destabilisation, block_tries, all_block_tries, stabilisation_tries, try_stabilisation};
+ghost use Rattle.next_moves.specs.Tries.{block_tries, all_block_tries, try_stabilisation, all_stabilisation_tries};
 ghost use Rattle.grid_moves.specs.declared.step.Move.TheVariants.{Destabilise};
-ghost use Rattle.next_moves.specs.Extends.{Extends, IsShortOf, row_of_both, if_below};
+ghost use Rattle.next_moves.specs.Blocks.{row_of_both, block_try_at, block_tries_at};
+ghost use Rattle.next_moves.specs.Extends.{Extends, IsShortOf};
 
 use crate::links::{Link, Offer};
 use crate::offer_list::OfferList;
-use crate::side_by_side::{next, shift_before};
+use crate::side_by_side::{first_of_pair, next, shift_before};
 use crate::spans::Spans;
 use grid_canon::canonical_key;
 use grid_core::{Corner, Grid, Kind};
@@ -227,7 +227,7 @@ impl<'a> Tries<'a> {
     fn try_blocks(&self, list: &mut OfferList, c: u8, first: u8, second: u8)
         requires column { c < size self.now.diagram }
         requires room { length list.old.items + 2 ≤ MAX_OFFERS }
-        ensures offered { Extends self.now.diagram self.now.cap (map (try_destabilisation (size self.now.diagram) c) (if_below (size self.now.diagram) first ++ if_below (size self.now.diagram) second)) list.old.items list.new.items }
+        ensures offered { Extends self.now.diagram self.now.cap (block_tries_at (size self.now.diagram) c first second) list.old.items list.new.items }
         ensures fits { length list.new.items ≤ length list.old.items + 2 }
     {
         self.try_block(list, c, first);
@@ -238,7 +238,7 @@ impl<'a> Tries<'a> {
     fn try_block(&self, list: &mut OfferList, c: u8, r: u8)
         requires column { c < size self.now.diagram }
         requires room { length list.old.items < MAX_OFFERS }
-        ensures offered { Extends self.now.diagram self.now.cap (map (try_destabilisation (size self.now.diagram) c) (if_below (size self.now.diagram) r)) list.old.items list.new.items }
+        ensures offered { Extends self.now.diagram self.now.cap (block_try_at (size self.now.diagram) c r) list.old.items list.new.items }
         ensures fits { length list.new.items ≤ length list.old.items + 1 }
     {
         let size = self.size();
@@ -291,7 +291,7 @@ impl<'a> Tries<'a> {
     /// Appends the stabilisations, by column, kind and corner: none where the size is the cap.
     pub(crate) fn stabilise(&self, list: &mut OfferList)
         requires room { length list.old.items + 8 * size self.now.diagram ≤ MAX_OFFERS }
-        ensures offered { Extends self.now.diagram self.now.cap (flat_map stabilisation_tries (range_with_len 0 (size self.now.diagram))) list.old.items list.new.items }
+        ensures offered { Extends self.now.diagram self.now.cap (all_stabilisation_tries (size self.now.diagram)) list.old.items list.new.items }
         ensures fits { length list.new.items ≤ length list.old.items + 8 * size self.now.diagram }
     {
         let size = self.size();
@@ -371,16 +371,9 @@ fn row_of_both(grid: &Grid, c: u8) -> u8
     requires { c < size grid.now }
     ensures { result ≡ row_of_both grid.now c }
 {
-    let size = grid.size();
     let cross = grid.row_of(Kind::Cross, c);
     let ring = grid.row_of(Kind::Ring, c);
-    if next(cross, size) == ring {
-        cross
-    } else if next(ring, size) == cross {
-        ring
-    } else {
-        size
-    }
+    first_of_pair(cross, ring, grid.size())
 }
 
 /// A stabilisation: the mark of a kind in a column becomes a block of three, with the other kind in this corner.

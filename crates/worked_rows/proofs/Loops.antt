@@ -1,9 +1,9 @@
 -- The order of edges and loops.
-use Rattle.std.proofs.Common.{◌≡◌, ◌<◌, ◌+◌, ◌∙◌, ◌==◌, ◌↔◌, ◌∷◌, [], ℕ, Bool, true, List, length, map, take, drop, slice_index, arith, ap, sym, refl}
+use Rattle.std.proofs.Common.{◌≡◌, ◌<◌, ◌+◌, ◌∙◌, ◌==◌, ◌↔◌, [], ℕ, Bool, true, List, length, map, take, drop, slice_index, arith, ap, sym}
 use Rattle.std.specs.Prelude.{Contains, AllPairs}
 use Rattle.std.specs.List.{range_with_len}
 use Rattle.std.proofs.lemmas.Bool.{eqb-true, eq-eqb}
-use Rattle.std.proofs.lemmas.List.{length-map}
+use Rattle.std.proofs.lemmas.List.{length-map, nil_from_length}
 use Rattle.std.proofs.Math.Seq.{take-append_seam, drop-append_seam}
 use Rattle.grid_core.specs.Diagram.{Diagram, size}
 use Rattle.quandle_core.specs.Quandle.{Table}
@@ -24,10 +24,6 @@ loops_ascend d =
     (ordered_filter (λ (a b : ℕ). a < b) (has_none d) (starts d)
     (ordered_filter (λ (a b : ℕ). a < b) (is_least d) (range_with_len 0 (size d)) (ordered_range 0 (size d))))
 
-no_items : {A : Type 0} (xs : List A) → length xs ≡ 0 → xs ≡ []
-no_items [] e = refl
-no_items (x ∷ xs) e = absurd (omega (arith, e))
-
 pub loops_are : (d : Diagram) (s : ℕ) → Contains (loops d) s ↔ ((s < size d) × (is_least d s ≡ true) × (passages_from d s ≡ []))
 loops_are d s = (there, back)
   where
@@ -36,7 +32,7 @@ loops_are d s = (there, back)
         let outer = of_filter (has_none d) (starts d) s (has_contained (loops d) s has) in
         let inner = of_filter (is_least d) (range_with_len 0 (size d)) s outer.0 in
         let low = of_range 0 (size d) s inner.0 in
-        (omega (arith, low.1), inner.1, no_items (passages_from d s) (eqb-true (length (passages_from d s)) 0 outer.1))
+        (omega (arith, low.1), inner.1, nil_from_length (passages_from d s) (eqb-true (length (passages_from d s)) 0 outer.1))
 
     back : (s < size d) × (is_least d s ≡ true) × (passages_from d s ≡ []) → Contains (loops d) s
     back is =

@@ -1,14 +1,15 @@
 -- The parts in which tries stand.
 use Rattle.std.proofs.Common.{◌≡◌, ◌≤◌, ◌+◌, ◌∙◌, ◌++◌, ◌∷◌, [], inl, inr, ℕ, List, map, arith, ap, sym, refl}
 use Rattle.std.specs.Prelude.{AllPairs}
-use Rattle.std.specs.List.{range_with_len, flat_map}
+use Rattle.std.specs.List.{range_with_len}
 use Rattle.grid_core.specs.declared.mark.Kind.TheVariants.{Cross, Ring}
 use Rattle.grid_core.specs.Corners.{corners}
 use Rattle.grid_moves.specs.declared.step.Move.{Move}
 use Rattle.grid_moves.specs.MoveLists.{stabilisation, stabilisations}
 use Rattle.crossing_codes.proofs.Members.{Has, has_either, of_map, of_flat_map}
 use Rattle.crossing_codes.proofs.Ordered.{Ordered, ordered_append, all_pairs}
-use Rattle.next_moves.specs.Tries.{Try, column_trades, row_trades, try_destabilisation, block_tries, unshifted, stabilisation_tries, trades, all_block_tries, all_stabilisation_tries, tries}
+use Rattle.next_moves.specs.Tries.{Try, tries, column_trades, all_column_trades, row_trades, all_row_trades, trade_tries}
+use Rattle.next_moves.specs.Tries.{try_destabilisation, block_tries, all_block_tries, unshifted, stabilisation_tries, all_stabilisation_tries}
 use Rattle.worked_rows.specs.Parts.{part}
 
 -- all tries of a list stand in this part
@@ -27,7 +28,7 @@ one_part k (x ∷ list) all =
 two_parts : (j k : ℕ) (xs ys : List Try) → j ≤ k → AreIn j xs → AreIn k ys → (x y : Try) → Has xs x → Has ys y → NotBehind x y
 two_parts j k xs ys le by_j by_k x y in_xs in_ys = omega (arith, le, by_j x in_xs, by_k y in_ys)
 
-columns_in : (n : ℕ) → AreIn 0 (flat_map (column_trades n) (range_with_len 0 n))
+columns_in : (n : ℕ) → AreIn 0 (all_column_trades n)
 columns_in n x has = let at = of_flat_map (column_trades n) (range_with_len 0 n) x has in by at.0 at.2
   where
     by : (c : ℕ) → Has (column_trades n c) x → part x.step ≡ 0
@@ -35,7 +36,7 @@ columns_in n x has = let at = of_flat_map (column_trades n) (range_with_len 0 n)
     by c (inr (inl e)) = ap (λ (t : Try). part t.step) (sym e)
     by c (inr (inr none)) = absurd none
 
-rows_in : (n : ℕ) → AreIn 1 (flat_map (row_trades n) (range_with_len 0 n))
+rows_in : (n : ℕ) → AreIn 1 (all_row_trades n)
 rows_in n x has = let at = of_flat_map (row_trades n) (range_with_len 0 n) x has in by at.0 at.2
   where
     by : (r : ℕ) → Has (row_trades n r) x → part x.step ≡ 1
@@ -63,8 +64,8 @@ stabilisations_in n x has =
 
 pub tries_in_order : (n : ℕ) → AllPairs (λ (s t : Try). part s.step ≤ part t.step) (tries n)
 tries_in_order n =
-    let columns = flat_map (column_trades n) (range_with_len 0 n) in
-    let rows = flat_map (row_trades n) (range_with_len 0 n) in
+    let columns = all_column_trades n in
+    let rows = all_row_trades n in
     let blocks = all_block_tries n in
     let wider = all_stabilisation_tries n in
     all_pairs NotBehind (tries n)
@@ -77,16 +78,15 @@ tries_in_order n =
     (one_part 3 wider (stabilisations_in n))
     (λ x y in_front behind. omega (arith, lower x in_front, stabilisations_in n y behind)))
   where
-    low : (x : Try) → Has (flat_map (column_trades n) (range_with_len 0 n) ++ flat_map (row_trades n) (range_with_len 0 n)) x → part x.step ≤ 1
-    low x has = elim (has_either (flat_map (column_trades n) (range_with_len 0 n)) (flat_map (row_trades n) (range_with_len 0 n)) x has) [
+    low : (x : Try) → Has (trade_tries n) x → part x.step ≤ 1
+    low x has = elim (has_either (all_column_trades n) (all_row_trades n) x has) [
       | inl column ↦ omega (arith, columns_in n x column)
       | inr row ↦ omega (arith, rows_in n x row)
     ]
 
-    lower : (x : Try) → Has (flat_map (column_trades n) (range_with_len 0 n) ++ flat_map (row_trades n) (range_with_len 0 n) ++ all_block_tries n) x
-        → part x.step ≤ 2
+    lower : (x : Try) → Has (trade_tries n ++ all_block_tries n) x → part x.step ≤ 2
     lower x has =
-        elim (has_either (flat_map (column_trades n) (range_with_len 0 n) ++ flat_map (row_trades n) (range_with_len 0 n)) (all_block_tries n) x has) [
+        elim (has_either (trade_tries n) (all_block_tries n) x has) [
           | inl trade ↦ omega (arith, low x trade)
           | inr block ↦ omega (arith, blocks_in n x block)
         ]

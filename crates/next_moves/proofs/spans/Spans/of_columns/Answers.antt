@@ -7,12 +7,14 @@ use Rattle.next_moves.proofs.spans.Spans.of_columns.Goals as goal
 pub push-requires-clause-lows : goal.push-requires-clause-lows
 push-requires-clause-lows c =
     let long = ap length c.loop-c.invariant.lows in
-    omega (arith, long, length-map-range_with_len (λ k. (column_span c.args.grid.now k).low) 0 c.loop-c.c, c.size-c-end.ensures.size, c.size-c-end.ensures.grid.most)
+    let as_many = length-map-range_with_len (λ k. (column_span c.args.grid.now k).low) 0 c.loop-c.c in
+    omega (arith, long, as_many, c.size-c-end.ensures.size, c.size-c-end.ensures.grid.most)
 
 pub push-requires-clause-highs : goal.push-requires-clause-highs
 push-requires-clause-highs c =
     let long = ap length c.loop-c.invariant.highs in
-    omega (arith, long, length-map-range_with_len (λ k. (column_span c.args.grid.now k).high) 0 c.loop-c.c, c.size-c-end.ensures.size, c.size-c-end.ensures.grid.most)
+    let as_many = length-map-range_with_len (λ k. (column_span c.args.grid.now k).high) 0 c.loop-c.c in
+    omega (arith, long, as_many, c.size-c-end.ensures.size, c.size-c-end.ensures.grid.most)
 
 pub loop-c-preserved : goal.loop-c-preserved
 loop-c-preserved c =

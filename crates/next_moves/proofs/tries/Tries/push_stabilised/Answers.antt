@@ -16,7 +16,8 @@ push_moved-requires-clause-step c =
     let moved : Diagram = c.widened.result in
     let of_grid = ap (λ e. widened c.widening_of-widening.result e) (c.requires.short ∙ sym c.grid.ensures) in
     let step = subst (λ e. Step e (Stabilise c.args.at.column c.args.at.kind c.args.at.corner) moved) c.grid.ensures
-    (subst (λ e. Step c.grid.result.now (Stabilise c.args.at.column c.args.at.kind c.args.at.corner) e) (sym (c.widened.ensures ∙ of_grid)) c.widening_of-widening.ensures.step) in
+    (subst (λ e. Step c.grid.result.now (Stabilise c.args.at.column c.args.at.kind c.args.at.corner) e)
+    (sym (c.widened.ensures ∙ of_grid)) c.widening_of-widening.ensures.step) in
     subst (λ (m : Move). Step (translate c.args.self.now.diagram 0 0) m moved) (sym c.step.ensures)
     (subst (λ e. Step e (Stabilise c.args.at.column c.args.at.kind c.args.at.corner) moved)
     (sym (translate_none c.args.self.now.diagram c.size-size.ensures.grid)) step)

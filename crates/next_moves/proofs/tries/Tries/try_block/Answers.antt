@@ -14,9 +14,11 @@ returns-then-r-size-clause-offered c =
     let inside : c.args.r < size d = omega (arith, c.if-r-size.true, c.size-size.ensures.size) in
     let column = c.shift_before.ensures.shift ∙ ap (λ (n : ℕ). shift_before n c.args.c) c.size-size.ensures.size in
     let row = c.shift_before-then-r-size.ensures.shift ∙ ap (λ (n : ℕ). shift_before n c.args.r) c.size-size.ensures.size in
-    subst (λ (rs : List ℕ). Extends d c.args.self.now.cap (map (try_destabilisation (size d) c.args.c) rs) c.args.list.now.items c.destabilise_at.new.list.items)
+    let old = c.args.list.now.items in
+    let new = c.destabilise_at.new.list.items in
+    subst (λ (rs : List ℕ). Extends d c.args.self.now.cap (map (try_destabilisation (size d) c.args.c) rs) old new)
     (sym (below_is (size d) c.args.r inside))
-    (subst (λ (t : Try). Extends d c.args.self.now.cap (t ∷ []) c.args.list.now.items c.destabilise_at.new.list.items)
+    (subst (λ (t : Try). Extends d c.args.self.now.cap (t ∷ []) old new)
     (block_made (size d) c.args.c c.args.r _ _ least c.requires.column inside column row) c.destabilise_at.ensures.offered)
 
 pub returns-else-r-size-clause-offered : goal.returns-else-r-size-clause-offered

@@ -2,7 +2,8 @@ use Rattle.std.proofs.Common.{List, map, sym, subst}
 use Rattle.std.proofs.lemmas.List.{map-append}
 use Rattle.grid_core.specs.Diagram.{size}
 use Rattle.next_moves.specs.Tries.{Try, try_destabilisation}
-use Rattle.next_moves.specs.Extends.{Extends, if_below}
+use Rattle.next_moves.specs.Blocks.{if_below}
+use Rattle.next_moves.specs.Extends.{Extends}
 use Rattle.next_moves.proofs.Extended.{extends_then}
 use Rattle.next_moves.proofs.tries.Tries.try_blocks.Goals as goal
 
