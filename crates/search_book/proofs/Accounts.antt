@@ -19,7 +19,7 @@ use Rattle.search_book.specs.declared.event.End.TheVariants.{Met, Spent, Exhaust
 use Rattle.search_book.specs.declared.event.Meeting.TheVariants.{Offered}
 use Rattle.search_book.specs.State.{State}
 use Rattle.search_book.specs.Entries.{StandsAt, HasUnsettled, at_stage, id_of, is_settled, is_settled_stage, keys, same_side}
-use Rattle.search_book.specs.Settle.{Taken, Settles, after_settling, child, exhausted_where_all_settled, finished_unless_over, met_or_passed_over, taken_all, weighed_by, weighed_next}
+use Rattle.search_book.specs.Settle.{Taken, Settles, after_settling, child, exhausted_where_all_settled, settled_unless_over, met_or_passed_over, taken_all, taken_by, taken_next}
 use Rattle.search_book.specs.Sound.{IsKeyOfSide}
 use Rattle.search_book.specs.Settlement.{IsMetBy, IsNewKey, IsSettledWhole, IsSettlement, IsSpentBy, Leaves, first_of_new, is_among}
 use Rattle.search_book.proofs.Appended.{where_pushed}
@@ -72,7 +72,7 @@ module _ (budget id : ℕ) (side : Side) where
 
     stopped : (end : End)
         → IsMetBy es id side offer (Some end) ⊎ IsSpentBy budget es offer (Some end)
-        → Account budget id side es (offer ∷ offers) (fold (weighed_next budget id side) (taken es (Some end)) offers)
+        → Account budget id side es (offer ∷ offers) (fold (taken_next budget id side) (taken es (Some end)) offers)
     stopped end why =
         subst (λ (t : Taken). Account budget id side es (offer ∷ offers) t) (sym (ended_at_first budget id side es end offers)) (record {
           before = [];
@@ -107,7 +107,7 @@ module _ (budget id : ℕ) (side : Side) where
       by_side : (other : ℕ) (g : Entry) (same : Bool)
           → StandsAt es other g → g.key ≡ offer.key → same_side g.side side ≡ same
           → Account budget id side es (offer ∷ offers)
-          (fold (weighed_next budget id side) (taken es (if same then None else Some (Met (Offered id other offer.link)))) offers)
+          (fold (taken_next budget id side) (taken es (if same then None else Some (Met (Offered id other offer.link)))) offers)
       by_side other g true stands key is = passed other g stands key (same_side_true g.side side is)
       by_side other g false stands key is =
           stopped (Met (Offered id other offer.link))
@@ -158,18 +158,18 @@ module _ (budget id : ℕ) (side : Side) where
       by_room : (room : Bool)
           → IsNewKey es offer.key → nat_lt (length es) budget ≡ room
           → Account budget id side es (offer ∷ offers)
-          (fold (weighed_next budget id side) (if room then taken fs None else taken es (Some (Spent offer.key))) offers)
+          (fold (taken_next budget id side) (if room then taken fs None else taken es (Some (Spent offer.key))) offers)
       by_room true new is = admitted_one new (ltb-true (length es) budget is)
       by_room false new is = stopped (Spent offer.key) (inr (record { new = new; full = ltb-false (length es) budget is; end = refl }))
 
       by_key : (o : Option ℕ)
           → id_of es offer.key ≡ o
-          → Account budget id side es (offer ∷ offers) (fold (weighed_next budget id side) (weighed_by budget id side es offer o) offers)
+          → Account budget id side es (offer ∷ offers) (fold (taken_next budget id side) (taken_by budget id side es offer o) offers)
       by_key None is = by_room (nat_lt (length es) budget) (id_of_none es offer.key is) refl
       by_key (Some other) is =
           let at : HasKeyAt es offer.key other = id_of_some es offer.key other is in
           subst (λ (o : Option Entry). Account budget id side es (offer ∷ offers)
-          (fold (weighed_next budget id side) (taken es (met_or_passed_over id side offer other o)) offers)) (sym at.stands)
+          (fold (taken_next budget id side) (taken es (met_or_passed_over id side offer other o)) offers)) (sym at.stands)
           (by_side other at.entry (same_side at.entry.side side) at.stands at.has_key refl)
 
   account : (offers : List Offer) (es : List Entry) → Account budget id side es offers (taken_all budget id side es offers)
@@ -213,23 +213,23 @@ module _ (id : ℕ) (entry : Entry) (es entries : List Entry) (same : es ≡ ent
         refl,
       )
 
-  settled_whole : IsSettledWhole entries id entry last (exhausted_where_all_settled last)
-  settled_whole = record { settled = ap (λ (fs : List Entry). at_stage fs id entry Settled) same; end = end_by (list_all is_settled last) refl }
+  ends_settled : IsSettledWhole entries id entry last (exhausted_where_all_settled last)
+  ends_settled = record { settled = ap (λ (fs : List Entry). at_stage fs id entry Settled) same; end = end_by (list_all is_settled last) refl }
 
 leaves_by : (budget id : ℕ) (entry : Entry) (entries : List Entry) (rest : List Offer) (all : Taken)
     → all.entries ≡ entries → Stops budget id entry.side entries rest all.end
-    → Leaves budget id entry entries rest (finished_unless_over id entry all all.end).entries (finished_unless_over id entry all all.end).end
+    → Leaves budget id entry entries rest (settled_unless_over id entry all all.end).entries (settled_unless_over id entry all all.end).end
 leaves_by budget id entry entries [] all same stops =
     subst
-    (λ (o : Option End). IsSettledWhole entries id entry (finished_unless_over id entry all o).entries (finished_unless_over id entry all o).end)
-    (sym stops) (settled_whole id entry all.entries entries same)
+    (λ (o : Option End). IsSettledWhole entries id entry (settled_unless_over id entry all o).entries (settled_unless_over id entry all o).end)
+    (sym stops) (ends_settled id entry all.entries entries same)
 leaves_by budget id entry entries (offer ∷ rest) all same (inl met) =
     subst
-    (λ (o : Option End). Leaves budget id entry entries (offer ∷ rest) (finished_unless_over id entry all o).entries (finished_unless_over id entry all o).end)
+    (λ (o : Option End). Leaves budget id entry entries (offer ∷ rest) (settled_unless_over id entry all o).entries (settled_unless_over id entry all o).end)
     (sym met.end) (same, inl met)
 leaves_by budget id entry entries (offer ∷ rest) all same (inr spent) =
     subst
-    (λ (o : Option End). Leaves budget id entry entries (offer ∷ rest) (finished_unless_over id entry all o).entries (finished_unless_over id entry all o).end)
+    (λ (o : Option End). Leaves budget id entry entries (offer ∷ rest) (settled_unless_over id entry all o).entries (settled_unless_over id entry all o).end)
     (sym spent.end) (same, inr spent)
 
 told : (s : State) (worker id : ℕ) (entry : Entry) (offers : List Offer) → IsSettlement s worker id entry offers (after_settling s worker id entry offers)

@@ -7,7 +7,7 @@ use Rattle.search_book.specs.declared.event.End.{End}
 use Rattle.search_book.specs.declared.event.Event.{Event}
 use Rattle.search_book.specs.declared.event.Event.TheVariants.{Claim, Settle}
 use Rattle.search_book.specs.State.{State}
-use Rattle.search_book.specs.Settle.{Taken, finished_unless_over, taken_all}
+use Rattle.search_book.specs.Settle.{Taken, settled_unless_over, taken_all}
 use Rattle.search_book.specs.Machine.{After}
 use Rattle.search_book.specs.Sound.{IsLater}
 use Rattle.search_book.proofs.Standing.{Appends, all_append, stands_still}
@@ -48,11 +48,11 @@ later_set es id e g i f at later stands = elim (set_or_stays es id e g i f at st
   | inr other ↦ (f, (other, later_itself f))
 ]
 
-later_finished : (t : Taken) (id : ℕ) (e : Entry) (end : Option End) (i : ℕ) (f : Entry)
+later_whole : (t : Taken) (id : ℕ) (e : Entry) (end : Option End) (i : ℕ) (f : Entry)
     → StandsAt t.entries id e → StandsAt t.entries i f
-    → HasLater (finished_unless_over id e t end).entries i f
-later_finished t id e None i f at stands = later_set t.entries id e (record e { stage = Settled }) i f at (later_settled e) stands
-later_finished t id e (Some end) i f at stands = (f, (stands, later_itself f))
+    → HasLater (settled_unless_over id e t end).entries i f
+later_whole t id e None i f at stands = later_set t.entries id e (record e { stage = Settled }) i f at (later_settled e) stands
+later_whole t id e (Some end) i f at stands = (f, (stands, later_itself f))
 
 pub later_after : (s t : State) (event : Event) (i : ℕ) (f : Entry) → After s event t → StandsAt s.entries i f → HasLater t.entries i f
 later_after s t (Claim worker) i f (id, is) stands =
@@ -63,4 +63,4 @@ later_after s t (Settle worker id) i f is stands =
     let u : Taken = taken_all s.problem.budget id is.entry.side s.entries is.offers in
     let grown : Appends s.entries u.entries = all_append s.problem.budget id is.entry.side is.offers (record { entries = s.entries; end = None }) in
     subst (λ (w : State). HasLater w.entries i f) (sym is.after)
-    (later_finished u id is.entry u.end i f (stands_still s.entries u.entries id is.entry grown is.stands) (stands_still s.entries u.entries i f grown stands))
+    (later_whole u id is.entry u.end i f (stands_still s.entries u.entries id is.entry grown is.stands) (stands_still s.entries u.entries i f grown stands))

@@ -1,5 +1,6 @@
 mod Waiting
 mod LeftOver
+mod Rest
 mod Handing
 pub mod Restaged
 pub mod Histories

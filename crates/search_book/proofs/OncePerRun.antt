@@ -11,7 +11,7 @@ use Rattle.search_book.specs.State.{State}
 use Rattle.search_book.specs.Entries.{StandsAt}
 use Rattle.search_book.specs.Events.{settled_ids}
 use Rattle.search_book.specs.Claim.{Claims}
-use Rattle.search_book.specs.Settle.{Taken, Settles, finished_unless_over, taken_all}
+use Rattle.search_book.specs.Settle.{Taken, Settles, settled_unless_over, taken_all}
 use Rattle.search_book.specs.Machine.{Runs, claimed_ids}
 use Rattle.search_book.proofs.LaterEntries.{later_after}
 use Rattle.search_book.proofs.Recorded.{before_the_end}
@@ -73,7 +73,7 @@ no_more (Settle worker other ∷ events) s t id (u, (settlement, run)) (inl (e, 
 
 done_by : (t : Taken) (id : ℕ) (e : Entry) (o : Option End)
     → StandsAt t.entries id e → t.end ≡ o
-    → ((f : Entry) × (StandsAt (finished_unless_over id e t o).entries id f × (f.stage ≡ Settled))) ⊎ ((finished_unless_over id e t o).end ≢ None)
+    → ((f : Entry) × (StandsAt (settled_unless_over id e t o).entries id f × (f.stage ≡ Settled))) ⊎ ((settled_unless_over id e t o).end ≢ None)
 done_by t id e None stands is = inl (record e { stage = Settled }, (set_stands t.entries id e (record e { stage = Settled }) stands, refl))
 done_by t id e (Some end) stands is = inr (λ none. let no : Some end ≡ None = sym is ∙ none in cc)
 

@@ -11,7 +11,8 @@ use Rattle.search_book.specs.State.{State}
 pub record IsNext (entries : List Entry) (id : ℕ) (e : Entry) : Type 0 where
   pub stands : StandsAt entries id e
   pub unclaimed : e.stage ≡ Unclaimed
-  pub least : (i : ℕ) (f : Entry) → StandsAt entries i f → f.stage ≡ Unclaimed → (size_of e.key < size_of f.key) ⊎ ((size_of e.key ≡ size_of f.key) × (id ≤ i))
+  pub least : (i : ℕ) (f : Entry) → StandsAt entries i f → f.stage ≡ Unclaimed
+      → (size_of e.key < size_of f.key) ⊎ ((size_of e.key ≡ size_of f.key) × (id ≤ i))
 
 -- the book once the worker has claimed this entry, which is now in flight for it
 abbrev pub after_claim : State → ℕ → ℕ → Entry → State

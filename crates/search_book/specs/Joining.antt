@@ -19,7 +19,8 @@ use Rattle.search_book.specs.State.{State}
 use Rattle.search_book.specs.Path.{path}
 use Rattle.grid_moves.specs.Undoing.{Undone}
 
--- both ways end at one diagram, the first from the first diagram and the second from the second, and the list is the first way, followed by the second way undone
+-- both ways end at one diagram, the first from the first diagram and the second from the second, and the list is the first way, followed
+-- by the second way undone
 pub record IsThereAndBack (s : State) (first second : List Move) (list : List Move) : Type 0 where
   pub meeting : Diagram
   pub there : Joins s.problem.first first meeting

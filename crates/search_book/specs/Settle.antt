@@ -36,44 +36,44 @@ admitted_or_spent budget id side entries offer =
     else record { entries = entries; end = Some (Spent offer.key) }
 
 -- by the id of the entry that has the offer's key
-abbrev pub weighed_by : ℕ → ℕ → Side → List Entry → Offer → Option ℕ → Taken
-weighed_by budget id side entries offer (Some other) = record { entries = entries; end = met_or_passed_over id side offer other (slice_get entries other) }
-weighed_by budget id side entries offer None = admitted_or_spent budget id side entries offer
+abbrev pub taken_by : ℕ → ℕ → Side → List Entry → Offer → Option ℕ → Taken
+taken_by budget id side entries offer (Some other) = record { entries = entries; end = met_or_passed_over id side offer other (slice_get entries other) }
+taken_by budget id side entries offer None = admitted_or_spent budget id side entries offer
 
 -- one offer is taken
-abbrev pub weighed : ℕ → ℕ → Side → List Entry → Offer → Taken
-weighed budget id side entries offer = weighed_by budget id side entries offer (id_of entries offer.key)
+abbrev pub taken_one : ℕ → ℕ → Side → List Entry → Offer → Taken
+taken_one budget id side entries offer = taken_by budget id side entries offer (id_of entries offer.key)
 
 -- what follows an end is not looked at
-abbrev pub weighed_until : ℕ → ℕ → Side → Taken → Offer → Option End → Taken
-weighed_until budget id side so_far offer None = weighed budget id side so_far.entries offer
-weighed_until budget id side so_far offer (Some end) = so_far
+abbrev pub taken_until : ℕ → ℕ → Side → Taken → Offer → Option End → Taken
+taken_until budget id side so_far offer None = taken_one budget id side so_far.entries offer
+taken_until budget id side so_far offer (Some end) = so_far
 
-abbrev pub weighed_next : ℕ → ℕ → Side → Taken → Offer → Taken
-weighed_next budget id side so_far offer = weighed_until budget id side so_far offer so_far.end
+abbrev pub taken_next : ℕ → ℕ → Side → Taken → Offer → Taken
+taken_next budget id side so_far offer = taken_until budget id side so_far offer so_far.end
 
 -- the offers of entry `id`, which is of this side, are taken in order, up to the first that ends the book
 abbrev pub taken_all : ℕ → ℕ → Side → List Entry → List Offer → Taken
-taken_all budget id side entries offers = fold (weighed_next budget id side) (record { entries = entries; end = None }) offers
+taken_all budget id side entries offers = fold (taken_next budget id side) (record { entries = entries; end = None }) offers
 
 -- where every entry is settled the book is over
 abbrev pub exhausted_where_all_settled : List Entry → Option End
 exhausted_where_all_settled entries = if list_all is_settled entries then Some Exhausted else None
 
 -- all offers were taken: the entry is settled
-abbrev pub finished : ℕ → Entry → List Entry → Taken
-finished id e entries = record { entries = at_stage entries id e Settled; end = exhausted_where_all_settled (at_stage entries id e Settled) }
+abbrev pub settled_whole : ℕ → Entry → List Entry → Taken
+settled_whole id e entries = record { entries = at_stage entries id e Settled; end = exhausted_where_all_settled (at_stage entries id e Settled) }
 
 -- where an offer ended the book the entry stays in flight
-abbrev pub finished_unless_over : ℕ → Entry → Taken → Option End → Taken
-finished_unless_over id e so_far None = finished id e so_far.entries
-finished_unless_over id e so_far (Some end) = so_far
+abbrev pub settled_unless_over : ℕ → Entry → Taken → Option End → Taken
+settled_unless_over id e so_far None = settled_whole id e so_far.entries
+settled_unless_over id e so_far (Some end) = so_far
 
 -- the entries and the end after a settlement
 abbrev pub settled_entries : ℕ → ℕ → Entry → List Entry → List Offer → Taken
 settled_entries budget id e entries offers =
     let all : Taken = taken_all budget id e.side entries offers in
-    finished_unless_over id e all all.end
+    settled_unless_over id e all all.end
 
 -- the book once the worker has settled this entry with these offers
 abbrev pub after_settling : State → ℕ → ℕ → Entry → List Offer → State

@@ -1,5 +1,6 @@
 -- A settlement in words: which offers were passed over, which were admitted, which one ended the book, and what the book is then.
-use Rattle.std.specs.Prelude.{◌≡◌, ◌≢◌, ◌≤◌, ◌⊎◌, ◌++◌, ◌∷◌, [], ℕ, List, Bool, Option, Some, None, if◌then◌else◌, length, map}
+use Rattle.std.specs.Prelude.{◌≡◌, ◌≢◌, ◌≤◌, ◌⊎◌, ◌++◌, ◌∷◌, [], ℕ, List, Bool, length, map}
+use Rattle.std.specs.Prelude.{Option, Some, None, if◌then◌else◌}
 use Rattle.std.specs.List.{All, list_any}
 use Rattle.grid_keys.specs.declared.key.Packed.{Packed}
 use Rattle.grid_keys.specs.Key.{same_key}
@@ -65,7 +66,8 @@ pub record IsSettlement (s : State) (worker id : ℕ) (entry : Entry) (offers : 
   pub passed_or_admitted : All (λ (o : Offer). IsKeyOfSide s.entries entry.side o.key ⊎ IsNewKey s.entries o.key) before
   -- the new entries are the new keys in the order in which they first came
   pub new : List Entry
-  pub admitted : new ≡ map (λ (o : Offer). record { key = o.key; side = entry.side; origin = Child id o.link; stage = Unclaimed }) (first_of_new (keys s.entries) before)
+  pub admitted : new ≡ map (λ (o : Offer). record { key = o.key; side = entry.side; origin = Child id o.link; stage = Unclaimed })
+      (first_of_new (keys s.entries) before)
   pub within_budget : length s.entries ≤ s.problem.budget → length (s.entries ++ new) ≤ s.problem.budget
   -- what the offer after them made of the book, or that there was none
   pub leaves : Leaves s.problem.budget id entry (s.entries ++ new) rest t.entries t.end

@@ -92,11 +92,8 @@ impl EntryList {
         ensures room { IfOk result (λ list. room ≤ list.room) }
         ensures none { IfOk result (λ list. list.entries ≡ []) }
     {
-        let (brief_room, whole_room) = if are_brief(columns) {
-            (room, 0)
-        } else {
-            (0, room)
-        };
+        let brief_room = if are_brief(columns) { room } else { 0 };
+        let whole_room = room - brief_room;
         let brief = Vec::with_capacity(alloc, brief_room as usize)?;
         let whole = Vec::with_capacity(alloc, whole_room as usize)?;
         Ok(EntryList {

@@ -21,20 +21,20 @@ use Rattle.search_book.specs.Begin.{Begins, opened}
 use Rattle.search_book.specs.Claim.{Claims}
 use Rattle.search_book.specs.Entries.{keys}
 use Rattle.search_book.specs.Sound.{IsSound}
-use Rattle.search_book.specs.Answers.{AnswersSettle, IsTicket, IsDone, held, held_entry, asked_by}
+use Rattle.search_book.specs.Answers.{AnswersSettle, IsTicket, IsDone, held_at, held_entry, asked_by}
 use Rattle.search_book.proofs.Restaged.{set_stands}
 use Rattle.search_book.proofs.Recorded.{settled_history, settled_problem}
 
 module _ (s t u : State) (worker : ℕ) (ticket : Ticket) (offers : Neighbourhood) (claims : Claims s worker ticket.id t)
     (is_ticket : IsTicket s ticket) (origin : offers.origin ≡ key_of ticket.form.grid) (cap : offers.cap ≡ s.problem.cap) where
   -- the entry of the ticket is in flight for the worker, with the key of the offers
-  held_now : held t ticket.id ≡ Some (asked_by worker offers)
+  held_now : held_at t ticket.id ≡ Some (asked_by worker offers)
   held_now =
       let both : Some is_ticket.entry ≡ Some claims.entry = sym is_ticket.stands ∙ claims.next.stands in
       let one : is_ticket.entry ≡ claims.entry = cc in
       let f : Entry = record claims.entry { stage = stage.InFlight worker } in
       let key : claims.entry.key ≡ offers.origin = ap (λ (e : Entry). e.key) (sym one) ∙ sym is_ticket.form.named ∙ sym origin in
-      ap (λ (v : State). held v ticket.id) claims.after
+      ap (λ (v : State). held_at v ticket.id) claims.after
       ∙ ap (held_entry s.problem.cap) (set_stands s.entries ticket.id claims.entry f claims.next.stands)
       ∙ ap₂ (λ (k : Packed) (c : ℕ). Some (asked worker k c)) key (sym cap)
     where

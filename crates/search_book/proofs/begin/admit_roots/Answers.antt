@@ -1,30 +1,30 @@
-use Rattle.std.proofs.Common.{◌≡◌, ◌∙◌, ◌++◌, ◌∷◌, [], List, None, ap, sym}
-use Rattle.std.proofs.lemmas.Bool.{both_ways}
-use Rattle.grid_keys.specs.Key.{key_of}
+use Rattle.std.proofs.Common.{sym, subst, ℕ}
 use Rattle.search_book.specs.declared.problem.Side.TheVariants.{First, Second}
-use Rattle.search_book.specs.declared.entry.Entry.{Entry}
-use Rattle.search_book.specs.Entries.{id_of}
-use Rattle.search_book.specs.Begin.{root}
-use Rattle.search_book.specs.EntryList.{EntriesIn}
-use Rattle.search_book.proofs.Opened.{opened_apart, second_is_new}
+use Rattle.search_book.specs.EntryList.{IsWithin}
+use Rattle.search_book.specs.Sound.{IsProblem}
+use Rattle.search_book.proofs.BeginSound.{root_within}
 use Rattle.search_book.proofs.begin.admit_roots.Goals as goal
 
-pub returns-else-same_as-clause-opened : goal.returns-else-same_as-clause-opened
-returns-else-same_as-clause-opened c = λ p.
-    let one : Entry = root First c.args.first.now in
-    let two : Entry = root Second c.args.second.now in
-    let first : c.admit_root.new.roll.entries ≡ one ∷ [] =
-    ap (λ (k : EntriesIn). k.entries) c.admit_root.ensures ∙ ap (λ (es : List Entry). es ++ one ∷ []) c.requires.none in
-    let both : c.admit_root-else-same_as.new.roll.entries ≡ one ∷ two ∷ [] =
-    ap (λ (k : EntriesIn). k.entries) c.admit_root-else-same_as.ensures ∙ ap (λ (es : List Entry). es ++ two ∷ []) first in
-    opened_apart p c.args.first.now c.args.second.now c.requires.first.grid c.requires.second.grid
-    (λ same. both_ways c.same_as.result c.if-same_as.false (c.same_as.ensures.1 same))
-    ∙ ap (λ (es : List Entry). record { problem = p; entries = es; history = []; end = None }) (sym both)
+pub admit_forms-requires-clause-first : goal.admit_forms-requires-clause-first
+admit_forms-requires-clause-first c =
+    let form = c.canonical-first.result in
+    let problem : IsProblem c.args.problem.now = record { first = c.size.ensures.grid; second = c.size-2.ensures.grid; bounded = c.requires.bounded } in
+    subst (λ (n : ℕ). IsWithin n form.grid) (sym c.requires.columns) (root_within c.args.problem.now First form problem c.canonical-first.ensures.form)
 
-pub admit_root-requires-else-same_as-clause-new : goal.admit_root-requires-else-same_as-clause-new
-admit_root-requires-else-same_as-clause-new c =
-    let first : c.admit_root.new.roll.entries ≡ root First c.args.first.now ∷ [] =
-    ap (λ (k : EntriesIn). k.entries) c.admit_root.ensures ∙ ap (λ (es : List Entry). es ++ root First c.args.first.now ∷ []) c.requires.none in
-    ap (λ (es : List Entry). id_of es (key_of c.args.second.now.grid)) first
-    ∙ second_is_new c.args.first.now c.args.second.now c.requires.first.grid c.requires.second.grid
-    (λ same. both_ways c.same_as.result c.if-same_as.false (c.same_as.ensures.1 same))
+pub admit_forms-requires-clause-second : goal.admit_forms-requires-clause-second
+admit_forms-requires-clause-second c =
+    let form = c.canonical-second.result in
+    let problem : IsProblem c.args.problem.now = record { first = c.size.ensures.grid; second = c.size-2.ensures.grid; bounded = c.requires.bounded } in
+    subst (λ (n : ℕ). IsWithin n form.grid) (sym c.requires.columns) (root_within c.args.problem.now Second form problem c.canonical-second.ensures.form)
+
+pub returns-clause-problem : goal.returns-clause-problem
+returns-clause-problem c = record { first = c.size.ensures.grid; second = c.size-2.ensures.grid; bounded = c.requires.bounded }
+
+pub returns-clause-begins : goal.returns-clause-begins
+returns-clause-begins c = record {
+  first = c.canonical-first.result;
+  second = c.canonical-second.result;
+  of_first = c.canonical-first.ensures.form;
+  of_second = c.canonical-second.ensures.form;
+  opened = sym (c.admit_forms.ensures.opened c.args.problem.now);
+}

@@ -5,6 +5,5 @@ use Rattle.search_book.proofs.settle.take_all.Given as goal
 -- the offers so far were taken, and none of them ended the book
 abbrev pub invariant-loop-offer : goal.invariant-loop-offer
 invariant-loop-offer l =
-    (l.roll.room ≡ l.fn.roll.room)
-    × (l.roll.columns ≡ l.fn.roll.columns)
+    (l.roll ≡ record l.fn.roll { entries = l.roll.entries })
     × (taken_all l.budget l.id l.side l.fn.roll.entries (take l.offer-index l.offers) ≡ record { entries = l.roll.entries; end = None })
