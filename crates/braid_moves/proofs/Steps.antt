@@ -44,7 +44,7 @@ record LastLetter (w : Word) : Type 0 where
   letters : w.letters ≡ take (length w.letters - 1) w.letters ++ crossing (w.strands - 1) positive ∷ []
   fewer : All (IsLetter (w.strands - 1)) (take (length w.letters - 1) w.letters)
 
-crossing_is : (k : ℕ) (a : ℤ) → unsigned_abs a ≡ k → 1 ≤ k → (s : Bool) × (a ≡ crossing k s)
+pub crossing_is : (k : ℕ) (a : ℤ) → unsigned_abs a ≡ k → 1 ≤ k → (s : Bool) × (a ≡ crossing k s)
 crossing_is k (pos j) e least = (true, ap pos e)
 crossing_is zero (negsuc j) e least = absurd (omega arith)
 crossing_is (suc k) (negsuc j) e least = (false, ap negsuc (omega arith))

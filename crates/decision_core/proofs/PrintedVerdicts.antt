@@ -23,7 +23,7 @@ use Rattle.verdict_core.specs.declared.verdict.Verdict.TheVariants.{Equal, Diffe
 use Rattle.verdict_core.specs.Evidence.{Holds, TellsApart}
 use Rattle.verdict_core.proofs.Named.{named_is}
 use Rattle.text_items.specs.declared.reading.TheConstants.{MAX_NUMBER}
-use Rattle.knot_text.specs.Printed.{HasMoveText, HaveText, HasListText, HasQuandleText, HasVerdictText}
+use Rattle.knot_text.specs.Printed.{HasMoveText, HaveMovesText, HasListText, HasQuandleText, HasVerdictText}
 use Rattle.decision_core.specs.Decision.{IsByWrittenQuandle, IsShort}
 
 -- ---- moves
@@ -47,7 +47,7 @@ each_move : (moves : List Move) (d e : Diagram) → Joins d moves e → AllByRec
 each_move [] d e joins = search rules
 each_move (move ∷ moves) d e joins = (move_text d joins.0 move joins.1.0, each_move moves joins.0 e joins.1.1)
 
-pub moves_text : (moves : List Move) (d e : Diagram) → Joins d moves e → length moves ≤ MAX_NUMBER → HaveText moves
+pub moves_text : (moves : List Move) (d e : Diagram) → Joins d moves e → length moves ≤ MAX_NUMBER → HaveMovesText moves
 moves_text moves d e joins few = record { count = few; each = each_move moves d e joins }
 
 -- ---- lists of colourings

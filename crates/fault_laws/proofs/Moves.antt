@@ -164,7 +164,7 @@ module _ (d : Diagram) (move : Move) where
       (λ other is. ap (λ (k : ℕ). Block k) (same other is)) (λ is. absurd (full is)) (λ is. absurd (apart is)))
 
 -- a number that is in range
-shift_inside : (n k : ℕ) → (nat_lt 0 k && nat_lt k n) ≡ true → (k < 1) ⊎ (n ≤ k) → ⊥
+pub shift_inside : (n k : ℕ) → (nat_lt 0 k && nat_lt k n) ≡ true → (k < 1) ⊎ (n ≤ k) → ⊥
 shift_inside n k e out =
     let parts = and_parts (nat_lt 0 k) (nat_lt k n) e in
     let least = ltb-true 0 k parts.0 in
@@ -174,13 +174,13 @@ shift_inside n k e out =
       | inr many ↦ absurd (omega (arith, most, many))
     ]
 
-shift_outside : (n k : ℕ) → (nat_lt 0 k && nat_lt k n) ≡ false → (k < 1) ⊎ (n ≤ k)
+pub shift_outside : (n k : ℕ) → (nat_lt 0 k && nat_lt k n) ≡ false → (k < 1) ⊎ (n ≤ k)
 shift_outside n k e = elim (and_cases (nat_lt 0 k) (nat_lt k n) e) [
   | inl few ↦ let le = ltb-false 0 k few in inl (omega (arith, le))
   | inr many ↦ inr (ltb-false k n many)
 ]
 
-below : (a n : ℕ) → nat_lt a n ≡ true → n ≤ a → ⊥
+pub below : (a n : ℕ) → nat_lt a n ≡ true → n ≤ a → ⊥
 below a n e out = let lt = ltb-true a n e in absurd (omega (arith, lt, out))
 
 block_inside : (a b n : ℕ) → (nat_lt a n && nat_lt b n) ≡ true → (n ≤ a) ⊎ (n ≤ b) → ⊥

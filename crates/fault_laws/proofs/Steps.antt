@@ -19,11 +19,12 @@ use Rattle.braid_moves.specs.declared.step.BraidMoveFault.TheVariants.{Range, Sh
 use Rattle.braid_moves.specs.Step.{letter_at, crossing, moved}
 use Rattle.braid_moves.specs.Fault.{are_far, is_negative, are_triple, may_shrink, first_fault}
 use Rattle.braid_moves.proofs.Same.{at, letter_is}
-use Rattle.braid_moves.proofs.Steps.{step_braid}
+use Rattle.braid_moves.proofs.Steps.{crossing_is, step_braid}
 use Rattle.fault_laws.specs.First.{IsFirst}
 use Rattle.fault_laws.specs.StepFaults.{ShareAPlace, IsTriple, HasGrown, LacksLetters, HasOtherShape, LacksRoom, IsStepFault, step_rank, step_number}
 use Rattle.fault_laws.proofs.Firsts.{lowest_comes_first, one_comes_first}
 use Rattle.fault_laws.proofs.Chains.{refused, passed}
+use Rattle.fault_laws.proofs.Moves.{shift_inside, shift_outside, below}
 
 -- the rank tells a fault
 abbrev fault_at : ℕ → BraidMoveFault
@@ -121,25 +122,6 @@ insert_outside m n place a e = elim (and_cases (nat_le place n) (not (is_outside
   | inr bad ↦ inr (λ letter. both_ways (is_outside m a) (letter_not_outside m a letter) (not-false (is_outside m a) bad))
 ]
 
-turn_inside : (n k : ℕ) → (nat_lt 0 k && nat_lt k n) ≡ true → (k < 1) ⊎ (n ≤ k) → ⊥
-turn_inside n k e out =
-    let parts = and_parts (nat_lt 0 k) (nat_lt k n) e in
-    let least = ltb-true 0 k parts.0 in
-    let most = ltb-true k n parts.1 in
-    elim out [
-      | inl few ↦ absurd (omega (arith, least, few))
-      | inr many ↦ absurd (omega (arith, most, many))
-    ]
-
-turn_outside : (n k : ℕ) → (nat_lt 0 k && nat_lt k n) ≡ false → (k < 1) ⊎ (n ≤ k)
-turn_outside n k e = elim (and_cases (nat_lt 0 k) (nat_lt k n) e) [
-  | inl few ↦ let le = ltb-false 0 k few in inl (omega (arith, le))
-  | inr many ↦ inr (ltb-false k n many)
-]
-
-below : (a n : ℕ) → nat_lt a n ≡ true → n ≤ a → ⊥
-below a n e out = let lt = ltb-true a n e in absurd (omega (arith, lt, out))
-
 -- a word that has grown shrinks
 shrinks : (v : Word) (positive : Bool) → IsBraid v → may_shrink (moved v (Grow positive)) ≡ true
 shrinks v positive braid =
@@ -175,11 +157,6 @@ shrinks v positive braid =
     size_of (suc m) false = refl
 
 -- and a braid that may shrink has grown
-crossing_is : (k : ℕ) (a : ℤ) → unsigned_abs a ≡ k → 1 ≤ k → (s : Bool) × (a ≡ crossing k s)
-crossing_is k (pos j) e least = (true, ap pos e)
-crossing_is zero (negsuc j) e least = absurd (omega arith)
-crossing_is (suc k) (negsuc j) e least = (false, ap negsuc (omega arith))
-
 abbrev word : ℕ → List ℤ → Word
 word m letters = record { strands = m; letters = letters }
 
@@ -301,7 +278,7 @@ module _ (w : Word) (braid : IsBraid w) where
   turn_first : (k : ℕ) (fault : BraidMoveFault) → first_fault w (Turn k) ≡ Some fault → Comes (Turn k) fault
   turn_first k fault found = elim (refused (nat_lt 0 k && nat_lt k (length w.letters)) Range fault None found) [
     | inl none ↦ absurd (no_fault fault none.1)
-    | inr at ↦ subst (Comes (Turn k)) at.1 (range_first w (Turn k) (turn_outside (length w.letters) k at.0))
+    | inr at ↦ subst (Comes (Turn k)) at.1 (range_first w (Turn k) (shift_outside (length w.letters) k at.0))
   ]
 
   grow_first : (positive : Bool) (fault : BraidMoveFault) → first_fault w (Grow positive) ≡ Some fault → Comes (Grow positive) fault
@@ -366,7 +343,7 @@ module _ (w : Word) (braid : IsBraid w) where
       (λ full. full (step_braid w braid (Insert place a) none)) (λ is. is)
   step_holds (Turn k) none =
       let inside = passed (nat_lt 0 k && nat_lt k (length w.letters)) Range None none in
-      each (Has (Turn k)) Never (turn_inside (length w.letters) k inside.0) (λ is. is) (λ is. is) (λ is. is)
+      each (Has (Turn k)) Never (shift_inside (length w.letters) k inside.0) (λ is. is) (λ is. is) (λ is. is)
   step_holds (Grow positive) none =
       each (Has (Grow positive)) Never (λ is. is) (λ is. is) (λ full. full (step_braid w braid (Grow positive) none)) (λ is. is)
   step_holds Shrink none =

@@ -100,4 +100,5 @@ problem_grids text p rest is =
     >>= λ listed. Ok (record { first = a.0.0; second = second.0; quandles = listed.0 }, listed.1)) (p, rest) a.2 in
     let c = bind_ok (quandle_list b.0.1) (λ listed. Ok (record { first = a.0.0; second = b.0.0; quandles = listed.0 }, listed.1)) (p, rest) b.2 in
     let same = ok_is (record { first = a.0.0; second = b.0.0; quandles = c.0.0 }, c.0.1) (p, rest) c.2 in
-    subst (λ (y : ProblemText × Text). IsGrid (grid_of y.0.first) × IsGrid (grid_of y.0.second)) {x = (record { first = a.0.0; second = b.0.0; quandles = c.0.0 }, c.0.1)} same (diagram_is text a.0.0 a.0.1 a.1, diagram_is a.0.1 b.0.0 b.0.1 b.1)
+    subst (λ (y : ProblemText × Text). IsGrid (grid_of y.0.first) × IsGrid (grid_of y.0.second))
+    {x = (record { first = a.0.0; second = b.0.0; quandles = c.0.0 }, c.0.1)} same (diagram_is text a.0.0 a.0.1 a.1, diagram_is a.0.1 b.0.0 b.0.1 b.1)

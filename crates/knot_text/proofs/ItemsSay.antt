@@ -42,7 +42,7 @@ use Rattle.text_items.specs.Moves.{last_place, one_place, shift, exchange, slide
 use Rattle.text_items.specs.Moves.{next_move, move_lines, tidy_move_at, tidy_move, tidy_moves, moves_item}
 use Rattle.grid_moves.specs.Tidy.{may_follow, are_tidy_behind, is_tidy}
 use Rattle.text_items.specs.Colours.{colours_at, colours_item}
-use Rattle.knot_text.specs.Printed.{rows_tokens, grid_lines, kind_word, corner_word, move_tokens, moves_lines, HasMoveText, HaveText}
+use Rattle.knot_text.specs.Printed.{rows_tokens, grid_lines, kind_word, corner_word, move_tokens, moves_lines, HasMoveText, HaveMovesText}
 use Rattle.knot_text.specs.Printed.{letter_token, braid_lines, colours_lines}
 use Rattle.knot_text.specs.WrittenThere.{StandInFront}
 use Rattle.knot_text.proofs.Says.{Says, says_ok, says_err, says_bind, says_if, says_more, no_lines_in_front, in_front_of, in_front_is, IsNext, next_says}
@@ -126,7 +126,8 @@ negative_by bs (Some (suc k)) is a e few some =
     let low : suc k ≤ MAX_NUMBER = subst (λ (z : ℤ). unsigned_abs z ≤ MAX_NUMBER) (sym same) few in
     ap (λ (ds : List ℕ). 45 ∷ ds) (spelled bs (suc k) is low ∙ ap decimal (sym (add-one k))) ∙ ap letter_token same
 
-pub positive_by : (t : List ℕ) (o : Option ℕ) → number_of t ≡ o → (a : ℤ) → option_map (λ k. pos k) o ≡ Some a → unsigned_abs a ≤ MAX_NUMBER → t ≡ letter_token a
+pub positive_by : (t : List ℕ) (o : Option ℕ) → number_of t ≡ o → (a : ℤ) → option_map (λ k. pos k) o ≡ Some a
+    → unsigned_abs a ≤ MAX_NUMBER → t ≡ letter_token a
 positive_by t None is a e few = absurd cc
 positive_by t (Some k) is a e few =
     let same : pos k ≡ a = cc in
@@ -316,7 +317,7 @@ next_move_says text = line_says HasMoveText move_tokens move_at move_says text
 -- so many moves behind the line that counts them
 pub counted_moves_say : (name : List ℕ) (line : NumberedLine × Text) (text : Text) (count : ℕ) → IsNext text line → count ≤ MAX_NUMBER
     → line.0.tokens ≡ name ∷ decimal count ∷ []
-    → Says (move_lines count line.1) (IsWritten HaveText (moves_lines name) text)
+    → Says (move_lines count line.1) (IsWritten HaveMovesText (moves_lines name) text)
 counted_moves_say name line text count there few tokens = says_more (λ moves are. (
   record { count = omega (arith, are.count, few); each = are.each },
   in_front_of (in_front_is (ap (λ (ts : List (List ℕ)). ts ∷ []) (tokens ∙ ap (λ (k : ℕ). name ∷ decimal k ∷ []) (sym are.count))) there) are.there,
@@ -325,7 +326,7 @@ counted_moves_say name line text count there few tokens = says_more (λ moves ar
 
 -- likewise of a tidy list
 abbrev pub HaveTidyText : List Move → Type 0
-HaveTidyText moves = HaveText moves × (is_tidy moves ≡ true)
+HaveTidyText moves = HaveMovesText moves × (is_tidy moves ≡ true)
 
 -- so many moves, each of which may follow on the one before it
 record AreTidyMoves (before : Option Move) (many : ℕ) (text : Text) (x : List Move × Text) : Type 0 where
@@ -370,7 +371,7 @@ counted_tidy_say name line text count there few tokens = says_more (λ moves are
 ))
     (tidy_moves_say None count line.1)
 
-pub moves_say : (text : Text) → Says (moves_item text) (IsWritten HaveText (moves_lines (codes "moves")) text)
+pub moves_say : (text : Text) → Says (moves_item text) (IsWritten HaveMovesText (moves_lines (codes "moves")) text)
 unfolding moves_item
 moves_say text = says_bind (IsNext text) (next_says text) (λ line there.
     says_bind (λ (rest : NumberedLine). line.0.tokens ≡ codes "moves" ∷ rest.tokens) (word_says (codes "moves") line.0) (λ rest named.

@@ -5,7 +5,8 @@ use Rattle.std.specs.Prelude.{is_none}
 use Rattle.std.specs.Str.{bytes_eq}
 use Rattle.arrayvec.specs.ArrayVec.{ArrayVec}
 use Rattle.colour_list.specs.declared.limits.TheConstants.{MAX_COLOURINGS}
-use Rattle.quandle_core.specs.Fault.{first_fault}
+use Rattle.quandle_core.specs.declared.quandle.TheConstants.{MAX_ORDER}
+use Rattle.quandle_core.specs.Fault.{first_fault_within}
 use Rattle.text_lines.specs.Lines.{NumberedLine, Text}
 use Rattle.text_items.specs.declared.fault.TextFault.{TextFault}
 use Rattle.text_items.specs.declared.fault.TextFault.TheVariants.{Malformed, Limit}
@@ -30,8 +31,10 @@ use Rattle.knot_text.specs.declared.verdicts.Version.TheVariants.{Plain, Tidy}
 use Rattle.grid_moves.specs.declared.step.Move.{Move}
 use Rattle.knot_text.proofs.Choices.{IsDue, choice_steady}
 use Rattle.knot_text.proofs.Steady.{Steady, Anywhere, then_read, pure_steady, same_steady, then_steady, turns_steady}
-use Rattle.knot_text.proofs.AtLine.{At, at_ok, at_malformed, at_limit, at_bind, at_cond, at_same, word_at, word_keeps, last_count_at, numbers_below_at, line_alone}
-use Rattle.knot_text.proofs.ItemsAtLine.{x_at_at, o_at_at, braid_at_at, colours_at_at, move_at_at, tidy_move_at_at, version_at_at, chosen_at, word_count_at, written_at_at}
+use Rattle.knot_text.proofs.AtLine.{At, at_ok, at_malformed, at_limit, at_bind, at_cond}
+use Rattle.knot_text.proofs.AtLine.{at_same, word_at, word_keeps, last_count_at, numbers_below_at, line_alone}
+use Rattle.knot_text.proofs.ItemsAtLine.{x_at_at, o_at_at, braid_at_at, colours_at_at, move_at_at}
+use Rattle.knot_text.proofs.ItemsAtLine.{tidy_move_at_at, version_at_at, chosen_at, word_count_at, written_at_at}
 use Rattle.knot_text.proofs.ItemsAtLine.{written_keeps, unknown_at_at}
 
 -- ---- a line, and what follows from it
@@ -110,7 +113,8 @@ tidy_moves_steady : (before : Option Move) (count : ℕ) → Steady Anywhere (ti
 unfolding tidy_moves
 tidy_moves_steady before zero = pure_steady []
 tidy_moves_steady before (suc count) =
-    then_steady Anywhere (tidy_move before) (λ first text. tidy_moves (Some first) count text >>= λ others. Ok (first ∷ others.0, others.1)) (tidy_move_steady before)
+    then_steady Anywhere (tidy_move before) (λ first text. tidy_moves (Some first) count text >>= λ others. Ok (first ∷ others.0, others.1))
+    (tidy_move_steady before)
     (λ first. then_steady Anywhere (tidy_moves (Some first) count) (λ others text. Ok (first ∷ others, text)) (tidy_moves_steady (Some first) count)
     (λ others. pure_steady (first ∷ others)))
 
@@ -182,7 +186,7 @@ last_steady test make order bound front =
     (line_alone last (last_row_at test make order bound front))
 
 abbrev is_table : ℕ → List ℕ → Bool
-is_table order entries = is_none (first_fault (record { order = order; entries = entries }))
+is_table order entries = is_none (first_fault_within order (record { order = order; entries = entries }))
 
 abbrev of_entries : ℕ → List ℕ → NamedQuandle
 of_entries order entries = called name.Table (record { order = order; entries = entries })
@@ -229,16 +233,16 @@ plan_of_at n (written.Dihedral k) = ready_at (meant (written.Dihedral k)) n
 plan_of_at n written.Tetrahedral = ready_at (meant written.Tetrahedral) n
 plan_of_at n (written.Alexander k a) = ready_at (meant (written.Alexander k a)) n
 
-abbrev plan_by : Result (Written × NumberedLine) TextFault → Result Plan TextFault
-plan_by s = s >>= λ w. cond (is_over w.0) (Err (Limit w.1.number)) (plan_of w.1.number w.0)
+abbrev plan_by : ℕ → Result (Written × NumberedLine) TextFault → Result Plan TextFault
+plan_by most s = s >>= λ w. cond (is_over most w.0) (Err (Limit w.1.number)) (plan_of w.1.number w.0)
 
-pub plan : NumberedLine → Result Plan TextFault
-plan line = plan_by (written_at line)
+pub plan : ℕ → NumberedLine → Result Plan TextFault
+plan most line = plan_by most (written_at line)
 
-pub plan_at : (line : NumberedLine) → At line.number (plan line)
+pub plan_at : (most : ℕ) (line : NumberedLine) → At line.number (plan most line)
 unfolding plan
-plan_at line =
-    at_bind (written_at_at line) (λ w e. at_same ((written_keeps line).of w e) (at_cond (is_over w.0) at_limit (plan_of_at w.1.number w.0)))
+plan_at most line =
+    at_bind (written_at_at line) (λ w e. at_same ((written_keeps line).of w e) (at_cond (is_over most w.0) at_limit (plan_of_at w.1.number w.0)))
 
 flat_ready : (o : Option NamedQuandle) (n : ℕ) (text : Text) → (or_malformed n o >>= λ q. Ok (q, text)) ≡ (ready o n >>= λ p. go p text)
 flat_ready None n text = refl
@@ -261,33 +265,34 @@ flat_over : (b : Bool) (n : ℕ) (w : Written) (text : Text)
 flat_over true n w text = refl
 flat_over false n w text = flat_name n w text
 
-flat_written : (s : Result (Written × NumberedLine) TextFault) (text : Text)
-    → (s >>= λ w. cond (is_over w.0) (Err (Limit w.1.number)) (quandle_of w.1.number w.0 text)) ≡ (plan_by s >>= λ p. go p text)
-flat_written (Ok w) text = flat_over (is_over w.0) w.1.number w.0 text
-flat_written (Err e) text = refl
+flat_written : (most : ℕ) (s : Result (Written × NumberedLine) TextFault) (text : Text)
+    → (s >>= λ w. cond (is_over most w.0) (Err (Limit w.1.number)) (quandle_of w.1.number w.0 text)) ≡ (plan_by most s >>= λ p. go p text)
+flat_written most (Ok w) text = flat_over (is_over most w.0) w.1.number w.0 text
+flat_written most (Err e) text = refl
 
-pub flat_quandle : (line : NumberedLine) (text : Text) → quandle_at line text ≡ (plan line >>= λ p. go p text)
+pub flat_quandle : (most : ℕ) (line : NumberedLine) (text : Text) → quandle_at most line text ≡ (plan most line >>= λ p. go p text)
 unfolding quandle_at plan
-flat_quandle line text = flat_written (written_at line) text
+flat_quandle most line text = flat_written most (written_at line) text
 
-flat_item : (r : Result (NumberedLine × Text) TextFault) → (r >>= λ line. word (codes "quandle") line.0 >>= λ rest. quandle_at rest line.1)
-    ≡ (r >>= λ line. word (codes "quandle") line.0 >>= λ rest. plan rest >>= λ p. go p line.1)
+flat_item : (r : Result (NumberedLine × Text) TextFault) → (r >>= λ line. word (codes "quandle") line.0 >>= λ rest. quandle_at MAX_ORDER rest line.1)
+    ≡ (r >>= λ line. word (codes "quandle") line.0 >>= λ rest. plan MAX_ORDER rest >>= λ p. go p line.1)
 flat_item (Ok line) = flat_word (word (codes "quandle") line.0) line.1
   where
-    flat_word : (s : Result NumberedLine TextFault) (text : Text) → (s >>= λ rest. quandle_at rest text) ≡ (s >>= λ rest. plan rest >>= λ p. go p text)
-    flat_word (Ok rest) text = flat_quandle rest text
+    flat_word : (s : Result NumberedLine TextFault) (text : Text) → (s >>= λ rest. quandle_at MAX_ORDER rest text)
+        ≡ (s >>= λ rest. plan MAX_ORDER rest >>= λ p. go p text)
+    flat_word (Ok rest) text = flat_quandle MAX_ORDER rest text
     flat_word (Err e) text = refl
 flat_item (Err e) = refl
 
-quandle_line_at : (line : NumberedLine) → At line.number (word (codes "quandle") line >>= plan)
-quandle_line_at line = at_bind (word_at (codes "quandle") line) (λ rest e. at_same ((word_keeps (codes "quandle") line).of rest e) (plan_at rest))
+quandle_line_at : (line : NumberedLine) → At line.number (word (codes "quandle") line >>= plan MAX_ORDER)
+quandle_line_at line = at_bind (word_at (codes "quandle") line) (λ rest e. at_same ((word_keeps (codes "quandle") line).of rest e) (plan_at MAX_ORDER rest))
 
 pub quandle_steady : Steady Anywhere quandle_item
 unfolding quandle_item
 quandle_steady =
-    same_steady Anywhere (λ text. next_line text >>= λ line. word (codes "quandle") line.0 >>= λ rest. plan rest >>= λ p. go p line.1) quandle_item
+    same_steady Anywhere (λ text. next_line text >>= λ line. word (codes "quandle") line.0 >>= λ rest. plan MAX_ORDER rest >>= λ p. go p line.1) quandle_item
     (λ text. flat_item (next_line text))
-    (line_then_two (word (codes "quandle")) plan go quandle_line_at go_steady)
+    (line_then_two (word (codes "quandle")) (plan MAX_ORDER) go quandle_line_at go_steady)
 
 -- ---- the colours of a replay
 
@@ -372,7 +377,7 @@ other_courses t rest = cond (bytes_eq t (codes "unknown")) (unknown_at rest >>= 
 abbrev courses : List ℕ → NumberedLine → Result Course TextFault
 courses t rest =
     cond (bytes_eq t (codes "equal")) (last_count rest >>= λ c. Ok (inl c))
-    (cond (bytes_eq t (codes "different")) (plan rest >>= λ p. Ok (inr (inl p))) (other_courses t rest))
+    (cond (bytes_eq t (codes "different")) (plan MAX_ORDER rest >>= λ p. Ok (inr (inl p))) (other_courses t rest))
 
 abbrev course : NumberedLine → Result Course TextFault
 course line = next_token line >>= λ kind. courses kind.0 kind.1
@@ -380,7 +385,7 @@ course line = next_token line >>= λ kind. courses kind.0 kind.1
 course_at : (line : NumberedLine) → At line.number (course line)
 course_at line = chosen_at courses line (λ t rest.
     at_cond (bytes_eq t (codes "equal")) (at_bind (last_count_at rest) (λ c e. at_ok))
-    (at_cond (bytes_eq t (codes "different")) (at_bind (plan_at rest) (λ p e. at_ok))
+    (at_cond (bytes_eq t (codes "different")) (at_bind (plan_at MAX_ORDER rest) (λ p e. at_ok))
     (at_cond (bytes_eq t (codes "unknown")) (at_bind (unknown_at_at rest) (λ v e. at_ok)) at_malformed)))
 
 flat_counted : (version : Version) (one two : ℕ) (s : Result ℕ TextFault) (text : Text)
@@ -399,9 +404,11 @@ flat_planned version one two (Ok p) text = refl
 flat_planned version one two (Err e) text = refl
 
 flat_different : (version : Version) (one two : ℕ) (rest : NumberedLine) (text : Text)
-    → different_at one two rest text ≡ ((plan rest >>= λ p. Ok (inr (inl p))) >>= λ c. take_course version one two c text)
+    → different_at one two rest text ≡ ((plan MAX_ORDER rest >>= λ p. Ok (inr (inl p))) >>= λ c. take_course version one two c text)
 unfolding different_at
-flat_different version one two rest text = ap (λ r. r >>= λ q. two_lists one two q.0 q.1) (flat_quandle rest text) ∙ flat_planned version one two (plan rest) text
+flat_different version one two rest text =
+    ap (λ r. r >>= λ q. two_lists one two q.0 q.1) (flat_quandle MAX_ORDER rest text)
+    ∙ flat_planned version one two (plan MAX_ORDER rest) text
 
 flat_said : (version : Version) (one two : ℕ) (s : Result Verdict TextFault) (text : Text)
     → (s >>= λ v. Ok (v, text)) ≡ ((s >>= λ v. Ok (inr (inr v))) >>= λ c. take_course version one two c text)
@@ -429,9 +436,10 @@ flat_courses version one two t rest text =
     flat_choice (bytes_eq t (codes "equal")) (equal_at version rest text)
     (cond (bytes_eq t (codes "different")) (different_at one two rest text)
     (cond (bytes_eq t (codes "unknown")) (unknown_item rest text) (Err (Malformed rest.number)))) (last_count rest >>= λ c. Ok (inl c))
-    (cond (bytes_eq t (codes "different")) (plan rest >>= λ p. Ok (inr (inl p))) (other_courses t rest)) f (flat_equal version one two rest text)
+    (cond (bytes_eq t (codes "different")) (plan MAX_ORDER rest >>= λ p. Ok (inr (inl p))) (other_courses t rest)) f (flat_equal version one two rest text)
     (flat_choice (bytes_eq t (codes "different")) (different_at one two rest text)
-    (cond (bytes_eq t (codes "unknown")) (unknown_item rest text) (Err (Malformed rest.number))) (plan rest >>= λ p. Ok (inr (inl p))) (other_courses t rest) f
+    (cond (bytes_eq t (codes "unknown")) (unknown_item rest text) (Err (Malformed rest.number)))
+    (plan MAX_ORDER rest >>= λ p. Ok (inr (inl p))) (other_courses t rest) f
     (flat_different version one two rest text)
     (flat_choice (bytes_eq t (codes "unknown")) (unknown_item rest text) (Err (Malformed rest.number)) (unknown_at rest >>= λ v. Ok (inr (inr v)))
     (Err (Malformed rest.number)) f (flat_unknown version one two rest text) refl))

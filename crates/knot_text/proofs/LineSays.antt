@@ -12,7 +12,8 @@ use Rattle.text_lines.specs.Lines.{NumberedLine}
 use Rattle.text_lines.specs.Numbers.{number_of}
 use Rattle.text_lines.proofs.NumberTexts.{number_spelling}
 use Rattle.text_items.specs.declared.reading.TheConstants.{MAX_NUMBER}
-use Rattle.text_items.specs.Reading.{token_among, next_token, no_token_among, line_end, word, or_malformed, number, last_number, at_most, last_count, each_token}
+use Rattle.text_items.specs.Reading.{token_among, next_token, no_token_among, line_end, word, or_malformed}
+use Rattle.text_items.specs.Reading.{number, last_number, at_most, last_count, each_token}
 use Rattle.text_items.specs.Numbers.{is_long, numbers_behind, numbers_below}
 use Rattle.knot_text.proofs.Says.{Says, says_ok, says_err, says_bind, says_if, says_more}
 

@@ -15,8 +15,9 @@ use Rattle.text_lines.specs.Spelled.{numbered}
 use Rattle.text_items.specs.declared.reading.TheConstants.{MAX_PLACE}
 use Rattle.text_items.specs.Reading.{next_line, next_token, line_end}
 use Rattle.grid_moves.specs.Tidy.{may_follow, are_tidy_behind}
-use Rattle.text_items.specs.Moves.{last_place, shift, exchange, slide, kind_at, corner_at, stabilise, destabilise, move_at, next_move, move_lines, tidy_move_at, tidy_move, tidy_moves, moves_item}
-use Rattle.knot_text.specs.Printed.{kind_word, corner_word, move_tokens, moves_lines, HasMoveText, HaveText}
+use Rattle.text_items.specs.Moves.{last_place, shift, exchange, slide, kind_at, corner_at, stabilise, destabilise}
+use Rattle.text_items.specs.Moves.{move_at, next_move, move_lines, tidy_move_at, tidy_move, tidy_moves, moves_item}
+use Rattle.knot_text.specs.Printed.{kind_word, corner_word, move_tokens, moves_lines, HasMoveText, HaveMovesText}
 use Rattle.knot_text.proofs.StepsAgain.{line_of, lines_before, word_again, number_again, last_again, most_again, count_again, turns_again}
 
 pub place_again : (k n : ℕ) → k ≤ MAX_PLACE → last_place (line_of n (decimal k ∷ [])) ≡ Ok k
@@ -87,7 +88,7 @@ tidy_moves_again before n (x ∷ xs) text fits tidy =
     let others = tidy_moves_again (Some x) (n + 1) xs text fits.1 parts.1 in
     rw (one, others) refl
 
-pub moves_again : (n : ℕ) (moves : List Move) (text : Text) → HaveText moves
+pub moves_again : (n : ℕ) (moves : List Move) (text : Text) → HaveMovesText moves
     → moves_item (lines_before (numbered n (moves_lines (codes "moves") moves)) text) ≡ Ok (moves, text)
 unfolding moves_item next_line
 moves_again n moves text fits =

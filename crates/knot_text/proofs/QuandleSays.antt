@@ -15,8 +15,8 @@ use Rattle.quandle_core.specs.declared.quandle.TheConstants.{MAX_ORDER}
 use Rattle.quandle_core.specs.declared.fault.QuandleFault.{QuandleFault}
 use Rattle.quandle_core.specs.Quandle.{Table, IsQuandle, over}
 use Rattle.quandle_core.specs.Tables.{trivial, dihedral, alexander, tetrahedral, is_unit}
-use Rattle.quandle_core.specs.Fault.{first_fault}
-use Rattle.quandle_core.proofs.Accepted.{quandle_from_none}
+use Rattle.quandle_core.specs.Fault.{first_fault_within}
+use Rattle.quandle_core.proofs.Accepted.{quandle_within}
 use Rattle.text_lines.specs.Lines.{NumberedLine, Text, begins}
 use Rattle.text_items.specs.declared.fault.TextFault.{TextFault}
 use Rattle.text_items.specs.declared.reading.TheConstants.{MAX_NUMBER}
@@ -30,7 +30,7 @@ use Rattle.text_items.specs.Reading.{◌>>=◌, or_malformed}
 use Rattle.text_items.specs.Numbers.{numbers_below, is_long}
 use Rattle.text_items.specs.Quandles.{with_order, alexander_at, tetrahedral_at, written_at, is_over, meant, table_row, table_rows}
 use Rattle.text_items.specs.Quandles.{table_item, quandle_of, quandle_at, quandle_item, surplus_quandle, quandles}
-use Rattle.knot_text.specs.Printed.{name_tokens, row_tokens, table_lines, quandle_lines, HasQuandleText}
+use Rattle.knot_text.specs.Printed.{name_tokens, row_tokens, table_lines, quandle_lines, HasQuandleTextWithin, HasQuandleText}
 use Rattle.knot_text.specs.WrittenThere.{StandInFront, listed_lines}
 use Rattle.knot_text.proofs.LineTexts.{map_decimals}
 use Rattle.knot_text.proofs.Tables.{row}
@@ -139,19 +139,19 @@ table_is order text front line r are there last quandle =
 
 table_by : (order : ℕ) (text : Text) (front : List ℕ × Text) (line : NumberedLine × Text) (r : List ℕ) → AreRows order (order - 1) text front
     → IsNext front.1 line → AreColoursAlone order order line.0 r
-    → (f : Option QuandleFault) → first_fault (record { order = order; entries = front.0 ++ r }) ≡ f → (e : TextFault)
+    → (f : Option QuandleFault) → first_fault_within order (record { order = order; entries = front.0 ++ r }) ≡ f → (e : TextFault)
     → Says (cond (is_none f) (Ok (called name.Table (record { order = order; entries = front.0 ++ r }), line.1)) (Err e)) (IsTable order text)
 table_by order text front line r are there last (Some fault) is e = says_err
 table_by order text front line r are there last None is e =
     says_ok (called name.Table (record { order = order; entries = front.0 ++ r }), line.1)
-    (table_is order text front line r are there last (quandle_from_none (record { order = order; entries = front.0 ++ r }) is))
+    (table_is order text front line r are there last (quandle_within order (record { order = order; entries = front.0 ++ r }) is).0)
 
 table_says : (order : ℕ) (text : Text) → Says (table_item order text) (IsTable order text)
 unfolding table_item
 table_says order text = says_bind (AreRows order (order - 1) text) (rows_say order order (order - 1) text) (λ front are.
     says_bind (IsNext front.1) (next_says front.1) (λ line there.
     says_bind (AreColoursAlone order order line.0) (numbers_below_says order order line.0) (λ r last.
-    table_by order text front line r are there last (first_fault (record { order = order; entries = front.0 ++ r })) refl _)))
+    table_by order text front line r are there last (first_fault_within order (record { order = order; entries = front.0 ++ r })) refl _)))
 
 -- ---- names
 
@@ -163,51 +163,52 @@ written_tokens (written.Alexander n a) = codes "alexander" ∷ decimal n ∷ dec
 written_tokens (written.Table n) = codes "table" ∷ decimal n ∷ []
 
 -- a name within its limits is written there
-abbrev IsName : List (List ℕ) → Written × NumberedLine → Type 0
-IsName tokens w = is_over w.0 ≡ false → tokens ≡ written_tokens w.0
+abbrev IsName : ℕ → List (List ℕ) → Written × NumberedLine → Type 0
+IsName most tokens w = is_over most w.0 ≡ false → tokens ≡ written_tokens w.0
 
-few_order : (n : ℕ) → nat_lt MAX_ORDER n ≡ false → n ≤ MAX_NUMBER
-few_order n within = omega (arith, ltb-false MAX_ORDER n within)
+few_order : (bound n : ℕ) → bound ≤ MAX_NUMBER → nat_lt bound n ≡ false → n ≤ MAX_NUMBER
+few_order bound n small within = omega (arith, small, ltb-false bound n within)
 
 -- behind the word, an order within its limit
-record NamesOrder (family : List ℕ) (make : ℕ → Written) : Type 0 where
-  over : (n : ℕ) → is_over (make n) ≡ nat_lt MAX_ORDER n
+record NamesOrder (most bound : ℕ) (family : List ℕ) (make : ℕ → Written) : Type 0 where
+  small : bound ≤ MAX_NUMBER
+  over : (n : ℕ) → is_over most (make n) ≡ nat_lt bound n
   tokens : (n : ℕ) → family ∷ decimal n ∷ [] ≡ written_tokens (make n)
 
-order_says : (family : List ℕ) (make : ℕ → Written) → NamesOrder family make → (tokens : List (List ℕ)) (t : List ℕ × NumberedLine) → IsFirst tokens t
-    → bytes_eq t.0 family ≡ true → Says (with_order make t.1) (IsName tokens)
-order_says family make names tokens t is same = says_bind (IsNumberAlone t.1.tokens) (last_number_says t.1) (λ n there.
+order_says : (most bound : ℕ) (family : List ℕ) (make : ℕ → Written) → NamesOrder most bound family make → (tokens : List (List ℕ)) (t : List ℕ × NumberedLine)
+    → IsFirst tokens t → bytes_eq t.0 family ≡ true → Says (with_order make t.1) (IsName most tokens)
+order_says most bound family make names tokens t is same = says_bind (IsNumberAlone t.1.tokens) (last_number_says t.1) (λ n there.
     says_ok (make n.0, n.1) (λ within.
-    is ∙ ap₂ (λ (s : List ℕ) (ts : List (List ℕ)). s ∷ ts) (is_word t.0 family same) (there (few_order n.0 (sym (names.over n.0) ∙ within)))
+    is ∙ ap₂ (λ (s : List ℕ) (ts : List (List ℕ)). s ∷ ts) (is_word t.0 family same) (there (few_order bound n.0 names.small (sym (names.over n.0) ∙ within)))
     ∙ names.tokens n.0))
 
-alexander_says : (tokens : List (List ℕ)) (t : List ℕ × NumberedLine) → IsFirst tokens t → bytes_eq t.0 (codes "alexander") ≡ true
-    → Says (alexander_at t.1) (IsName tokens)
+alexander_says : (most : ℕ) (tokens : List (List ℕ)) (t : List ℕ × NumberedLine) → IsFirst tokens t → bytes_eq t.0 (codes "alexander") ≡ true
+    → Says (alexander_at t.1) (IsName most tokens)
 unfolding alexander_at
-alexander_says tokens t is same = says_bind (IsNumberFirst t.1.tokens) (number_says t.1) (λ n first.
+alexander_says most tokens t is same = says_bind (IsNumberFirst t.1.tokens) (number_says t.1) (λ n first.
     says_bind (IsNumberAlone n.1.tokens) (last_number_says n.1) (λ a second.
     says_ok (written.Alexander n.0 a.0, a.1) (λ within.
     let both = or_parts (nat_lt MAX_ORDER n.0) (is_long a.0) within in
     is ∙ ap₂ (λ (s : List ℕ) (ts : List (List ℕ)). s ∷ ts) (is_word t.0 (codes "alexander") same)
-    (first (few_order n.0 both.0) ∙ ap (λ (ts : List (List ℕ)). decimal n.0 ∷ ts) (second (ltb-false MAX_NUMBER a.0 both.1))))))
+    (first (few_order MAX_ORDER n.0 (omega arith) both.0) ∙ ap (λ (ts : List (List ℕ)). decimal n.0 ∷ ts) (second (ltb-false MAX_NUMBER a.0 both.1))))))
 
-tetrahedral_says : (tokens : List (List ℕ)) (t : List ℕ × NumberedLine) → IsFirst tokens t → bytes_eq t.0 (codes "tetrahedral") ≡ true
-    → Says (tetrahedral_at t.1) (IsName tokens)
+tetrahedral_says : (most : ℕ) (tokens : List (List ℕ)) (t : List ℕ × NumberedLine) → IsFirst tokens t → bytes_eq t.0 (codes "tetrahedral") ≡ true
+    → Says (tetrahedral_at t.1) (IsName most tokens)
 unfolding tetrahedral_at
-tetrahedral_says tokens t is same = says_bind (HasNone t.1.tokens) (line_end_says t.1) (λ end none.
+tetrahedral_says most tokens t is same = says_bind (HasNone t.1.tokens) (line_end_says t.1) (λ end none.
     says_ok (written.Tetrahedral, end) (λ within. is ∙ ap₂ (λ (s : List ℕ) (ts : List (List ℕ)). s ∷ ts) (is_word t.0 (codes "tetrahedral") same) none.0))
 
-written_says : (line : NumberedLine) → Says (written_at line) (IsName line.tokens)
+written_says : (most : ℕ) → most ≤ MAX_NUMBER → (line : NumberedLine) → Says (written_at line) (IsName most line.tokens)
 unfolding written_at
-written_says line = says_bind (IsFirst line.tokens) (next_token_says line) (λ t is.
-    says_if (bytes_eq t.0 (codes "trivial")) (λ same. order_says (codes "trivial") (λ n. written.Trivial n)
-    (record { over = λ n. refl; tokens = λ n. refl }) line.tokens t is same) (λ a.
-    says_if (bytes_eq t.0 (codes "dihedral")) (λ same. order_says (codes "dihedral") (λ n. written.Dihedral n)
-    (record { over = λ n. refl; tokens = λ n. refl }) line.tokens t is same) (λ b.
-    says_if (bytes_eq t.0 (codes "tetrahedral")) (λ same. tetrahedral_says line.tokens t is same) (λ c.
-    says_if (bytes_eq t.0 (codes "alexander")) (λ same. alexander_says line.tokens t is same) (λ d.
-    says_if (bytes_eq t.0 (codes "table")) (λ same. order_says (codes "table") (λ n. written.Table n)
-    (record { over = λ n. refl; tokens = λ n. refl }) line.tokens t is same) (λ e. says_err))))))
+written_says most small line = says_bind (IsFirst line.tokens) (next_token_says line) (λ t is.
+    says_if (bytes_eq t.0 (codes "trivial")) (λ same. order_says most MAX_ORDER (codes "trivial") (λ n. written.Trivial n)
+    (record { small = omega arith; over = λ n. refl; tokens = λ n. refl }) line.tokens t is same) (λ a.
+    says_if (bytes_eq t.0 (codes "dihedral")) (λ same. order_says most MAX_ORDER (codes "dihedral") (λ n. written.Dihedral n)
+    (record { small = omega arith; over = λ n. refl; tokens = λ n. refl }) line.tokens t is same) (λ b.
+    says_if (bytes_eq t.0 (codes "tetrahedral")) (λ same. tetrahedral_says most line.tokens t is same) (λ c.
+    says_if (bytes_eq t.0 (codes "alexander")) (λ same. alexander_says most line.tokens t is same) (λ d.
+    says_if (bytes_eq t.0 (codes "table")) (λ same. order_says most most (codes "table") (λ n. written.Table n)
+    (record { small = small; over = λ n. refl; tokens = λ n. refl }) line.tokens t is same) (λ e. says_err))))))
 
 -- ---- what a name means
 
@@ -216,65 +217,68 @@ test_if true o y e = (refl, e)
 test_if false o y e = absurd cc
 
 -- the quandle of a name without a table
-record IsNamed (w : Written) (q : NamedQuandle) : Type 0 where
-  text : HasQuandleText q
+record IsNamed (most : ℕ) (w : Written) (q : NamedQuandle) : Type 0 where
+  text : HasQuandleTextWithin most q
   tokens : written_tokens w ≡ name_tokens q.name q.table.order
   lines : [] ≡ table_lines q.name q.table
 
-meant_named : (w : Written) (q : NamedQuandle) → meant w ≡ Some q → IsNamed w q
-meant_named (written.Trivial n) q e =
+meant_named : (most : ℕ) (w : Written) (q : NamedQuandle) → meant w ≡ Some q → IsNamed most w q
+meant_named most (written.Trivial n) q e =
     let c = cond_some (is_order n) (called (name.Trivial n) (trivial n)) q e in
-    subst (IsNamed (written.Trivial n)) c.1 (record { text = record { names = (order_is n c.0, refl); factor = tt }; tokens = refl; lines = refl })
-meant_named (written.Dihedral n) q e =
+    subst (IsNamed most (written.Trivial n)) c.1 (record { text = record { names = (order_is n c.0, refl); factor = tt }; tokens = refl; lines = refl })
+meant_named most (written.Dihedral n) q e =
     let c = cond_some (is_order n) (called (name.Dihedral n) (dihedral n)) q e in
-    subst (IsNamed (written.Dihedral n)) c.1 (record { text = record { names = (order_is n c.0, refl); factor = tt }; tokens = refl; lines = refl })
-meant_named written.Tetrahedral q e =
+    subst (IsNamed most (written.Dihedral n)) c.1 (record { text = record { names = (order_is n c.0, refl); factor = tt }; tokens = refl; lines = refl })
+meant_named most written.Tetrahedral q e =
     let c = cond_some true (called name.Tetrahedral tetrahedral) q e in
-    subst (IsNamed written.Tetrahedral) c.1 (record { text = record { names = refl; factor = tt }; tokens = refl; lines = refl })
-meant_named (written.Alexander n a) q e =
+    subst (IsNamed most written.Tetrahedral) c.1 (record { text = record { names = refl; factor = tt }; tokens = refl; lines = refl })
+meant_named most (written.Alexander n a) q e =
     let low = test_if (nat_lt a n) (cond (is_order n && is_unit n a) (Some (called (name.Alexander n a) (alexander n a))) None) q e in
     let c = cond_some (is_order n && is_unit n a) (called (name.Alexander n a) (alexander n a)) q low.1 in
     let both = and_parts (is_order n) (is_unit n a) c.0 in
-    subst (IsNamed (written.Alexander n a)) c.1
+    subst (IsNamed most (written.Alexander n a)) c.1
     (record { text = record { names = (order_is n both.0, both.1, refl); factor = ltb-true a n low.0 }; tokens = refl; lines = refl })
-meant_named (written.Table n) q e = absurd cc
+meant_named most (written.Table n) q e = absurd cc
 
--- a quandle, by a name that a line ends with and the lines of a table behind it
-pub record IsQuandleAt (words : List (List ℕ)) (lines : Text) (x : NamedQuandle × Text) : Type 0 where
-  pub text : HasQuandleText x.0
+-- a quandle, by a name that a line ends with and the lines of a table behind it; the order of a table is at most the first number
+pub record IsQuandleAt (most : ℕ) (words : List (List ℕ)) (lines : Text) (x : NamedQuandle × Text) : Type 0 where
+  pub text : HasQuandleTextWithin most x.0
   pub tokens : words ≡ name_tokens x.0.name x.0.table.order
   pub there : StandInFront (table_lines x.0.name x.0.table) lines x.1
 
-untabled_says : (w : Written) (tokens : List (List ℕ)) (n : ℕ) (lines : Text) → tokens ≡ written_tokens w
-    → Says (or_malformed n (meant w) >>= λ q. Ok (q, lines)) (IsQuandleAt tokens lines)
-untabled_says w tokens n lines is = says_bind (λ (q : NamedQuandle). meant w ≡ Some q) (or_malformed_says n (meant w)) (λ q e.
-    let m = meant_named w q e in
+untabled_says : (most : ℕ) (w : Written) (tokens : List (List ℕ)) (n : ℕ) (lines : Text) → tokens ≡ written_tokens w
+    → Says (or_malformed n (meant w) >>= λ q. Ok (q, lines)) (IsQuandleAt most tokens lines)
+untabled_says most w tokens n lines is = says_bind (λ (q : NamedQuandle). meant w ≡ Some q) (or_malformed_says n (meant w)) (λ q e.
+    let m = meant_named most w q e in
     says_ok (q, lines) (record { text = m.text; tokens = is ∙ m.tokens; there = in_front_is m.lines (no_lines_in_front lines) }))
 
-tabled : (order : ℕ) (tokens : List (List ℕ)) (lines : Text) (called_so : QuandleName) (t : Table) (rest : Text)
-    → tokens ≡ codes "table" ∷ decimal order ∷ [] → IsTable order lines (called called_so t, rest)
-    → IsQuandleAt tokens lines (called called_so t, rest)
-tabled order tokens lines called_so t rest is table =
+tabled : (most order : ℕ) (tokens : List (List ℕ)) (lines : Text) (called_so : QuandleName) (t : Table) (rest : Text)
+    → order ≤ most → tokens ≡ codes "table" ∷ decimal order ∷ [] → IsTable order lines (called called_so t, rest)
+    → IsQuandleAt most tokens lines (called called_so t, rest)
+tabled most order tokens lines called_so t rest few is table =
     let same : name.Table ≡ called_so = sym table.0.0 in
-    subst (λ (m : QuandleName). IsQuandleAt tokens lines (called m t, rest)) same (record {
-      text = record { names = table.0.1; factor = tt };
+    subst (λ (m : QuandleName). IsQuandleAt most tokens lines (called m t, rest)) same (record {
+      text = record { names = (table.0.1, omega (arith, few, table.0.2)); factor = tt };
       tokens = is ∙ ap (λ (k : ℕ). codes "table" ∷ decimal k ∷ []) (sym table.0.2);
       there = table.1;
     })
 
-of_says : (n : ℕ) (w : Written) (tokens : List (List ℕ)) (lines : Text) → tokens ≡ written_tokens w → Says (quandle_of n w lines) (IsQuandleAt tokens lines)
-of_says n (written.Trivial k) tokens lines is = untabled_says (written.Trivial k) tokens n lines is
-of_says n (written.Dihedral k) tokens lines is = untabled_says (written.Dihedral k) tokens n lines is
-of_says n written.Tetrahedral tokens lines is = untabled_says written.Tetrahedral tokens n lines is
-of_says n (written.Alexander k a) tokens lines is = untabled_says (written.Alexander k a) tokens n lines is
-of_says n (written.Table order) tokens lines is =
-    says_if (nat_le 1 order) (λ some. says_more (λ q table. tabled order tokens lines q.0.name q.0.table q.1 is table) (table_says order lines))
+of_says : (most n : ℕ) (w : Written) (tokens : List (List ℕ)) (lines : Text) → is_over most w ≡ false → tokens ≡ written_tokens w
+    → Says (quandle_of n w lines) (IsQuandleAt most tokens lines)
+of_says most n (written.Trivial k) tokens lines within is = untabled_says most (written.Trivial k) tokens n lines is
+of_says most n (written.Dihedral k) tokens lines within is = untabled_says most (written.Dihedral k) tokens n lines is
+of_says most n written.Tetrahedral tokens lines within is = untabled_says most written.Tetrahedral tokens n lines is
+of_says most n (written.Alexander k a) tokens lines within is = untabled_says most (written.Alexander k a) tokens n lines is
+of_says most n (written.Table order) tokens lines within is =
+    says_if (nat_le 1 order) (λ some. says_more
+    (λ q table. tabled most order tokens lines q.0.name q.0.table q.1 (ltb-false most order within) is table) (table_says order lines))
     (λ none. says_err)
 
-pub quandle_at_says : (line : NumberedLine) (text : Text) → Says (quandle_at line text) (IsQuandleAt line.tokens text)
+pub quandle_at_says : (most : ℕ) → most ≤ MAX_NUMBER → (line : NumberedLine) (text : Text)
+    → Says (quandle_at most line text) (IsQuandleAt most line.tokens text)
 unfolding quandle_at
-quandle_at_says line text = says_bind (IsName line.tokens) (written_says line) (λ w is.
-    says_if (is_over w.0) (λ over. says_err) (λ within. of_says w.1.number w.0 line.tokens text (is within)))
+quandle_at_says most small line text = says_bind (IsName most line.tokens) (written_says most small line) (λ w is.
+    says_if (is_over most w.0) (λ over. says_err) (λ within. of_says most w.1.number w.0 line.tokens text within (is within)))
 
 -- ---- the item, and a list of items
 
@@ -286,7 +290,7 @@ quandle_says text = says_bind (IsNext text) (next_says text) (λ line there.
       is.text,
       in_front_of (in_front_is (ap (λ (ts : List (List ℕ)). ts ∷ [])
           (named ∙ ap (λ (ts : List (List ℕ)). codes "quandle" ∷ ts) is.tokens)) there) is.there,
-    )) (quandle_at_says rest line.1)))
+    )) (quandle_at_says MAX_ORDER (omega arith) rest line.1)))
 
 -- at most so many, one behind the other
 pub record AreItems (room : ℕ) (text : Text) (x : List NamedQuandle × Text) : Type 0 where
@@ -301,7 +305,7 @@ surplus_says : (P : List NamedQuandle × Text → Type 0) (text : Text) → Says
 unfolding surplus_quandle
 surplus_says P text = says_bind (IsNext text) (next_says text) (λ line there.
     says_bind (λ (rest : NumberedLine). line.0.tokens ≡ codes "quandle" ∷ rest.tokens) (word_says (codes "quandle") line.0) (λ rest named.
-    says_bind (IsName rest.tokens) (written_says rest) (λ w is. says_err)))
+    says_bind (IsName MAX_ORDER rest.tokens) (written_says MAX_ORDER (omega arith) rest) (λ w is. says_err)))
 
 pub quandles_say : (room : ℕ) (text : Text) → Says (quandles room text) (AreItems room text)
 unfolding quandles

@@ -24,7 +24,7 @@ use Rattle.knot_text.specs.Verdicts.{verdict_item}
 use Rattle.verdict_core.specs.Diagrams.{grid_of, columns}
 use Rattle.text_items.specs.Diagrams.{diagram_item}
 use Rattle.knot_text.specs.Shapes.{problem_item, problem_in, check_in, problem_of, check_of}
-use Rattle.knot_text.specs.Printed.{grid_lines, grid_text, move_tokens, moves_lines, moves_text, HaveText, version_lines, version_text, HasVersionText}
+use Rattle.knot_text.specs.Printed.{grid_lines, grid_text, move_tokens, moves_lines, moves_text, HaveMovesText, version_lines, version_text, HasVersionText}
 use Rattle.knot_text.specs.FirstBadLine.{lines_then, put_behind}
 use Rattle.knot_text.proofs.Steady.{bind_ok, ok_is}
 use Rattle.knot_text.proofs.GridsRead.{problem_grids}
@@ -39,7 +39,7 @@ use Rattle.knot_text.proofs.ShapesFail.{problem_stable}
 pub grid_read : (n : ℕ) (d : Marks) (more : List ℕ) → IsGrid d → grid_item (text_from n (grid_text d ++ more)) ≡ Ok (d, text_from (n + 2) more)
 grid_read n d more grid = ap grid_item (lines_read n (grid_lines d) more (grid_words d grid)) ∙ grid_again n d (text_from (n + 2) more) grid
 
-pub moves_read : (n : ℕ) (moves : List Move) (more : List ℕ) → HaveText moves
+pub moves_read : (n : ℕ) (moves : List Move) (more : List ℕ) → HaveMovesText moves
     → moves_item (text_from n (moves_text moves ++ more)) ≡ Ok (moves, text_from (n + (length moves + 1)) more)
 moves_read n moves more fits =
     let count : n + length (moves_lines (codes "moves") moves) ≡ n + (length moves + 1) = omega (arith, length-map moves move_tokens) in
@@ -76,9 +76,11 @@ unfolding text_end
 at_end n = refl
 
 -- the text of a verdict alone begins with no `quandle`
-text_other : (version : Version) (n one two : ℕ) (v : Verdict) → 1 ≤ one → 1 ≤ two → HasVersionText version one two v → AtOther (text_from n (version_text version v)).lines
+text_other : (version : Version) (n one two : ℕ) (v : Verdict) → 1 ≤ one → 1 ≤ two → HasVersionText version one two v
+    → AtOther (text_from n (version_text version v)).lines
 text_other version n one two v some also fits =
-    let text : text_from n (version_text version v) ≡ lines_before (numbered n (version_lines version v)) (text_from (n + length (version_lines version v)) []) =
+    let text : text_from n (version_text version v) ≡ lines_before (numbered n (version_lines version v))
+    (text_from (n + length (version_lines version v)) []) =
     ap (text_from n) (sym (append-nil (version_text version v))) ∙ lines_read n (version_lines version v) [] (version_words version one two v some also fits) in
     ap (λ (t : Text). first_starts (codes "quandle") t.lines) text ∙ verdict_other version n v (text_from (n + length (version_lines version v)) []).lines
 
@@ -94,7 +96,8 @@ verdict_ends : (version : Version) (n one two : ℕ) (p : ProblemText) (v : Verd
 verdict_ends version n one two p v some also fits =
     let k = n + length (version_lines version v) in
     let read : verdict_item one two (text_from n (version_text version v)) ≡ Ok (v, text_from k []) =
-    ap (λ (bytes : List ℕ). verdict_item one two (text_from n bytes)) (sym (append-nil (version_text version v))) ∙ verdict_read version n one two v [] some also fits in
+    ap (λ (bytes : List ℕ). verdict_item one two (text_from n bytes)) (sym (append-nil (version_text version v)))
+    ∙ verdict_read version n one two v [] some also fits in
     let last : judged p v (text_from k []) ≡ Ok (p, v) = ap (λ r. r >>= λ end. Ok (p, v)) (at_end k) in
     ap (λ r. r >>= λ w. judged p w.0 w.1) read ∙ last
 

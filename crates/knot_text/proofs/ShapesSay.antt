@@ -18,7 +18,7 @@ use Rattle.verdict_core.specs.Diagrams.{columns}
 use Rattle.text_items.specs.Diagrams.{diagram_item}
 use Rattle.knot_text.specs.Shapes.{problem_item, problem_in, check_in, replay_in, colour_in, close_in, lone_diagram_in}
 use Rattle.knot_text.specs.Pairs.{pair_in}
-use Rattle.knot_text.specs.Printed.{grid_lines, moves_lines, HaveText, quandle_lines, HasQuandleText}
+use Rattle.knot_text.specs.Printed.{grid_lines, moves_lines, HaveMovesText, quandle_lines, HasQuandleText}
 use Rattle.knot_text.specs.Printed.{braid_lines, diagram_lines, HasDiagramText, colours_lines}
 use Rattle.knot_text.specs.WrittenThere.{tokens_by_line, StandInFront, AreListed, listed_lines, HasProblemText, problem_lines}
 use Rattle.knot_text.specs.WrittenThere.{IsProblemText, IsCheckText, given_lines, HasGivenText, HasReplayText, replay_lines, IsColourText}
@@ -107,7 +107,7 @@ check_in_says text = says_bind (IsProblem text) (problem_says text) (λ p is.
 pub replay_in_says : (text : Text) → Says (replay_in text) (λ r. HasReplayText r × (tokens_by_line text.lines ≡ replay_lines r))
 unfolding replay_in
 replay_in_says text = says_bind (IsWritten HasDiagramText diagram_lines text) (diagram_says text) (λ d a.
-    says_bind (IsWritten HaveText (moves_lines (codes "moves")) d.1) (moves_say d.1) (λ moves b.
+    says_bind (IsWritten HaveMovesText (moves_lines (codes "moves")) d.1) (moves_say d.1) (λ moves b.
     says_bind (IsWritten (HasGivenText (columns d.0)) given_lines moves.1) (given_says (columns d.0) moves.1) (λ given c.
     says_bind (λ (end : Unit {0}). given.1.lines ≡ []) (end_says given.1) (λ end none.
     says_ok (record { diagram = d.0; moves = moves.0; colours = given.0 })

@@ -27,7 +27,8 @@ pub record Took {A : Type 0} (Stops : Stop) (read : Text → Result (A × Text) 
 -- the lines before a bad line are good: nothing is left of them, or more is due
 abbrev pub AreTaken : {A : Type 0} → (Text → Result (A × Text) TextFault) → List NumberedLine → Type 0
 AreTaken {A} read lines =
-    (ending : ℕ) → ((value : A) × (read (lines_then lines ending) ≡ Ok (value, lines_then [] ending))) ⊎ (read (lines_then lines ending) ≡ Err (Malformed ending))
+    (ending : ℕ) → ((value : A) × (read (lines_then lines ending) ≡ Ok (value, lines_then [] ending)))
+    ⊎ (read (lines_then lines ending) ≡ Err (Malformed ending))
 
 pub record BadLine {A : Type 0} (read : Text → Result (A × Text) TextFault) (text : Text) (fault : TextFault) : Type 0 where
   pub front : List NumberedLine

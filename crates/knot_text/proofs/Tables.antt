@@ -25,7 +25,7 @@ pub row_below : (t : Table) (bound x : ℕ) → IsWithin t bound → x < t.order
 row_below t bound x within lt = all_range (λ k. k < bound) (over t x) 0 t.order (λ y low high. within x y lt (omega arith))
 
 -- a row is a slice of the entries
-row_slice : (t : Table) (x : ℕ) → x * t.order + t.order ≤ length t.entries → row t x ≡ take t.order (drop (x * t.order) t.entries)
+pub row_slice : (t : Table) (x : ℕ) → x * t.order + t.order ≤ length t.entries → row t x ≡ take t.order (drop (x * t.order) t.entries)
 row_slice t x fits =
     let n = t.order in
     let slice = take n (drop (x * n) t.entries) in
@@ -33,7 +33,7 @@ row_slice t x fits =
     sym (fill_by_all (over t x) slice n 0 len (λ k lt. get_or-take n (drop (x * n) t.entries) k 0 lt ∙ get_or-drop (x * n) t.entries k 0))
 
 -- rows one behind the other are a slice too
-rows_slice : (t : Table) (a k : ℕ) → (a + k) * t.order ≤ length t.entries
+pub rows_slice : (t : Table) (a k : ℕ) → (a + k) * t.order ≤ length t.entries
     → flat_map (row t) (range_with_len a k) ≡ take (k * t.order) (drop (a * t.order) t.entries)
 rows_slice t a zero fits = let e : 0 * t.order ≡ 0 = omega arith in ap (λ (j : ℕ). take j (drop (a * t.order) t.entries)) (sym e)
 rows_slice t a (suc k) fits =

@@ -20,7 +20,8 @@ use Rattle.knot_text.specs.declared.verdicts.TheConstants.{TIDY_VERSION}
 use Rattle.knot_text.specs.declared.verdicts.Version.{Version}
 use Rattle.knot_text.specs.declared.verdicts.Version.TheVariants.{Plain, Tidy}
 use Rattle.grid_moves.specs.Tidy.{is_tidy}
-use Rattle.knot_text.specs.Printed.{move_tokens, name_tokens, table_lines, list_lines, verdict_lines, head_tokens, version_lines, HaveText, HasListText, HasVerdictText, HasVersionText}
+use Rattle.knot_text.specs.Printed.{move_tokens, name_tokens, table_lines, list_lines, verdict_lines, head_tokens}
+use Rattle.knot_text.specs.Printed.{version_lines, HaveMovesText, HasListText, HasVerdictText, HasVersionText}
 use Rattle.knot_text.proofs.StepsAgain.{line_of, lines_before, word_again, number_again, last_again, most_again, count_again, below_again, turns_again}
 use Rattle.knot_text.proofs.MovesAgain.{move_lines_again, tidy_moves_again}
 use Rattle.knot_text.proofs.QuandleAgain.{quandle_again}
@@ -82,12 +83,12 @@ different_again one two n q first second text fits =
     ≡ Ok (Different q first second, text) = rw (named, one_is, two_is) refl in
     ap (different_at one two (line_of (n + 1) (name_tokens q.name order))) text_is ∙ read
 
-equal_again : (n : ℕ) (moves : List Move) (text : Text) → HaveText moves
+equal_again : (n : ℕ) (moves : List Move) (text : Text) → HaveMovesText moves
     → equal_at Plain (line_of (n + 1) (decimal (length moves) ∷ [])) (lines_before (numbered (n + 1) (map move_tokens moves)) text) ≡ Ok (Equal moves, text)
 unfolding equal_at
 equal_again n moves text fits = rw (count_again (length moves) (n + 1) fits.count, move_lines_again (n + 1) moves text fits.each) refl
 
-tidy_equal_again : (n : ℕ) (moves : List Move) (text : Text) → HaveText moves → is_tidy moves ≡ true
+tidy_equal_again : (n : ℕ) (moves : List Move) (text : Text) → HaveMovesText moves → is_tidy moves ≡ true
     → equal_at Tidy (line_of (n + 1) (decimal (length moves) ∷ [])) (lines_before (numbered (n + 1) (map move_tokens moves)) text) ≡ Ok (Equal moves, text)
 unfolding equal_at
 tidy_equal_again n moves text fits tidy =

@@ -5,6 +5,7 @@ use Rattle.std.specs.Fmt.{decimal}
 use Rattle.arrayvec.specs.ArrayVec.{ArrayVec}
 use Rattle.colour_list.specs.declared.limits.TheConstants.{MAX_COLOURINGS}
 use Rattle.colour_rows.specs.Colouring.{AreColours}
+use Rattle.quandle_core.specs.declared.quandle.TheConstants.{MAX_ORDER}
 use Rattle.text_lines.specs.Lines.{NumberedLine, Text, begins}
 use Rattle.text_items.specs.declared.reading.TheConstants.{MAX_NUMBER}
 use Rattle.verdict_core.specs.declared.verdict.Verdict.{Verdict}
@@ -17,7 +18,8 @@ use Rattle.knot_text.specs.declared.verdicts.Version.TheVariants.{Plain, Tidy}
 use Rattle.knot_text.specs.WrittenThere.{StandInFront}
 use Rattle.verdict_core.specs.Evidence.{IsTidyVerdict}
 use Rattle.std.proofs.lemmas.Bool.{eqb-true}
-use Rattle.knot_text.specs.Printed.{moves_lines, HaveText, list_lines, verdict_lines, head_tokens, version_lines, HasListText, HasVerdictText, HasVersionText}
+use Rattle.knot_text.specs.Printed.{moves_lines, HaveMovesText, list_lines, verdict_lines, head_tokens}
+use Rattle.knot_text.specs.Printed.{version_lines, HasListText, HasVerdictText, HasVersionText}
 use Rattle.knot_text.proofs.Says.{Says, says_ok, says_err, says_bind, says_if, says_more, in_front_of, in_front_is, IsNext, next_says}
 use Rattle.knot_text.proofs.LineSays.{IsFirst, next_token_says, is_word, word_says, IsNumberFirst, number_says, IsNumberAlone}
 use Rattle.knot_text.proofs.LineSays.{last_number_says, at_most_says, last_count_says, AreColoursAlone, numbers_below_says}
@@ -61,24 +63,29 @@ of_version : (version : Version) (one two : ℕ) (v : Verdict) → HasVerdictTex
 of_version Plain one two v has tidy = has
 of_version Tidy one two v has tidy = (has, tidy)
 
-equal_says : (version : Version) (one two : ℕ) (text : Text) (line : NumberedLine × Text) (t : List ℕ × NumberedLine) → IsNext text line → IsFirst line.0.tokens t
+equal_says : (version : Version) (one two : ℕ) (text : Text) (line : NumberedLine × Text) (t : List ℕ × NumberedLine) → IsNext text line
+    → IsFirst line.0.tokens t
     → bytes_eq t.0 (codes "equal") ≡ true → Says (equal_at version t.1 line.1) (IsVerdict version one two text)
 unfolding equal_at
-equal_says Plain one two text line t there is same = says_bind (λ (k : ℕ). (k ≤ MAX_NUMBER) × (t.1.tokens ≡ decimal k ∷ [])) (last_count_says t.1) (λ count alone.
-    says_bind (IsWritten HaveText (moves_lines (codes "equal")) text)
+equal_says Plain one two text line t there is same = says_bind (λ (k : ℕ). (k ≤ MAX_NUMBER) × (t.1.tokens ≡ decimal k ∷ [])) (last_count_says t.1)
+    (λ count alone.
+    says_bind (IsWritten HaveMovesText (moves_lines (codes "equal")) text)
     (counted_moves_say (codes "equal") line text count there alone.0
     (is ∙ ap₂ (λ (s : List ℕ) (ts : List (List ℕ)). s ∷ ts) (is_word t.0 (codes "equal") same) alone.1)) (λ moves are.
     says_ok (Equal moves.0, moves.1) are))
-equal_says Tidy one two text line t there is same = says_bind (λ (k : ℕ). (k ≤ MAX_NUMBER) × (t.1.tokens ≡ decimal k ∷ [])) (last_count_says t.1) (λ count alone.
+equal_says Tidy one two text line t there is same = says_bind (λ (k : ℕ). (k ≤ MAX_NUMBER) × (t.1.tokens ≡ decimal k ∷ [])) (last_count_says t.1)
+    (λ count alone.
     says_bind (IsWritten HaveTidyText (moves_lines (codes "equal")) text)
     (counted_tidy_say (codes "equal") line text count there alone.0
     (is ∙ ap₂ (λ (s : List ℕ) (ts : List (List ℕ)). s ∷ ts) (is_word t.0 (codes "equal") same) alone.1)) (λ moves are.
     says_ok (Equal moves.0, moves.1) are))
 
-different_says : (version : Version) (one two : ℕ) (text : Text) (line : NumberedLine × Text) (t : List ℕ × NumberedLine) → IsNext text line → IsFirst line.0.tokens t
+different_says : (version : Version) (one two : ℕ) (text : Text) (line : NumberedLine × Text) (t : List ℕ × NumberedLine) → IsNext text line
+    → IsFirst line.0.tokens t
     → bytes_eq t.0 (codes "different") ≡ true → Says (different_at one two t.1 line.1) (IsVerdict version one two text)
 unfolding different_at
-different_says version one two text line t there is same = says_bind (IsQuandleAt t.1.tokens line.1) (quandle_at_says t.1 line.1) (λ q quandle.
+different_says version one two text line t there is same =
+    says_bind (IsQuandleAt MAX_ORDER t.1.tokens line.1) (quandle_at_says MAX_ORDER (omega arith) t.1 line.1) (λ q quandle.
     says_bind (IsWritten (HasListText one q.0.table.order) list_lines q.1) (list_says one q.0.table.order q.1) (λ first a.
     says_bind (IsWritten (HasListText two q.0.table.order) list_lines first.1) (list_says two q.0.table.order first.1) (λ second b.
     let named = is ∙ ap₂ (λ (s : List ℕ) (ts : List (List ℕ)). s ∷ ts) (is_word t.0 (codes "different") same) quandle.tokens in
@@ -98,7 +105,10 @@ unknown_says version one two line = says_bind (IsFirst line.tokens) (next_token_
     ap (λ (us : List (List ℕ)). (codes "unknown" ∷ us) ∷ []) (is ∙ ap₂ (λ (s : List ℕ) (us : List (List ℕ)). s ∷ us) (is_word t.0 w same) are) in
     says_if (bytes_eq t.0 (codes "budget")) (λ same.
     says_bind (λ (k : ℕ). (k ≤ MAX_NUMBER) × (t.1.tokens ≡ decimal k ∷ [])) (last_count_says t.1) (λ budget alone.
-    says_ok (UnknownBudget budget) (of_version version one two (UnknownBudget budget) alone.0 tt, cause (codes "budget") same (decimal budget ∷ []) alone.1))) (λ other.
+    says_ok (UnknownBudget budget) (
+      of_version version one two (UnknownBudget budget) alone.0 tt,
+      cause (codes "budget") same (decimal budget ∷ []) alone.1,
+    ))) (λ other.
     says_if (bytes_eq t.0 (codes "exhausted")) (λ same.
     says_bind (IsNumberFirst t.1.tokens) (number_says t.1) (λ cap first.
     says_bind (IsNumberAlone cap.1.tokens) (last_number_says cap.1) (λ admitted second.
@@ -113,7 +123,8 @@ unknown_says version one two line = says_bind (IsFirst line.tokens) (next_token_
     ))))))
     (λ none. says_err)))
 
-unknown_item_says : (version : Version) (one two : ℕ) (text : Text) (line : NumberedLine × Text) (t : List ℕ × NumberedLine) → IsNext text line → IsFirst line.0.tokens t
+unknown_item_says : (version : Version) (one two : ℕ) (text : Text) (line : NumberedLine × Text) (t : List ℕ × NumberedLine) → IsNext text line
+    → IsFirst line.0.tokens t
     → bytes_eq t.0 (codes "unknown") ≡ true → Says (unknown_item t.1 line.1) (IsVerdict version one two text)
 unfolding unknown_item
 unknown_item_says version one two text line t there is same = says_bind (IsUnknown version one two t.1.tokens) (unknown_says version one two t.1) (λ v known.

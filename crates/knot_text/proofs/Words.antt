@@ -21,6 +21,7 @@ use Rattle.grid_core.proofs.OneEach.{each_below}
 use Rattle.grid_moves.specs.declared.step.Move.{Move}
 use Rattle.grid_moves.specs.declared.step.Move.TheVariants.{ShiftColumns, ShiftRows, ExchangeColumns, ExchangeRows, SlideColumns, SlideRows}
 use Rattle.grid_moves.specs.declared.step.Move.TheVariants.{Stabilise, Destabilise}
+use Rattle.quandle_core.specs.declared.quandle.TheConstants.{MAX_ORDER}
 use Rattle.quandle_core.specs.Quandle.{Table, IsQuandle, over}
 use Rattle.text_lines.specs.Spelled.{is_plain, is_word, is_line}
 use Rattle.text_items.specs.declared.reading.TheConstants.{MAX_NUMBER}
@@ -28,8 +29,8 @@ use Rattle.verdict_core.specs.declared.names.QuandleName.{QuandleName}
 use Rattle.verdict_core.specs.declared.names.QuandleName.TheVariants as name
 use Rattle.verdict_core.specs.declared.verdict.Verdict.{Verdict}
 use Rattle.verdict_core.specs.declared.verdict.Verdict.TheVariants.{Equal, Different, UnknownBudget, UnknownExhausted}
-use Rattle.verdict_core.specs.Names.{Names}
-use Rattle.knot_text.specs.Printed.{grid_lines, kind_word, corner_word, move_tokens, moves_lines, HasMoveText, HaveText, name_tokens}
+use Rattle.verdict_core.specs.Names.{NamesWithin}
+use Rattle.knot_text.specs.Printed.{grid_lines, kind_word, corner_word, move_tokens, moves_lines, HasMoveText, HaveMovesText, name_tokens}
 use Rattle.knot_text.specs.Printed.{row_tokens, table_lines, quandle_lines, HasFactor, list_lines, verdict_lines, HasListText}
 use Rattle.knot_text.specs.Printed.{head_tokens, version_lines, HasVerdictText, HasVersionText}
 use Rattle.knot_text.specs.declared.verdicts.TheConstants.{TIDY_VERSION}
@@ -127,7 +128,7 @@ all_lines tokens Fits (x ∷ xs) each fits =
 move_words : (moves : List Move) → AllByRecursion HasMoveText moves → list_all is_line (map move_tokens moves) ≡ true
 move_words moves fits = all_lines move_tokens HasMoveText moves move_line fits
 
-pub moves_words : (moves : List Move) → HaveText moves → list_all is_line (moves_lines (codes "moves") moves) ≡ true
+pub moves_words : (moves : List Move) → HaveMovesText moves → list_all is_line (moves_lines (codes "moves") moves) ≡ true
 moves_words moves fits = rw (decimal_word (length moves) fits.count, move_words moves fits.each) refl
 
 -- ---- quandles
@@ -138,13 +139,14 @@ all_both p (x ∷ xs) ys first second =
     let h = and_parts (p x) (list_all p xs) first in
     and_from (p x) (list_all p (xs ++ ys)) h.0 (all_both p xs ys h.1 second)
 
-name_words : (called_so : QuandleName) (t : Table) → Names called_so t → HasFactor called_so
+pub name_words : (most : ℕ) (called_so : QuandleName) (t : Table) → most ≤ MAX_NUMBER → NamesWithin most called_so t → HasFactor called_so
     → is_line (codes "different" ∷ name_tokens called_so t.order) ≡ true
-name_words (name.Trivial n) t names factor = rw (decimal_word n (omega (arith, names.0.1))) refl
-name_words (name.Dihedral n) t names factor = rw (decimal_word n (omega (arith, names.0.1))) refl
-name_words name.Tetrahedral t names factor = refl
-name_words (name.Alexander n a) t names factor = rw (decimal_word n (omega (arith, names.0.1)), decimal_word a (omega (arith, names.0.1, factor))) refl
-name_words name.Table t names factor = rw (decimal_word t.order (omega (arith, names.most))) refl
+name_words most (name.Trivial n) t small names factor = rw (decimal_word n (omega (arith, names.0.1))) refl
+name_words most (name.Dihedral n) t small names factor = rw (decimal_word n (omega (arith, names.0.1))) refl
+name_words most name.Tetrahedral t small names factor = refl
+name_words most (name.Alexander n a) t small names factor =
+    rw (decimal_word n (omega (arith, names.0.1)), decimal_word a (omega (arith, names.0.1, factor))) refl
+name_words most name.Table t small names factor = rw (decimal_word t.order (omega (arith, names.1, small))) refl
 
 range_short : (t : Table) (x a n : ℕ) → ((y : ℕ) → a ≤ y → y < a + n → over t x y ≤ MAX_NUMBER)
     → list_all is_word (map (λ y. decimal (over t x y)) (range_with_len a n)) ≡ true
@@ -153,9 +155,9 @@ range_short t x a (suc n) each =
     and_from (is_word (decimal (over t x a))) (list_all is_word (map (λ y. decimal (over t x y)) (range_with_len (a + 1) n)))
     (decimal_word (over t x a) (each a (omega arith) (omega arith))) (range_short t x (a + 1) n (λ y low high. each y (omega arith) (omega arith)))
 
-row_words : (t : Table) (x k : ℕ) → IsQuandle t → x < t.order → t.order ≡ suc k → is_line (row_tokens t x) ≡ true
-row_words t x k is lt size =
-    let small : (y : ℕ) → y < t.order → over t x y ≤ MAX_NUMBER = λ y inside. omega (arith, is.within x y lt inside, is.most) in
+row_words : (t : Table) (x k : ℕ) → IsQuandle t → t.order ≤ MAX_NUMBER → x < t.order → t.order ≡ suc k → is_line (row_tokens t x) ≡ true
+row_words t x k is few lt size =
+    let small : (y : ℕ) → y < t.order → over t x y ≤ MAX_NUMBER = λ y inside. omega (arith, is.within x y lt inside, few) in
     let first : over t x 0 ≤ MAX_NUMBER = small 0 (omega (arith, size)) in
     let rest = range_short t x (0 + 1) k (λ y low high. small y (omega (arith, size, high))) in
     let line : is_line (map (λ y. decimal (over t x y)) (range_with_len 0 (suc k))) ≡ true =
@@ -163,20 +165,22 @@ row_words t x k is lt size =
     (decimal_is_IsNumeral (over t x 0) (omega (arith, first))).0.1 rest in
     ap (λ (n : ℕ). is_line (map (λ y. decimal (over t x y)) (range_with_len 0 n))) size ∙ line
 
-rows_words : (t : Table) (a n k : ℕ) → IsQuandle t → a + n ≤ t.order → t.order ≡ suc k → list_all is_line (map (row_tokens t) (range_with_len a n)) ≡ true
-rows_words t a zero k is fits size = refl
-rows_words t a (suc n) k is fits size =
-    and_from (is_line (row_tokens t a)) (list_all is_line (map (row_tokens t) (range_with_len (a + 1) n))) (row_words t a k is (omega arith) size)
-    (rows_words t (a + 1) n k is (omega arith) size)
+rows_words : (t : Table) (a n k : ℕ) → IsQuandle t → t.order ≤ MAX_NUMBER → a + n ≤ t.order → t.order ≡ suc k
+    → list_all is_line (map (row_tokens t) (range_with_len a n)) ≡ true
+rows_words t a zero k is few fits size = refl
+rows_words t a (suc n) k is few fits size =
+    and_from (is_line (row_tokens t a)) (list_all is_line (map (row_tokens t) (range_with_len (a + 1) n))) (row_words t a k is few (omega arith) size)
+    (rows_words t (a + 1) n k is few (omega arith) size)
 
-table_words : (called_so : QuandleName) (t : Table) → Names called_so t → list_all is_line (table_lines called_so t) ≡ true
-table_words (name.Trivial n) t names = refl
-table_words (name.Dihedral n) t names = refl
-table_words name.Tetrahedral t names = refl
-table_words (name.Alexander n a) t names = refl
-table_words name.Table t names =
-    let size : t.order ≡ suc (t.order - 1) = omega (arith, names.least) in
-    rows_words t 0 t.order (t.order - 1) names (omega arith) size
+pub table_words : (most : ℕ) (called_so : QuandleName) (t : Table) → most ≤ MAX_NUMBER → NamesWithin most called_so t
+    → list_all is_line (table_lines called_so t) ≡ true
+table_words most (name.Trivial n) t small names = refl
+table_words most (name.Dihedral n) t small names = refl
+table_words most name.Tetrahedral t small names = refl
+table_words most (name.Alexander n a) t small names = refl
+table_words most name.Table t small names =
+    let size : t.order ≡ suc (t.order - 1) = omega (arith, names.0.least) in
+    rows_words t 0 t.order (t.order - 1) names.0 (omega (arith, names.1, small)) (omega arith) size
 
 -- ---- verdicts
 
@@ -198,7 +202,7 @@ verdict_words one two (Different q first second) some more fits =
     let most : order ≤ 255 = omega (arith, names_order q.name q.table fits.0.names) in
     let table : list_all is_line (quandle_lines (codes "different") q)
     ≡ true = and_from (is_line (codes "different" ∷ name_tokens q.name order)) (list_all is_line (table_lines q.name q.table))
-    (name_words q.name q.table fits.0.names fits.0.factor) (table_words q.name q.table fits.0.names) in
+    (name_words MAX_ORDER q.name q.table (omega arith) fits.0.names fits.0.factor) (table_words MAX_ORDER q.name q.table (omega arith) fits.0.names) in
     all_both is_line (quandle_lines (codes "different") q) (list_lines first ++ list_lines second) table
     (all_both is_line (list_lines first) (list_lines second) (list_words one order first some most fits.1) (list_words two order second more most fits.2))
 verdict_words one two (UnknownBudget budget) some more fits = rw (decimal_word budget fits) refl
@@ -208,4 +212,5 @@ pub version_words : (version : Version) (one two : ℕ) (v : Verdict) → 1 ≤ 
     → list_all is_line (version_lines version v) ≡ true
 version_words Plain one two v some more fits = verdict_words one two v some more fits
 version_words Tidy one two v some more fits =
-    and_from (is_line head_tokens) (list_all is_line (verdict_lines v)) (rw (decimal_word TIDY_VERSION (omega arith)) refl) (verdict_words one two v some more fits.0)
+    and_from (is_line head_tokens) (list_all is_line (verdict_lines v)) (rw (decimal_word TIDY_VERSION (omega arith)) refl)
+    (verdict_words one two v some more fits.0)

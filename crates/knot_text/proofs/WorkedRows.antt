@@ -19,7 +19,8 @@ use Rattle.text_items.specs.Colours.{colours_at, colours_item, coloured_item, co
 use Rattle.text_items.specs.Moves.{last_place, shift, kind_at, corner_at, stabilise, destabilise, move_at, next_move, moves_item}
 use Rattle.text_items.specs.Moves.{tidy_move_at, tidy_move, tidy_moves}
 use Rattle.text_items.specs.Quandles.{written_at, table_row, table_rows, table_item, quandle_at, quandle_item, quandles, quandle_list}
-use Rattle.knot_text.specs.Verdicts.{equal_at, exhausted_at, unknown_at, unknown_item, verdict_of, version_at, tidy_item, plain_item, versioned_item, verdict_item}
+use Rattle.knot_text.specs.Verdicts.{equal_at, exhausted_at, unknown_at, unknown_item, verdict_of}
+use Rattle.knot_text.specs.Verdicts.{version_at, tidy_item, plain_item, versioned_item, verdict_item}
 use Rattle.text_items.specs.Diagrams.{diagram_item}
 use Rattle.knot_text.specs.Shapes.{problem_item, problem_in, check_in, replay_in, close_in, lone_diagram_in, problem_of}
 use Rattle.knot_text.specs.Shapes.{check_of, replay_of, close_of, lone_diagram_of}
@@ -114,40 +115,48 @@ coloured_read : replay_of (codes "braid 1 \nmoves 0\nquandle trivial 2\ncolours 
         record { items = 0 ∷ 1 ∷ [] },
       );
     })
-unfolding replay_in diagram_item braid_item braid_at each_token word number next_token next_line moves_item last_count last_number line_end in_turn coloured coloured_item quandle_item quandle_at written_at colours_item colours_at numbers_behind text_end
+unfolding replay_in diagram_item braid_item braid_at each_token word number next_token next_line moves_item last_count last_number line_end
+    in_turn coloured coloured_item quandle_item quandle_at written_at colours_item colours_at numbers_behind text_end
 coloured_read = refl
 
 colours_alone : replay_of (codes "x 0 1\no 1 0\nmoves 0\ncolours 0 1\n") ≡ Err (Malformed 4)
-unfolding replay_in diagram_item grid_item x_at o_at each_token word number next_token next_line moves_item last_count last_number line_end in_turn coloured numbers_behind text_end
+unfolding replay_in diagram_item grid_item x_at o_at each_token word number next_token next_line moves_item last_count last_number line_end
+    in_turn coloured numbers_behind text_end
 colours_alone = refl
 
 one_colour_too_few : replay_of (codes "x 0 1\no 1 0\nmoves 0\nquandle trivial 2\ncolours 0\n") ≡ Err (Malformed 5)
-unfolding replay_in diagram_item grid_item x_at o_at each_token word number next_token next_line moves_item last_count last_number line_end in_turn coloured coloured_item quandle_item quandle_at written_at colours_item colours_at numbers_behind
+unfolding replay_in diagram_item grid_item x_at o_at each_token word number next_token next_line moves_item last_count last_number line_end
+    in_turn coloured coloured_item quandle_item quandle_at written_at colours_item colours_at numbers_behind
 one_colour_too_few = refl
 
 -- ---- moves, with a remark and blanks between them
 
 replayed : replay_of (codes "x 0 1\no 1 0\nmoves 2\n# two\n stabilise 0 x\tlowleft\r\ndestabilise 0 0")
     ≡ Ok (record { diagram = Grid (record { x = 0 ∷ 1 ∷ []; o = 1 ∷ 0 ∷ [] }); moves = Stabilise 0 Cross LowLeft ∷ Destabilise 0 0 ∷ []; colours = None })
-unfolding replay_in diagram_item grid_item x_at o_at numbers_behind each_token word next_token next_line moves_item last_count last_number number line_end in_turn next_move move_at stabilise kind_at corner_at destabilise coloured text_end
+unfolding replay_in diagram_item grid_item x_at o_at numbers_behind each_token word next_token next_line moves_item last_count last_number
+    number line_end in_turn next_move move_at stabilise kind_at corner_at destabilise coloured text_end
 replayed = refl
 
 large_place : replay_of (codes "x 0 1\no 1 0\nmoves 1\nshift rows 256\n") ≡ Err (Limit 4)
-unfolding replay_in diagram_item grid_item x_at o_at numbers_behind each_token word next_token next_line moves_item last_count last_number number line_end in_turn next_move move_at shift last_place
+unfolding replay_in diagram_item grid_item x_at o_at numbers_behind each_token word next_token next_line moves_item last_count last_number
+    number line_end in_turn next_move move_at shift last_place
 large_place = refl
 
 move_wanting : replay_of (codes "x 0 1\no 1 0\nmoves 1\n#\n") ≡ Err (Malformed 5)
-unfolding replay_in diagram_item grid_item x_at o_at numbers_behind each_token word next_token next_line moves_item last_count last_number number line_end in_turn next_move
+unfolding replay_in diagram_item grid_item x_at o_at numbers_behind each_token word next_token next_line moves_item last_count last_number
+    number line_end in_turn next_move
 move_wanting = refl
 
 -- ---- quandles: the third law, and a line that is too short with a number that is too long
 
 third_law : problem_of (codes "x 0 1\no 1 0\nx 0 1\no 1 0\nquandle table 3\n0 2 0\n2 1 1\n1 0 2\n") ≡ Err (Malformed 8)
-unfolding problem_in problem_item diagram_item grid_item x_at o_at numbers_behind each_token numbers_below word next_token next_line last_number number line_end quandle_list quandles quandle_item quandle_at written_at table_item table_rows table_row
+unfolding problem_in problem_item diagram_item grid_item x_at o_at numbers_behind each_token numbers_below word next_token next_line
+    last_number number line_end quandle_list quandles quandle_item quandle_at written_at table_item table_rows table_row
 third_law = refl
 
 short_and_long : problem_of (codes "x 0 1\no 1 0\nx 0 1\no 1 0\nquandle table 3\n0 1000000000\n") ≡ Err (Limit 6)
-unfolding problem_in problem_item diagram_item grid_item x_at o_at numbers_behind each_token numbers_below word next_token next_line last_number number line_end quandle_list quandles quandle_item quandle_at written_at table_item table_rows table_row
+unfolding problem_in problem_item diagram_item grid_item x_at o_at numbers_behind each_token numbers_below word next_token next_line
+    last_number number line_end quandle_list quandles quandle_item quandle_at written_at table_item table_rows table_row
 short_and_long = refl
 
 -- ---- verdicts
@@ -162,10 +171,13 @@ exhausted : check_of (codes "x 0 1\no 1 0\nx 0 1\no 1 0\nunknown exhausted 5 2\n
       },
       UnknownExhausted 5 2,
     )
-unfolding check_in problem_item diagram_item grid_item x_at o_at numbers_behind each_token word next_token next_line last_number number line_end quandle_list quandles verdict_item versioned_item plain_item verdict_of unknown_item unknown_at exhausted_at text_end
+unfolding check_in problem_item diagram_item grid_item x_at o_at numbers_behind each_token word next_token next_line last_number number
+    line_end quandle_list quandles verdict_item versioned_item plain_item verdict_of unknown_item unknown_at exhausted_at text_end
 exhausted = refl
 
 -- of the second version the second shift of rows may not stand behind the first
 untidy : check_of (codes "x 0 1\no 1 0\nx 1 0\no 0 1\ncertificate 2\nequal 3\nshift rows 1\nshift rows 1\nshift rows 1\n") ≡ Err (Malformed 8)
-unfolding check_in problem_item diagram_item grid_item x_at o_at numbers_behind each_token word next_token next_line last_number last_count number line_end quandle_list quandles verdict_item versioned_item tidy_item version_at verdict_of equal_at tidy_moves tidy_move tidy_move_at move_at shift last_place
+unfolding check_in problem_item diagram_item grid_item x_at o_at numbers_behind each_token word next_token next_line last_number last_count
+    number line_end quandle_list quandles verdict_item versioned_item tidy_item version_at verdict_of equal_at tidy_moves tidy_move
+    tidy_move_at move_at shift last_place
 untidy = refl

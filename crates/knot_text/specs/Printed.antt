@@ -1,5 +1,6 @@
 -- The text of a grid, of a braid, of moves, of steps and of a verdict, apart from reading: lines of tokens with one space between them.
-use Rattle.std.specs.Prelude.{◌<◌, ◌≤◌, ◌+◌, ℕ, ℤ, pos, negsuc, unsigned_abs, Bool, true, false, List, [], ◌∷◌, ◌++◌, codes, length, map}
+use Rattle.std.specs.Prelude.{◌<◌, ◌≤◌, ◌+◌, ℕ, ℤ, pos, negsuc, unsigned_abs, Bool, true, false}
+use Rattle.std.specs.Prelude.{List, [], ◌∷◌, ◌++◌, codes, length, map}
 use Rattle.std.specs.List.{AllByRecursion, range_with_len}
 use Rattle.std.specs.Fmt.{decimal}
 use Rattle.arrayvec.specs.ArrayVec.{ArrayVec}
@@ -14,6 +15,7 @@ use Rattle.braid_moves.specs.declared.step.BraidMove.TheVariants.{Far, Triple, C
 use Rattle.grid_moves.specs.declared.step.Move.{Move}
 use Rattle.grid_moves.specs.declared.step.Move.TheVariants.{ShiftColumns, ShiftRows, ExchangeColumns, ExchangeRows, SlideColumns, SlideRows}
 use Rattle.grid_moves.specs.declared.step.Move.TheVariants.{Stabilise, Destabilise}
+use Rattle.quandle_core.specs.declared.quandle.TheConstants.{MAX_ORDER}
 use Rattle.quandle_core.specs.Quandle.{Table, over}
 use Rattle.colour_list.specs.declared.limits.TheConstants.{MAX_COLOURINGS}
 use Rattle.colour_rows.specs.Colouring.{AreColours}
@@ -25,7 +27,7 @@ use Rattle.verdict_core.specs.declared.diagrams.Diagram.{Diagram}
 use Rattle.verdict_core.specs.declared.diagrams.Diagram.TheVariants.{Grid, Braid}
 use Rattle.verdict_core.specs.declared.verdict.Verdict.{Verdict}
 use Rattle.verdict_core.specs.declared.verdict.Verdict.TheVariants.{Equal, Different, UnknownBudget, UnknownExhausted}
-use Rattle.verdict_core.specs.Names.{NamedQuandle, Names}
+use Rattle.verdict_core.specs.Names.{NamedQuandle, NamesWithin}
 use Rattle.verdict_core.specs.Evidence.{IsTidyVerdict}
 use Rattle.knot_text.specs.declared.verdicts.TheConstants.{TIDY_VERSION}
 use Rattle.knot_text.specs.declared.verdicts.Version.{Version}
@@ -96,7 +98,7 @@ HasMoveText (Stabilise c kind corner) = c ≤ MAX_PLACE
 HasMoveText (Destabilise c r) = (c ≤ MAX_PLACE) × (r ≤ MAX_PLACE)
 
 -- and there are few enough moves
-pub record HaveText (moves : List Move) : Type 0 where
+pub record HaveMovesText (moves : List Move) : Type 0 where
   pub count : length moves ≤ MAX_NUMBER
   pub each : AllByRecursion HasMoveText moves
 
@@ -161,6 +163,10 @@ abbrev pub table_lines : QuandleName → Table → List (List (List ℕ))
 table_lines name.Table t = map (row_tokens t) (range_with_len 0 t.order)
 table_lines other t = []
 
+-- what stands behind the word of a quandle that is given by its table: `table` with the order, and the lines
+abbrev pub table_behind : Table → List ℕ
+table_behind t = (codes " table " ++ (decimal t.order ++ codes "\n")) ++ lines_text (table_lines name.Table t)
+
 -- a word with the name, and the lines of a table
 abbrev pub quandle_lines : List ℕ → NamedQuandle → List (List (List ℕ))
 quandle_lines word q = (word ∷ name_tokens q.name q.table.order) ∷ table_lines q.name q.table
@@ -173,9 +179,14 @@ abbrev pub HasFactor : QuandleName → Type 0
 HasFactor (name.Alexander n a) = a < n
 HasFactor other = Unit {0}
 
-pub record HasQuandleText (q : NamedQuandle) : Type 0 where
-  pub names : Names q.name q.table
+-- the name gives the quandle, whose order is at most the first number where it is by a table
+pub record HasQuandleTextWithin (most : ℕ) (q : NamedQuandle) : Type 0 where
+  pub names : NamesWithin most q.name q.table
   pub factor : HasFactor q.name
+
+-- the same where the order is at most MAX_ORDER
+abbrev pub HasQuandleText : NamedQuandle → Type 0
+HasQuandleText = HasQuandleTextWithin MAX_ORDER
 
 -- ---- verdicts
 
@@ -208,7 +219,7 @@ pub record HasListText (width order : ℕ) (lists : List (ArrayVec ℕ)) : Type 
 
 -- the verdict has a text behind two diagrams with so many columns
 abbrev pub HasVerdictText : ℕ → ℕ → Verdict → Type 0
-HasVerdictText one two (Equal moves) = HaveText moves
+HasVerdictText one two (Equal moves) = HaveMovesText moves
 HasVerdictText one two (Different q first second) = HasQuandleText q × HasListText one q.table.order first × HasListText two q.table.order second
 HasVerdictText one two (UnknownBudget budget) = budget ≤ MAX_NUMBER
 HasVerdictText one two (UnknownExhausted cap admitted) = (cap ≤ MAX_NUMBER) × (admitted ≤ MAX_NUMBER)

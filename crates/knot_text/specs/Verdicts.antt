@@ -4,6 +4,7 @@ use Rattle.std.specs.Str.{bytes_eq}
 use Rattle.arrayvec.specs.ArrayVec.{ArrayVec}
 use Rattle.colour_list.specs.declared.limits.TheConstants.{MAX_COLOURINGS}
 use Rattle.grid_moves.specs.declared.step.Move.{Move}
+use Rattle.quandle_core.specs.declared.quandle.TheConstants.{MAX_ORDER}
 use Rattle.text_lines.specs.Lines.{NumberedLine, Text, begins}
 use Rattle.text_items.specs.declared.fault.TextFault.{TextFault}
 use Rattle.text_items.specs.declared.fault.TextFault.TheVariants.{Malformed}
@@ -49,7 +50,7 @@ list_item width order text = do
 -- `different`, the name of a quandle, and a list for each of two diagrams with so many columns
 unfoldable pub different_at : ℕ → ℕ → NumberedLine → Text → Result (Verdict × Text) TextFault
 different_at first second line text = do
-  quandle ← quandle_at line text
+  quandle ← quandle_at MAX_ORDER line text
   one ← list_item first quandle.0.table.order quandle.1
   two ← list_item second quandle.0.table.order one.1
   Ok (Different quandle.0 one.0 two.0, two.1)
@@ -80,15 +81,20 @@ unknown_item line text = do
   verdict ← unknown_at line
   Ok (verdict, text)
 
+-- a verdict of a version from a line and what stands behind it, on two diagrams with so many columns
+abbrev pub verdict_at : Version → ℕ → ℕ → NumberedLine → Text → Result (Verdict × Text) TextFault
+verdict_at version first second line text = do
+  kind ← next_token line
+  if bytes_eq kind.0 (codes "equal") then equal_at version kind.1 text
+      else if bytes_eq kind.0 (codes "different") then different_at first second kind.1 text
+      else if bytes_eq kind.0 (codes "unknown") then unknown_item kind.1 text
+      else Err (Malformed kind.1.number)
+
 -- a verdict of a version, on two diagrams with so many columns
 unfoldable pub verdict_of : Version → ℕ → ℕ → Text → Result (Verdict × Text) TextFault
 verdict_of version first second text = do
   line ← next_line text
-  kind ← next_token line.0
-  if bytes_eq kind.0 (codes "equal") then equal_at version kind.1 line.1
-      else if bytes_eq kind.0 (codes "different") then different_at first second kind.1 line.1
-      else if bytes_eq kind.0 (codes "unknown") then unknown_item kind.1 line.1
-      else Err (Malformed kind.1.number)
+  verdict_at version first second line.0 line.1
 
 -- the line `certificate 2`
 unfoldable pub version_at : NumberedLine → Result (Unit {0}) TextFault

@@ -23,7 +23,7 @@ use Rattle.text_items.specs.declared.cocycles.TheConstants.{MAX_MODULUS}
 use Rattle.knot_text.specs.declared.weights.WeightText.{WeightText}
 use Rattle.verdict_core.specs.Names.{NamedQuandle}
 use Rattle.text_items.specs.Quandles.{or_built_in}
-use Rattle.knot_text.specs.Printed.{moves_lines, HaveText, quandle_lines, HasQuandleText, version_lines, HasVersionText, braid_lines}
+use Rattle.knot_text.specs.Printed.{moves_lines, HaveMovesText, quandle_lines, HasQuandleText, version_lines, HasVersionText, braid_lines}
 use Rattle.knot_text.specs.Printed.{diagram_lines, HasDiagramText, colours_lines, step_tokens, steps_head, HaveStepsText}
 use Rattle.verdict_core.specs.Diagrams.{columns}
 
@@ -112,7 +112,7 @@ HasGivenText width (Some given) = HasQuandleText given.0 × AreColours width giv
 -- a diagram, moves, and perhaps a quandle and colours
 pub record HasReplayText (r : ReplayText) : Type 0 where
   pub diagram : HasDiagramText r.diagram
-  pub moves : HaveText r.moves
+  pub moves : HaveMovesText r.moves
   pub colours : HasGivenText (columns r.diagram) r.colours
 
 abbrev pub replay_lines : ReplayText → List (List (List ℕ))

@@ -1,4 +1,4 @@
-//! Lines of letters, as they are read: each a number, or a `-` directly in front of one.
+//! Lines of letters are appended: each letter is a number, or a `-` directly in front of one.
 ghost use Rattle.std.specs.Prelude.{◌≡◌, ◌++◌, ◌∷◌, map, unsigned_abs, OnOk, OnErr};
 ghost use Rattle.std.specs.List.{flat_map};
 ghost use Rattle.std.specs.Fmt.{decimal};

@@ -3,18 +3,18 @@
 #![tactic(auto)]
 
 mod braid_checks;
-mod colour_lines;
 mod letters;
 mod pairs;
 mod printed;
 mod shapes;
+mod spelled_colours;
 mod verdicts;
 mod weights;
 
 pub use braid_checks::{BraidCheckText, read_braidcheck};
 pub use letters::{push_braid, push_letter_line};
 pub use pairs::read_pair;
-pub use printed::{print_grid, print_moves, print_verdict, push_list, push_quandle};
+pub use printed::{print_grid, print_moves, print_verdict, push_large, push_list, push_quandle};
 pub use shapes::{
     CloseText, ColourText, ReplayText, problem_item, read_check, read_close, read_colour,
     read_diagram, read_problem, read_replay,

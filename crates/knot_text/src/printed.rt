@@ -1,25 +1,26 @@
 //! The texts of grids, moves and verdicts.
-ghost use Rattle.std.specs.Prelude.{◌≡◌, ◌<◌, ◌++◌, codes, map, length, IfOk, OnOk, OnErr};
+ghost use Rattle.std.specs.Prelude.{◌≡◌, ◌<◌, ◌++◌, codes, map, IfOk, OnOk, OnErr};
 ghost use Rattle.std.specs.List.{range_with_len};
 ghost use Rattle.std.specs.Fmt.{decimal};
 ghost use Rattle.quandle_core.specs.Quandle.{over};
 ghost use Rattle.text_lines.specs.Spelled.{line_text, lines_text};
 ghost use Rattle.text_lines.specs.Appended.{AppendsPart};
-ghost use Rattle.verdict_core.specs.Names.{NamedQuandle};
-ghost use Rattle.knot_text.specs.Printed.{kind_word, corner_word, grid_text, move_tokens, moves_lines, moves_text, row_tokens, table_lines, quandle_lines, name_tokens, list_lines, verdict_lines, version_text};
+ghost use Rattle.verdict_core.specs.Names.{NamedQuandle, called};
+ghost use Rattle.knot_text.specs.Printed.{grid_text, kind_word, corner_word, move_tokens, moves_text};
+ghost use Rattle.knot_text.specs.Printed.{row_tokens, table_behind, quandle_lines, list_lines, verdict_lines, version_text};
 ghost use Rattle.verdict_core.specs.Evidence.{IsTidyVerdict};
 
-use crate::colour_lines::push_colour_line;
+use crate::spelled_colours::push_colour_line;
 use crate::verdicts::{TIDY_VERSION, Version};
 use arrayvec::ArrayVec;
 use colour_rows::Colouring;
 use grid_core::{Corner, Grid, Kind};
 use grid_moves::Move;
 use memory_core::OutOfMemory;
-use quandle_core::{MAX_ORDER, Quandle};
+use quandle_core::{MAX_LARGE_ORDER, Operations};
 use std::alloc::{AllocError, Global};
 use text_lines::{push_counted, push_number, push_number_line, push_paired, push_word_line};
-use verdict_core::{Listed, QuandleName, Verdict};
+use verdict_core::{LargeListed, Listed, QuandleName, Verdict};
 
 /// The text of a grid: the line `x` with the rows of its Xs by column, and the line `o` with those of its Os; or want of memory.
 pub fn print_grid(alloc: Global, grid: &Grid) -> Result<Vec<u8>, OutOfMemory>
@@ -68,23 +69,14 @@ fn push_verdict(out: &mut Vec<u8>, verdict: &Verdict) -> Result<(), AllocError>
             first,
             second,
         } => push_different(out, listed, first.as_slice(), second.as_slice()),
-        Verdict::UnknownBudget { budget } => {
-            push_counted(out, b"unknown budget ", u64::from(*budget))
-        }
-        Verdict::UnknownExhausted { cap, admitted } => {
-            push_paired(
-                out,
-                b"unknown exhausted ",
-                u64::from(*cap),
-                u64::from(*admitted),
-            )
-        }
+        Verdict::UnknownBudget { budget } => push_budget(out, *budget),
+        Verdict::UnknownExhausted { cap, admitted } => push_exhausted(out, *cap, *admitted),
     }
 }
 
 /// Appends the verdict `equal`.
 fn push_equal(out: &mut Vec<u8>, moves: &[Move]) -> Result<(), AllocError>
-    ensures { OnOk result (out.new.items ≡ out.old.items ++ lines_text (moves_lines (codes "equal") moves.now)) }
+    ensures { OnOk result (out.new.items ≡ out.old.items ++ lines_text (verdict_lines (Verdict.Equal moves.now))) }
 {
     push_counted(out, b"equal ", moves.len() as u64)?;
     push_moves(out, moves)
@@ -97,11 +89,30 @@ fn push_different(
     first: &[Colouring],
     second: &[Colouring],
 ) -> Result<(), AllocError>
-    ensures { OnOk result (out.new.items ≡ out.old.items ++ lines_text (quandle_lines (codes "different") listed.now ++ (list_lines first.now ++ list_lines second.now))) }
+    ensures { OnOk result (out.new.items ≡ out.old.items ++ lines_text (verdict_lines (Verdict.Different listed.now first.now second.now))) }
 {
     push_quandle(out, b"different", listed)?;
     push_list(out, first)?;
     push_list(out, second)
+}
+
+/// Appends the verdict that a budget was used up.
+fn push_budget(out: &mut Vec<u8>, budget: u32) -> Result<(), AllocError>
+    ensures { OnOk result (out.new.items ≡ out.old.items ++ (codes "unknown budget " ++ (decimal budget ++ codes "\n"))) }
+{
+    push_counted(out, b"unknown budget ", u64::from(budget))
+}
+
+/// Appends the verdict that all diagrams within a cap were seen.
+fn push_exhausted(out: &mut Vec<u8>, cap: u32, admitted: u32) -> Result<(), AllocError>
+    ensures { OnOk result (out.new.items ≡ out.old.items ++ (codes "unknown exhausted " ++ (decimal cap ++ (codes " " ++ (decimal admitted ++ codes "\n"))))) }
+{
+    push_paired(
+        out,
+        b"unknown exhausted ",
+        u64::from(cap),
+        u64::from(admitted),
+    )
 }
 
 /// Appends a line for each move.
@@ -143,7 +154,7 @@ fn push_stabilise(
     kind: Kind,
     corner: Corner,
 ) -> Result<(), AllocError>
-    ensures { OnOk result (out.new.items ≡ out.old.items ++ (codes "stabilise " ++ (decimal column ++ (codes " " ++ (kind_word kind ++ (codes " " ++ (corner_word corner ++ codes "\n"))))))) }
+    ensures { OnOk result (out.new.items ≡ out.old.items ++ line_text (move_tokens (Move.Stabilise column kind corner))) }
 {
     out.extend_from_slice(b"stabilise ")?;
     push_number(out, u64::from(column))?;
@@ -182,29 +193,52 @@ pub fn push_quandle(out: &mut Vec<u8>, word: &[u8], listed: &Listed) -> Result<(
     ensures text { OnOk result (out.new.items ≡ out.old.items ++ lines_text (quandle_lines word.now listed.now)) }
     ensures part { OnErr result (AppendsPart out.old.items out.new.items (lines_text (quandle_lines word.now listed.now))) }
 {
+    let quandle = listed.quandle().operations();
+    push_named(out, word, listed.name(), &quandle)
+}
+
+/// The same of a quandle that may be larger.
+pub fn push_large(out: &mut Vec<u8>, word: &[u8], listed: &LargeListed) -> Result<(), AllocError>
+    ensures text { OnOk result (out.new.items ≡ out.old.items ++ lines_text (quandle_lines word.now listed.now)) }
+    ensures part { OnErr result (AppendsPart out.old.items out.new.items (lines_text (quandle_lines word.now listed.now))) }
+{
+    let quandle = listed.operations();
+    push_named(out, word, listed.name(), &quandle)
+}
+
+/// The same of a name and the operations of its quandle.
+fn push_named(
+    out: &mut Vec<u8>,
+    word: &[u8],
+    name: QuandleName,
+    quandle: &Operations,
+) -> Result<(), AllocError>
+    ensures text { OnOk result (out.new.items ≡ out.old.items ++ lines_text (quandle_lines word.now (called name quandle.now))) }
+    ensures part { OnErr result (AppendsPart out.old.items out.new.items (lines_text (quandle_lines word.now (called name quandle.now)))) }
+{
     out.extend_from_slice(word)?;
-    match listed.name() {
+    match name {
         QuandleName::Trivial(n) => push_counted(out, b" trivial ", u64::from(n)),
         QuandleName::Dihedral(n) => push_counted(out, b" dihedral ", u64::from(n)),
         QuandleName::Tetrahedral => out.extend_from_slice(b" tetrahedral\n"),
         QuandleName::Alexander(n, factor) => {
             push_paired(out, b" alexander ", u64::from(n), u64::from(factor))
         }
-        QuandleName::Table => push_table(out, listed.quandle()),
+        QuandleName::Table => push_table(out, quandle),
     }
 }
 
 /// Appends `table` with the order of a quandle behind a word, and its lines.
-fn push_table(out: &mut Vec<u8>, quandle: &Quandle) -> Result<(), AllocError>
-    ensures text { OnOk result (out.new.items ≡ out.old.items ++ ((codes " table " ++ (decimal quandle.now.order ++ codes "\n")) ++ lines_text (map (row_tokens quandle.now) (range_with_len 0 quandle.now.order)))) }
-    ensures part { OnErr result (AppendsPart out.old.items out.new.items ((codes " table " ++ (decimal quandle.now.order ++ codes "\n")) ++ lines_text (map (row_tokens quandle.now) (range_with_len 0 quandle.now.order)))) }
+fn push_table(out: &mut Vec<u8>, quandle: &Operations) -> Result<(), AllocError>
+    ensures text { OnOk result (out.new.items ≡ out.old.items ++ table_behind quandle.now) }
+    ensures part { OnErr result (AppendsPart out.old.items out.new.items (table_behind quandle.now)) }
 {
     push_counted(out, b" table ", u64::from(quandle.order()))?;
     push_rows(out, quandle)
 }
 
 /// Appends a line for each row of a table.
-fn push_rows(out: &mut Vec<u8>, quandle: &Quandle) -> Result<(), AllocError>
+fn push_rows(out: &mut Vec<u8>, quandle: &Operations) -> Result<(), AllocError>
     ensures text { OnOk result (out.new.items ≡ out.old.items ++ lines_text (map (row_tokens quandle.now) (range_with_len 0 quandle.now.order))) }
     ensures part { OnErr result (AppendsPart out.old.items out.new.items (lines_text (map (row_tokens quandle.now) (range_with_len 0 quandle.now.order)))) }
 {
@@ -215,7 +249,7 @@ fn push_rows(out: &mut Vec<u8>, quandle: &Quandle) -> Result<(), AllocError>
 }
 
 /// A row of a table.
-fn row_of(quandle: &Quandle, x: u8) -> ArrayVec<u8, MAX_ORDER>
+fn row_of(quandle: &Operations, x: u8) -> ArrayVec<u8, MAX_LARGE_ORDER>
     requires { x < quandle.now.order }
     ensures { result.items ≡ map (over quandle.now x) (range_with_len 0 quandle.now.order) }
 {

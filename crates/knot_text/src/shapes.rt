@@ -118,7 +118,8 @@ pub fn read_diagram(alloc: Global, bytes: &[u8]) -> Result<Diagram, TextFault>
     Ok(lone)
 }
 
-/// Two diagrams and any number of quandles.
+/// Two diagrams and any number of quandles, without which the built-in list stands, from the front of the lines; what stands behind
+/// them is left. Else the fault of the first bad line, or want of memory, and nothing is said of the lines.
 #[tactic(auto, unfolding(crate::specs::Shapes::problem_item))]
 pub fn problem_item(alloc: Global, lines: &mut Lines) -> Result<ProblemText, TextFault>
     ensures { Gives (λ p. (p, lines.new)) result (problem_item lines.old) }

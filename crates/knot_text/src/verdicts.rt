@@ -1,8 +1,9 @@
-//! Verdicts.
+//! Verdicts are read: of either version, up to their last line.
 ghost use Rattle.std.specs.Prelude.{◌≡◌, ◌≤◌};
 ghost use Rattle.grid_core.specs.declared.grid.TheConstants.{MAX_SIZE};
 ghost use Rattle.text_items.specs.Reading.{Gives, in_turn};
-ghost use Rattle.knot_text.specs.Verdicts.{moves_of, equal_at, colour_line, list_item, different_at, budget_at, exhausted_at, unknown_at, unknown_item, verdict_of, version_at, tidy_item, plain_item, versioned_item, verdict_item};
+ghost use Rattle.knot_text.specs.Verdicts.{moves_of, equal_at, colour_line, list_item, different_at, budget_at, exhausted_at, unknown_at};
+ghost use Rattle.knot_text.specs.Verdicts.{unknown_item, verdict_at, verdict_of, version_at, tidy_item, plain_item, versioned_item, verdict_item};
 
 use colour_list::MAX_COLOURINGS;
 use colour_rows::Colouring;
@@ -27,6 +28,15 @@ pub enum Version {
     Plain,
     /// Behind the line `certificate 2`: its list of moves is tidy.
     Tidy,
+}
+
+/// The numbers of columns of two diagrams, each at most `MAX_SIZE`.
+#[derive(Clone, Copy)]
+struct Widths {
+    first: u8,
+    second: u8,
+    ghost first_most: { first ≤ MAX_SIZE },
+    ghost second_most: { second ≤ MAX_SIZE },
 }
 
 /// So many moves.
@@ -109,18 +119,16 @@ fn list_item(
 #[tactic(auto, unfolding(crate::specs::Verdicts::different_at))]
 fn different_at(
     alloc: Global,
-    first_width: u8,
-    second_width: u8,
+    widths: Widths,
     line: &mut Line,
     lines: &mut Lines,
 ) -> Result<Verdict, TextFault>
-    requires { (first_width ≤ MAX_SIZE) × (second_width ≤ MAX_SIZE) }
-    ensures { Gives (λ v. (v, lines.new)) result (different_at first_width second_width line.old lines.old) }
+    ensures { Gives (λ v. (v, lines.new)) result (different_at widths.first widths.second line.old lines.old) }
 {
     let listed = quandle_at(line, lines)?;
     let order = listed.quandle().order();
-    let first = list_item(alloc, first_width, order, lines)?;
-    let second = list_item(alloc, second_width, order, lines)?;
+    let first = list_item(alloc, widths.first, order, lines)?;
+    let second = list_item(alloc, widths.second, order, lines)?;
     Ok(Verdict::Different {
         listed,
         first: Items::from_vec(first),
@@ -151,6 +159,15 @@ fn exhausted_at(line: &mut Line) -> Result<Verdict, TextFault>
     })
 }
 
+/// The fault of a line that has not the form of what is due there.
+fn malformed(line: &Line) -> TextFault
+    ensures { result ≡ TextFault.Malformed line.now.number }
+{
+    TextFault::Malformed {
+        line: line.number(),
+    }
+}
+
 /// Why a search said nothing.
 #[tactic(auto, unfolding(crate::specs::Verdicts::unknown_at))]
 fn unknown_at(line: &mut Line) -> Result<Verdict, TextFault>
@@ -162,37 +179,45 @@ fn unknown_at(line: &mut Line) -> Result<Verdict, TextFault>
     } else if cause == b"exhausted".as_slice() {
         exhausted_at(line)
     } else {
-        Err(TextFault::Malformed {
-            line: line.number(),
-        })
+        Err(malformed(line))
+    }
+}
+
+/// A verdict of a version from a line and what stands behind it, on two diagrams with so many columns.
+#[tactic(auto, unfolding(crate::specs::Verdicts::verdict_at, crate::specs::Verdicts::unknown_item))]
+fn verdict_at(
+    alloc: Global,
+    version: Version,
+    widths: Widths,
+    line: &mut Line,
+    lines: &mut Lines,
+) -> Result<Verdict, TextFault>
+    ensures { Gives (λ v. (v, lines.new)) result (verdict_at version widths.first widths.second line.old lines.old) }
+{
+    let kind = next_token(line)?;
+    if kind == b"equal".as_slice() {
+        equal_at(alloc, version, line, lines)
+    } else if kind == b"different".as_slice() {
+        different_at(alloc, widths, line, lines)
+    } else if kind == b"unknown".as_slice() {
+        unknown_at(line)
+    } else {
+        Err(malformed(line))
     }
 }
 
 /// A verdict of a version, on two diagrams with so many columns.
-#[tactic(auto, unfolding(crate::specs::Verdicts::verdict_of, crate::specs::Verdicts::unknown_item))]
+#[tactic(auto, unfolding(crate::specs::Verdicts::verdict_of))]
 fn verdict_of(
     alloc: Global,
     version: Version,
-    first_width: u8,
-    second_width: u8,
+    widths: Widths,
     lines: &mut Lines,
 ) -> Result<Verdict, TextFault>
-    requires { (first_width ≤ MAX_SIZE) × (second_width ≤ MAX_SIZE) }
-    ensures { Gives (λ v. (v, lines.new)) result (verdict_of version first_width second_width lines.old) }
+    ensures { Gives (λ v. (v, lines.new)) result (verdict_of version widths.first widths.second lines.old) }
 {
     let mut line = next_line(lines)?;
-    let kind = next_token(&mut line)?;
-    if kind == b"equal".as_slice() {
-        equal_at(alloc, version, &mut line, lines)
-    } else if kind == b"different".as_slice() {
-        different_at(alloc, first_width, second_width, &mut line, lines)
-    } else if kind == b"unknown".as_slice() {
-        unknown_at(&mut line)
-    } else {
-        Err(TextFault::Malformed {
-            line: line.number(),
-        })
-    }
+    verdict_at(alloc, version, widths, &mut line, lines)
 }
 
 /// The line `certificate 2`.
@@ -213,16 +238,14 @@ fn version_at(line: &mut Line) -> Result<(), TextFault>
 #[tactic(auto, unfolding(crate::specs::Verdicts::tidy_item))]
 fn tidy_item(
     alloc: Global,
-    first_width: u8,
-    second_width: u8,
+    widths: Widths,
     lines: &mut Lines,
 ) -> Result<(Version, Verdict), TextFault>
-    requires { (first_width ≤ MAX_SIZE) × (second_width ≤ MAX_SIZE) }
-    ensures { Gives (λ v. (v, lines.new)) result (tidy_item first_width second_width lines.old) }
+    ensures { Gives (λ v. (v, lines.new)) result (tidy_item widths.first widths.second lines.old) }
 {
     let mut line = next_line(lines)?;
     version_at(&mut line)?;
-    let verdict = verdict_of(alloc, Version::Tidy, first_width, second_width, lines)?;
+    let verdict = verdict_of(alloc, Version::Tidy, widths, lines)?;
     Ok((Version::Tidy, verdict))
 }
 
@@ -230,14 +253,12 @@ fn tidy_item(
 #[tactic(auto, unfolding(crate::specs::Verdicts::plain_item))]
 fn plain_item(
     alloc: Global,
-    first_width: u8,
-    second_width: u8,
+    widths: Widths,
     lines: &mut Lines,
 ) -> Result<(Version, Verdict), TextFault>
-    requires { (first_width ≤ MAX_SIZE) × (second_width ≤ MAX_SIZE) }
-    ensures { Gives (λ v. (v, lines.new)) result (plain_item first_width second_width lines.old) }
+    ensures { Gives (λ v. (v, lines.new)) result (plain_item widths.first widths.second lines.old) }
 {
-    let verdict = verdict_of(alloc, Version::Plain, first_width, second_width, lines)?;
+    let verdict = verdict_of(alloc, Version::Plain, widths, lines)?;
     Ok((Version::Plain, verdict))
 }
 
@@ -245,21 +266,20 @@ fn plain_item(
 #[tactic(auto, unfolding(crate::specs::Verdicts::versioned_item))]
 fn versioned_item(
     alloc: Global,
-    first_width: u8,
-    second_width: u8,
+    widths: Widths,
     lines: &mut Lines,
 ) -> Result<(Version, Verdict), TextFault>
-    requires { (first_width ≤ MAX_SIZE) × (second_width ≤ MAX_SIZE) }
-    ensures { Gives (λ v. (v, lines.new)) result (versioned_item first_width second_width lines.old) }
+    ensures { Gives (λ v. (v, lines.new)) result (versioned_item widths.first widths.second lines.old) }
 {
     if lines.begins(b"certificate") {
-        tidy_item(alloc, first_width, second_width, lines)
+        tidy_item(alloc, widths, lines)
     } else {
-        plain_item(alloc, first_width, second_width, lines)
+        plain_item(alloc, widths, lines)
     }
 }
 
-/// A verdict of either version, on two diagrams with so many columns.
+/// A verdict of either version from the front of the lines, on two diagrams with so many columns, each at most `MAX_SIZE`; what stands
+/// behind it is left. Else the fault of the first bad line, or want of memory, and nothing is said of the lines.
 #[tactic(auto, unfolding(crate::specs::Verdicts::verdict_item))]
 pub fn verdict_item(
     alloc: Global,
@@ -270,6 +290,10 @@ pub fn verdict_item(
     requires { (first_width ≤ MAX_SIZE) × (second_width ≤ MAX_SIZE) }
     ensures { Gives (λ v. (v, lines.new)) result (verdict_item first_width second_width lines.old) }
 {
-    let (_, verdict) = versioned_item(alloc, first_width, second_width, lines)?;
+    let widths = Widths {
+        first: first_width,
+        second: second_width,
+    };
+    let (_, verdict) = versioned_item(alloc, widths, lines)?;
     Ok(verdict)
 }

@@ -14,7 +14,7 @@ use Rattle.grid_moves.specs.Joining.{JoinsWithin}
 use Rattle.mono_simplify.specs.ExchangeClass.{is_shift_or_exchange, IsIrreducible}
 use Rattle.grid_moves.specs.Kinds.{is_destabilisation}
 use Rattle.mono_simplify.specs.Simplified.{AreMonotonic}
-use Rattle.mono_simplify.specs.Listing.{IsListed, NoTranslateDestabilises, HasAtMost, HasMoreAndNoneSmaller}
+use Rattle.mono_simplify.specs.Listing.{IsExchangeList, IsListed, NoTranslateDestabilises, HasAtMost, HasMoreAndNoneSmaller}
 
 abbrev pub Member : Type 0
 Member = Packed × Origin
@@ -60,6 +60,18 @@ pub record IsExplored (d : Diagram) (b place : ℕ) (keys : List Packed) (full :
   pub over : full ≡ nat_lt b (length whole)
   pub turn : full ≡ false → turns ≡ place
   pub none : All NoTranslateDestabilises (take place keys)
+
+-- the turn of the member at this place, whose exchanges these are, leads from one such list to the next, where no translate of the member
+-- has a legal destabilisation
+abbrev pub IsExploredAfter : ℕ → ℕ → List Offer → List Packed → Bool → List Packed → Bool → Type 0
+IsExploredAfter b place exchanges before full after full_after =
+    (d : Diagram) (key : Packed) (member : Diagram)
+    → IsExplored d b place before full
+    → slice_get before place ≡ Some key
+    → IsKeyOf key member
+    → IsExchangeList member exchanges
+    → NoTranslateDestabilises key
+    → IsExplored d b (place + 1) after full_after
 
 -- what the class of d showed with a budget of b members
 abbrev pub IsExploredTo : Diagram → ℕ → Explored → Type 0

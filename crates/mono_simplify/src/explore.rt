@@ -1,12 +1,10 @@
 //! One class, listed up to a budget, or up to its first destabilisation.
-ghost use Rattle.std.specs.Prelude.{◌≡◌, ◌≤◌, ◌+◌, true, false, length, take, nat_lt, slice_get, Some, IfOk, IfSome, IfNone};
+ghost use Rattle.std.specs.Prelude.{◌≡◌, ◌≤◌, true, false, length, take, nat_lt, IfOk, IfSome, IfNone};
 ghost use Rattle.std.specs.List.{All, Contains};
-ghost use Rattle.grid_core.specs.Diagram.{Diagram};
-ghost use Rattle.grid_keys.specs.Key.{IsKeyOf};
 ghost use Rattle.grid_moves.specs.Kinds.{is_exchange, is_destabilisation};
 ghost use Rattle.next_moves.specs.Offers.{exchanges_among};
-ghost use Rattle.mono_simplify.specs.Listing.{IsExchangeList, with_keys, NoTranslateDestabilises};
-ghost use Rattle.mono_simplify.specs.Ways.{keys_in, Extends, IsExplored, IsExploredTo};
+ghost use Rattle.mono_simplify.specs.Listing.{with_keys};
+ghost use Rattle.mono_simplify.specs.Ways.{keys_in, Extends, IsExploredAfter, IsExploredTo};
 
 use crate::class::{Class, Origin};
 use crate::way::way_to;
@@ -88,13 +86,8 @@ fn turn(
     over: bool,
 ) -> Result<bool, OutOfMemory>
     requires few { length class.old ≤ budget }
-    ensures listed { IfOk result (λ after. (d : Diagram) (key : Packed) (member : Diagram)
-        → IsExplored d budget place (keys_in class.old) over
-        → slice_get (keys_in class.old) place ≡ Some key
-        → IsKeyOf key member
-        → IsExchangeList member (exchanges_among offers.now)
-        → NoTranslateDestabilises key
-        → IsExplored d budget (place + 1) (keys_in class.new) after) }
+    ensures listed { IfOk result (λ after.
+        IsExploredAfter budget place (exchanges_among offers.now) (keys_in class.old) over (keys_in class.new) after) }
     ensures ways { IfOk result (λ _. Extends place (exchanges_among offers.now) class.old class.new) }
     ensures few { IfOk result (λ _. length class.new ≤ budget) }
 {

@@ -1,5 +1,5 @@
 //! Simplification.
-ghost use Rattle.std.specs.Prelude.{◌≡◌, ◌≤◌, ◌++◌, IfOk};
+ghost use Rattle.std.specs.Prelude.{◌≤◌, IfOk};
 ghost use Rattle.mono_simplify.specs.Simplified.{Simplifies};
 
 use crate::explore::{Explored, explore};
@@ -63,7 +63,7 @@ pub fn simplify_by(
                 grid: smaller,
                 moves: way,
             } => {
-                push_all(&mut moves, way.as_slice())?;
+                moves.extend_from_slice(way.as_slice())?;
                 here = smaller;
             }
             Explored::Whole => return Ok(Simplified {
@@ -78,14 +78,4 @@ pub fn simplify_by(
             }),
         }
     }
-}
-
-/// Puts all these moves at the end.
-fn push_all(list: &mut Vec<Move>, moves: &[Move]) -> Result<(), OutOfMemory>
-    ensures { IfOk result (λ _. list.new.items ≡ list.old.items ++ moves.now) }
-{
-    for step in moves {
-        list.push(*step)?;
-    }
-    Ok(())
 }

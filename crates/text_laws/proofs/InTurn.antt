@@ -2,7 +2,7 @@
 use Rattle.std.proofs.Common.{◌≡◌, ◌∙◌, ◌-◌, ℕ, zero, suc, ◌&&◌, ◌||◌, not, codes, Bool, true, false, cond, List, [], ◌∷◌, ◌++◌, map, Option, Some, None}
 use Rattle.std.proofs.Common.{Result, Ok, Err, is_none, refl, ap, ap₂, sym, append_assoc}
 use Rattle.std.proofs.Math.Bool.{and-false}
-use Rattle.quandle_core.specs.Fault.{first_fault}
+use Rattle.quandle_core.specs.Fault.{first_fault_within}
 use Rattle.quandle_core.specs.Quandle.{Table}
 use Rattle.grid_moves.specs.declared.step.Move.{Move}
 use Rattle.grid_moves.specs.declared.step.Move.TheVariants.{ShiftColumns, ShiftRows, ExchangeColumns, ExchangeRows, SlideColumns, SlideRows}
@@ -273,10 +273,11 @@ table_turns width order test make entries (suc count) (line ∷ lines) ending =
     (table_turns width order test make (entries ++ row) count lines ending))
 
 pub table_turn : (order : ℕ) (text : Text)
-    → read_fault (table_item order text) ≡ rows_fault order order (λ entries. is_none (first_fault (record { order = order; entries = entries }))) text
+    → read_fault (table_item order text)
+    ≡ rows_fault order order (λ entries. is_none (first_fault_within order (record { order = order; entries = entries }))) text
 unfolding table_item
 table_turn order text =
-    table_turns order order (λ entries. is_none (first_fault (record { order = order; entries = entries })))
+    table_turns order order (λ entries. is_none (first_fault_within order (record { order = order; entries = entries })))
     (λ entries. called name.Table (record { order = order; entries = entries })) [] (order - 1) text.lines text.ending
 
 pub cochain_turn : (q : Table) (modulus : ℕ) (text : Text)

@@ -11,7 +11,8 @@ use Rattle.braid_core.specs.Braid.{Word}
 use Rattle.braid_core.specs.Fault.{first_fault as word_fault}
 use Rattle.grid_moves.specs.declared.step.Move.{Move}
 use Rattle.grid_moves.specs.declared.step.Move.TheVariants.{ShiftColumns, ShiftRows, ExchangeColumns, ExchangeRows, SlideColumns, SlideRows}
-use Rattle.quandle_core.specs.Fault.{first_fault as table_fault}
+use Rattle.quandle_core.specs.declared.quandle.TheConstants.{MAX_ORDER}
+use Rattle.quandle_core.specs.Fault.{first_fault_within}
 use Rattle.text_lines.specs.Lines.{Text}
 use Rattle.text_lines.specs.Numbers.{number_of}
 use Rattle.text_items.specs.declared.fault.TextFault.{TextFault}
@@ -246,7 +247,7 @@ table_alike : (order : ℕ) (t u : Text) → SameText t u → Alike SameLeft (ta
 unfolding table_item
 table_alike order t u same = text_bind _ _ (rows_alike order order (order - 1) t u same)
     (λ front v w behind. next_bind _ _ _ _ behind (λ ts n m p q left. same_bind (below_alike order order ts n m) (λ row.
-    alike_if (is_none (table_fault (record { order = order; entries = front ++ row }))) (alike_ok (refl, left)) alike_err)))
+    alike_if (is_none (first_fault_within order (record { order = order; entries = front ++ row }))) (alike_ok (refl, left)) alike_err)))
 
 untabled_alike : (w : Written) (n m : ℕ) (t u : Text) → SameText t u
     → Alike SameLeft (or_malformed n (meant w) >>= λ q. Ok (q, t)) (or_malformed m (meant w) >>= λ q. Ok (q, u))
@@ -259,14 +260,15 @@ of_alike written.Tetrahedral n m t u same = untabled_alike written.Tetrahedral n
 of_alike (written.Alexander k a) n m t u same = untabled_alike (written.Alexander k a) n m t u same
 of_alike (written.Table order) n m t u same = alike_if (nat_le 1 order) (table_alike order t u same) alike_err
 
-quandle_at_alike : (ts : List (List ℕ)) (n m : ℕ) (t u : Text) → SameText t u → Alike SameLeft (quandle_at (line_of n ts) t) (quandle_at (line_of m ts) u)
+quandle_at_alike : (most : ℕ) (ts : List (List ℕ)) (n m : ℕ) (t u : Text) → SameText t u
+    → Alike SameLeft (quandle_at most (line_of n ts) t) (quandle_at most (line_of m ts) u)
 unfolding quandle_at
-quandle_at_alike ts n m t u same = rest_bind _ _ (written_alike ts n m) (λ w us i j. alike_if (is_over w) alike_err (of_alike w i j t u same))
+quandle_at_alike most ts n m t u same = rest_bind _ _ (written_alike ts n m) (λ w us i j. alike_if (is_over most w) alike_err (of_alike w i j t u same))
 
 pub quandle_alike : (t u : Text) → SameText t u → Alike SameLeft (quandle_item t) (quandle_item u)
 unfolding quandle_item
 quandle_alike t u same =
-    next_bind _ _ _ _ same (λ ts n m v w behind. line_bind _ _ (word_alike (codes "quandle") ts n m) (λ us i j. quandle_at_alike us i j v w behind))
+    next_bind _ _ _ _ same (λ ts n m v w behind. line_bind _ _ (word_alike (codes "quandle") ts n m) (λ us i j. quandle_at_alike MAX_ORDER us i j v w behind))
 
 surplus_alike : (t u : Text) → SameText t u → Alike SameLeft (surplus_quandle t) (surplus_quandle u)
 unfolding surplus_quandle
@@ -316,7 +318,7 @@ equal_alike version ts n m t u same =
 different_alike : (one two : ℕ) (ts : List (List ℕ)) (n m : ℕ) (t u : Text) → SameText t u
     → Alike SameLeft (different_at one two (line_of n ts) t) (different_at one two (line_of m ts) u)
 unfolding different_at
-different_alike one two ts n m t u same = text_bind _ _ (quandle_at_alike ts n m t u same)
+different_alike one two ts n m t u same = text_bind _ _ (quandle_at_alike MAX_ORDER ts n m t u same)
     (λ q v w behind. text_bind _ _ (lists_alike one q.table.order v w behind)
     (λ first p s left. text_bind _ _ (lists_alike two q.table.order p s left) (λ second x y rest. alike_ok (refl, rest))))
 

@@ -3,6 +3,7 @@ use Rattle.std.proofs.Common.{◌≡◌, ◌∙◌, ℕ, suc, Bool, true, false,
 use Rattle.text_lines.specs.Lines.{NumberedLine, Text, starts, begins}
 use Rattle.verdict_core.specs.Diagrams.{columns}
 use Rattle.text_items.specs.declared.fault.TextFault.{TextFault}
+use Rattle.quandle_core.specs.declared.quandle.TheConstants.{MAX_ORDER}
 use Rattle.text_items.specs.declared.quandles.TheConstants.{MAX_QUANDLES}
 use Rattle.text_items.specs.Reading.{◌>>=◌, next_line, next_token, word, text_end}
 use Rattle.text_items.specs.Braids.{braid_item}
@@ -142,7 +143,7 @@ Differs version one two n tokens text =
 lists_turn : (version : Version) (one two n : ℕ) (name : List (List ℕ)) (text : Text) → Differs version one two n (codes "different" ∷ name) text
 unfolding verdict_of different_at quandle_item next_line next_token word
 lists_turn version one two n name text =
-    then_by (quandle_at (line_of n name) text) _ _
+    then_by (quandle_at MAX_ORDER (line_of n name) text) _ _
     (λ q. then_by (list_item one q.0.table.order q.1) _ _ (λ first. only_fault (list_item two q.0.table.order first.1) _))
 
 different_by : (version : Version) (one two n : ℕ) (tokens : List (List ℕ)) (text : Text) → starts (codes "different") tokens ≡ true → Differs version one two n tokens text

@@ -28,7 +28,7 @@ use Rattle.text_laws.proofs.StepFaults.{most_by, chosen}
 -- ---- what a name says, once it is read
 
 abbrev judge : Text → Written × NumberedLine → Result (NamedQuandle × Text) TextFault
-judge text name = cond (is_over name.0) (Err (Limit name.1.number)) (quandle_of name.1.number name.0 text)
+judge text name = cond (is_over MAX_ORDER name.0) (Err (Limit name.1.number)) (quandle_of name.1.number name.0 text)
 
 -- the lines of a table, where the family is that of tables
 abbrev later : List ℕ → Text → ℕ → Option TextFault
@@ -36,7 +36,7 @@ later family text k = cond (bytes_eq family (codes "table")) (read_fault (table_
 
 -- a family of one order: its limit and its content
 record IsFamily (family : List ℕ) (make : ℕ → Written) : Type 0 where
-  over : (k : ℕ) → is_over (make k) ≡ nat_lt MAX_ORDER k
+  over : (k : ℕ) → is_over MAX_ORDER (make k) ≡ nat_lt MAX_ORDER k
   content : (n k : ℕ) (text : Text) → nat_lt MAX_ORDER k ≡ false
       → read_fault (quandle_of n (make k) text) ≡ or_later (fault_by true false (nat_le 1 k) n) (later family text k)
 
@@ -230,19 +230,19 @@ families n rest text = record {
   none = λ family is. other family n rest text is;
 }
 
-name_fails : (n : ℕ) (tokens : List (List ℕ)) (text : Text) → read_fault (quandle_at (line_of n tokens) text) ≡ expected n tokens text
+name_fails : (n : ℕ) (tokens : List (List ℕ)) (text : Text) → read_fault (quandle_at MAX_ORDER (line_of n tokens) text) ≡ expected n tokens text
 unfolding quandle_at written_at next_token
 name_fails n [] text = refl
 name_fails n (family ∷ rest) text = by_family n family rest (λ name. judge text name) (λ w. expected n (w ∷ rest) text) (families n rest text)
 
 quandle_by : (n : ℕ) (tokens : List (List ℕ)) (text : Text)
-    → read_fault (word (codes "quandle") (line_of n tokens) >>= λ rest. quandle_at rest text)
+    → read_fault (word (codes "quandle") (line_of n tokens) >>= λ rest. quandle_at MAX_ORDER rest text)
     ≡ or_later (kind_fault (behind_word (codes "quandle") name_kind) (line_of n tokens)) (table_fault (others tokens) text)
 unfolding word next_token
 quandle_by n [] text = refl
 quandle_by n (w ∷ name) text = by (bytes_eq w (codes "quandle")) refl
   where
-    by : (b : Bool) → bytes_eq w (codes "quandle") ≡ b → read_fault (word (codes "quandle") (line_of n (w ∷ name)) >>= λ rest. quandle_at rest text)
+    by : (b : Bool) → bytes_eq w (codes "quandle") ≡ b → read_fault (word (codes "quandle") (line_of n (w ∷ name)) >>= λ rest. quandle_at MAX_ORDER rest text)
         ≡ or_later (kind_fault (behind_word (codes "quandle") name_kind) (line_of n (w ∷ name))) (table_fault name text)
     by true is = rw is (name_fails n name text)
     by false is = rw is refl
@@ -262,7 +262,7 @@ different_head : (one two n : ℕ) (name : List (List ℕ)) (text : Text) (fault
     → read_fault (different_at one two (line_of n name) text) ≡ Some fault
 unfolding different_at
 different_head one two n name text fault is =
-    fault_stays (quandle_at (line_of n name) text)
+    fault_stays (quandle_at MAX_ORDER (line_of n name) text)
     (λ quandle. list_item one quandle.0.table.order quandle.1 >>= λ first. list_item two quandle.0.table.order first.1
     >>= λ second. Ok (Different quandle.0 first.0 second.0, second.1)) fault
     (name_fails n name text ∙ ap (λ (first : Option TextFault). or_later first (table_fault name text)) is)

@@ -22,7 +22,7 @@ use Rattle.knot_text.specs.declared.shapes.ReplayText.{ReplayText}
 use Rattle.verdict_core.specs.Names.{NamedQuandle}
 use Rattle.verdict_core.specs.Diagrams.{columns}
 use Rattle.knot_text.specs.Shapes.{problem_of, check_of, replay_of}
-use Rattle.knot_text.specs.Printed.{grid_lines, grid_text, moves_lines, moves_text, HaveText, quandle_lines, quandle_text, HasQuandleText}
+use Rattle.knot_text.specs.Printed.{grid_lines, grid_text, moves_lines, moves_text, HaveMovesText, quandle_lines, quandle_text, HasQuandleText}
 use Rattle.knot_text.specs.Printed.{list_lines, verdict_lines, version_lines, HasListText, HasVersionText, diagram_lines, HasDiagramText, colours_lines}
 use Rattle.knot_text.specs.Printed.{colours_text}
 use Rattle.knot_text.specs.WrittenThere.{tokens_by_line, said_by, listed_lines, HasProblemText, problem_lines, given_lines, HasGivenText}
@@ -103,7 +103,7 @@ replay_printed r has =
 text_parts : (xs ys : List (List (List ℕ))) → lines_text (xs ++ ys) ≡ lines_text xs ++ lines_text ys
 text_parts xs ys = flat_map-append line_text xs ys
 
-pub moves_replay : (d : Marks) (moves : List Move) → IsGrid d → HaveText moves
+pub moves_replay : (d : Marks) (moves : List Move) → IsGrid d → HaveMovesText moves
     → replay_of (grid_text d ++ moves_text moves) ≡ Ok (record { diagram = Grid d; moves = moves; colours = None })
 moves_replay d moves grid fits =
     let r : ReplayText = record { diagram = Grid d; moves = moves; colours = None } in
@@ -112,7 +112,7 @@ moves_replay d moves grid fits =
     ap (λ ls. grid_text d ++ lines_text ls) (sym (append-nil lines)) ∙ sym (text_parts (grid_lines d) (lines ++ [])) in
     ap replay_of text ∙ replay_printed r (record { diagram = grid; moves = fits; colours = tt })
 
-pub coloured_replay : (d : Marks) (moves : List Move) (q : NamedQuandle) (c : ArrayVec ℕ) → IsGrid d → HaveText moves → HasQuandleText q
+pub coloured_replay : (d : Marks) (moves : List Move) (q : NamedQuandle) (c : ArrayVec ℕ) → IsGrid d → HaveMovesText moves → HasQuandleText q
     → AreColours (size d) q.table.order c.items
     → replay_of (grid_text d ++ (moves_text moves ++ (quandle_text q ++ colours_text c)))
     ≡ Ok (record { diagram = Grid d; moves = moves; colours = Some (q, c) })

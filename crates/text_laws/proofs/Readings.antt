@@ -15,7 +15,7 @@ use Rattle.text_items.specs.Moves.{moves_item}
 use Rattle.knot_text.specs.Verdicts.{verdict_item}
 use Rattle.knot_text.specs.Shapes.{problem_of, check_of, replay_of, colour_of, close_of, lone_diagram_of}
 use Rattle.knot_text.specs.Pairs.{pair_of}
-use Rattle.knot_text.specs.Printed.{grid_text, moves_text, HaveText, version_text, HasVersionText}
+use Rattle.knot_text.specs.Printed.{grid_text, moves_text, HaveMovesText, version_text, HasVersionText}
 use Rattle.knot_text.specs.declared.verdicts.Version.{Version}
 use Rattle.knot_text.specs.WrittenThere.{said_by, IsProblemText, IsCheckText, IsColourText, IsCloseText, IsPairText}
 use Rattle.knot_text.proofs.Steady.{ok_is}
@@ -62,7 +62,7 @@ once {A} read first second x y s t one two same =
 pub grid_once : (d e : Marks) → IsGrid d → IsGrid e → grid_text d ≡ grid_text e → d ≡ e
 grid_once d e one two same = once grid_item (grid_text d) (grid_text e) d e _ _ (grid_read 0 d [] one) (grid_read 0 e [] two) same
 
-pub moves_once : (a b : List Move) → HaveText a → HaveText b → moves_text a ≡ moves_text b → a ≡ b
+pub moves_once : (a b : List Move) → HaveMovesText a → HaveMovesText b → moves_text a ≡ moves_text b → a ≡ b
 moves_once a b one two same = once moves_item (moves_text a) (moves_text b) a b _ _ (moves_read 0 a [] one) (moves_read 0 b [] two) same
 
 pub verdict_once : (one two : ℕ) (a b : Version) (v w : Verdict) → 1 ≤ one → 1 ≤ two → HasVersionText a one two v → HasVersionText b one two w

@@ -22,7 +22,7 @@ use Rattle.text_items.specs.Quandles.{quandle_item}
 use Rattle.text_items.specs.Colours.{colours_item}
 use Rattle.knot_text.specs.Verdicts.{versioned_item, verdict_item}
 use Rattle.knot_text.specs.declared.verdicts.Version.{Version}
-use Rattle.knot_text.specs.Printed.{grid_lines, braid_lines, moves_lines, HaveText, name_tokens, quandle_lines, HasQuandleText}
+use Rattle.knot_text.specs.Printed.{grid_lines, braid_lines, moves_lines, HaveMovesText, name_tokens, quandle_lines, HasQuandleText}
 use Rattle.knot_text.specs.Printed.{colours_lines, version_lines, HasVersionText}
 use Rattle.knot_text.specs.WrittenThere.{tokens_by_line, StandInFront}
 use Rattle.knot_text.proofs.StepsAgain.{lines_before, word_again}
@@ -100,10 +100,10 @@ grid_written text d rest grid there = read_again IsGrid grid_lines grid_item gri
 pub braid_written : (text : Text) (b : Word) (rest : Text) → IsBraid b → StandInFront (braid_lines b) text rest → braid_item text ≡ Ok (b, rest)
 braid_written text b rest braid there = read_again IsBraid braid_lines braid_item braid_alike braid_says b text rest (braid_again 0 b rest braid) there
 
-pub moves_written : (text : Text) (moves : List Move) (rest : Text) → HaveText moves → StandInFront (moves_lines (codes "moves") moves) text rest
+pub moves_written : (text : Text) (moves : List Move) (rest : Text) → HaveMovesText moves → StandInFront (moves_lines (codes "moves") moves) text rest
     → moves_item text ≡ Ok (moves, rest)
 moves_written text moves rest fits there =
-    read_again HaveText (moves_lines (codes "moves")) moves_item moves_alike moves_say moves text rest (moves_again 0 moves rest fits) there
+    read_again HaveMovesText (moves_lines (codes "moves")) moves_item moves_alike moves_say moves text rest (moves_again 0 moves rest fits) there
 
 item_again : (q : NamedQuandle) (rest : Text) → HasQuandleText q
     → quandle_item (lines_before (numbered 0 (quandle_lines (codes "quandle") q)) rest) ≡ Ok (q, rest)

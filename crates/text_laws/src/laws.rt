@@ -4,7 +4,7 @@ ghost use Rattle.grid_core.specs.Diagram.{Diagram as Marks, IsGrid, IsOneEach, s
 ghost use Rattle.grid_core.specs.declared.grid.TheConstants.{MAX_SIZE};
 ghost use Rattle.quandle_core.specs.declared.quandle.TheConstants.{MAX_ORDER};
 ghost use Rattle.quandle_core.specs.Quandle.{Table};
-ghost use Rattle.quandle_core.specs.Fault.{first_fault as table_first_fault};
+ghost use Rattle.quandle_core.specs.Fault.{first_fault_within};
 ghost use Rattle.cocycle_core.specs.Fault.{first_fault as cochain_fault};
 ghost use Rattle.arrayvec.specs.ArrayVec.{ArrayVec};
 ghost use Rattle.colour_list.specs.declared.limits.TheConstants.{MAX_COLOURINGS};
@@ -34,7 +34,7 @@ ghost use Rattle.text_items.specs.BraidSteps.{step_at, step_lines, steps_item};
 ghost use Rattle.knot_text.specs.BraidChecks.{braidcheck_in, braidcheck_of};
 ghost use Rattle.text_items.specs.Cocycles.{modulus_at, cochain, cocycle_item};
 ghost use Rattle.knot_text.specs.Weights.{weight_in, weight_of};
-ghost use Rattle.knot_text.specs.Printed.{grid_text, braid_text, moves_text, version_lines, version_text, HaveText, HasVersionText};
+ghost use Rattle.knot_text.specs.Printed.{grid_text, braid_text, moves_text, version_lines, version_text, HaveMovesText, HasVersionText};
 ghost use Rattle.knot_text.specs.Printed.{grid_lines, moves_lines, quandle_lines, quandle_text, braid_lines, diagram_lines, colours_lines, colours_text, HasQuandleText, HasDiagramText};
 ghost use Rattle.knot_text.specs.Printed.{steps_text, HaveStepsText};
 ghost use Rattle.knot_text.specs.WrittenThere.{StandInFront, said_by, HasProblemText, problem_lines, IsProblemText, IsCheckText, HasReplayText, replay_lines, IsColourText, IsCloseText, IsPairText};
@@ -64,7 +64,7 @@ pub fn a_written_braid_is_read()
 
 /// Printed moves are read back, whatever stands behind them, if there are few enough.
 pub fn printed_moves_are_read()
-    ensures { (n : ℕ) (moves : List Move) (more : List ℕ) → HaveText moves
+    ensures { (n : ℕ) (moves : List Move) (more : List ℕ) → HaveMovesText moves
         → moves_item (text_from n (moves_text moves ++ more)) ≡ Ok (moves, text_from (n + (length moves + 1)) more) }
 {}
 
@@ -115,7 +115,7 @@ pub fn a_text_has_one_reading()
 /// A printed text is that of one value alone.
 pub fn a_printed_text_has_one_value()
     ensures grid { (d e : Marks) → IsGrid d → IsGrid e → grid_text d ≡ grid_text e → d ≡ e }
-    ensures moves { (a b : List Move) → HaveText a → HaveText b → moves_text a ≡ moves_text b → a ≡ b }
+    ensures moves { (a b : List Move) → HaveMovesText a → HaveMovesText b → moves_text a ≡ moves_text b → a ≡ b }
     ensures verdict { (one two : ℕ) (a b : Version) (v w : Verdict) → 1 ≤ one → 1 ≤ two → HasVersionText a one two v → HasVersionText b one two w
         → version_text a v ≡ version_text b w → v ≡ w }
 {}
@@ -194,7 +194,7 @@ pub fn lines_of_a_kind_fail_in_turn()
     ensures list { (width order count : ℕ) (text : Text)
         → read_fault (in_turn (colour_line width order) count text) ≡ lines_fault (below_kind width order) count text }
     ensures table { (order : ℕ) (text : Text) → read_fault (table_item order text)
-        ≡ rows_fault order order (λ entries. is_none (table_first_fault (record { order = order; entries = entries }))) text }
+        ≡ rows_fault order order (λ entries. is_none (first_fault_within order (record { order = order; entries = entries }))) text }
 {}
 
 /// A text fails by its items in turn, and what stands behind the last of them is malformed; a list of quandles fails by the
@@ -273,7 +273,7 @@ pub fn what_is_read_is_written_there()
     ensures diagram { (text : Text) (d : Diagram) (rest : Text)
         → diagram_item text ≡ Ok (d, rest) ↔ (HasDiagramText d × StandInFront (diagram_lines d) text rest) }
     ensures moves { (text : Text) (moves : List Move) (rest : Text)
-        → moves_item text ≡ Ok (moves, rest) ↔ (HaveText moves × StandInFront (moves_lines (codes "moves") moves) text rest) }
+        → moves_item text ≡ Ok (moves, rest) ↔ (HaveMovesText moves × StandInFront (moves_lines (codes "moves") moves) text rest) }
     ensures steps { (text : Text) (steps : List BraidMove) (rest : Text)
         → steps_item text ≡ Ok (steps, rest) ↔ (HaveStepsText steps × StepsInFront steps text rest) }
     ensures quandle { (text : Text) (q : NamedQuandle) (rest : Text)
@@ -304,9 +304,9 @@ pub fn a_text_is_read_as_what_it_says()
 /// A printed grid and printed moves are read as a replay, and with a printed quandle and printed colours behind them as one
 /// that carries colours.
 pub fn a_printed_replay_is_read()
-    ensures moves { (d : Marks) (moves : List Move) → IsGrid d → HaveText moves
+    ensures moves { (d : Marks) (moves : List Move) → IsGrid d → HaveMovesText moves
         → replay_of (grid_text d ++ moves_text moves) ≡ Ok (record { diagram = diagram.Grid d; moves = moves; colours = None }) }
-    ensures colours { (d : Marks) (moves : List Move) (q : NamedQuandle) (c : ArrayVec ℕ) → IsGrid d → HaveText moves → HasQuandleText q
+    ensures colours { (d : Marks) (moves : List Move) (q : NamedQuandle) (c : ArrayVec ℕ) → IsGrid d → HaveMovesText moves → HasQuandleText q
         → AreColours (size d) q.table.order c.items
         → replay_of (grid_text d ++ (moves_text moves ++ (quandle_text q ++ colours_text c)))
         ≡ Ok (record { diagram = diagram.Grid d; moves = moves; colours = Some (q, c) }) }

@@ -1,57 +1,19 @@
-use Rattle.std.proofs.Common.{◌≡◌, ◌++◌, List, ℕ, OnErr, rules, subst, append_assoc, codes, map, arith, ◌∷◌}
-use Rattle.std.specs.List.{range_with_len}
-use Rattle.std.specs.Fmt.{decimal}
+use Rattle.std.proofs.Common.{◌≡◌, ◌++◌, ◌∙◌, OnOk, OnErr, ap₂, subst}
+use Rattle.quandle_core.specs.Quandle.{Table}
 use Rattle.text_lines.specs.Spelled.{lines_text}
 use Rattle.text_lines.specs.Appended.{AppendsPart}
-use Rattle.text_lines.proofs.Parts.{on_err, part_none, last_behind, last_bytes}
-use Rattle.knot_text.proofs.LineTexts.{some_line}
-use Rattle.knot_text.specs.Printed.{quandle_lines, row_tokens, name_tokens}
+use Rattle.verdict_core.specs.declared.names.QuandleName.{QuandleName}
+use Rattle.verdict_core.specs.Names.{NamedQuandle, called}
+use Rattle.knot_text.specs.Printed.{quandle_lines}
 use Rattle.knot_text.proofs.printed.push_quandle.Goals as goal
 
-pub returns-in-Trivial-clause-part : goal.returns-in-Trivial-clause-part
-returns-in-Trivial-clause-part c =
-    let stands : List ℕ → Type 0 = λ s. OnErr c.push_counted.result (AppendsPart c.args.out.now.items c.push_counted.new.out.items s) in
-    let whole : c.args.word.now ++ (codes " trivial " ++ (decimal c.from.result ++ codes "\n"))
-    ≡ lines_text (quandle_lines c.args.word.now c.args.listed.now) = search (rules, append_assoc) in
-    subst stands whole (last_behind c.push_counted.result _ _ _ c.args.word.now _ c.in_ok-extend_from_slice.ensures.items
-    c.push_counted.ensures.part)
+pub returns-clause-text : goal.returns-clause-text
+returns-clause-text c =
+    subst (λ (q : NamedQuandle). OnOk c.push_named.result (c.push_named.new.out.items ≡ c.args.out.now.items ++ lines_text (quandle_lines c.args.word.now q)))
+    (ap₂ (λ (n : QuandleName) (t : Table). called n t) c.name.ensures (c.operations-quandle.ensures ∙ c.quandle.ensures.quandle)) c.push_named.ensures.text
 
-pub returns-in-Dihedral-clause-part : goal.returns-in-Dihedral-clause-part
-returns-in-Dihedral-clause-part c =
-    let stands : List ℕ → Type 0 = λ s. OnErr c.push_counted-in-Dihedral.result (AppendsPart c.args.out.now.items c.push_counted-in-Dihedral.new.out.items s) in
-    let whole : c.args.word.now ++ (codes " dihedral " ++ (decimal c.from-in-Dihedral.result ++ codes "\n"))
-    ≡ lines_text (quandle_lines c.args.word.now c.args.listed.now) = search (rules, append_assoc) in
-    subst stands whole (last_behind c.push_counted-in-Dihedral.result _ _ _ c.args.word.now _ c.in_ok-extend_from_slice.ensures.items
-    c.push_counted-in-Dihedral.ensures.part)
-
-pub returns-in-Alexander-clause-part : goal.returns-in-Alexander-clause-part
-returns-in-Alexander-clause-part c =
-    let stands : List ℕ → Type 0 = λ s. OnErr c.push_paired.result (AppendsPart c.args.out.now.items c.push_paired.new.out.items s) in
-    let whole : c.args.word.now ++ (codes " alexander " ++ (decimal c.from-in-Alexander.result ++ (codes " " ++ (decimal c.from-in-Alexander-2.result ++ codes "\n"))))
-    ≡ lines_text (quandle_lines c.args.word.now c.args.listed.now) = search (rules, append_assoc) in
-    subst stands whole (last_behind c.push_paired.result _ _ _ c.args.word.now _ c.in_ok-extend_from_slice.ensures.items
-    c.push_paired.ensures.part)
-
-pub returns-in-Table-clause-part : goal.returns-in-Table-clause-part
-returns-in-Table-clause-part c =
-    let stands : List ℕ → Type 0 = λ s. OnErr c.push_table.result (AppendsPart c.args.out.now.items c.push_table.new.out.items s) in
-    let whole : c.args.word.now ++ ((codes " table " ++ (decimal c.quandle.result.now.order ++ codes "\n"))
-    ++ lines_text (map (row_tokens c.quandle.result.now) (range_with_len 0 c.quandle.result.now.order)))
-    ≡ lines_text (quandle_lines c.args.word.now c.args.listed.now) = search (rules, append_assoc) in
-    subst stands whole (last_behind c.push_table.result _ _ _ c.args.word.now _ c.in_ok-extend_from_slice.ensures.items
-    c.push_table.ensures.part)
-
-pub returns-in-Tetrahedral-clause-part : goal.returns-in-Tetrahedral-clause-part
-returns-in-Tetrahedral-clause-part c =
-    let end = codes " tetrahedral\n" in
-    let stands : List ℕ → Type 0 =
-    λ s. OnErr c.extend_from_slice-in-Tetrahedral.result (AppendsPart c.args.out.now.items c.extend_from_slice-in-Tetrahedral.new.self.items s) in
-    let whole : c.args.word.now ++ end ≡ lines_text (quandle_lines c.args.word.now c.args.listed.now) = search (rules, append_assoc) in
-    let before = c.in_ok-extend_from_slice.ensures.items in
-    let after = c.extend_from_slice-in-Tetrahedral.ensures.items in
-    subst stands whole (last_bytes c.extend_from_slice-in-Tetrahedral.result _ _ _ c.args.word.now end before after (omega arith))
-
-pub returns-in_err-extend_from_slice-clause-part : goal.returns-in_err-extend_from_slice-clause-part
-returns-in_err-extend_from_slice-clause-part c =
-    let some = some_line (c.args.word.now ∷ name_tokens c.args.listed.now.name c.args.listed.now.table.order) _ in
-    on_err c.from_residual.result _ (part_none _ _ _ c.in_err-extend_from_slice.ensures.items some)
+pub returns-clause-part : goal.returns-clause-part
+returns-clause-part c =
+    subst (λ (q : NamedQuandle).
+    OnErr c.push_named.result (AppendsPart c.args.out.now.items c.push_named.new.out.items (lines_text (quandle_lines c.args.word.now q))))
+    (ap₂ (λ (n : QuandleName) (t : Table). called n t) c.name.ensures (c.operations-quandle.ensures ∙ c.quandle.ensures.quandle)) c.push_named.ensures.part

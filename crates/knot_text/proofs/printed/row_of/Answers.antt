@@ -8,7 +8,8 @@ pub push-requires : goal.push-requires
 push-requires c =
     let len : length c.loop-y.row.items ≡ c.loop-y.y =
     ap (λ (xs : List ℕ). length xs) c.loop-y.invariant ∙ length-map-range_with_len (over c.args.quandle.now c.args.x) 0 c.loop-y.y in
-    (omega arith, omega (arith, len, c.order-y-end.ensures.order, c.order-y-end.ensures.quandle.most))
+    (omega arith, omega (arith, len, c.order-y-end.ensures.order, c.order-y-end.ensures.few))
 
 pub loop-y-preserved : goal.loop-y-preserved
-loop-y-preserved c = entries_more (over c.args.quandle.now c.args.x) c.loop-y.row.items c.push.new.self.items c.loop-y.y c.over.result c.loop-y.invariant c.push.ensures.items c.over.ensures
+loop-y-preserved c = entries_more (over c.args.quandle.now c.args.x) c.loop-y.row.items c.push.new.self.items c.loop-y.y c.over.result
+    c.loop-y.invariant c.push.ensures.items c.over.ensures

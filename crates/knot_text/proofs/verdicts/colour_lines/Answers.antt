@@ -14,7 +14,8 @@ returns-in_err-colour_line c =
 pub loop-preserved : goal.loop-preserved
 loop-preserved c =
     let item = colour_line c.args.width c.args.order in
-    rw c.in_ok-push.ensures.items (turn_more item c.loop.colourings.items c.args.count c.loop.counter c.loop.lines c.in_ok-colour_line.field-0 c.colour_line.new.lines (in_turn item c.args.count c.args.lines.now) c.loop-test.true c.in_ok-colour_line.ensures c.loop.invariant)
+    rw c.in_ok-push.ensures.items (turn_more item c.loop.colourings.items c.args.count c.loop.counter c.loop.lines c.in_ok-colour_line.field-0
+    c.colour_line.new.lines (in_turn item c.args.count c.args.lines.now) c.loop-test.true c.in_ok-colour_line.ensures c.loop.invariant)
 
 pub returns : goal.returns
 returns c =

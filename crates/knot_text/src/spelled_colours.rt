@@ -1,10 +1,10 @@
-//! The lines of a list of colourings. A list has up to 65,536 of them, so each is spelled in place and appended at once.
+//! The lines of a list of colourings are spelled. A list has up to 65,536 of them, so each is spelled in place and appended at once.
 ghost use Rattle.std.specs.Prelude.{◌≡◌, ◌≤◌, ◌+◌, ◌*◌, ◌++◌, codes, length, map, OnOk, OnErr};
 ghost use Rattle.std.specs.List.{flat_map};
 ghost use Rattle.std.specs.Fmt.{decimal};
 ghost use Rattle.text_lines.specs.Spelled.{spaced, line_bytes, line_text};
 ghost use Rattle.text_lines.specs.Appended.{AppendsPart};
-ghost use Rattle.knot_text.specs.declared.colour_lines.TheConstants.{MAX_LINE};
+ghost use Rattle.knot_text.specs.declared.spelled_colours.TheConstants.{MAX_LINE};
 
 use arrayvec::ArrayVec;
 use colour_rows::Colouring;

@@ -3,7 +3,7 @@ use Rattle.std.specs.List.{flat_map}
 use Rattle.std.specs.Fmt.{decimal}
 use Rattle.text_lines.specs.Spelled.{spaced}
 use Rattle.text_lines.proofs.LineTexts.{numbers_joined}
-use Rattle.knot_text.proofs.colour_lines.spell_all.Goals as goal
+use Rattle.knot_text.proofs.spelled_colours.spell_all.Goals as goal
 
 pub returns-in-len1-up-clause-bytes : goal.returns-in-len1-up-clause-bytes
 returns-in-len1-up-clause-bytes c =

@@ -1,7 +1,7 @@
 use Rattle.std.proofs.Common.{◌+◌, ◌/◌, ◌%◌, ◌++◌, ◌∷◌, [], ◌∙◌, ℕ, List, sym, ap, append_assoc, arith}
 use Rattle.std.proofs.lemmas.Fmt.{decimal_digit}
 use Rattle.knot_text.proofs.SpelledNumbers.{two_spelled, three_spelled}
-use Rattle.knot_text.proofs.colour_lines.spell.Goals as goal
+use Rattle.knot_text.proofs.spelled_colours.spell.Goals as goal
 
 pub returns-then-number-lt10-clause-bytes : goal.returns-then-number-lt10-clause-bytes
 returns-then-number-lt10-clause-bytes c =

@@ -2,7 +2,7 @@ use Rattle.std.proofs.Common.{◌≡◌, ◌≤◌, ◌+◌, ◌*◌, ◌++◌, 
 use Rattle.std.specs.List.{flat_map}
 use Rattle.std.specs.Fmt.{decimal}
 use Rattle.text_lines.specs.Spelled.{spaced}
-use Rattle.knot_text.proofs.colour_lines.spell_behind.Given as goal
+use Rattle.knot_text.proofs.spelled_colours.spell_behind.Given as goal
 
 abbrev pub invariant-loop-colour : goal.invariant-loop-colour
 invariant-loop-colour l =
