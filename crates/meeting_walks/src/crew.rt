@@ -2,8 +2,10 @@
 //!
 //! In a round each worker goes on until it has made as many steps as the round allows. Where some have met, the others go on to the
 //! least number of steps at which one has. So the answer is that of the fewest steps whatever the threads' order.
+ghost use Rattle.std.specs.Prelude.{◌≡◌};
+ghost use Rattle.meeting_walks.specs.Rounds.{limit_after};
 
-use crate::finding::Bounds;
+use crate::plan::Plan;
 use crate::seeker::Seeker;
 use crate::watch::Watch;
 use grid_core::Grid;
@@ -38,26 +40,16 @@ pub(crate) struct Found {
 }
 
 impl Crew {
-    /// Some workers, at least one, at their starts. Worker w has the seed w above the given one.
+    /// The workers of a plan at their starts.
     pub(crate) fn new(
         alloc: Global,
         first: &Grid,
         second: &Grid,
-        bounds: Bounds,
-        workers: u32,
+        plan: Plan,
     ) -> Result<Crew, OutOfMemory> {
-        let mut seekers = Vec::new(alloc);
-        for worker in 0..workers.max(1) {
-            let own = Bounds {
-                seed: bounds.seed.wrapping_add(u64::from(worker)),
-                steps: bounds.steps,
-                room: bounds.room,
-            };
-            seekers.push(Seeker::new(alloc, first, second, own)?)?;
-        }
         Ok(Crew {
-            seekers,
-            steps: bounds.steps,
+            seekers: seekers_of(alloc, first, second, plan)?,
+            steps: plan.bounds.steps,
             limit: 0,
         })
     }
@@ -99,8 +91,7 @@ impl Crew {
         if self.is_done(most) {
             return None;
         }
-        let more = (self.limit / 4).clamp(SHORT_ROUND, LONG_ROUND);
-        self.limit = self.limit.saturating_add(more).min(most);
+        self.limit = limit_after(self.limit, most);
         Some(self.limit)
     }
 
@@ -144,20 +135,49 @@ impl Crew {
         }
     }
 
-    /// What the worker with the fewest steps has found, the lowest of those with as few; or None where none has. Want of memory in one of
-    /// them is an error.
+    /// What the worker with the fewest steps has found, or None where none has. Want of memory in one of them is an error.
     pub(crate) fn found(&self, alloc: Global) -> Result<Option<Found>, OutOfMemory> {
         if self.is_out_of_memory() {
             return Err(OutOfMemory);
         }
+        match self.quickest() {
+            Some(seeker) => found_by(alloc, seeker),
+            None => Ok(None),
+        }
+    }
+
+    /// The worker that has met with the fewest steps, the first of those with as few; or None where none has.
+    fn quickest(&self) -> Option<&Seeker> {
         let fewest = self.fewest_steps();
         for seeker in &self.seekers {
             if seeker.has_met() && Some(seeker.made()) == fewest {
-                return found_by(alloc, seeker);
+                return Some(seeker);
             }
         }
-        Ok(None)
+        None
     }
+}
+
+/// The workers of a plan, at least one. The seed of each is the one above that of the worker before it.
+fn seekers_of(
+    alloc: Global,
+    first: &Grid,
+    second: &Grid,
+    plan: Plan,
+) -> Result<Vec<Seeker>, OutOfMemory> {
+    let mut seekers = Vec::new(alloc);
+    for worker in 0..plan.workers.max(1) {
+        seekers.push(Seeker::new(alloc, first, second, plan.bounds.of(worker))?)?;
+    }
+    Ok(seekers)
+}
+
+/// The steps that a round allows behind one that allowed so many, where no worker has a say after the most.
+fn limit_after(limit: u64, most: u64) -> u64
+    ensures { result ≡ limit_after limit most }
+{
+    let more = (limit / 4).clamp(SHORT_ROUND, LONG_ROUND);
+    limit.saturating_add(more).min(most)
 }
 
 /// What a worker has found.

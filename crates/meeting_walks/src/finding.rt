@@ -1,11 +1,11 @@
 //! The search from end to end.
-ghost use Rattle.std.specs.Prelude.{◌≡◌, ◌<◌, IfOk, IfSome, IfNone, IsSome};
-ghost use Rattle.std.specs.List.{Contains};
-ghost use Rattle.grid_core.specs.Diagram.{size};
+ghost use Rattle.std.specs.Prelude.{◌≡◌, IfOk, IfSome, IfNone};
 ghost use Rattle.grid_moves.specs.Joining.{Joins};
-ghost use Rattle.grid_keys.specs.Translation.{translate, translates};
+ghost use Rattle.meeting_walks.specs.Answered.{JoinsIfFound, FindsTranslates};
+ghost use Rattle.meeting_walks.specs.ShiftsTo.{AreShiftsTo};
 
 use crate::crew::{Crew, Found};
+use crate::plan::{Bounds, Plan};
 use crate::shifts::shifts_to;
 use crate::spelling::spelled;
 use crate::watch::{Unwatched, Watch};
@@ -17,26 +17,12 @@ use std::alloc::Global;
 use std::thread::Threads;
 use torus_grids::shortened;
 
-/// What bounds a search, and the seed of its random words. Where several workers search, the bounds are those of each.
-#[derive(Clone, Copy, Debug, PartialEq, Eq)]
-pub struct Bounds {
-    /// The seed: for the same diagrams, the same bounds and as many workers, the same list is found again.
-    pub seed: u64,
-    /// How many steps the walks make before they stop; the start of an excursion is a step, and so is each of its moves. Two excursions,
-    /// one of each side, may pass it, since they are ended first. Walks that met no new form in a million steps stop before.
-    pub steps: u64,
-    /// How many forms the table of the walks holds at most. Two excursions, one of each side, add at most `2 * 512 * MAX_SIZE`. Where there
-    /// might not be room for so many more, the table is emptied, and both walks begin anew with the random words that follow. With less
-    /// room than for these and the two first forms they do so before every two excursions, and the table may pass the room.
-    /// The graph that shortens what the walks find has a bound of its own.
-    pub room: usize,
-}
-
 /// A list of moves that joins the first diagram to the second: each is legal where it is made, and the last one leads to the second
 /// diagram. Or None where the search ends without one; or want of memory, which is the only error.
 ///
 /// Translates are joined by their shifts, within any bounds. Else the list is sought at random, and need not be the shortest.
-/// None says nothing of the diagrams but that they aren't translates of each other.
+/// None says nothing of the diagrams but that they aren't translates of each other. It comes where the walks end without meeting, and
+/// would come too where a path that they found can't be written as moves, which no test has met.
 ///
 /// One worker searches, in the calling thread.
 pub fn find_joining(
@@ -45,8 +31,8 @@ pub fn find_joining(
     second: &Grid,
     bounds: Bounds,
 ) -> Result<Option<Vec<Move>>, OutOfMemory>
-    ensures joins { IfOk result (λ found. IfSome found (λ moves. Joins first.now moves.items second.now)) }
-    ensures translates { IfOk result (λ found. Contains (translates first.now) second.now → IsSome found) }
+    ensures joins { IfOk result (λ found. JoinsIfFound first.now second.now found) }
+    ensures translates { IfOk result (λ found. FindsTranslates first.now second.now found) }
 {
     match shifts_to(first, second) {
         Some((columns, rows)) => {
@@ -56,29 +42,27 @@ pub fn find_joining(
     }
 }
 
-/// A list of moves as `find_joining` answers it, sought by so many workers, in as many threads as can be started; 0 counts as 1. Each
-/// worker has a table of its own, and the seed above that of the one before, where 0 is above `u64::MAX`. The list is that of the worker
-/// that makes the fewest steps until its walks meet, the first of those with as few: so it doesn't depend on the order in which the
-/// threads run. Want of memory in one worker is the error, whatever the others have found. The watch is told of the progress of the
-/// first worker.
+/// A list of moves as `find_joining` answers it, sought by the workers of a plan, in as many threads as can be started. The list is that
+/// of the worker that makes the fewest steps until its walks meet, the first of those with as few: so it doesn't depend on the order in
+/// which the threads run. Want of memory in one worker is the error, whatever the others have found. The watch is told of the progress of
+/// the first worker.
 pub fn find_joining_by<R: Threads + Sync, W: Watch>(
     rt: &R,
     alloc: Global,
     first: &Grid,
     second: &Grid,
-    bounds: Bounds,
-    workers: u32,
+    plan: Plan,
     watch: &mut W,
 ) -> Result<Option<Vec<Move>>, OutOfMemory>
-    ensures joins { IfOk result (λ found. IfSome found (λ moves. Joins first.now moves.items second.now)) }
-    ensures translates { IfOk result (λ found. Contains (translates first.now) second.now → IsSome found) }
+    ensures joins { IfOk result (λ found. JoinsIfFound first.now second.now found) }
+    ensures translates { IfOk result (λ found. FindsTranslates first.now second.now found) }
 {
     match shifts_to(first, second) {
         Some(shifts) => {
             let moves = joined_by_shifts(alloc, first, second, shifts.0, shifts.1)?;
             Ok(Some(moves))
         }
-        None => sought_by(rt, alloc, first, second, bounds, workers, watch),
+        None => sought_by(rt, alloc, first, second, plan, watch),
     }
 }
 
@@ -90,9 +74,7 @@ fn joined_by_shifts(
     columns: u8,
     rows: u8,
 ) -> Result<Vec<Move>, OutOfMemory>
-    requires columns { columns < size first.now }
-    requires rows { rows < size first.now }
-    requires translate { translate first.now columns rows ≡ second.now }
+    requires shifts { AreShiftsTo first.now second.now columns rows }
     ensures { IfOk result (λ moves. Joins first.now moves.items second.now) }
 {
     let _size = first.size();
@@ -108,9 +90,10 @@ fn sought(
     second: &Grid,
     bounds: Bounds,
 ) -> Result<Option<Vec<Move>>, OutOfMemory>
-    ensures { IfOk result (λ found. IfSome found (λ moves. Joins first.now moves.items second.now)) }
+    ensures { IfOk result (λ found. JoinsIfFound first.now second.now found) }
 {
-    let mut crew = Crew::new(alloc, first, second, bounds, 1)?;
+    let workers = 1;
+    let mut crew = Crew::new(alloc, first, second, Plan { bounds, workers })?;
     crew.work(alloc, &mut Unwatched);
     joining(alloc, first, second, crew.found(alloc)?)
 }
@@ -121,13 +104,12 @@ fn sought_by<R: Threads + Sync, W: Watch>(
     alloc: Global,
     first: &Grid,
     second: &Grid,
-    bounds: Bounds,
-    workers: u32,
+    plan: Plan,
     watch: &mut W,
 ) -> Result<Option<Vec<Move>>, OutOfMemory>
-    ensures { IfOk result (λ found. IfSome found (λ moves. Joins first.now moves.items second.now)) }
+    ensures { IfOk result (λ found. JoinsIfFound first.now second.now found) }
 {
-    let mut crew = Crew::new(alloc, first, second, bounds, workers)?;
+    let mut crew = Crew::new(alloc, first, second, plan)?;
     crew.work_by(rt, alloc, watch);
     let found = crew.found(alloc)?;
     joining(alloc, first, second, found)
@@ -140,7 +122,7 @@ fn joining(
     second: &Grid,
     found: Option<Found>,
 ) -> Result<Option<Vec<Move>>, OutOfMemory>
-    ensures { IfOk result (λ found. IfSome found (λ moves. Joins first.now moves.items second.now)) }
+    ensures { IfOk result (λ found. JoinsIfFound first.now second.now found) }
 {
     let Some(Found { path, seed }) = found else {
         return Ok(None);

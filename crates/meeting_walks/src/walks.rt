@@ -1,11 +1,11 @@
 //! Two walks, one from each diagram, until they meet.
 
 use crate::camp::Camp;
-use crate::excursion::{Excursion, LONG, Stepped};
+use crate::excursion::{Excursion, LONG};
 use crate::path::{Meeting, path_through};
 use crate::table::{Side, Table};
 use crate::watch::Progress;
-use grid_core::MAX_SIZE;
+use grid_core::{Grid, MAX_SIZE};
 use memory_core::OutOfMemory;
 use rand_pcg::Pcg32;
 use std::alloc::Global;
@@ -16,6 +16,13 @@ const MOST_STEPS: u32 = LONG * MAX_SIZE as u32;
 
 /// The stream of the generator.
 const STREAM: u64 = 54;
+
+/// The forms of the two diagrams.
+#[derive(Clone, Copy)]
+pub(crate) struct Ends {
+    first: Form,
+    second: Form,
+}
 
 /// The state of both walks.
 #[derive(Drop)]
@@ -35,23 +42,22 @@ struct Common {
     made: u64,
 }
 
+impl Ends {
+    /// The forms of two grids.
+    pub(crate) fn of(first: &Grid, second: &Grid) -> Ends {
+        Ends {
+            first: Form::of(&Torus::of(first)),
+            second: Form::of(&Torus::of(second)),
+        }
+    }
+}
+
 impl Walks {
     /// Both walks at the forms of their diagrams.
-    pub(crate) fn new(
-        alloc: Global,
-        first: Form,
-        second: Form,
-        seed: u64,
-    ) -> Result<Walks, OutOfMemory> {
-        let mut table = Table::new(alloc);
-        let first = camp_at(alloc, &mut table, Side::First, first)?;
-        let second = camp_at(alloc, &mut table, Side::Second, second)?;
-        let common = Common {
-            table,
-            trail: Vec::new(alloc),
-            generator: Pcg32::new(seed, STREAM),
-            made: 0,
-        };
+    pub(crate) fn new(alloc: Global, ends: Ends, seed: u64) -> Result<Walks, OutOfMemory> {
+        let mut common = Common::new(alloc, seed);
+        let first = common.camp(alloc, Side::First, ends.first)?;
+        let second = common.camp(alloc, Side::Second, ends.second)?;
         Ok(Walks {
             common,
             first,
@@ -84,15 +90,10 @@ impl Walks {
     }
 
     /// Both walks at the forms of their diagrams again; the generator goes on.
-    pub(crate) fn begin_anew(
-        &mut self,
-        alloc: Global,
-        first: Form,
-        second: Form,
-    ) -> Result<(), OutOfMemory> {
+    pub(crate) fn begin_anew(&mut self, alloc: Global, ends: Ends) -> Result<(), OutOfMemory> {
         self.common.table.clear();
-        self.first = camp_at(alloc, &mut self.common.table, Side::First, first)?;
-        self.second = camp_at(alloc, &mut self.common.table, Side::Second, second)?;
+        self.first = self.common.camp(alloc, Side::First, ends.first)?;
+        self.second = self.common.camp(alloc, Side::Second, ends.second)?;
         Ok(())
     }
 
@@ -105,39 +106,70 @@ impl Walks {
     }
 }
 
-/// The camp of a side at the form of its diagram.
-fn camp_at(alloc: Global, table: &mut Table, side: Side, form: Form) -> Result<Camp, OutOfMemory> {
-    let root = table.add_root(form, side)?;
-    Camp::new(alloc, side, root, form.size())
-}
-
 impl Common {
+    /// An empty table, and the generator of a seed.
+    fn new(alloc: Global, seed: u64) -> Common {
+        Common {
+            table: Table::new(alloc),
+            trail: Vec::new(alloc),
+            generator: Pcg32::new(seed, STREAM),
+            made: 0,
+        }
+    }
+
+    /// The camp of a side at the form of its diagram, which is kept.
+    fn camp(&mut self, alloc: Global, side: Side, form: Form) -> Result<Camp, OutOfMemory> {
+        let root = self.table.add_root(form, side)?;
+        Camp::new(alloc, side, root, form.size())
+    }
+
     /// An excursion from a side's camp.
     fn explore(&mut self, camp: &mut Camp) -> Result<Option<Meeting>, OutOfMemory> {
+        let Some(mut trip) = self.set_out(camp) else {
+            return Ok(None);
+        };
+        let met = self.travel(camp, &mut trip)?;
+        camp.last = trip.here;
+        Ok(met)
+    }
+
+    /// Begins an excursion where a side's camp says, which is a step.
+    fn set_out(&mut self, camp: &Camp) -> Option<Excursion> {
         self.made = self.made.saturating_add(1);
         self.trail.clear();
         let start = camp.start(&self.table, &mut self.generator);
-        let Some((form, _)) = self.table.get(start) else {
-            return Ok(None);
-        };
-        let mut trip = Excursion::new(form.torus(), start, &mut self.generator);
+        let (form, _) = self.table.get(start)?;
+        Some(Excursion::new(form.torus(), start, &mut self.generator))
+    }
+
+    /// Makes the steps of an excursion, up to its end or to where the sides meet.
+    fn travel(
+        &mut self,
+        camp: &mut Camp,
+        trip: &mut Excursion,
+    ) -> Result<Option<Meeting>, OutOfMemory> {
         for _step in 0..MOST_STEPS {
             if trip.is_over() {
                 break;
             }
-            match trip.step(&mut self.generator) {
-                Stepped::Moved => {
-                    self.made = self.made.saturating_add(1);
-                    if let Some(meeting) = self.arrive(camp, &mut trip)? {
-                        return Ok(Some(meeting));
-                    }
-                }
-                Stepped::Nowhere => {}
-                Stepped::End => break,
+            if let Some(meeting) = self.step(camp, trip)? {
+                return Ok(Some(meeting));
             }
         }
-        camp.last = trip.here;
         Ok(None)
+    }
+
+    /// One step of an excursion. Answers where the sides meet, if its move leads there.
+    fn step(
+        &mut self,
+        camp: &mut Camp,
+        trip: &mut Excursion,
+    ) -> Result<Option<Meeting>, OutOfMemory> {
+        if !trip.step(&mut self.generator) {
+            return Ok(None);
+        }
+        self.made = self.made.saturating_add(1);
+        self.arrive(camp, trip)
     }
 
     /// Takes note of where an excursion has come: above the least size by its trail, else by the table. Answers where the sides meet.
@@ -146,32 +178,53 @@ impl Common {
         camp: &mut Camp,
         trip: &mut Excursion,
     ) -> Result<Option<Meeting>, OutOfMemory> {
-        let size = trip.torus.size();
-        if size > camp.low {
+        if trip.torus.size() > camp.low {
             self.trail.push(trip.torus)?;
             return Ok(None);
         }
-        trip.touch_down(size < camp.low);
-        if size < camp.low {
-            camp.lower(size);
-        }
-        let form = Form::of(&trip.torus);
-        let met = match self.table.find(&form) {
-            Some((number, side)) if side == camp.side => {
-                trip.here = number;
-                None
-            }
-            _ => self.settle(camp, form, trip)?,
-        };
+        come_down(camp, trip);
+        let met = self.look_up(camp, trip)?;
         self.trail.clear();
         Ok(met)
     }
 
+    /// Goes on from the form to which an excursion has come down, where it is one of its own side; any other form is kept behind the trail.
+    fn look_up(
+        &mut self,
+        camp: &mut Camp,
+        trip: &mut Excursion,
+    ) -> Result<Option<Meeting>, OutOfMemory> {
+        let form = Form::of(&trip.torus);
+        match self.table.find(&form) {
+            Some((number, side)) if side == camp.side => {
+                trip.here = number;
+                Ok(None)
+            }
+            _ => self.keep_all(camp, form, trip),
+        }
+    }
+
     /// Keeps the forms of the trail and the one behind it, up to where the sides meet.
-    fn settle(
+    fn keep_all(
         &mut self,
         camp: &mut Camp,
         last: Form,
+        trip: &mut Excursion,
+    ) -> Result<Option<Meeting>, OutOfMemory> {
+        if let Some(meeting) = self.keep_trail(camp, trip)? {
+            return Ok(Some(meeting));
+        }
+        let met = go_to(&mut self.table, camp, last, trip)?;
+        if met.is_none() {
+            camp.land(trip.here)?;
+        }
+        Ok(met)
+    }
+
+    /// Keeps the forms of the trail, up to where the sides meet.
+    fn keep_trail(
+        &mut self,
+        camp: &Camp,
         trip: &mut Excursion,
     ) -> Result<Option<Meeting>, OutOfMemory> {
         for torus in &self.trail {
@@ -179,11 +232,17 @@ impl Common {
                 return Ok(Some(meeting));
             }
         }
-        let met = go_to(&mut self.table, camp, last, trip)?;
-        if met.is_none() {
-            camp.land(trip.here)?;
-        }
-        Ok(met)
+        Ok(None)
+    }
+}
+
+/// An excursion and its side's camp take note that it is at the least size, which may be a new one.
+fn come_down(camp: &mut Camp, trip: &mut Excursion) {
+    let size = trip.torus.size();
+    let is_new_low = size < camp.low;
+    trip.touch_down(is_new_low);
+    if is_new_low {
+        camp.lower(size);
     }
 }
 
@@ -194,14 +253,12 @@ fn go_to(
     form: Form,
     trip: &mut Excursion,
 ) -> Result<Option<Meeting>, OutOfMemory> {
-    let (number, side) = table.find_or_add(form, trip.here, camp.side)?;
-    if side == camp.side {
-        trip.here = number;
+    let side = camp.side;
+    let near = trip.here;
+    let (far, found) = table.find_or_add(form, near, side)?;
+    if found == side {
+        trip.here = far;
         return Ok(None);
     }
-    Ok(Some(Meeting {
-        side: camp.side,
-        near: trip.here,
-        far: number,
-    }))
+    Ok(Some(Meeting { side, near, far }))
 }
