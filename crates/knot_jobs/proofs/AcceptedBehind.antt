@@ -35,7 +35,8 @@ abbrev pub HaveTexts : Type 0
 HaveTexts = (p : Problem) (quandles : List NamedQuandle) (workers : ℕ) (v : Verdict) (kept : Option Finding) → IsGrid p.first → IsGrid p.second
     → AllByRecursion HasQuandleText quandles → Decides p quandles workers v kept → IsShort v → HasVersionText Tidy (size p.first) (size p.second) v
 
-pub has_text : HaveTexts → (bytes : List ℕ) (asked : Asked) (input : ProblemText) (workers : ℕ) (v : Verdict) (kept : Option Finding) → problem_of bytes ≡ Ok input
+pub has_text : HaveTexts → (bytes : List ℕ) (asked : Asked) (input : ProblemText) (workers : ℕ) (v : Verdict) (kept : Option Finding)
+    → problem_of bytes ≡ Ok input
     → Decides (problem_for asked (grid_of input.first) (grid_of input.second)) input.quandles workers v kept
     → IsShort v → HasVersionText Tidy (columns input.first) (columns input.second) v
 has_text texts bytes asked input workers v kept read decides short =

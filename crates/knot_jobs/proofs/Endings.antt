@@ -1,5 +1,6 @@
 -- How a call ends, from what was answered and what was written.
-use Rattle.std.proofs.Common.{◌≡◌, ◌≤◌, ◌+◌, ◌++◌, ℕ, List, [], Bool, true, false, length, take, Option, Some, None, is_some, Result, Ok, Err, IfOk, IfErr, arith, refl, sym, ap, subst, ◌∙◌, inl, inr, ◌⊎◌, if◌then◌else◌}
+use Rattle.std.proofs.Common.{◌≡◌, ◌≤◌, ◌+◌, ◌++◌, ℕ, List, [], Bool, true, false, length, take, Option, Some, None, is_some}
+use Rattle.std.proofs.Common.{Result, Ok, Err, arith, refl, sym, ap, subst, ◌∙◌, inl, inr, ◌⊎◌, if◌then◌else◌}
 use Rattle.std.specs.Io.KnownBytes.{Appends, Consumes, IsAtEnd}
 use Rattle.std.proofs.lemmas.Bool.{cases_lt}
 use Rattle.std.proofs.lemmas.List.{append-nil, take_at, take_all, length-take-le}
@@ -19,7 +20,7 @@ use Rattle.knot_jobs.specs.Answer.{limit_of, part_for, leaves_no_choice, IsOver,
 use Rattle.knot_jobs.specs.Call.{Call, Change, IsUntouched, Failed, TakesAll, Comes, Loses}
 use Rattle.knot_jobs.specs.Ending.{usage_line, IsReplyTo, IsAnswered, IsMisused, IsDue, IsCutOff, LosesInput, Writes, Ends}
 use Rattle.knot_jobs.specs.Truth.{IsTrueReply, IsTrueOf, TellsOnlyTruth, Goes}
-use Rattle.knot_jobs.specs.Delivered.{IsWritten, IsDelivered, IsRefused, IsWithoutReply, IsEnded}
+use Rattle.knot_jobs.specs.Delivered.{IsWithoutReply, IsMadeOf, IsWritten, IsDelivered, IsRefused, IsEnded}
 use Rattle.knot_jobs.proofs.AskedOnce.{asked_once, never_both}
 use Rattle.knot_jobs.proofs.OneAnswer.{answer_status, answers_once, not_decide, by_so_many, not_over}
 
@@ -102,7 +103,7 @@ answer_ends call reply s kept a delivered = elim delivered [
 -- and what it says is true
 pub tells_truth : (call : Call) (asked : Asked) (reply : Reply) (s : Status) (kept : Option Finding) → Asks call.words asked
     → IsDelivered call.sink reply s kept
-    → (reply.status ≡ status.Done → (bytes : List ℕ) × (TakesAll (limit_of asked.job) call.source bytes × IsTrueReply asked.job bytes reply.text))
+    → IsTrueOf asked.job call.source reply
     → TellsOnlyTruth call s
 tells_truth call asked reply s kept asks delivered claim = λ other asks' done.
     let same : asked ≡ other = asked_once call.words asked other asks asks' in
@@ -138,45 +139,26 @@ without_ends call asked s asks without sink = elim without [
 ]
 
 ends_by : (call : Call) (asked : Asked) (reply : Result Reply Status) (s : Status) (kept : Option Finding) → Asks call.words asked
-    → IfOk reply (λ r. IsReplyTo (with_workers call.searching asked) call.source r)
-    → IfErr reply (λ e. IsWithoutReply (limit_of asked.job) call.source e) → IsEnded call.sink reply s kept → Ends call s kept
-ends_by call asked (Ok r) s kept asks answer without ended =
-    answer_ends call r s kept (record { asked = asked; asks = asks; answer = answer }) ended
-ends_by call asked (Err e) s kept asks answer without ended =
-    subst (λ k. Ends call s k) (sym ended.1) (subst (λ z. Ends call z None) (sym ended.0.0) (without_ends call asked e asks without ended.0.1))
+    → IsMadeOf (with_workers call.searching asked) call.source reply → IsEnded call.sink reply s kept → Ends call s kept
+ends_by call asked (Ok r) s kept asks made ended =
+    answer_ends call r s kept (record { asked = asked; asks = asks; answer = made.0 }) ended
+ends_by call asked (Err e) s kept asks made ended =
+    subst (λ k. Ends call s k) (sym ended.1) (subst (λ z. Ends call z None) (sym ended.0.0) (without_ends call asked e asks made ended.0.1))
 
 tells_by : (call : Call) (asked : Asked) (reply : Result Reply Status) (s : Status) (kept : Option Finding) → Asks call.words asked
-    → IfOk reply (λ r. r.status ≡ status.Done → IsTrueOf asked.job call.source r)
-    → IfErr reply (λ e. IsWithoutReply (limit_of asked.job) call.source e) → IsEnded call.sink reply s kept → TellsOnlyTruth call s
-tells_by call asked (Ok r) s kept asks claim without ended = tells_truth call asked r s kept asks ended claim
-tells_by call asked (Err e) s kept asks claim without ended = λ other asks' done. elim without [
+    → IsMadeOf (with_workers call.searching asked) call.source reply → IsEnded call.sink reply s kept → TellsOnlyTruth call s
+tells_by call asked (Ok r) s kept asks made ended = tells_truth call asked r s kept asks ended made.1
+tells_by call asked (Err e) s kept asks made ended = λ other asks' done. elim made [
   | inl fault ↦ absurd (let wrong : status.ReadFault ≡ status.Done = sym fault.0 ∙ sym ended.0.0 ∙ done in cc)
   | inr memory ↦ absurd (let wrong : status.OutOfMemory ≡ status.Done = sym memory.0 ∙ sym ended.0.0 ∙ done in cc)
 ]
 
 -- of what was asked for, with as many workers as search
-reply_ends : (call : Call) (asked done : Asked) (reply : Result Reply Status) (s : Status) (kept : Option Finding) → Asks call.words asked
-    → done ≡ with_workers call.searching asked → IfOk reply (λ r. IsReplyTo done call.source r)
-    → IfErr reply (λ e. IsWithoutReply (limit_of done.job) call.source e) → IsEnded call.sink reply s kept → Ends call s kept
-reply_ends call asked done reply s kept asks same answer without ended =
-    ends_by call asked reply s kept asks (subst (λ (x : Asked). IfOk reply (λ r. IsReplyTo x call.source r)) same answer)
-    (subst (λ (x : Asked). IfErr reply (λ e. IsWithoutReply (limit_of x.job) call.source e)) same without) ended
-
-reply_tells_truth : (call : Call) (asked done : Asked) (reply : Result Reply Status) (s : Status) (kept : Option Finding) → Asks call.words asked
-    → done ≡ with_workers call.searching asked → IfOk reply (λ r. r.status ≡ status.Done → IsTrueOf done.job call.source r)
-    → IfErr reply (λ e. IsWithoutReply (limit_of done.job) call.source e) → IsEnded call.sink reply s kept → TellsOnlyTruth call s
-reply_tells_truth call asked done reply s kept asks same claim without ended =
-    tells_by call asked reply s kept asks (subst (λ (x : Asked). IfOk reply (λ r. r.status ≡ status.Done → IsTrueOf x.job call.source r)) same claim)
-    (subst (λ (x : Asked). IfErr reply (λ e. IsWithoutReply (limit_of x.job) call.source e)) same without) ended
-
 pub reply_goes : (call : Call) (asked done : Asked) (reply : Result Reply Status) (s : Status) (kept : Option Finding) → Asks call.words asked
-    → done ≡ with_workers call.searching asked → IfOk reply (λ r. IsReplyTo done call.source r)
-    → IfOk reply (λ r. r.status ≡ status.Done → IsTrueOf done.job call.source r)
-    → IfErr reply (λ e. IsWithoutReply (limit_of done.job) call.source e) → IsEnded call.sink reply s kept → Goes call s kept
-reply_goes call asked done reply s kept asks same answer claim without ended = record {
-  ends = reply_ends call asked done reply s kept asks same answer without ended;
-  truth = reply_tells_truth call asked done reply s kept asks same claim without ended;
-}
+    → done ≡ with_workers call.searching asked → IsMadeOf done call.source reply → IsEnded call.sink reply s kept → Goes call s kept
+reply_goes call asked done reply s kept asks same made ended =
+    let by = subst (λ (x : Asked). IsMadeOf x call.source reply) same made in
+    record { ends = ends_by call asked reply s kept asks by ended; truth = tells_by call asked reply s kept asks by ended }
 
 -- ---- one outcome
 
@@ -237,7 +219,8 @@ outcome_once input a b asked r r' words left left' asks fixed one two =
 
 -- the answer to the bytes that came is the answer to the whole input: where it is too long, so are they
 whole_by : (limit : Option ℕ) (asked : Asked) (bytes : List ℕ) (reply : Reply)
-    → (IsOver limit (front limit bytes) × (reply ≡ without_search too_long)) ⊎ (IsWithin limit (front limit bytes) × AnswersText asked (front limit bytes) reply)
+    → (IsOver limit (front limit bytes) × (reply ≡ without_search too_long))
+    ⊎ (IsWithin limit (front limit bytes) × AnswersText asked (front limit bytes) reply)
     → (IsOver limit (if is_some limit then bytes else []) × (reply ≡ without_search too_long))
     ⊎ (IsWithin limit (if is_some limit then bytes else []) × AnswersText asked (if is_some limit then bytes else []) reply)
 whole_by None asked bytes reply one = one

@@ -1,5 +1,6 @@
 -- What the matches of `knot_app` hold: a job, and four options with numbers within their bounds.
-use Rattle.std.proofs.Common.{◌≡◌, ◌∙◌, ◌<◌, ◌≤◌, ◌&&◌, ℕ, Bool, zero, suc, true, not, refl, sym, ap, subst, inl, inr, arith, List, [], ◌∷◌, length, map, Option, Some, None, is_some, true≢false, codes, ◌^◌, ◌-◌, pos}
+use Rattle.std.proofs.Common.{◌≡◌, ◌∙◌, ◌<◌, ◌≤◌, ◌&&◌, ℕ, Bool, zero, suc, true, not, refl, sym, ap, subst, inl, inr, arith}
+use Rattle.std.proofs.Common.{List, [], ◌∷◌, length, map, Option, Some, None, is_some, true≢false, codes, ◌^◌, ◌-◌, pos}
 use Rattle.std.specs.List.{list_all, position_or_len, slice_index_or}
 use Rattle.std.specs.Prelude.{Ok, Result, option_map, unwrap_or}
 use Rattle.std.specs.Str.{bytes_eq}

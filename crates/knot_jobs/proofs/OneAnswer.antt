@@ -12,7 +12,8 @@ use Rattle.decision_core.specs.Status.{IsOfDefinedAnswer, IsOfAnswer}
 use Rattle.plain_jobs.specs.declared.reply.PlainReply.{PlainReply}
 use Rattle.plain_jobs.specs.Lines.{malformed_line, limit_line}
 use Rattle.plain_jobs.specs.Reply.{plain_reply, done, too_long}
-use Rattle.plain_jobs.proofs.Replies.{replies_defined as plain_defined, too_wide_status, replies_once as plain_once, some_reply as some_plain, never_memory as plain_memory}
+use Rattle.plain_jobs.proofs.Replies.{replies_defined as plain_defined, too_wide_status, replies_once as plain_once}
+use Rattle.plain_jobs.proofs.Replies.{some_reply as some_plain, never_memory as plain_memory}
 use Rattle.knot_jobs.specs.declared.reply.Reply.{Reply}
 use Rattle.knot_jobs.specs.declared.words.Job.{Job}
 use Rattle.knot_jobs.specs.declared.words.Job.TheVariants.{Decide, Simplify, Sample, Plain}
@@ -129,7 +130,8 @@ by_so_many searching asked bytes r other a = elim a [
 abbrev pub SomeReply : (Reply → Type 0) → Type 0
 SomeReply Is = (r : Reply) × ((r.kept ≡ None) × Is r)
 
-some_reply : (job : Job) (asked : Asked) → leaves_no_choice job ≡ true → (bytes : List ℕ) (i : (task_of job asked).Input) → (task_of job asked).read bytes ≡ Ok i
+some_reply : (job : Job) (asked : Asked) → leaves_no_choice job ≡ true → (bytes : List ℕ) (i : (task_of job asked).Input)
+    → (task_of job asked).read bytes ≡ Ok i
     → SomeReply ((task_of job asked).Replies i)
 some_reply Decide asked fixed bytes i is = absurd (let wrong : false ≡ true = fixed in cc)
 some_reply Simplify asked fixed bytes i is = absurd (let wrong : false ≡ true = fixed in cc)

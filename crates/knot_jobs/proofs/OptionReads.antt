@@ -1,5 +1,6 @@
 -- After a parse that succeeds, an option with a default has a value that passed its parser.
-use Rattle.std.proofs.Common.{◌≡◌, ◌∙◌, ◌<◌, ◌≤◌, ℕ, Bool, zero, suc, true, false, cond, refl, sym, ap, subst, inl, inr, arith, List, [], ◌∷◌, length, Option, Some, None, is_some}
+use Rattle.std.proofs.Common.{◌≡◌, ◌∙◌, ◌<◌, ◌≤◌, ℕ, Bool, zero, suc, true, false, cond, refl, sym, ap, subst, inl, inr, arith}
+use Rattle.std.proofs.Common.{List, [], ◌∷◌, length, Option, Some, None, is_some}
 use Rattle.std.specs.List.{All, slice_index_or}
 use Rattle.std.specs.Prelude.{find, option_and_then, option_map, slice_get}
 use Rattle.std.specs.Str.{bytes_eq}
@@ -135,6 +136,7 @@ module _ (c : Command) (m : ArgMatches) (p : IsParsedFrom c m) (plain : IsPlain 
       let parsed = p.parsed (p.from.globals ∙ local) in
       let got = entry_by_id (EntryPasses p.built) f.entries.items arg.id.now hit.0.1 parsed.values found in
       let key : got.0.0.now ≡ arg.id.now = (bytes_eq-Decides got.0.0.now arg.id.now).0 got.2 in
-      let read = value_read (reading_of q) got.0.1 (PassesArg p.built arg.id.now) (reads got.0 key got.3) (has_value got.0 key got.3) (all_pass got.0 key got.3) in
+      let passes = all_pass got.0 key got.3 in
+      let read = value_read (reading_of q) got.0.1 (PassesArg p.built arg.id.now) (reads got.0 key got.3) (has_value got.0 key got.3) passes in
       let text = text_read f arg.id.now got.0.1 (Some (read_as (reading_of q) read.0)) (found ∙ ap (λ (x : MatchedArg). Some x) (sym got.1)) read.1 in
       (read.0, text, accepted read.0 read.2)

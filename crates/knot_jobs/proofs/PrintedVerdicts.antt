@@ -26,14 +26,16 @@ use Rattle.decision_core.proofs.PrintedVerdicts.{FewColourings, moves_text, told
 -- ---- verdicts
 
 -- by a quandle that has a text
-different_text : FewColourings → (d e : Diagram) (q : NamedQuandle) (v : Verdict) → IsGrid d → IsGrid e → HasQuandleText q → separates d e q.table ≡ true → IsDifferentBy d e q v
+different_text : FewColourings → (d e : Diagram) (q : NamedQuandle) (v : Verdict) → IsGrid d → IsGrid e → HasQuandleText q
+    → separates d e q.table ≡ true → IsDifferentBy d e q v
     → HasVerdictText (size d) (size e) v
 different_text few d e q v first second named is lists =
     let told : TellsApart q.table d e (lists_of lists.one) (lists_of lists.two) = subst (Holds d e) lists.verdict (holds_by d e q v is lists) in
     subst (HasVerdictText (size d) (size e)) (sym lists.verdict) (told_text few d e q lists.one lists.two first second named told)
 
 -- of a search
-searched_text : (p : Problem) (v : Verdict) → p.cap ≤ MAX_SIZE → p.budget ≤ MAX_BUDGET → IsTrueWithin p v → IsShort v → HasVerdictText (size p.first) (size p.second) v
+searched_text : (p : Problem) (v : Verdict) → p.cap ≤ MAX_SIZE → p.budget ≤ MAX_BUDGET → IsTrueWithin p v → IsShort v
+    → HasVerdictText (size p.first) (size p.second) v
 searched_text p (Equal moves) small most is short = moves_text moves p.first p.second (within_joins p.cap moves p.first p.second is) short
 searched_text p (Different listed one two) small most is short = absurd is
 searched_text p (UnknownBudget budget) small most is short = let same = is.0 in omega (arith, same, most)

@@ -11,7 +11,8 @@ defaults : Asks (codes "knot" ∷ codes "check" ∷ []) (record { job = Plain Ch
 unfolding clap_on_literals
 defaults = record { taken = refl; job = refl; workers = refl; budget = refl; spare = refl; seed = refl }
 
-greatest : Asks (codes "knot" ∷ codes "replay" ∷ codes "--budget" ∷ codes "500000" ∷ codes "--seed=18446744073709551615" ∷ []) (record { job = Plain Replay; workers = 1; budget = 500000; spare = 1; seed = 18446744073709551615 })
+greatest : Asks (codes "knot" ∷ codes "replay" ∷ codes "--budget" ∷ codes "500000" ∷ codes "--seed=18446744073709551615" ∷ [])
+    (record { job = Plain Replay; workers = 1; budget = 500000; spare = 1; seed = 18446744073709551615 })
 unfolding clap_on_literals
 greatest = record { taken = refl; job = refl; workers = refl; budget = refl; spare = refl; seed = refl }
 
@@ -19,7 +20,8 @@ over_budget : fault_of knot_app (codes "knot" ∷ codes "decide" ∷ codes "--bu
 unfolding clap_on_literals
 over_budget = refl
 
-options_before_the_job : Asks (codes "knot" ∷ codes "--workers" ∷ codes "8" ∷ codes "colour" ∷ []) (record { job = Plain Colour; workers = 8; budget = 20000; spare = 1; seed = 1 })
+options_before_the_job : Asks (codes "knot" ∷ codes "--workers" ∷ codes "8" ∷ codes "colour" ∷ [])
+    (record { job = Plain Colour; workers = 8; budget = 20000; spare = 1; seed = 1 })
 unfolding clap_on_literals
 options_before_the_job = record { taken = refl; job = refl; workers = refl; budget = refl; spare = refl; seed = refl }
 
@@ -58,7 +60,8 @@ unknown_job = refl
 
 -- ---- spellings
 
-pluses_and_zeros : Asks (codes "knot" ∷ codes "check" ∷ codes "--workers" ∷ codes "00008" ∷ codes "--spare=+0" ∷ codes "--seed" ∷ codes "+000" ∷ []) (record { job = Plain Check; workers = 8; budget = 20000; spare = 0; seed = 0 })
+pluses_and_zeros : Asks (codes "knot" ∷ codes "check" ∷ codes "--workers" ∷ codes "00008" ∷ codes "--spare=+0" ∷ codes "--seed" ∷ codes "+000" ∷ [])
+    (record { job = Plain Check; workers = 8; budget = 20000; spare = 0; seed = 0 })
 unfolding clap_on_literals
 pluses_and_zeros = record { taken = refl; job = refl; workers = refl; budget = refl; spare = refl; seed = refl }
 

@@ -1,5 +1,6 @@
 -- What is due to an input: how many bytes it may have, how each job reads it, and the replies to what was read.
-use Rattle.std.specs.Prelude.{◌≡◌, ◌<◌, ◌≤◌, ◌⊎◌, if◌then◌else◌, ℕ, List, [], Option, Some, None, Bool, true, false, is_some, length, Result, Ok, IsOk}
+use Rattle.std.specs.Prelude.{◌≡◌, ◌<◌, ◌≤◌, ◌⊎◌, if◌then◌else◌, ℕ, List, [], length, Bool, true, false}
+use Rattle.std.specs.Prelude.{Option, Some, None, is_some, Result, Ok, IsOk}
 use Rattle.verdict_core.specs.declared.diagrams.Diagram.{Diagram}
 use Rattle.text_items.specs.declared.fault.TextFault.{TextFault}
 use Rattle.verdict_core.specs.declared.problem.ProblemText.{ProblemText}

@@ -41,9 +41,14 @@ IsTrueReply Decide bytes text = IsCheckedDecision bytes text
 IsTrueReply (Plain job) bytes text = IsTrueText job bytes text
 IsTrueReply job bytes text = Unit {0}
 
--- what a reply says of the whole input is true
+-- where a reply has Done, what it says of these bytes is true
+abbrev pub IsTrueIfDone : Job → List ℕ → Reply → Type 0
+IsTrueIfDone job bytes reply = reply.status ≡ status.Done → IsTrueReply job bytes reply.text
+
+-- where a reply has Done, what it says of the whole input is true
 abbrev pub IsTrueOf : Job → Change → Reply → Type 0
-IsTrueOf job source reply = (bytes : List ℕ) × (TakesAll (limit_of job) source bytes × IsTrueReply job bytes reply.text)
+IsTrueOf job source reply =
+    reply.status ≡ status.Done → (bytes : List ℕ) × (TakesAll (limit_of job) source bytes × IsTrueReply job bytes reply.text)
 
 -- where a call ended with Done, its text was written, and what it says of the whole input is true
 abbrev pub TellsOnlyTruth : Call → Status → Type 0

@@ -1,6 +1,7 @@
 -- Which command lines are taken and what they ask for, by `clap`'s meaning of one simple command: a job, and four options
 -- with whole numbers.
-use Rattle.std.specs.Prelude.{◌≡◌, ◌≢◌, ◌≤◌, ◌^◌, ◌-◌, ℕ, List, [], ◌∷◌, Option, Some, true, codes, pos, map, option_map, string_bytes, String}
+use Rattle.std.specs.Prelude.{◌≡◌, ◌≢◌, ◌≤◌, ◌^◌, ◌-◌, ℕ, pos, List, [], ◌∷◌, map, true}
+use Rattle.std.specs.Prelude.{Option, Some, option_map, codes, string_bytes, String}
 use Rattle.std.specs.Str.Parse.{digits_value, without_leading_plus}
 use Rattle.std.specs.declared.alloc.Global.{Global}
 use Rattle.clap.specs.Walk.{Rule, Text, first_of, one_of}

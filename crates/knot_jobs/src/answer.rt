@@ -3,12 +3,12 @@ ghost use Rattle.std.specs.Prelude.{◌≡◌, ◌≤◌, IfOk, IfSome};
 ghost use Rattle.decision_core.specs.declared.limits.TheConstants.{MAX_CERTIFICATE};
 ghost use Rattle.knot_jobs.specs.Words.{IsWithinBounds};
 ghost use Rattle.knot_jobs.specs.Answer.{limit_of, AnswersText};
-ghost use Rattle.knot_jobs.specs.Truth.{IsTrueReply};
+ghost use Rattle.knot_jobs.specs.Truth.{IsTrueIfDone};
 
 use crate::jobs::{decide, sample, simplify};
 use crate::reply::Reply;
 use crate::words::{Asked, Job};
-use decision_core::{MAX_CERTIFICATE, MAX_INPUT, Status};
+use decision_core::{MAX_CERTIFICATE, MAX_INPUT};
 use plain_jobs::PlainJob;
 use search_pool::Gate;
 use std::alloc::{AllocError, Global};
@@ -39,7 +39,7 @@ pub(crate) fn answer<R: Threads + Wait + Sync, G: Gate + Sync>(
 ) -> Result<Reply, AllocError>
     requires bounds { IsWithinBounds asked.now }
     ensures answer { IfOk result (λ reply. AnswersText asked.now bytes.now reply) }
-    ensures claim { IfOk result (λ reply. reply.status ≡ Status.Done → IsTrueReply asked.now.job bytes.now reply.text) }
+    ensures claim { IfOk result (λ reply. IsTrueIfDone asked.now.job bytes.now reply) }
 {
     match asked.job {
         Job::Decide => decide::answer(rt, alloc, asked, bytes, gate),
@@ -52,7 +52,7 @@ pub(crate) fn answer_alone(alloc: Global, asked: &Asked, bytes: &[u8]) -> Result
     requires bounds { IsWithinBounds asked.now }
     requires one { asked.now.job ≡ Job.Decide → asked.now.workers ≡ 1 }
     ensures answer { IfOk result (λ reply. AnswersText asked.now bytes.now reply) }
-    ensures claim { IfOk result (λ reply. reply.status ≡ Status.Done → IsTrueReply asked.now.job bytes.now reply.text) }
+    ensures claim { IfOk result (λ reply. IsTrueIfDone asked.now.job bytes.now reply) }
 {
     match asked.job {
         Job::Decide => decide::answer_alone(alloc, asked, bytes),

@@ -1,12 +1,11 @@
 //! The top call: words, read, length, text, job, write.
-ghost use Rattle.std.specs.Prelude.{◌≡◌, ◌≤◌, ◌⊎◌, ℕ, List, Option, None, Ok, IfOk, IfErr, IsErrOf, IfSome, IfNone};
+ghost use Rattle.std.specs.Prelude.{◌≡◌, ◌≤◌, None, Ok, IfOk, IfErr, IsErrOf};
 ghost use Rattle.knot_jobs.specs.Words.{texts_of, Asks, AsksNothing, IsWithinBounds};
-ghost use Rattle.knot_jobs.specs.Answer.{limit_of, IsOver, IsWithin};
+ghost use Rattle.knot_jobs.specs.Answer.{limit_of};
 ghost use Rattle.knot_jobs.specs.Jobs.Decide.{as_many_as_asked, only_one, with_workers};
-ghost use Rattle.knot_jobs.specs.Call.{call_of, change_of, IsUntouched, TakesAll, TakesTooMuch, Loses};
-ghost use Rattle.knot_jobs.specs.Ending.{IsReplyTo};
-ghost use Rattle.knot_jobs.specs.Truth.{IsTrueOf, Goes};
-ghost use Rattle.knot_jobs.specs.Delivered.{IsRefused, IsWithoutReply, IsWritten, IsDelivered, IsEnded};
+ghost use Rattle.knot_jobs.specs.Call.{call_of, change_of};
+ghost use Rattle.knot_jobs.specs.Truth.{Goes};
+ghost use Rattle.knot_jobs.specs.Delivered.{IsRead, IsMadeOf, IsRefused, IsWritten, IsDelivered, IsEnded};
 
 use crate::answer::{answer, answer_alone};
 use crate::reply::Reply;
@@ -128,10 +127,7 @@ fn answer_source<R: Threads + Wait + Sync, S: Source, G: Gate + Sync>(
     gate: &G,
 ) -> Result<Reply, Status>
     requires bounds { IsWithinBounds asked.now }
-    ensures answer { IfOk result (λ reply. IsReplyTo asked.now (change_of S.left S.faults source.old source.new) reply) }
-    ensures claim { IfOk result (λ reply. reply.status ≡ Status.Done
-        → IsTrueOf asked.now.job (change_of S.left S.faults source.old source.new) reply) }
-    ensures without { IfErr result (λ s. IsWithoutReply (limit_of asked.now.job) (change_of S.left S.faults source.old source.new) s) }
+    ensures made { IsMadeOf asked.now (change_of S.left S.faults source.old source.new) result }
     ensures count { S.faults source.old ≤ S.faults source.new }
 {
     let Some(bytes) = read_input(alloc, asked.job, source)? else {
@@ -149,10 +145,7 @@ fn answer_source_alone<S: Source>(
 ) -> Result<Reply, Status>
     requires bounds { IsWithinBounds asked.now }
     requires one { asked.now.workers ≡ 1 }
-    ensures answer { IfOk result (λ reply. IsReplyTo asked.now (change_of S.left S.faults source.old source.new) reply) }
-    ensures claim { IfOk result (λ reply. reply.status ≡ Status.Done
-        → IsTrueOf asked.now.job (change_of S.left S.faults source.old source.new) reply) }
-    ensures without { IfErr result (λ s. IsWithoutReply (limit_of asked.now.job) (change_of S.left S.faults source.old source.new) s) }
+    ensures made { IsMadeOf asked.now (change_of S.left S.faults source.old source.new) result }
     ensures count { S.faults source.old ≤ S.faults source.new }
 {
     let Some(bytes) = read_input(alloc, asked.job, source)? else {
@@ -164,13 +157,7 @@ fn answer_source_alone<S: Source>(
 /// The bytes that the source gives for a job; None where there are more than its limit. Where the job has no input there are none,
 /// and the source is not called. The error is the status of a call that can't read them.
 fn read_input<S: Source>(alloc: Global, job: Job, source: &mut S) -> Result<Option<Vec<u8>>, Status>
-    ensures whole { IfOk result (λ input. IfSome input (λ bytes. TakesAll (limit_of job) (change_of S.left S.faults source.old source.new) bytes.items)) }
-    ensures within { IfOk result (λ input. IfSome input (λ bytes. IsWithin (limit_of job) bytes.items)) }
-    ensures too_long { IfOk result (λ input. IfNone input ((bytes : List ℕ)
-        × (TakesTooMuch (limit_of job) (change_of S.left S.faults source.old source.new) bytes × IsOver (limit_of job) bytes))) }
-    ensures few { IfOk result (λ input. IsUntouched (change_of S.left S.faults source.old source.new)
-        ⊎ Loses (limit_of job) 1 (change_of S.left S.faults source.old source.new)) }
-    ensures without { IfErr result (λ s. IsWithoutReply (limit_of job) (change_of S.left S.faults source.old source.new) s) }
+    ensures read { IsRead (limit_of job) (change_of S.left S.faults source.old source.new) result }
     ensures count { S.faults source.old ≤ S.faults source.new }
 {
     let Some(limit) = job.limit() else {

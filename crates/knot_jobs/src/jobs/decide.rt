@@ -7,11 +7,11 @@ ghost use Rattle.knot_text.specs.Shapes.{problem_of};
 ghost use Rattle.knot_jobs.specs.Words.{IsWithinBounds};
 ghost use Rattle.knot_jobs.specs.Reply.{RepliesRead};
 ghost use Rattle.knot_jobs.specs.Jobs.Decide.{problem_for, verdict_status, AnswersDecide};
-ghost use Rattle.knot_jobs.specs.Truth.{IsCheckedDecision};
+ghost use Rattle.knot_jobs.specs.Truth.{IsTrueIfDone};
 
 use crate::laws::a_decision_has_a_text;
 use crate::reply::Reply;
-use crate::words::Asked;
+use crate::words::{Asked, Job};
 use decision_core::Status;
 use grid_core::MAX_SIZE;
 use knot_text::{ProblemText, Verdict, print_verdict, read_problem};
@@ -33,7 +33,7 @@ pub(crate) fn answer<R: Threads + Wait + Sync, G: Gate + Sync>(
 ) -> Result<Reply, AllocError>
     requires bounds { IsWithinBounds asked.now }
     ensures answer { IfOk result (λ reply. RepliesRead (AnswersDecide asked.now) (problem_of bytes.now) reply) }
-    ensures claim { IfOk result (λ reply. reply.status ≡ Status.Done → IsCheckedDecision bytes.now reply.text) }
+    ensures claim { IfOk result (λ reply. IsTrueIfDone Job.Decide bytes.now reply) }
 {
     match read_problem(alloc, bytes) {
         Ok(input) => {
@@ -51,7 +51,7 @@ pub(crate) fn answer_alone(alloc: Global, asked: &Asked, bytes: &[u8]) -> Result
     requires bounds { IsWithinBounds asked.now }
     requires one { asked.now.workers ≡ 1 }
     ensures answer { IfOk result (λ reply. RepliesRead (AnswersDecide asked.now) (problem_of bytes.now) reply) }
-    ensures claim { IfOk result (λ reply. reply.status ≡ Status.Done → IsCheckedDecision bytes.now reply.text) }
+    ensures claim { IfOk result (λ reply. IsTrueIfDone Job.Decide bytes.now reply) }
 {
     match read_problem(alloc, bytes) {
         Ok(input) => {
@@ -76,8 +76,7 @@ fn answer_decision(
     requires holds { IfOk decision (λ d. HasEvidence d.verdict → Holds (grid_of input.now.first) (grid_of input.now.second) d.verdict) }
     requires tidy { IfOk decision (λ d. IsTidyVerdict d.verdict) }
     ensures answer { IfOk result (λ reply. AnswersDecide asked.now input.now reply) }
-    ensures claim { (bytes : List ℕ) → problem_of bytes ≡ Ok input.now
-        → IfOk result (λ reply. reply.status ≡ Status.Done → IsCheckedDecision bytes reply.text) }
+    ensures claim { (bytes : List ℕ) → problem_of bytes ≡ Ok input.now → IfOk result (λ reply. IsTrueIfDone Job.Decide bytes reply) }
 {
     a_decision_has_a_text();
     let Ok(decision) = decision else {
@@ -86,11 +85,18 @@ fn answer_decision(
     let Ok(text) = print_verdict(alloc, &decision.verdict) else {
         return Err(AllocError);
     };
-    Ok(Reply {
+    Ok(reply_of(decision, text))
+}
+
+/// The reply of a decision and its text, behind which is its search.
+fn reply_of(decision: Decision, text: Vec<u8>) -> Reply
+    ensures { result ≡ record { status = verdict_status decision.verdict; text = text.items; kept = decision.kept } }
+{
+    Reply {
         status: verdict_status(&decision.verdict),
         text: Items::from_vec(text),
         kept: decision.kept,
-    })
+    }
 }
 
 /// What is searched where no quandle tells the grids apart.

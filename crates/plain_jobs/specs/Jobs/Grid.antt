@@ -16,18 +16,18 @@ use Rattle.plain_jobs.specs.declared.reply.PlainReply.{PlainReply}
 use Rattle.plain_jobs.specs.Reply.{plain_reply, done, rejected}
 
 -- why rows are no code; edges are told by their names
-abbrev pub rows_tokens : RowsFault → List (List ℕ)
-rows_tokens fault.Empty = codes "empty" ∷ []
-rows_tokens (fault.Edge name) = codes "edge" ∷ decimal name ∷ []
-rows_tokens (fault.Direction name) = codes "direction" ∷ decimal name ∷ []
-rows_tokens fault.Plane = codes "plane" ∷ []
+abbrev pub rows_fault_tokens : RowsFault → List (List ℕ)
+rows_fault_tokens fault.Empty = codes "empty" ∷ []
+rows_fault_tokens (fault.Edge name) = codes "edge" ∷ decimal name ∷ []
+rows_fault_tokens (fault.Direction name) = codes "direction" ∷ decimal name ∷ []
+rows_fault_tokens fault.Plane = codes "plane" ∷ []
 
 -- how many columns a diagram takes that are more than it may have
 abbrev pub columns_reply : ℕ → PlainReply
 columns_reply columns = plain_reply status.Limit (line_text (codes "limit" ∷ codes "columns" ∷ decimal columns ∷ []))
 
 abbrev pub refused_reply : TextRefusal → PlainReply
-refused_reply (Rows fault) = rejected (rows_tokens fault)
+refused_reply (Rows fault) = rejected (rows_fault_tokens fault)
 refused_reply Gauss = rejected (codes "gauss" ∷ [])
 refused_reply (Columns columns) = columns_reply columns
 refused_reply Lost = rejected (codes "drawing" ∷ [])

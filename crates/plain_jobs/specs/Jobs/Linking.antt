@@ -16,13 +16,13 @@ use Rattle.plain_jobs.specs.Reply.{done}
 abbrev pub numbers_line : Marks → List ℕ
 numbers_line d = line_text (codes "numbers" ∷ map letter_token (linking d))
 
--- the two lists are equal, place by place
-abbrev pub are_alike : List ℤ → List ℤ → Bool
-are_alike = pointwise int_eq
+-- the two lists are alike: equal, place by place
+abbrev pub numbers_are_alike : List ℤ → List ℤ → Bool
+numbers_are_alike = pointwise int_eq
 
 -- the numbers of both, and whether they are alike
 abbrev pub linking_text : Marks → Marks → List ℕ
-linking_text d e = numbers_line d ++ (numbers_line e ++ compared_line (are_alike (linking d) (linking e)))
+linking_text d e = numbers_line d ++ (numbers_line e ++ compared_line (numbers_are_alike (linking d) (linking e)))
 
 abbrev pub AnswersLinking : Diagram × Diagram → PlainReply → Type 0
 AnswersLinking input reply = reply ≡ done (linking_text (grid_of input.0) (grid_of input.1))

@@ -11,8 +11,8 @@ use Rattle.colour_weights.specs.Weights.{weights}
 use Rattle.shadow_weights.specs.Weights.{shadow_weights}
 use Rattle.text_lines.specs.Spelled.{line_text}
 use Rattle.verdict_core.specs.Diagrams.{grid_of}
-use Rattle.number_text.specs.declared.blocks.Weighing.{Weighing}
-use Rattle.number_text.specs.declared.blocks.Weighing.TheVariants.{Strands, Regions}
+use Rattle.number_text.specs.declared.weighed.Weighing.{Weighing}
+use Rattle.number_text.specs.declared.weighed.Weighing.TheVariants.{Strands, Regions}
 use Rattle.number_text.specs.declared.weighed.WeighedText.{WeighedText}
 use Rattle.plain_jobs.specs.declared.reply.PlainReply.{PlainReply}
 use Rattle.plain_jobs.specs.Comparison.{compared_line}
@@ -31,13 +31,13 @@ table_by (Regions s) = s.cocycle.quandle
 abbrev pub weights_line : Weighing → Marks → List ℕ
 weights_line w d = line_text (codes "weights" ∷ map decimal (weights_by w d))
 
--- the two lists are equal, place by place
-abbrev pub are_equal : List ℕ → List ℕ → Bool
-are_equal = pointwise nat_eq
+-- the two lists are alike: equal, place by place
+abbrev pub weights_are_alike : List ℕ → List ℕ → Bool
+weights_are_alike = pointwise nat_eq
 
 -- the weights of both, and whether they are alike
 abbrev pub weighed_text : Weighing → Marks → Marks → List ℕ
-weighed_text w d e = weights_line w d ++ (weights_line w e ++ compared_line (are_equal (weights_by w d) (weights_by w e)))
+weighed_text w d e = weights_line w d ++ (weights_line w e ++ compared_line (weights_are_alike (weights_by w d) (weights_by w e)))
 
 -- which of the two diagrams has too many choices of a colour for each bottom, and its number of bottoms
 abbrev pub wide_line : ℕ → Marks → List ℕ

@@ -81,13 +81,13 @@ fn push_all_fixed(
 {
     for listed in quandles {
         push_quandle(out, b"quandle", listed)?;
-        push_fixed(alloc, out, grid, listed.quandle())?;
+        push_fixed_points(alloc, out, grid, listed.quandle())?;
     }
     Ok(())
 }
 
 /// Appends the fixed points of the action of a grid's word, or the grid's number of bottoms, where it has too many colourings to list.
-fn push_fixed(
+fn push_fixed_points(
     alloc: Global,
     out: &mut Vec<u8>,
     grid: &Grid,

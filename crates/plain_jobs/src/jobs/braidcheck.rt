@@ -53,7 +53,7 @@ fn answer_ruling(alloc: Global, ruling: BraidRuling) -> Result<PlainReply, Alloc
             Ok(PlainReply::new(Status::Done, text))
         }
         BraidRuling::Step { place, fault } => {
-            let text = step_line(alloc, place, fault)?;
+            let text = braid_step_line(alloc, place, fault)?;
             Ok(PlainReply::new(Status::Rejected, text))
         }
         BraidRuling::OtherEnd => {
@@ -64,25 +64,29 @@ fn answer_ruling(alloc: Global, ruling: BraidRuling) -> Result<PlainReply, Alloc
 }
 
 /// The line of the first step that is not legal.
-fn step_line(alloc: Global, place: usize, fault: BraidMoveFault) -> Result<Vec<u8>, AllocError>
+fn braid_step_line(
+    alloc: Global,
+    place: usize,
+    fault: BraidMoveFault,
+) -> Result<Vec<u8>, AllocError>
     ensures { IfOk result (λ v. v.items ≡ rejected_line (braid_step_tokens place fault)) }
 {
     let mut out = Vec::from_slice(alloc, b"rejected")?;
-    push_step(&mut out, place, fault)?;
+    push_braid_step(&mut out, place, fault)?;
     out.extend_from_slice(b"\n")?;
     Ok(out)
 }
 
 /// Appends the first step that is not legal, each token behind a space.
-fn push_step(out: &mut Vec<u8>, place: usize, fault: BraidMoveFault) -> Result<(), AllocError>
+fn push_braid_step(out: &mut Vec<u8>, place: usize, fault: BraidMoveFault) -> Result<(), AllocError>
     ensures { OnOk result (out.new.items ≡ out.old.items ++ flat_map spaced (braid_step_tokens place fault)) }
 {
     push_spaced(out, b" step ", place as u64)?;
-    push_fault(out, fault)
+    push_braid_fault(out, fault)
 }
 
 /// Appends why a step is not legal, each token behind a space.
-fn push_fault(out: &mut Vec<u8>, fault: BraidMoveFault) -> Result<(), AllocError>
+fn push_braid_fault(out: &mut Vec<u8>, fault: BraidMoveFault) -> Result<(), AllocError>
     ensures { OnOk result (out.new.items ≡ out.old.items ++ flat_map spaced (braid_fault_tokens fault)) }
 {
     match fault {

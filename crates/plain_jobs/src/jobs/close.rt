@@ -43,7 +43,7 @@ fn close_text(alloc: Global, braid: &Braid, quandles: &[Listed]) -> Result<Vec<u
     ensures { IfOk result (λ v. v.items ≡ close_text braid.now quandles.now) }
 {
     let mut out = closure_text(alloc, braid)?;
-    push_fixed(alloc, &mut out, braid, quandles)?;
+    push_all_fixed(alloc, &mut out, braid, quandles)?;
     Ok(out)
 }
 
@@ -60,7 +60,7 @@ fn closure_text(alloc: Global, braid: &Braid) -> Result<Vec<u8>, AllocError>
 }
 
 /// Appends the fixed points of a braid's action by each of the quandles.
-fn push_fixed(
+fn push_all_fixed(
     alloc: Global,
     out: &mut Vec<u8>,
     braid: &Braid,

@@ -5,7 +5,7 @@ ghost use Rattle.code_text.specs.TextGrid.{IsDiagramOf, IsTrueDrawing};
 ghost use Rattle.code_text.specs.Whole.{code_text_of};
 ghost use Rattle.grid_core.specs.Diagram.{Diagram, IsGrid};
 ghost use Rattle.knot_text.specs.Printed.{grid_text};
-ghost use Rattle.plain_jobs.specs.Jobs.Grid.{rows_tokens, columns_reply, refused_reply, AnswersGrid};
+ghost use Rattle.plain_jobs.specs.Jobs.Grid.{rows_fault_tokens, columns_reply, refused_reply, AnswersGrid};
 ghost use Rattle.plain_jobs.specs.Reply.{plain_reply, rejected, AnswersRead};
 
 use crate::reply::PlainReply;
@@ -62,7 +62,7 @@ fn refused(alloc: Global, refusal: TextRefusal) -> Result<PlainReply, AllocError
 
 /// The answer where the rows have a fault.
 fn rows_refused(alloc: Global, fault: RowsFault) -> Result<PlainReply, AllocError>
-    ensures { IfOk result (λ reply. reply ≡ rejected (rows_tokens fault)) }
+    ensures { IfOk result (λ reply. reply ≡ rejected (rows_fault_tokens fault)) }
 {
     match fault {
         RowsFault::Empty => refused_by(alloc, b"rejected empty\n"),

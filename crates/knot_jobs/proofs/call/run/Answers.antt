@@ -12,4 +12,4 @@ returns-in-Err-clause-goes g c =
 pub returns-clause-goes : goal.returns-clause-goes
 returns-clause-goes g c =
     reply_goes (call_of _ as_many_as_asked _ _) c.in-Ok.asked c.in-Ok.asked c.answer_source-reply.result c.end.result c.end.new.kept (search rules)
-    refl c.answer_source-reply.ensures.answer c.answer_source-reply.ensures.claim c.answer_source-reply.ensures.without c.end.ensures.ended
+    refl c.answer_source-reply.ensures.made c.end.ensures.ended

@@ -12,5 +12,4 @@ returns-in-Err-clause-goes g c =
 pub returns-clause-goes : goal.returns-clause-goes
 returns-clause-goes g c =
     reply_goes (call_of _ only_one _ _) c.in-Ok.asked c.by_one_worker-asked.result c.answer_source_alone-reply.result c.end.result c.end.new.kept (search rules)
-    c.by_one_worker-asked.ensures.asked c.answer_source_alone-reply.ensures.answer c.answer_source_alone-reply.ensures.claim
-    c.answer_source_alone-reply.ensures.without c.end.ensures.ended
+    c.by_one_worker-asked.ensures.asked c.answer_source_alone-reply.ensures.made c.end.ensures.ended

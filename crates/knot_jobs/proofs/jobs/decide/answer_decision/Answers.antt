@@ -1,9 +1,10 @@
-use Rattle.std.proofs.Common.{sym, refl, ◌∙◌, subst}
+use Rattle.std.proofs.Common.{ap, sym, refl, ◌∙◌, subst}
 use Rattle.std.proofs.lemmas.Result.{IfOk-at_ok}
 use Rattle.verdict_core.specs.Diagrams.{grid_of}
 use Rattle.verdict_core.specs.Evidence.{Claims, Holds, HasEvidence, IsTidyVerdict}
 use Rattle.pair_verdict.specs.declared.decision.Decision.{Decision}
 use Rattle.pair_verdict.specs.Decided.{Decides}
+use Rattle.knot_jobs.specs.declared.reply.Reply.{Reply}
 use Rattle.knot_jobs.specs.Jobs.Decide.{problem_for}
 use Rattle.knot_jobs.specs.Truth.{IsCheckedDecision}
 use Rattle.knot_jobs.proofs.Decisions.{has_evidence}
@@ -23,7 +24,7 @@ returns-clause-claim c = λ bytes read done.
     let asked = c.args.asked.now in
     let v = c.in-Ok.decision.verdict in
     let kept = c.in-Ok.decision.kept in
-    let evidence = has_evidence v (sym c.verdict_status.ensures ∙ done) in
+    let evidence = has_evidence v (sym (ap (λ (r : Reply). r.status) c.reply_of.ensures) ∙ done) in
     let first = grid_of input.first in
     let second = grid_of input.second in
     let holds = IfOk-at_ok (λ (d : Decision). HasEvidence d.verdict → Holds first second d.verdict) c.in-Ok.is c.requires.holds evidence in
@@ -31,7 +32,7 @@ returns-clause-claim c = λ bytes read done.
     let decides = IfOk-at_ok (λ (d : Decision). Decides p input.quandles asked.workers d.verdict d.kept) c.in-Ok.is c.requires.decides in
     let claims = IfOk-at_ok (λ (d : Decision). Claims first second d.verdict) c.in-Ok.is c.requires.claims in
     let text = has_text c.a_decision_has_a_text.ensures bytes asked input asked.workers v kept read decides in
-    let printed = c.from_vec.ensures ∙ c.in-Ok-print_verdict.ensures in
+    let printed = ap (λ (r : Reply). r.text) c.reply_of.ensures ∙ c.in-Ok-print_verdict.ensures in
     let written = version_text Tidy v in
     let decision : IsDecision bytes written = record {
       problem = input;
