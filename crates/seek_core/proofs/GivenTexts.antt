@@ -1,5 +1,5 @@
 -- Blocks that were read have texts, and so has what is found by them.
-use Rattle.std.proofs.Common.{◌≡◌, ◌≤◌, ◌++◌, ◌∙◌, ℕ, Bool, true, false, List, [], ◌∷◌, Option, Some, None, Ok, length, cond, refl, sym, subst}
+use Rattle.std.proofs.Common.{◌≡◌, ◌≤◌, ◌++◌, ◌∙◌, ℕ, Bool, true, false, List, [], ◌∷◌, Option, Some, None, Ok, length, cond, refl, sym, subst, arith}
 use Rattle.std.specs.List.{All, AllByRecursion}
 use Rattle.std.specs.Option.{option_or, option_map}
 use Rattle.std.proofs.lemmas.List.Elements.{All-from_recursion, All-append, recursion_from_All}
@@ -16,6 +16,7 @@ use Rattle.number_text.specs.declared.blocks.Block.{Block}
 use Rattle.number_text.specs.declared.evidence.Evidence.{Evidence}
 use Rattle.number_text.specs.declared.evidence.Evidence.TheVariants.{Linking}
 use Rattle.number_text.specs.Blocks.{blocks, blocks_in, blocks_of}
+use Rattle.quandle_core.specs.declared.operations.TheConstants.{MAX_LARGE_ORDER}
 use Rattle.number_check.specs.Holds.{linked_of}
 use Rattle.number_check.specs.Cause.{are_same}
 use Rattle.number_certificates.specs.Printed.{HasBlockText}
@@ -30,10 +31,10 @@ use Rattle.seek_core.specs.Given.{more_blocks}
 given_texts : (bytes : List ℕ) (given : List Block) → blocks_of bytes ≡ Ok given → AllByRecursion HasBlockText given
 unfolding blocks_in
 given_texts bytes given is =
-    let listed = bind_ok (blocks MAX_QUANDLES (text_of bytes)) (λ listed. text_end listed.1 >>= λ end. Ok listed.0) given is in
+    let listed = bind_ok (blocks MAX_LARGE_ORDER MAX_QUANDLES (text_of bytes)) (λ listed. text_end listed.1 >>= λ end. Ok listed.0) given is in
     let ended = bind_ok (text_end listed.0.1) (λ end. Ok listed.0.0) given listed.2 in
     subst (λ (bs : List Block). AllByRecursion HasBlockText bs) (ok_is listed.0.0 given ended.2)
-    (blocks_text MAX_QUANDLES (text_of bytes) listed.0.1 listed.0.0 listed.1)
+    (blocks_text MAX_LARGE_ORDER MAX_QUANDLES (text_of bytes) listed.0.1 listed.0.0 (omega arith) listed.1)
 
 pub more_texts : (before more all : List Block) (bytes : List ℕ) → All HasBlockText before → blocks_of bytes ≡ Ok more → all ≡ before ++ more
     → All HasBlockText all

@@ -3,6 +3,7 @@ mod OwnTables
 mod NoneLost
 mod AllKinds
 mod GivenTexts
+mod LargerLast
 mod Rounds
 mod Separated
 mod Texts

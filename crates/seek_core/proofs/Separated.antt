@@ -29,8 +29,10 @@ use Rattle.seek_core.specs.declared.finding.Search.{Search}
 use Rattle.seek_core.specs.declared.answer.Tried.{Tried}
 use Rattle.seek_core.specs.Found.{IsVerdictBy, IsFoundWhere, IsSearchOn, IsSearchOf, IsFindingOf}
 use Rattle.seek_core.specs.Answers.{QuandlesTriedInVain, BlocksTriedInVain}
+use Rattle.seek_core.specs.Sizes.{as_tried}
 use Rattle.seek_core.proofs.ByFormula.{formula_texts}
 use Rattle.seek_core.proofs.GivenTexts.{by_written}
+use Rattle.seek_core.proofs.LargerLast.{tried_texts, none_told}
 
 -- ---- the quandles that are tried have texts
 
@@ -80,17 +82,17 @@ worth_by d e qs None v all is equal = subst (IsWorth d e) (sym equal.verdict) (r
 finding_of : (p : ProblemText) (blocks : List Block) (s : Search) (x : Said) → IsGrid (grid_of p.first) → IsGrid (grid_of p.second)
     → All HasQuandleText s.quandles.items → All HasBlockText blocks → (search : IsSearchOf p blocks s)
     → IsFoundWhere (grid_of p.first) (grid_of p.second) (first_separating (grid_of p.first) (grid_of p.second) s.quandles.items)
-    (told_apart (grid_of p.first) (grid_of p.second) search.seeds blocks) (Some x) → IsFindingOf p x
+    (told_apart (grid_of p.first) (grid_of p.second) search.seeds (as_tried blocks)) (Some x) → IsFindingOf p x
 finding_of p blocks s (said.Verdict v) one two all texts search found =
     let d = grid_of p.first in
     let e = grid_of p.second in
     let worth = worth_by d e s.quandles.items (first_separating d e s.quandles.items) v all refl found in
     record { holds = worth.holds; written = worth.written; tidy = worth.tidy }
 finding_of p blocks s (said.Evidence x) one two all texts search found = record {
-  holds = told_holds (grid_of p.first) (grid_of p.second) search.seeds blocks x one two search.plans found;
+  holds = told_holds (grid_of p.first) (grid_of p.second) search.seeds (as_tried blocks) x one two search.plans found;
   written = held_text (grid_of p.first) (grid_of p.second) x one two
-      (told_holds (grid_of p.first) (grid_of p.second) search.seeds blocks x one two search.plans found)
-      (by_written (grid_of p.first) (grid_of p.second) search.seeds blocks x one two search.plans texts found);
+      (told_holds (grid_of p.first) (grid_of p.second) search.seeds (as_tried blocks) x one two search.plans found)
+      (by_written (grid_of p.first) (grid_of p.second) search.seeds (as_tried blocks) x one two search.plans (tried_texts blocks texts) found);
 }
 
 pub finding_if : (p : ProblemText) (blocks : List Block) (s : Search) → IsGrid (grid_of p.first) → IsGrid (grid_of p.second) → All HasQuandleText s.quandles.items
@@ -101,7 +103,7 @@ finding_if p blocks s one two all texts search = by s.said refl
     by None is = tt
     by (Some x) is = finding_of p blocks s x one two all texts search
         (subst (λ (o : Option Said). IsFoundWhere (grid_of p.first) (grid_of p.second) (first_separating (grid_of p.first) (grid_of p.second) s.quandles.items)
-        (told_apart (grid_of p.first) (grid_of p.second) search.seeds blocks) o) is search.found)
+        (told_apart (grid_of p.first) (grid_of p.second) search.seeds (as_tried blocks)) o) is search.found)
 
 -- ---- where nothing is found
 
@@ -120,9 +122,9 @@ pub in_vain_of : (bytes : List ℕ) (p : ProblemText) (blocks : List Block) (s :
 in_vain_of bytes p blocks s tried read wide same fitting none search =
     let d = grid_of p.first in
     let e = grid_of p.second in
-    let neither : (first_separating d e s.quandles.items ≡ None) × (told_apart d e search.seeds blocks ≡ None) =
-    subst (λ (o : Option Said). IsFoundWhere d e (first_separating d e s.quandles.items) (told_apart d e search.seeds blocks) o) none search.found in
-    let untold = linking_none d e search.seeds blocks neither.1 in (
+    let neither : (first_separating d e s.quandles.items ≡ None) × (told_apart d e search.seeds (as_tried blocks) ≡ None) =
+    subst (λ (o : Option Said). IsFoundWhere d e (first_separating d e s.quandles.items) (told_apart d e search.seeds (as_tried blocks)) o) none search.found in
+    let untold = linking_none d e search.seeds (as_tried blocks) neither.1 in (
       record {
         problem = p;
         read = read;
@@ -137,6 +139,6 @@ in_vain_of bytes p blocks s tried read wide same fitting none search =
         seeds = search.seeds;
         plans = search.plans;
         fitting = fitting ∙ search.fitting;
-        in_vain = untold.1;
+        in_vain = none_told d e search.seeds blocks untold.1;
       },
     )

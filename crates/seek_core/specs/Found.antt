@@ -23,6 +23,7 @@ use Rattle.number_search.specs.Told.{ArePlansOf, fits_both, told_apart}
 use Rattle.seek_core.specs.declared.finding.Search.{Search}
 use Rattle.seek_core.specs.Candidates.{candidates}
 use Rattle.seek_core.specs.Pairs.{SeededPair}
+use Rattle.seek_core.specs.Sizes.{as_tried}
 
 -- the verdict `equal`, with a tidy list of moves that joins the diagrams
 pub record IsEqualBy (d e : Diagram) (v : Verdict) : Type 0 where
@@ -52,18 +53,19 @@ IsFoundWhere d e quandle evidence None = (quandle ≡ None) × (evidence ≡ Non
 abbrev pub IsVerdictOn : SeededPair → List NamedQuandle → Option Verdict → Type 0
 IsVerdictOn p quandles o = IsVerdictWhere p.first p.second (first_separating p.first p.second quandles) o
 
--- what is found of a pair of diagrams by these quandles, these blocks, and moves
+-- what is found of a pair of diagrams by these quandles, these blocks in this order, and moves
 abbrev pub IsFoundOn : SeededPair → List NamedQuandle → List Block → Option Said → Type 0
 IsFoundOn p quandles blocks o =
     IsFoundWhere p.first p.second (first_separating p.first p.second quandles) (told_apart p.first p.second p.seeds blocks) o
 
--- what a search on two diagrams and listed quandles tried, with so many of the blocks that fit plans of both diagrams, and what it found
+-- what a search on two diagrams and listed quandles tried, with so many of the blocks that fit plans of both diagrams, and what it found. The
+-- larger blocks were tried last
 pub record IsSearchOn (d e : Diagram) (listed : List NamedQuandle) (blocks : List Block) (s : Search) : Type 0 where
   pub quandles : s.quandles.items ≡ candidates d e listed
   pub seeds : SeedPair
   pub plans : ArePlansOf d e seeds
   pub fitting : s.blocks ≡ count_by (fits_both seeds) blocks
-  pub found : IsFoundWhere d e (first_separating d e s.quandles.items) (told_apart d e seeds blocks) s.said
+  pub found : IsFoundWhere d e (first_separating d e s.quandles.items) (told_apart d e seeds (as_tried blocks)) s.said
 
 -- the same of a problem
 abbrev pub IsSearchOf : ProblemText → List Block → Search → Type 0

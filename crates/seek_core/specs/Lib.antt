@@ -1,6 +1,7 @@
 pub mod Formulas
 pub mod Candidates
 pub mod Pairs
+pub mod Sizes
 pub mod Found
 pub mod Parts
 pub mod Given

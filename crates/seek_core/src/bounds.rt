@@ -1,5 +1,7 @@
 //! What bounds a search.
 
+use meeting_walks::Plan;
+
 /// The most steps of the short walk, which joins most pairs of diagrams of one link. It takes some hundredths of a second.
 pub const SHORT_STEPS: u64 = 32_768;
 
@@ -13,6 +15,14 @@ pub struct Bounds {
 }
 
 impl Bounds {
+    /// What the walks go by.
+    pub(crate) fn plan(self) -> Plan {
+        Plan {
+            bounds: self.walks,
+            workers: self.workers,
+        }
+    }
+
     /// The same for the short walk.
     pub(crate) fn short(self) -> Bounds {
         let Bounds { walks, workers } = self;

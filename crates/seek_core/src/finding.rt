@@ -1,8 +1,9 @@
 //! The search for what can be said of two diagrams: in rounds, by cost and yield.
-ghost use Rattle.std.specs.Prelude.{IfOk, IfSome};
+ghost use Rattle.std.specs.Prelude.{false, IfOk, IfSome};
 ghost use Rattle.std.specs.List.{All};
 ghost use Rattle.knot_text.specs.Printed.{HasQuandleText};
 ghost use Rattle.seek_core.specs.Found.{IsVerdictOn, IsFoundOn, IsSearchOf, IsFindingOf};
+ghost use Rattle.seek_core.specs.Sizes.{of_size, as_tried};
 
 use crate::blocks::Blocks;
 use crate::bounds::{Bounds, SHORT_STEPS};
@@ -35,10 +36,11 @@ pub struct Search {
 ///
 /// 1. their linking numbers;
 /// 2. the first `FIRST_QUANDLES` of the quandles that fit both, which are those of the problem and then those by formula;
-/// 3. the blocks that fit the seeds of both;
+/// 3. the blocks of at most `MAX_ORDER` colours that fit the seeds of both;
 /// 4. walks of at most `SHORT_STEPS` steps;
 /// 5. the other quandles;
-/// 6. walks within the bounds.
+/// 6. walks within the bounds;
+/// 7. the blocks of more than `MAX_ORDER` colours that do, which cost most.
 ///
 /// So it ends with evidence by numbers, with the verdict `different` by the first quandle that separates them, or with `equal` by a list of moves.
 /// Nothing is promised of what the walks find, and the watch has no say in it. Want of memory is the only error.
@@ -80,7 +82,30 @@ fn said_of<R: Threads + Sync, W: Watch>(
     watch: &mut W,
 ) -> Result<Option<Said>, OutOfMemory>
     requires { All HasQuandleText quandles.now }
-    ensures { IfOk result (λ o. IsFoundOn pair.now quandles.now blocks.now o) }
+    ensures { IfOk result (λ o. IsFoundOn pair.now quandles.now (as_tried blocks.now) o) }
+{
+    let said = said_before_larger(rt, alloc, pair, quandles, blocks, bounds, watch)?;
+    if said.is_some() {
+        return Ok(said);
+    }
+    match pair.told_by_blocks(alloc, blocks, true)? {
+        Some(evidence) => Ok(Some(Said::Evidence(evidence))),
+        None => Ok(None),
+    }
+}
+
+/// The same in the rounds before the larger blocks are tried.
+fn said_before_larger<R: Threads + Sync, W: Watch>(
+    rt: &R,
+    alloc: Global,
+    pair: &Pair,
+    quandles: &[Listed],
+    blocks: &[Block],
+    bounds: Bounds,
+    watch: &mut W,
+) -> Result<Option<Said>, OutOfMemory>
+    requires { All HasQuandleText quandles.now }
+    ensures { IfOk result (λ o. IsFoundOn pair.now quandles.now (of_size false blocks.now) o) }
 {
     let (front, others) = quandles.split_at(FIRST_QUANDLES.min(quandles.len()));
     let told = told_first(alloc, pair, front, blocks)?;
@@ -93,14 +118,14 @@ fn said_of<R: Threads + Sync, W: Watch>(
     }
 }
 
-/// What tells two diagrams apart in the first three rounds: linking numbers, the first quandles, and blocks.
+/// What tells two diagrams apart in the first three rounds: linking numbers, the first quandles, and the blocks that are not larger.
 fn told_first(
     alloc: Global,
     pair: &Pair,
     quandles: &[Listed],
     blocks: &[Block],
 ) -> Result<Option<Said>, OutOfMemory>
-    ensures { IfOk result (λ o. IsFoundOn pair.now quandles.now blocks.now o) }
+    ensures { IfOk result (λ o. IsFoundOn pair.now quandles.now (of_size false blocks.now) o) }
 {
     if let Some(evidence) = pair.told_by_linking(alloc)? {
         return Ok(Some(Said::Evidence(evidence)));
@@ -108,14 +133,14 @@ fn told_first(
     if let Some(verdict) = pair.separation(alloc, quandles)? {
         return Ok(Some(Said::Verdict(verdict)));
     }
-    match pair.told_by_blocks(alloc, blocks)? {
+    match pair.told_by_blocks(alloc, blocks, false)? {
         Some(evidence) => Ok(Some(Said::Evidence(evidence))),
         None => Ok(None),
     }
 }
 
-/// The verdict of the last three rounds: `equal` by the short walk, `different` by the first of the quandles that separates two diagrams, or
-/// `equal` by the long walks.
+/// The verdict of rounds 4 to 6: `equal` by the short walk, `different` by the first of the quandles that separates two diagrams, or `equal` by the
+/// long walks.
 fn verdict_on<R: Threads + Sync, W: Watch>(
     rt: &R,
     alloc: Global,

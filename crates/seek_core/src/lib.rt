@@ -14,6 +14,7 @@ pub mod laws;
 mod pair;
 mod parts;
 mod separating;
+mod sizes;
 
 pub use answer::{Answer, Tried, answer_to};
 pub use blocks::Blocks;

@@ -3,14 +3,16 @@ ghost use Rattle.std.specs.Prelude.{◌≡◌, IfOk, IfSome};
 ghost use Rattle.number_search.specs.Told.{ArePlansOf, told_by_linking, told_by_blocks};
 ghost use Rattle.pair_verdict.specs.Separates.{first_separating, IsSeparation};
 ghost use Rattle.seek_core.specs.Found.{IsEqualBy};
+ghost use Rattle.seek_core.specs.Sizes.{of_size};
 
 use crate::bounds::Bounds;
 use crate::separating::first_separation;
+use crate::sizes::tell_by_size;
 use grid_canon::tidy;
 use grid_core::Grid;
 use meeting_walks::{Watch, find_joining_by};
 use memory_core::{Items, OutOfMemory};
-use number_search::{SeedPair, tell_apart_by_blocks, tell_apart_by_linking};
+use number_search::{SeedPair, tell_apart_by_linking};
 use number_text::{Block, Evidence};
 use std::alloc::Global;
 use std::marker::Model;
@@ -56,15 +58,16 @@ impl<'a> Pair<'a> {
         tell_apart_by_linking(alloc, self.first, self.second)
     }
 
-    /// The evidence by the first of the blocks that tells the diagrams apart, or None where none does.
+    /// The evidence by the first that tells the diagrams apart of the larger ones of the blocks, or of the others. None where none of these does.
     pub(crate) fn told_by_blocks(
         &self,
         alloc: Global,
         blocks: &[Block],
+        larger: bool,
     ) -> Result<Option<Evidence>, OutOfMemory>
-        ensures { IfOk result (λ o. o ≡ told_by_blocks self.now.first self.now.second self.now.seeds blocks.now) }
+        ensures { IfOk result (λ o. o ≡ told_by_blocks self.now.first self.now.second self.now.seeds (of_size larger blocks.now)) }
     {
-        tell_apart_by_blocks(alloc, self.first, self.second, self.seeds, blocks)
+        tell_by_size(alloc, self.first, self.second, self.seeds, blocks, larger)
     }
 
     /// The verdict `different` by the first of the quandles that separates the diagrams, or None where none does.
@@ -105,8 +108,7 @@ fn equal<R: Threads + Sync, W: Watch>(
 ) -> Result<Option<Verdict>, OutOfMemory>
     ensures { IfOk result (λ o. IfSome o (λ v. IsEqualBy first.now second.now v)) }
 {
-    let Bounds { walks, workers } = bounds;
-    match find_joining_by(rt, alloc, first, second, walks, workers, watch)? {
+    match find_joining_by(rt, alloc, first, second, bounds.plan(), watch)? {
         Some(moves) => {
             let list = tidy(alloc, first, moves.as_slice())?;
             Ok(Some(Verdict::Equal(Items::from_vec(list))))

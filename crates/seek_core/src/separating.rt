@@ -70,7 +70,7 @@ fn colouring_count(
     requires fits { fits quandle.now grid.now ≡ true }
     ensures { IfOk result (λ n. n ≡ length (colourings quandle.now grid.now)) }
 {
-    match count(alloc, grid, quandle, seeding) {
+    match count(alloc, grid, &quandle.operations(), seeding) {
         Ok(number) => Ok(number as usize),
         Err(CountFault::TooWide) => {
             let list = list_fitting(alloc, grid, quandle)?;

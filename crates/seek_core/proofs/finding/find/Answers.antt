@@ -6,6 +6,7 @@ use Rattle.number_text.specs.declared.blocks.Block.{Block}
 use Rattle.seek_core.specs.declared.finding.Search.{Search}
 use Rattle.seek_core.specs.Found.{IsFoundOn, IsSearchOn}
 use Rattle.seek_core.specs.Pairs.{SeededPair}
+use Rattle.seek_core.specs.Sizes.{as_tried}
 use Rattle.seek_core.proofs.Separated.{search_of, finding_if}
 use Rattle.seek_core.proofs.finding.find.Goals as goal
 
@@ -16,8 +17,8 @@ returns-clause-search g c =
     let e = c.grid-second.result in
     let given = c.as_slice-given.result.now in
     let s : Search = record { said = c.in_ok-said.said; quandles = c.in_ok-quandles.quandles; blocks = c.count_fitting.result } in
-    let found = subst (λ (p : SeededPair). IsFoundOn p c.in_ok-quandles.quandles.items given c.in_ok-said.said) c.new-pair.ensures
-    (subst (λ (qs : List NamedQuandle). IsFoundOn c.new-pair.result qs given c.in_ok-said.said) c.as_slice-2.ensures.value c.in_ok-said.ensures) in
+    let found = subst (λ (p : SeededPair). IsFoundOn p c.in_ok-quandles.quandles.items (as_tried given) c.in_ok-said.said) c.new-pair.ensures
+    (subst (λ (qs : List NamedQuandle). IsFoundOn c.new-pair.result qs (as_tried given) c.in_ok-said.said) c.as_slice-2.ensures.value c.in_ok-said.ensures) in
     let search : IsSearchOn d e c.as_slice.result.now given s = record {
       quandles = c.in_ok-quandles.ensures.quandles;
       seeds = c.in_ok-seeds.seeds;

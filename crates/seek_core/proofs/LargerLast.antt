@@ -1,0 +1,122 @@
+-- What blocks tell that are tried in two turns, the larger ones last.
+use Rattle.std.proofs.Common.{◌≡◌, ◌∙◌, ◌++◌, ◌+◌, ◌<◌, ◌≤◌, ℕ, Bool, true, false, List, [], ◌∷◌, Option, Some, None, All, length, get_or, drop, cond, refl, sym, ap}
+use Rattle.std.specs.Bool.{beq}
+use Rattle.std.specs.List.{find}
+use Rattle.std.specs.Option.{is_some, option_or, option_map}
+use Rattle.std.proofs.lemmas.List.{drop_more, drop_all}
+use Rattle.std.proofs.lemmas.List.Folds.{find-append}
+use Rattle.std.proofs.lemmas.List.Elements.{All-append, All-filter, filter-append}
+use Rattle.grid_core.specs.Diagram.{Diagram}
+use Rattle.number_text.specs.declared.blocks.Block.{Block}
+use Rattle.number_text.specs.declared.evidence.Evidence.{Evidence}
+use Rattle.number_certificates.specs.Printed.{HasBlockText}
+use Rattle.number_search.specs.declared.seed_pair.SeedPair.{SeedPair}
+use Rattle.number_search.specs.Told.{tells, first_telling, evidence_by, told_by_linking, told_by_blocks, told_apart}
+use Rattle.seek_core.specs.Sizes.{is_larger, of_size, as_tried}
+
+-- ---- one list behind the other
+
+first_mapped : (f : Block → Evidence) (a b : Option Block) → option_map f (option_or a b) ≡ option_or (option_map f a) (option_map f b)
+first_mapped f None b = refl
+first_mapped f (Some x) b = refl
+
+told_by_both : (d e : Diagram) (s : SeedPair) (front behind : List Block)
+    → told_by_blocks d e s (front ++ behind) ≡ option_or (told_by_blocks d e s front) (told_by_blocks d e s behind)
+told_by_both d e s front behind =
+    ap (option_map (evidence_by d e s)) (find-append (tells d e s) front behind)
+    ∙ first_mapped (evidence_by d e s) (first_telling d e s front) (first_telling d e s behind)
+
+or_again : (a b c : Option Evidence) → option_or a (option_or b c) ≡ option_or (option_or a b) c
+or_again None b c = refl
+or_again (Some x) b c = refl
+
+pub larger_last : (d e : Diagram) (s : SeedPair) (blocks : List Block)
+    → told_apart d e s (as_tried blocks) ≡ option_or (told_apart d e s (of_size false blocks)) (told_by_blocks d e s (of_size true blocks))
+larger_last d e s blocks =
+    ap (option_or (told_by_linking d e)) (told_by_both d e s (of_size false blocks) (of_size true blocks))
+    ∙ or_again (told_by_linking d e) (told_by_blocks d e s (of_size false blocks)) (told_by_blocks d e s (of_size true blocks))
+
+-- blocks that have texts still have them
+pub tried_texts : (blocks : List Block) → All HasBlockText blocks → All HasBlockText (as_tried blocks)
+tried_texts blocks texts =
+    All-append HasBlockText (of_size false blocks) (of_size true blocks) (All-filter (λ (b : Block). beq (is_larger b) false) HasBlockText blocks texts)
+    (All-filter (λ (b : Block). beq (is_larger b) true) HasBlockText blocks texts)
+
+-- ---- where none of both sizes tells, none of all does
+
+past : (t : Bool) (b : Block) (few all : Option Block) → cond t (Some b) few ≡ None → (few ≡ None → all ≡ None) → cond t (Some b) all ≡ None
+past true b few all none others = absurd cc
+past false b few all none others = others none
+
+none_of_all : (p : Block → Bool) (blocks : List Block) → find p (of_size false blocks) ≡ None → find p (of_size true blocks) ≡ None → find p blocks ≡ None
+none_of_all p [] small large = refl
+none_of_all p (b ∷ blocks) small large = by (is_larger b) small large (none_of_all p blocks)
+  where
+    by : (t : Bool) → find p (cond (beq t false) (b ∷ of_size false blocks) (of_size false blocks)) ≡ None
+        → find p (cond (beq t true) (b ∷ of_size true blocks) (of_size true blocks)) ≡ None
+        → (find p (of_size false blocks) ≡ None → find p (of_size true blocks) ≡ None → find p blocks ≡ None) → cond (p b) (Some b) (find p blocks) ≡ None
+    by true small large others = past (p b) b (find p (of_size true blocks)) (find p blocks) large (λ none. others small none)
+    by false small large others = past (p b) b (find p (of_size false blocks)) (find p blocks) small (λ none. others none large)
+
+none_mapped : (f : Block → Evidence) (o : Option Block) → option_map f o ≡ None → o ≡ None
+none_mapped f None none = refl
+none_mapped f (Some b) none = absurd cc
+
+neither_told : (a b : Option Evidence) → option_or a b ≡ None → (a ≡ None) × (b ≡ None)
+neither_told None b none = (refl, none)
+neither_told (Some x) b none = absurd cc
+
+pub none_told : (d e : Diagram) (s : SeedPair) (blocks : List Block) → told_by_blocks d e s (as_tried blocks) ≡ None → told_by_blocks d e s blocks ≡ None
+none_told d e s blocks none =
+    let both = neither_told (told_by_blocks d e s (of_size false blocks)) (told_by_blocks d e s (of_size true blocks))
+    (sym (told_by_both d e s (of_size false blocks) (of_size true blocks)) ∙ none) in
+    ap (option_map (evidence_by d e s)) (none_of_all (tells d e s) blocks
+    (none_mapped (evidence_by d e s) (first_telling d e s (of_size false blocks)) both.0)
+    (none_mapped (evidence_by d e s) (first_telling d e s (of_size true blocks)) both.1))
+
+-- ---- one block after the other
+
+-- what the blocks of a size tell, from a place on
+abbrev told_from : Diagram → Diagram → SeedPair → Bool → ℕ → List Block → Option Evidence
+told_from d e s larger i blocks = told_by_blocks d e s (of_size larger (drop i blocks))
+
+one_more : (d e : Diagram) (s : SeedPair) (larger : Bool) (blocks : List Block) (i : ℕ) (b : Block) → i < length blocks → b ≡ get_or blocks i b
+    → told_from d e s larger i blocks ≡ option_or (told_by_blocks d e s (of_size larger (b ∷ []))) (told_from d e s larger (i + 1) blocks)
+one_more d e s larger blocks i b lt is =
+    let now : drop i blocks ≡ b ∷ drop (i + 1) blocks = drop_more blocks i b lt ∙ ap (λ (x : Block). x ∷ drop (i + 1) blocks) (sym is) in
+    ap (λ (bs : List Block). told_by_blocks d e s (of_size larger bs)) now
+    ∙ ap (told_by_blocks d e s) (filter-append (λ (x : Block). beq (is_larger x) larger) (b ∷ []) (drop (i + 1) blocks))
+    ∙ told_by_both d e s (of_size larger (b ∷ [])) (of_size larger (drop (i + 1) blocks))
+
+untold : (o : Option Evidence) → is_some o ≡ false → o ≡ None
+untold None none = refl
+untold (Some x) none = absurd cc
+
+pub one_past : (d e : Diagram) (s : SeedPair) (larger : Bool) (blocks : List Block) (i : ℕ) (b : Block) (o : Option Evidence) → i < length blocks
+    → b ≡ get_or blocks i b → o ≡ told_by_blocks d e s (of_size larger (b ∷ [])) → is_some o ≡ false
+    → told_by_blocks d e s (of_size larger (drop i blocks)) ≡ told_by_blocks d e s (of_size larger blocks)
+    → told_by_blocks d e s (of_size larger (drop (i + 1) blocks)) ≡ told_by_blocks d e s (of_size larger blocks)
+one_past d e s larger blocks i b o lt is one none so_far =
+    let here : told_by_blocks d e s (of_size larger (b ∷ [])) ≡ None = sym one ∙ untold o none in
+    sym (one_more d e s larger blocks i b lt is ∙ ap (λ (p : Option Evidence). option_or p (told_from d e s larger (i + 1) blocks)) here) ∙ so_far
+
+pub one_tells : (d e : Diagram) (s : SeedPair) (larger : Bool) (blocks : List Block) (i : ℕ) (b : Block) (o : Option Evidence) → i < length blocks
+    → b ≡ get_or blocks i b → o ≡ told_by_blocks d e s (of_size larger (b ∷ [])) → is_some o ≡ true
+    → told_by_blocks d e s (of_size larger (drop i blocks)) ≡ told_by_blocks d e s (of_size larger blocks)
+    → o ≡ told_by_blocks d e s (of_size larger blocks)
+one_tells d e s larger blocks i b None lt is one some so_far = absurd cc
+one_tells d e s larger blocks i b (Some x) lt is one some so_far =
+    sym (sym so_far ∙ one_more d e s larger blocks i b lt is ∙ ap (λ (p : Option Evidence). option_or p (told_from d e s larger (i + 1) blocks)) (sym one))
+
+pub none_left : (d e : Diagram) (s : SeedPair) (larger : Bool) (blocks : List Block) (i : ℕ) → length blocks ≤ i
+    → told_by_blocks d e s (of_size larger (drop i blocks)) ≡ told_by_blocks d e s (of_size larger blocks)
+    → None ≡ told_by_blocks d e s (of_size larger blocks)
+none_left d e s larger blocks i all so_far =
+    ap (λ (bs : List Block). told_by_blocks d e s (of_size larger bs)) (sym (drop_all i blocks all)) ∙ so_far
+
+-- one block, where it is of the size and where it is not
+pub one_kept : (larger : Bool) (b : Block) (t : Bool) → t ≡ beq (is_larger b) larger → t ≡ true → of_size larger (b ∷ []) ≡ b ∷ []
+one_kept larger b t is true_is = ap (λ (k : Bool). cond k (b ∷ []) []) (sym is ∙ true_is)
+
+pub one_left_out : (larger : Bool) (b : Block) (t : Bool) → t ≡ beq (is_larger b) larger → t ≡ false → of_size larger (b ∷ []) ≡ []
+one_left_out larger b t is false_is = ap (λ (k : Bool). cond k (b ∷ []) []) (sym is ∙ false_is)
