@@ -12,10 +12,13 @@ use Rattle.seek_words.specs.declared.asked.Asked.{Asked}
 use Rattle.seek_parts.specs.Parts.{Told, ArePartsOf, all_due}
 use Rattle.seek_parts.proofs.NeverDone.{never_done, text_never_done}
 use Rattle.number_text.specs.declared.blocks.Block.{Block}
+use Rattle.seek_core.specs.Parts.{joined}
 use Rattle.seek.specs.declared.failure.Failure.{Failure}
 use Rattle.seek.specs.declared.failure.Failure.TheVariants as failure
 use Rattle.seek.specs.Failure.{failure_status}
-use Rattle.seek.specs.Exit.{Outside, IsUntouched, IsSoughtTo, EndsOn, EndsBy, EndsRefused, EndsCall, IsWrittenTo, IsAnswered}
+use Rattle.seek.specs.Blocks.{AreBlocksOf}
+use Rattle.seek.specs.Inputs.{IsPartsFailure, IsInputsFailure}
+use Rattle.seek.specs.Exit.{Outside, IsUntouched, IsSoughtTo, EndsUnread, EndsBy, EndsRefused, EndsCall, IsWrittenTo, IsAnswered}
 use Rattle.seek.proofs.Found.{written_where_done}
 
 -- only Done has the number 0
@@ -44,11 +47,27 @@ written (Some path) bytes blocks old new s (inl (is, puts), kept) done = puts
 written (Some path) bytes blocks old new s (inr (same, inl fault), kept) done = cc
 written (Some path) bytes blocks old new s (inr (same, inr (not_done, sought)), kept) done = absurd (not_done done)
 
--- a call that has the parts of what is asked ends as one that does it
-pub on_parts : (told : Told) (asked : Asked) (parts : List (List ℕ)) (old new : Outside) (s : Status) → ArePartsOf told (all_due asked) parts
-    → EndsOn told asked parts old new s → EndsBy told asked old new s
-on_parts told asked parts old new s are (inl ends) = inl record { parts = parts; are = are; ends = ends }
-on_parts told asked parts old new s are (inr without) = inr (inr (inl without))
+-- a call that has what it reads ends as one that does what is asked
+pub with_inputs : (told : Told) (asked : Asked) (parts : List (List ℕ)) (blocks : List Block) (old new : Outside) (s : Status)
+    → ArePartsOf told (all_due asked) parts → AreBlocksOf told asked.weights.items blocks
+    → IsSoughtTo asked.out (joined parts) blocks old new s → EndsBy told asked old new s
+with_inputs told asked parts blocks old new s are given sought =
+    inl record { parts = parts; are = are; ends = record { blocks = blocks; given = given; sought = sought } }
+
+unread : (told : Told) (asked : Asked) (old new : Outside) (s : Status) (f : Failure) → IsUntouched old new → IsPartsFailure told asked f
+    → s ≡ failure_status f → EndsUnread told asked old new s
+unread told asked old new s (failure.Part fault) same bad is = record { fault = fault; is = bad; status_is = is; untouched = same }
+unread told asked old new s (failure.Blocks name fault) same bad is = absurd bad
+unread told asked old new s (failure.ReadAndWritten name) same bad is = absurd bad
+unread told asked old new s (failure.Write name error) same bad is = absurd bad
+unread told asked old new s failure.OutOfMemory same bad is = absurd bad
+
+-- so does one that can't have it
+pub without_inputs : (told : Told) (asked : Asked) (old new : Outside) (s : Status) (f : Failure) → IsUntouched old new
+    → IsInputsFailure told asked f → s ≡ failure_status f → EndsBy told asked old new s
+without_inputs told asked old new s f same (inl bad) is = inr (inl (unread told asked old new s f same bad is))
+without_inputs told asked old new s f same (inr bad) is =
+    inr (inr (inl record { failure = f; is = bad; status_is = is; untouched = same }))
 
 -- a call that is done has answered its words, or they ask for the help or the version
 pub answered : (told : Told) (words : List Text) (old new : Outside) (s : Status) → EndsCall told words old new s → s ≡ status.Done

@@ -18,6 +18,7 @@ use Rattle.seek_parts.specs.Parts.{Told, ArePartsOf, all_due}
 use Rattle.seek_parts.specs.Fault.{IsFaultOf, fault_status}
 use Rattle.number_text.specs.declared.blocks.Block.{Block}
 use Rattle.seek.specs.declared.failure.Failure.{Failure}
+use Rattle.seek.specs.declared.outlets.Outlets.{Outlets}
 use Rattle.seek.specs.Failure.{failure_status}
 use Rattle.seek.specs.Blocks.{AreBlocksOf, IsBlocksFailure}
 use Rattle.seek.specs.Search.{Held, IsSoughtWith, PutsDecision, IsSoughtAt}
@@ -26,6 +27,13 @@ use Rattle.seek.specs.Search.{Held, IsSoughtWith, PutsDecision, IsSoughtAt}
 pub record Outside : Type 0 where
   pub output : Held
   pub files : Option Standing
+
+-- what outlets come to, by what tells what stands at each path, and what tells what a writer holds
+abbrev pub outside_of : {P W : Type 0} → (P → Option Standing) → (W → Option (List ℕ)) → Outlets P W → Outside
+outside_of standing contents outlets = record {
+  output = record { bytes = contents outlets.output.port; faults = outlets.output.errors };
+  files = standing outlets.places;
+}
 
 -- a sink holds what it held, as far as that is told, and counted no fault
 pub record IsKept (old new : Held) : Type 0 where
@@ -55,10 +63,6 @@ pub record EndsWithoutBlocks (told : Told) (asked : Asked) (old new : Outside) (
   pub is : IsBlocksFailure told asked.weights.items failure
   pub status_is : s ≡ failure_status failure
   pub untouched : IsUntouched old new
-
--- how a call ends that has these parts
-abbrev pub EndsOn : Told → Asked → List (List ℕ) → Outside → Outside → Status → Type 0
-EndsOn told asked parts old new s = EndsWithBlocks told asked parts old new s ⊎ EndsWithoutBlocks told asked old new s
 
 -- on the parts of what is asked a verdict was sought
 pub record EndsSought (told : Told) (asked : Asked) (old new : Outside) (s : Status) : Type 0 where

@@ -1,4 +1,5 @@
 pub mod Failure
 pub mod Blocks
+pub mod Inputs
 pub mod Search
 pub mod Exit

@@ -35,7 +35,7 @@ fn with_file<'a, F: Texts>(
     ensures blocks { IfOk result (λ more. AddsBlocksOf (F.told files.now) path.entry blocks more) }
     ensures failure { IfErr result (λ f. HasNoBlocks (F.told files.now) path.entry f) }
 {
-    let name = name_of(path);
+    let name = file_name(path);
     match files.text(alloc, path, name) {
         Ok(bytes) => with_text(alloc, blocks, bytes.as_slice(), name),
         Err(fault) => Err(Failure::Part(fault)),
@@ -59,7 +59,7 @@ fn with_text<'a>(
 }
 
 /// What a file is called in messages.
-fn name_of<'a>(path: &'a str) -> &'a str {
+fn file_name<'a>(path: &'a str) -> &'a str {
     match path {
         "-" => "standard input",
         _ => path,

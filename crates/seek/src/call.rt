@@ -7,18 +7,17 @@ ghost use Rattle.clap.specs.declared.error.kind.ErrorKind.TheVariants as kind;
 ghost use Rattle.decision_core.specs.declared.status.Status.TheVariants as status;
 ghost use Rattle.seek_core.specs.Parts.{joined};
 ghost use Rattle.seek_words.specs.Words.{texts_of, IsShown, AskForText};
-ghost use Rattle.seek.specs.Exit.{Outside, IsSoughtTo, EndsOn, EndsBy, EndsCall, IsExitOf, IsAnswered};
+ghost use Rattle.seek.specs.Exit.{outside_of, IsSoughtTo, EndsBy, EndsCall, IsExitOf, IsAnswered};
 
-use crate::blocks::read_blocks;
 use crate::clash::read_and_written;
 use crate::failure::{Failure, OUTPUT};
+use crate::inputs::{Inputs, read_inputs};
+use crate::outlets::Outlets;
 use crate::report::tell;
-use crate::search::{seek_at, seek_to};
+use crate::search::{seek_to_file, seek_to_output};
 use clap::error::ErrorKind;
 use decision_core::Status;
-use knot_ports::StdSink;
-use seek_core::Blocks;
-use seek_parts::{Parts, Texts};
+use seek_parts::Texts;
 use seek_words::{Asked, Talk, option_bounds, read_words};
 use std::io;
 use std::io::{IsTerminal, Write};
@@ -33,17 +32,14 @@ pub(crate) fn call<R: Threads + Sync, F: Texts, P: Places, W: Write + Drop>(
     threads: &R,
     words: &[String],
     files: &F,
-    places: &mut P,
-    output: &mut StdSink<W>,
+    outlets: &mut Outlets<P, W>,
 ) -> ExitCode
     ensures exit { IsExitOf (F.told files.now) (texts_of words.now)
-        (record { output = record { bytes = W.contents output.old.port; faults = output.old.errors }; files = P.standing places.old })
-        (record { output = record { bytes = W.contents output.new.port; faults = output.new.errors }; files = P.standing places.new }) result }
+        (outside_of P.standing W.contents outlets.old) (outside_of P.standing W.contents outlets.new) result }
     ensures done { exit_status result ≡ 0 → AskForText (texts_of words.now) ⊎ IsAnswered (F.told files.now) (texts_of words.now)
-        (record { output = record { bytes = W.contents output.old.port; faults = output.old.errors }; files = P.standing places.old })
-        (record { output = record { bytes = W.contents output.new.port; faults = output.new.errors }; files = P.standing places.new }) }
+        (outside_of P.standing W.contents outlets.old) (outside_of P.standing W.contents outlets.new) }
 {
-    answer(rt, threads, words, files, places, output).exit_code()
+    answer(rt, threads, words, files, outlets).exit_code()
 }
 
 /// The same: the status. Words that are refused are answered by `clap`, as is a request for help.
@@ -52,15 +48,13 @@ fn answer<R: Threads + Sync, F: Texts, P: Places, W: Write + Drop>(
     threads: &R,
     words: &[String],
     files: &F,
-    places: &mut P,
-    output: &mut StdSink<W>,
+    outlets: &mut Outlets<P, W>,
 ) -> Status
     ensures { EndsCall (F.told files.now) (texts_of words.now)
-        (record { output = record { bytes = W.contents output.old.port; faults = output.old.errors }; files = P.standing places.old })
-        (record { output = record { bytes = W.contents output.new.port; faults = output.new.errors }; files = P.standing places.new }) result }
+        (outside_of P.standing W.contents outlets.old) (outside_of P.standing W.contents outlets.new) result }
 {
     match read_words(rt.alloc(), words) {
-        Ok(asked) => seek(rt, threads, &asked, files, places, output),
+        Ok(asked) => seek(rt, threads, &asked, files, outlets),
         Err(error) => answer_words(rt, &error),
     }
 }
@@ -77,11 +71,16 @@ fn answer_words(rt: &HostRuntime, error: &clap::Error) -> Status
         ErrorKind::DisplayHelp | ErrorKind::DisplayVersion => printed_status(rt, printed),
         ErrorKind::OutOfMemory => Status::OutOfMemory,
         _ => {
-            if let Ok(Some(bounds)) = option_bounds(rt.alloc(), error) {
-                let _told = eprintln!(rt; "seek: {bounds}");
-            }
+            tell_bounds(rt, error);
             Status::Usage
         }
+    }
+}
+
+/// Tells the bounds of an option's number, where that is what is wrong with the words.
+fn tell_bounds(rt: &HostRuntime, error: &clap::Error) {
+    if let Ok(Some(bounds)) = option_bounds(rt.alloc(), error) {
+        let _told = eprintln!(rt; "seek: {bounds}");
     }
 }
 
@@ -107,12 +106,10 @@ fn seek<R: Threads + Sync, F: Texts, P: Places, W: Write + Drop>(
     threads: &R,
     asked: &Asked,
     files: &F,
-    places: &mut P,
-    output: &mut StdSink<W>,
+    outlets: &mut Outlets<P, W>,
 ) -> Status
     ensures { EndsBy (F.told files.now) asked.now
-        (record { output = record { bytes = W.contents output.old.port; faults = output.old.errors }; files = P.standing places.old })
-        (record { output = record { bytes = W.contents output.new.port; faults = output.new.errors }; files = P.standing places.new }) result }
+        (outside_of P.standing W.contents outlets.old) (outside_of P.standing W.contents outlets.new) result }
 {
     if let Some(name) = read_and_written(rt, asked) {
         return tell(rt, &Failure::ReadAndWritten { name });
@@ -120,48 +117,25 @@ fn seek<R: Threads + Sync, F: Texts, P: Places, W: Write + Drop>(
     if asked.talk != Talk::Quiet && asked.reads_input() && rt.stdin().is_terminal() {
         let _told = eprintln!(rt; "seek: standard input is read, up to its end (Ctrl-D)");
     }
-    match Parts::read(rt.alloc(), files, asked) {
-        Ok(parts) => seek_on(rt, threads, &parts, asked, files, places, output),
-        Err(fault) => tell(rt, &Failure::Part(fault)),
-    }
-}
-
-/// Reads the blocks of what is asked, seeks a verdict on the parts, and writes it there.
-fn seek_on<R: Threads + Sync, F: Texts, P: Places, W: Write + Drop>(
-    rt: &HostRuntime,
-    threads: &R,
-    parts: &Parts,
-    asked: &Asked,
-    files: &F,
-    places: &mut P,
-    output: &mut StdSink<W>,
-) -> Status
-    ensures { EndsOn (F.told files.now) asked.now parts.now.texts
-        (record { output = record { bytes = W.contents output.old.port; faults = output.old.errors }; files = P.standing places.old })
-        (record { output = record { bytes = W.contents output.new.port; faults = output.new.errors }; files = P.standing places.new }) result }
-{
-    match read_blocks(rt.alloc(), files, asked) {
-        Ok(blocks) => seek_by(rt, threads, parts, &blocks, asked, places, output),
+    match read_inputs(rt.alloc(), files, asked) {
+        Ok(inputs) => seek_with(rt, threads, &inputs, asked, outlets),
         Err(failure) => tell(rt, &failure),
     }
 }
 
-/// Seeks a verdict on the parts, by the blocks too, and writes it there.
-fn seek_by<R: Threads + Sync, P: Places, W: Write + Drop>(
+/// Seeks a verdict on what was read, and writes it there.
+fn seek_with<R: Threads + Sync, P: Places, W: Write + Drop>(
     rt: &HostRuntime,
     threads: &R,
-    parts: &Parts,
-    blocks: &Blocks,
+    inputs: &Inputs,
     asked: &Asked,
-    places: &mut P,
-    output: &mut StdSink<W>,
+    outlets: &mut Outlets<P, W>,
 ) -> Status
-    ensures { IsSoughtTo asked.now.out (joined parts.now.texts) blocks.now
-        (record { output = record { bytes = W.contents output.old.port; faults = output.old.errors }; files = P.standing places.old })
-        (record { output = record { bytes = W.contents output.new.port; faults = output.new.errors }; files = P.standing places.new }) result }
+    ensures { IsSoughtTo asked.now.out (joined inputs.now.parts.texts) inputs.now.blocks
+        (outside_of P.standing W.contents outlets.old) (outside_of P.standing W.contents outlets.new) result }
 {
     match asked.out {
-        None => seek_to(rt, threads, parts, blocks, asked, output),
-        Some(path) => seek_at(rt, threads, parts, blocks, asked, places, path),
+        None => seek_to_output(rt, threads, inputs, asked, &mut outlets.output),
+        Some(path) => seek_to_file(rt, threads, inputs, asked, &mut outlets.places, path),
     }
 }

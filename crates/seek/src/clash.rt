@@ -10,22 +10,32 @@ use std::os::unix::fs::MetadataExt;
 pub(crate) fn read_and_written<'a>(rt: &HostRuntime, asked: &Asked<'a>) -> Option<&'a str>
     ensures { IfSome result (λ name. IsSome asked.now.out) }
 {
-    let (device, number) = file_at(rt, asked.out?)?;
-    let is_it = |path: &str| file_at(rt, path) == Some((device, number));
-    for given in diagrams_of(asked) {
-        match given {
-            Given::File(path) | Given::Code(path) if path != "-" && is_it(path) => {
-                return Some(path);
-            }
-            Given::File(_) | Given::Code(_) | Given::Braid(_) => {}
-        }
+    let written = file_at(rt, asked.out?)?;
+    if let Some(path) = diagram_at(rt, asked, written) {
+        return Some(path);
     }
     for path in asked.quandles.iter().chain(asked.weights.iter()) {
-        if *path != "-" && is_it(*path) {
+        if is_at(rt, *path, written) {
             return Some(*path);
         }
     }
     None
+}
+
+/// The first of the files of diagrams that is the file with this device and this number; None without one.
+fn diagram_at<'a>(rt: &HostRuntime, asked: &Asked<'a>, place: (u64, u64)) -> Option<&'a str> {
+    for given in diagrams_of(asked) {
+        match given {
+            Given::File(path) | Given::Code(path) if is_at(rt, path, place) => return Some(path),
+            Given::File(_) | Given::Code(_) | Given::Braid(_) => {}
+        }
+    }
+    None
+}
+
+/// Whether a path, which is not that of standard input, is that of the file with this device and this number.
+fn is_at(rt: &HostRuntime, path: &str, place: (u64, u64)) -> bool {
+    path != "-" && file_at(rt, path) == Some(place)
 }
 
 /// The diagrams that are given, twice where they are one problem.

@@ -6,12 +6,15 @@ mod blocks;
 mod call;
 mod clash;
 mod failure;
+mod inputs;
+mod outlets;
 mod progress;
 mod report;
 mod search;
 
 use crate::call::call;
 use crate::failure::Failure;
+use crate::outlets::Outlets;
 use crate::report::tell;
 use knot_ports::StdSink;
 use seek_parts::SystemTexts;
@@ -23,22 +26,41 @@ use whole_files::DiskPlaces;
 const NO_WORDS: u8 = 10;
 
 fn main(rt: HostRuntime) -> ExitCode {
-    let args = match std::env::args(&rt) {
+    let words = match system_words(&rt) {
+        Ok(words) => words,
+        Err(code) => return code,
+    };
+    let files = SystemTexts::new(&rt);
+    let mut outlets = Outlets {
+        places: DiskPlaces::new(&rt),
+        output: StdSink::new(rt.stdout()),
+    };
+    call(&rt, &rt, words.as_slice(), &files, &mut outlets)
+}
+
+/// The words of the system. Where it gives none, why is told, and the error is the exit status.
+fn system_words(rt: &HostRuntime) -> Result<Vec<String>, ExitCode> {
+    let args = match std::env::args(rt) {
         Ok(args) => args,
-        Err(error) if error.kind() == io::ErrorKind::OutOfMemory => {
-            return tell(&rt, &Failure::OutOfMemory).exit_code();
-        }
-        Err(error) => {
-            let _told = eprintln!(rt; "seek: the words can't be read: {error}");
-            return ExitCode::from(NO_WORDS);
-        }
+        Err(error) => return Err(without_words(rt, &error)),
     };
     let words: Vec<String> = match args.collect(rt.alloc()) {
         Ok(words) => words,
-        Err(_) => return tell(&rt, &Failure::OutOfMemory).exit_code(),
+        Err(_) => return Err(no_memory(rt)),
     };
-    let files = SystemTexts::new(&rt);
-    let mut places = DiskPlaces::new(&rt);
-    let mut output = StdSink::new(rt.stdout());
-    call(&rt, &rt, words.as_slice(), &files, &mut places, &mut output)
+    Ok(words)
+}
+
+/// The system gives no words.
+fn without_words(rt: &HostRuntime, error: &io::Error) -> ExitCode {
+    if error.kind() == io::ErrorKind::OutOfMemory {
+        return no_memory(rt);
+    }
+    let _told = eprintln!(rt; "seek: the words can't be read: {error}");
+    ExitCode::from(NO_WORDS)
+}
+
+/// There is no memory for the words.
+fn no_memory(rt: &HostRuntime) -> ExitCode {
+    tell(rt, &Failure::OutOfMemory).exit_code()
 }

@@ -2,6 +2,7 @@
 
 use meeting_walks::{Progress, Watch};
 use seek_words::Talk;
+use std::fmt;
 use std::io::IsTerminal;
 use std::time::{Duration, Instant};
 
@@ -36,14 +37,10 @@ impl<'a> Teller<'a> {
     /// Tells where standard error is a terminal, or where it is asked for; on a terminal first when half a second has passed.
     pub(crate) fn new(rt: &'a HostRuntime, talk: Talk) -> Teller<'a> {
         let way = way_of(talk, rt.stderr().is_terminal());
-        let last = match way {
-            Way::OneLine => Instant::now(rt).ok(),
-            Way::Silent | Way::Lines => None,
-        };
         Teller {
             rt,
             way,
-            last,
+            last: begun(rt, way),
             is_written: false,
             steps: 0,
         }
@@ -54,32 +51,28 @@ impl<'a> Teller<'a> {
         let Ok(now) = Instant::now(self.rt) else {
             return false;
         };
-        let is_due = match self.last {
-            Some(last) => now.duration_since(last) >= Duration::from_millis(PAUSE),
-            None => true,
-        };
+        let is_due = self.is_past(now);
         if is_due {
             self.last = Some(now);
         }
         is_due
     }
 
-    /// Tells once.
-    fn tell(&mut self, progress: Progress) {
-        let Progress {
-            steps,
-            forms,
-            first_size,
-            second_size,
-        } = progress;
+    /// Whether it was told long enough before, or never.
+    fn is_past(&self, now: Instant) -> bool {
+        match self.last {
+            Some(last) => now.duration_since(last) >= Duration::from_millis(PAUSE),
+            None => true,
+        }
+    }
+
+    /// Shows once how far the search is.
+    fn show(&mut self, progress: Progress) {
+        let far = HowFar(progress);
         let _told = match self.way {
             Way::Silent => Ok(()),
-            Way::Lines => eprintln!(self.rt;
-                "seek: {steps} steps, {forms} forms, least sizes {first_size} and {second_size}"
-            ),
-            Way::OneLine => eprint!(self.rt;
-                "\rseek: {steps} steps, {forms} forms, least sizes {first_size} and {second_size}\x1b[K"
-            ),
+            Way::Lines => eprintln!(self.rt; "seek: {far}"),
+            Way::OneLine => eprint!(self.rt; "\rseek: {far}\x1b[K"),
         };
         self.is_written = self.way == Way::OneLine;
     }
@@ -98,6 +91,14 @@ impl<'a> Teller<'a> {
     }
 }
 
+/// When it counts as told last at the beginning: on a terminal then, and else never.
+fn begun(rt: &HostRuntime, way: Way) -> Option<Instant> {
+    match way {
+        Way::OneLine => Instant::now(rt).ok(),
+        Way::Silent | Way::Lines => None,
+    }
+}
+
 /// The way that goes with what is asked for, on a terminal or not.
 fn way_of(talk: Talk, is_terminal: bool) -> Way {
     match talk {
@@ -112,7 +113,26 @@ impl<'a> Watch for Teller<'a> {
     fn note(&mut self, progress: Progress) {
         self.steps = progress.steps;
         if self.way != Way::Silent && self.is_due() {
-            self.tell(progress);
+            self.show(progress);
         }
+    }
+}
+
+/// How far a search is, as a part of a sentence.
+#[derive(Clone, Copy)]
+struct HowFar(Progress);
+
+impl fmt::Display for HowFar {
+    fn fmt<W: fmt::Write>(&self, f: &mut fmt::Formatter<W>) -> fmt::Result {
+        let Progress {
+            steps,
+            forms,
+            first_size,
+            second_size,
+        } = self.0;
+        write!(
+            f,
+            "{steps} steps, {forms} forms, least sizes {first_size} and {second_size}"
+        )
     }
 }

@@ -17,44 +17,54 @@ use verdict_core::{Listed, QuandleName};
 /// What an input without parts is called in messages.
 const INPUT: &str = "the problem";
 
-/// Tells how a search ended, where that is not with a verdict: the status. The first worker has made so many steps; where the sink failed,
-/// it was by this failure.
+/// How a search ended, and how many steps its first worker has made.
+#[derive(Drop)]
+pub(crate) struct Ended {
+    pub(crate) ending: Ending,
+    pub(crate) made: u64,
+}
+
+/// Tells how a search ended, where that is not with a verdict: the status. Where the sink failed, it was by this failure.
 pub(crate) fn tell_ending(
     rt: &HostRuntime,
     asked: &Asked,
     parts: &Parts,
-    ending: &Ending,
-    made: u64,
+    ended: &Ended,
     failure: &Failure,
 ) -> Status
-    requires { ending.now ≡ end.WriteFault → failure_status failure.now ≡ status.WriteFault }
-    ensures { result ≡ ending_status ending.now }
+    requires { ended.now.ending ≡ end.WriteFault → failure_status failure.now ≡ status.WriteFault }
+    ensures { result ≡ ending_status ended.now.ending }
 {
-    match ending {
+    match &ended.ending {
         Ending::Done => Status::Done,
-        Ending::NotFound(tried) => {
-            if asked.talk != Talk::Quiet {
-                let tried = InWords(tried);
-                let walks = Walks {
-                    workers: asked.workers,
-                    steps: asked.steps,
-                    seed: asked.seed,
-                    made,
-                };
-                let _told = eprintln!(rt; "seek: nothing found: {tried}, and {walks}");
-            }
-            Status::Unknown
-        }
+        Ending::NotFound(tried) => tell_tried(rt, asked, tried, ended.made),
         Ending::Malformed { line } | Ending::Limit { line } => {
-            tell_line(rt, parts, *line, ending.status())
+            tell_line(rt, parts, *line, ended.ending.status())
         }
-        Ending::TooLong => {
-            let name = parts.last_name().unwrap_or(INPUT);
-            tell(rt, &Failure::Part(PartFault::Long { name }))
-        }
+        Ending::TooLong => tell_long(rt, parts),
         Ending::WriteFault => tell(rt, failure),
         Ending::OutOfMemory => tell(rt, &Failure::OutOfMemory),
     }
+}
+
+/// Tells what was tried in vain, but where the words ask for silence: the status. The first worker has made so many steps.
+fn tell_tried(rt: &HostRuntime, asked: &Asked, tried: &Tried, made: u64) -> Status
+    ensures { result ≡ status.Unknown }
+{
+    if asked.talk != Talk::Quiet {
+        let tried = InWords(tried);
+        let walks = walks_of(asked, made);
+        let _told = eprintln!(rt; "seek: nothing found: {tried}, and {walks}");
+    }
+    Status::Unknown
+}
+
+/// Tells that the input is too long: the status.
+fn tell_long(rt: &HostRuntime, parts: &Parts) -> Status
+    ensures { result ≡ status.Limit }
+{
+    let name = parts.last_name().unwrap_or(INPUT);
+    tell(rt, &Failure::Part(PartFault::Long { name }))
 }
 
 /// Tells what went wrong: the status.
@@ -71,20 +81,25 @@ fn tell_line(rt: &HostRuntime, parts: &Parts, at: usize, kind: Status) -> Status
     ensures { result ≡ kind }
 {
     let (name, line) = place_of(parts, at);
-    let Ok(problem) = join_parts(rt.alloc(), parts.texts()) else {
-        let _told = eprintln!(rt;
-            "seek: {name}, line {line} is bad, and there is not enough memory to say why"
-        );
-        return kind;
-    };
-    let reason = reason_at(problem.as_slice(), at);
+    match join_parts(rt.alloc(), parts.texts()) {
+        Ok(problem) => tell_reason(rt, name, line, reason_at(problem.as_slice(), at)),
+        Err(_) => {
+            let _told = eprintln!(rt;
+                "seek: {name}, line {line} is bad, and there is not enough memory to say why"
+            );
+        }
+    }
+    kind
+}
+
+/// Tells for which reason a line is bad, and which form a braid among the words has, if it is one.
+fn tell_reason(rt: &HostRuntime, name: &str, line: usize, reason: Reason) {
     let form = if name.ends_with("--braid") && is_of_form(reason) {
         BRAID_FORM
     } else {
         ""
     };
     let _told = eprintln!(rt; "seek: {name}, line {line}: {reason}{form}");
-    kind
 }
 
 /// The name of the part in which a line of the input stands, and the line's number there.
@@ -116,28 +131,36 @@ struct InWords<'a>(&'a Tried);
 impl<'a> fmt::Display for InWords<'a> {
     fn fmt<W: fmt::Write>(&self, f: &mut fmt::Formatter<W>) -> fmt::Result {
         let (first, second) = self.0.columns;
-        let quandles = self.0.quandles.as_slice();
-        let count = quandles.len();
         write!(
             f,
             "of diagrams of {first} and {second} columns, whose linking numbers agree,"
         )?;
-        match quandles.last() {
-            Some(last) => {
-                let last = Name(last);
-                write!(
-                    f,
-                    " none of the {count} quandles tried that fit both, up to {last}, tells them apart"
-                )?;
-            }
-            None => write!(f, " none of the quandles tried fits both")?,
-        }
+        write_quandles(f, self.0.quandles.as_slice())?;
         match self.0.blocks {
             0 => Ok(()),
             blocks => write!(f, ", nor do numbers by {blocks} quandles of --weights"),
         }
     }
 }
+
+/// Writes which quandles were tried.
+fn write_quandles<W: fmt::Write>(f: &mut fmt::Formatter<W>, quandles: &[Listed]) -> fmt::Result {
+    match quandles.last() {
+        Some(last) => write_vain(f, quandles.len(), Name(last)),
+        None => write!(f, " none of the quandles tried fits both"),
+    }
+}
+
+/// Writes that so many quandles were tried in vain, up to this one.
+fn write_vain<W: fmt::Write>(f: &mut fmt::Formatter<W>, count: usize, last: Name) -> fmt::Result {
+    write!(
+        f,
+        " none of the {count} quandles tried that fit both, up to {last}, tells them apart"
+    )
+}
+
+/// What is said of more steps where the walk of a single worker stopped before all its steps were made.
+const MORE_STEPS: &str = ", so that more steps change nothing, and another seed may";
 
 /// The walks that found nothing, as a part of a sentence.
 #[derive(Clone, Copy)]
@@ -149,36 +172,52 @@ struct Walks {
     made: u64,
 }
 
+/// The walks that are asked for, of which the first made so many steps.
+fn walks_of(asked: &Asked, made: u64) -> Walks {
+    Walks {
+        workers: asked.workers,
+        steps: asked.steps,
+        seed: asked.seed,
+        made,
+    }
+}
+
 impl fmt::Display for Walks {
     fn fmt<W: fmt::Write>(&self, f: &mut fmt::Formatter<W>) -> fmt::Result {
-        let Walks {
-            workers,
-            steps,
-            seed,
-            made,
-        } = *self;
-        let found = "led to no list of moves";
-        let is_early = made < steps;
-        if workers > 1 {
-            write!(
-                f,
-                "walks of {workers} workers, of up to {steps} steps each, from seed {seed} on, {found}"
-            )?;
+        write_walks(f, *self)?;
+        if self.made < self.steps {
+            write_early(f, self.workers, self.made)
         } else {
-            write!(f, "walks of up to {steps} steps from seed {seed} {found}")?;
-        }
-        match (is_early, workers > 1) {
-            (false, _) => Ok(()),
-            (true, true) => write!(
-                f,
-                "; the first worker stopped after {made}, which met nothing new for long"
-            ),
-            (true, false) => write!(
-                f,
-                "; they stopped after {made}, which met nothing new for long, so that more steps change nothing, and another seed may"
-            ),
+            Ok(())
         }
     }
+}
+
+/// Writes which walks found nothing.
+fn write_walks<W: fmt::Write>(f: &mut fmt::Formatter<W>, walks: Walks) -> fmt::Result {
+    let (workers, steps, seed) = (walks.workers, walks.steps, walks.seed);
+    let found = "led to no list of moves";
+    if workers > 1 {
+        write!(
+            f,
+            "walks of {workers} workers, of up to {steps} steps each, from seed {seed} on, {found}"
+        )
+    } else {
+        write!(f, "walks of up to {steps} steps from seed {seed} {found}")
+    }
+}
+
+/// Writes that walks stopped before all their steps were made.
+fn write_early<W: fmt::Write>(f: &mut fmt::Formatter<W>, workers: u32, made: u64) -> fmt::Result {
+    let (who, behind) = if workers > 1 {
+        ("the first worker", "")
+    } else {
+        ("they", MORE_STEPS)
+    };
+    write!(
+        f,
+        "; {who} stopped after {made}, which met nothing new for long{behind}"
+    )
 }
 
 /// The name of a quandle.

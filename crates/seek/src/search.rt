@@ -1,4 +1,4 @@
-//! A verdict on the parts of an input is sought and written: to a writer that is lent, or to a file at a path, whole or not at all.
+//! A verdict on what was read is sought and written: to a writer that is lent, or to a file at a path, whole or not at all.
 ghost use Rattle.std.specs.Prelude.{◌≡◌, ◌≢◌, ◌⊎◌, IfOk, IfErr};
 ghost use Rattle.decision_core.specs.declared.status.Status.TheVariants as status;
 ghost use Rattle.seek_core.specs.Parts.{joined};
@@ -6,85 +6,74 @@ ghost use Rattle.whole_files.specs.Places.{PutsAt};
 ghost use Rattle.seek.specs.Search.{unseen, EndsSearch, IsSoughtWith, IsDecisionText, IsSoughtAt};
 
 use crate::failure::{Failure, OUTPUT};
+use crate::inputs::Inputs;
 use crate::progress::Teller;
-use crate::report::{tell, tell_ending};
+use crate::report::{Ended, tell, tell_ending};
 use decision_core::Status;
 use knot_ports::{Sink, StdSink};
-use seek_core::{Blocks, Bounds, Ending, run};
-use seek_parts::Parts;
+use seek_core::{Bounds, Ending, run};
 use seek_words::Asked;
 use std::io;
 use std::io::Write;
 use std::thread::Threads;
 use whole_files::{Places, TextSink};
 
-/// Seeks a verdict on the parts, writes it to the sink over standard output, and tells how that ended: the status.
-pub(crate) fn seek_to<R: Threads + Sync, W: Write + Drop>(
+/// Seeks a verdict on what was read, writes it to the sink over standard output, and tells how that ended: the status.
+pub(crate) fn seek_to_output<R: Threads + Sync, W: Write + Drop>(
     rt: &HostRuntime,
     threads: &R,
-    parts: &Parts,
-    blocks: &Blocks,
+    inputs: &Inputs,
     asked: &Asked,
     sink: &mut StdSink<W>,
 ) -> Status
-    ensures { IsSoughtWith (joined parts.now.texts) blocks.now (record { bytes = W.contents sink.old.port; faults = sink.old.errors })
+    ensures { IsSoughtWith (joined inputs.now.parts.texts) inputs.now.blocks (record { bytes = W.contents sink.old.port; faults = sink.old.errors })
         (record { bytes = W.contents sink.new.port; faults = sink.new.errors }) result }
 {
-    let mut teller = Teller::new(rt, asked.talk);
-    let ending = run_told(rt, threads, parts, blocks, asked, sink, &mut teller);
+    let ended = run_told(rt, threads, inputs, asked, sink);
     let failure = Failure::Write {
         name: OUTPUT,
         error: sink.take_error(),
     };
-    tell_ending(rt, asked, parts, &ending, teller.steps(), &failure)
+    tell_ending(rt, asked, &inputs.parts, &ended, &failure)
 }
 
-/// Seeks a verdict on the parts, puts it in a file at a path, whole or not at all, and tells how that ended: the status.
-pub(crate) fn seek_at<R: Threads + Sync, P: Places>(
+/// Seeks a verdict on what was read, puts it in a file at a path, whole or not at all, and tells how that ended: the status.
+pub(crate) fn seek_to_file<R: Threads + Sync, P: Places>(
     rt: &HostRuntime,
     threads: &R,
-    parts: &Parts,
-    blocks: &Blocks,
+    inputs: &Inputs,
     asked: &Asked,
     places: &mut P,
     path: &str,
 ) -> Status
-    ensures { IsSoughtAt (joined parts.now.texts) blocks.now (P.standing places.old) (P.standing places.new) path.now result }
+    ensures { IsSoughtAt (joined inputs.now.parts.texts) inputs.now.blocks (P.standing places.old) (P.standing places.new) path.now result }
 {
     if let Err(error) = places.try_path(path) {
         return tell_unwritten(rt, path, error);
     }
-    match find_text(rt, threads, parts, blocks, asked) {
+    match find_text(rt, threads, inputs, asked) {
         Ok(text) => put_text(rt, places, path, text.bytes()),
         Err(status) => status,
     }
 }
 
-/// The text of a verdict on the parts; the error is the status of a search that finds none, which is told.
+/// The text of a verdict on what was read; the error is the status of a search that finds none, which is told.
 fn find_text<R: Threads + Sync>(
     rt: &HostRuntime,
     threads: &R,
-    parts: &Parts,
-    blocks: &Blocks,
+    inputs: &Inputs,
     asked: &Asked,
 ) -> Result<TextSink, Status>
-    ensures found { IfOk result (λ text. IsDecisionText (joined parts.now.texts) text.bytes) }
+    ensures found { IfOk result (λ text. IsDecisionText (joined inputs.now.parts.texts) text.bytes) }
     ensures none { IfErr result (λ s. s ≢ status.Done) }
-    ensures sought { IfErr result (λ s. IsSoughtWith (joined parts.now.texts) blocks.now unseen unseen s) }
+    ensures sought { IfErr result (λ s. IsSoughtWith (joined inputs.now.parts.texts) inputs.now.blocks unseen unseen s) }
 {
     let mut text = TextSink::new(rt.alloc());
-    let mut teller = Teller::new(rt, asked.talk);
-    match run_told(rt, threads, parts, blocks, asked, &mut text, &mut teller) {
+    let ended = run_told(rt, threads, inputs, asked, &mut text);
+    match &ended.ending {
         Ending::Done => Ok(text),
         Ending::WriteFault => Err(tell(rt, &Failure::OutOfMemory)),
-        ending => Err(tell_ending(
-            rt,
-            asked,
-            parts,
-            &ending,
-            teller.steps(),
-            &Failure::OutOfMemory,
-        )),
+        _ => Err(tell_ending(rt, asked, &inputs.parts, &ended, &Failure::OutOfMemory)),
     }
 }
 
@@ -120,26 +109,23 @@ fn tell_unwritten(rt: &HostRuntime, path: &str, error: io::Error) -> Status
 fn run_told<R: Threads + Sync, K: Sink>(
     rt: &HostRuntime,
     threads: &R,
-    parts: &Parts,
-    blocks: &Blocks,
+    inputs: &Inputs,
     asked: &Asked,
     sink: &mut K,
-    teller: &mut Teller,
-) -> Ending
-    ensures { EndsSearch (joined parts.now.texts) blocks.now (record { bytes = K.held sink.old; faults = K.faults sink.old })
-        (record { bytes = K.held sink.new; faults = K.faults sink.new }) result }
+) -> Ended
+    ensures { EndsSearch (joined inputs.now.parts.texts) inputs.now.blocks (record { bytes = K.held sink.old; faults = K.faults sink.old })
+        (record { bytes = K.held sink.new; faults = K.faults sink.new }) result.ending }
 {
-    let ending = run(
-        threads,
-        rt.alloc(),
-        parts.texts(),
-        blocks,
-        bounds_of(asked),
-        sink,
-        teller,
-    );
-    teller.end();
-    ending
+    let mut watch = Teller::new(rt, asked.talk);
+    let bounds = bounds_of(asked);
+    let texts = inputs.parts.texts();
+    let blocks = &inputs.blocks;
+    let ending = run(threads, rt.alloc(), texts, blocks, bounds, sink, &mut watch);
+    watch.end();
+    Ended {
+        ending,
+        made: watch.steps(),
+    }
 }
 
 /// What bounds the search.

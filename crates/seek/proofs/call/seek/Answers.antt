@@ -1,15 +1,11 @@
-use Rattle.std.proofs.Common.{inl, inr, refl}
-use Rattle.seek.proofs.Ended.{on_parts}
+use Rattle.std.proofs.Common.{refl}
+use Rattle.seek.proofs.Ended.{with_inputs, without_inputs}
 use Rattle.seek.proofs.Found.{kept}
 use Rattle.seek.proofs.call.seek.Goals as goal
 
 pub returns-in-Err : goal.returns-in-Err
-returns-in-Err g c = inr (inl record {
-  fault = c.in-Err.fault;
-  is = c.in-Err.ensures.fault;
-  status_is = c.tell-in-Err.ensures.is;
-  untouched = record { output = kept _; files = refl };
-})
+returns-in-Err g c = without_inputs _ _ _ _ _ c.in-Err.failure
+    (record { output = kept _; files = refl }) c.in-Err.ensures.failure c.tell-in-Err.ensures.is
 
 pub returns-in-Ok : goal.returns-in-Ok
-returns-in-Ok g c = on_parts _ _ _ _ _ _ c.in-Ok.ensures.parts c.seek_on.ensures
+returns-in-Ok g c = with_inputs _ _ _ _ _ _ _ c.in-Ok.ensures.parts c.in-Ok.ensures.blocks c.seek_with.ensures

@@ -5,14 +5,16 @@ use Rattle.seek.proofs.search.find_text.Goals as goal
 
 pub returns-in-Done-clause-found : goal.returns-in-Done-clause-found
 returns-in-Done-clause-found g c =
-    decided _ _ _ _ c.run_told.result _ c.run_told.ensures c.in-Done.is (ap (λ (t : HeldText). Some t.bytes) c.new-text.ensures) refl
+    decided _ _ _ _ c.run_told-ended.result.ending _ c.run_told-ended.ensures c.in-Done.is (ap (λ (t : HeldText). Some t.bytes) c.new-text.ensures) refl
 
 pub returns-in-WriteFault-clause-sought : goal.returns-in-WriteFault-clause-sought
 returns-in-WriteFault-clause-sought g c = wanting _ _ _ c.tell.ensures.is
 
 pub returns-in_default : goal.returns-in_default
-returns-in_default g c = record {
-  found = tt;
-  none = λ done. c.in_default.not-Done (only_done c.run_told.result (sym c.tell_ending.ensures ∙ done));
-  sought = sought_in_memory _ _ _ _ c.run_told.result _ c.run_told.ensures c.in_default.not-WriteFault c.tell_ending.ensures;
-}
+returns-in_default g c =
+    let ending = c.run_told-ended.result.ending in
+    record {
+      found = tt;
+      none = λ done. c.in_default.not-Done (only_done ending (sym c.tell_ending.ensures ∙ done));
+      sought = sought_in_memory _ _ _ _ ending _ c.run_told-ended.ensures c.in_default.not-WriteFault c.tell_ending.ensures;
+    }

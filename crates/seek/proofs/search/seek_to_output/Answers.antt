@@ -1,15 +1,15 @@
 use Rattle.std.proofs.Common.{sym, subst}
 use Rattle.seek_core.specs.Parts.{joined}
 use Rattle.seek.specs.Search.{EndsSearch}
-use Rattle.seek.proofs.search.seek_to.Goals as goal
+use Rattle.seek.proofs.search.seek_to_output.Goals as goal
 
 pub returns : goal.returns
 returns g c =
     let sink = c.args.sink.now in
     record {
-      ending = c.run_told-ending.result;
+      ending = c.run_told-ended.result.ending;
       status_is = c.tell_ending.ensures;
-      ends = subst (λ s. EndsSearch (joined c.args.parts.now.texts) c.args.blocks.now
+      ends = subst (λ s. EndsSearch (joined c.args.inputs.now.parts.texts) c.args.inputs.now.blocks
           (record { bytes = g.W.Write.contents sink.port; faults = sink.errors }) (record { bytes = g.W.Write.contents s.port; faults = s.errors })
-          c.run_told-ending.result) (sym c.take_error.ensures) c.run_told-ending.ensures;
+          c.run_told-ended.result.ending) (sym c.take_error.ensures) c.run_told-ended.ensures;
     }

@@ -1,0 +1,20 @@
+-- Why what is read for a search can't be had.
+use Rattle.std.specs.Prelude.{◌⊎◌}
+use Rattle.seek_words.specs.declared.asked.Asked.{Asked}
+use Rattle.seek_parts.specs.Parts.{Told, all_due}
+use Rattle.seek_parts.specs.Fault.{IsFaultOf}
+use Rattle.seek.specs.declared.failure.Failure.{Failure}
+use Rattle.seek.specs.declared.failure.Failure.TheVariants.{Part, Blocks, ReadAndWritten, Write, OutOfMemory}
+use Rattle.seek.specs.Blocks.{IsBlocksFailure}
+
+-- a part of what is asked can't be had
+abbrev pub IsPartsFailure : Told → Asked → Failure → Type 0
+IsPartsFailure told asked (Part fault) = IsFaultOf told (all_due asked) fault
+IsPartsFailure told asked (Blocks name fault) = ⊥
+IsPartsFailure told asked (ReadAndWritten name) = ⊥
+IsPartsFailure told asked (Write name error) = ⊥
+IsPartsFailure told asked OutOfMemory = ⊥
+
+-- a part or a file of blocks can't be had
+abbrev pub IsInputsFailure : Told → Asked → Failure → Type 0
+IsInputsFailure told asked failure = IsPartsFailure told asked failure ⊎ IsBlocksFailure told asked.weights.items failure

@@ -1,0 +1,10 @@
+//! What a call may change.
+
+use knot_ports::StdSink;
+
+/// Where to a verdict may go: a file at one of all paths, or standard output, or what stands in for these.
+#[derive(Drop)]
+pub(crate) struct Outlets<P, W> {
+    pub(crate) places: P,
+    pub(crate) output: StdSink<W>,
+}
