@@ -4,7 +4,7 @@ mod watched;
 
 use grid_core::{Grid, MAX_SIZE};
 use grid_moves::{Move, apply, apply_all};
-use meeting_walks::{Bounds, Unwatched, find_joining, find_joining_by};
+use meeting_walks::{Bounds, Plan, Unwatched, find_joining, find_joining_by};
 use rand_pcg::Pcg32;
 use std::alloc::Global;
 use std::test::Fail;
@@ -141,7 +141,9 @@ fn found_alone(alloc: Global) -> Result<Vec<Move>, Fail> {
 fn found_by<R: Threads + Sync>(rt: &R, alloc: Global, workers: u32) -> Result<Vec<Move>, Fail> {
     let near = grid_of(BRAID)?;
     let far = grid_of(FIGURE_EIGHT)?;
-    let found = find_joining_by(rt, alloc, &near, &far, BOUNDS, workers, &mut Unwatched)?;
+    let bounds = BOUNDS;
+    let plan = Plan { bounds, workers };
+    let found = find_joining_by(rt, alloc, &near, &far, plan, &mut Unwatched)?;
     Ok(found.ok_or("none")?)
 }
 

@@ -3,6 +3,7 @@ use grid_core::Grid;
 use memory_core::Items;
 use number_search::{SeedPair, tell_apart};
 use number_text::{Block, block_item};
+use quandle_core::MAX_LARGE_ORDER;
 use std::alloc::Global;
 use std::test::Fail;
 use text_lines::Lines;
@@ -68,7 +69,7 @@ fn grid_of(rows: Rows) -> Result<Grid, Fail> {
 fn blocks_of(alloc: Global, texts: &[&[u8]]) -> Result<Items<Block>, Fail> {
     let mut blocks = Vec::new(alloc);
     for text in texts {
-        match block_item(alloc, &mut Lines::new(*text)) {
+        match block_item(alloc, MAX_LARGE_ORDER, &mut Lines::new(*text)) {
             Ok(block) => blocks.push(block)?,
             Err(_) => return Err(Fail::from("no block")),
         }

@@ -87,10 +87,10 @@ fn plans_are_those_read_off_by_hand(rt: HostRuntime) -> Result<(), Fail> {
 #[test]
 fn connected_quandles(rt: HostRuntime) -> Result<(), Fail> {
     for order in 1..10 {
-        assert!(rt; is_connected(&Quandle::dihedral(order)) == (order % 2 == 1));
-        assert!(rt; is_connected(&Quandle::trivial(order)) == (order == 1));
+        assert!(rt; is_connected(&Quandle::dihedral(order).operations()) == (order % 2 == 1));
+        assert!(rt; is_connected(&Quandle::trivial(order).operations()) == (order == 1));
     }
-    assert!(rt; is_connected(&Quandle::tetrahedral()));
+    assert!(rt; is_connected(&Quandle::tetrahedral().operations()));
     Ok(())
 }
 
@@ -117,7 +117,7 @@ fn is_refused(alloc: Global, grid: &Grid) -> bool {
 fn is_counted(alloc: Global, grid: &Grid, seeding: &Seeding) -> bool
     requires { IsPlan grid.now seeding.now }
 {
-    match count(alloc, grid, &Quandle::tetrahedral(), seeding) {
+    match count(alloc, grid, &Quandle::tetrahedral().operations(), seeding) {
         Ok(number) => number == 16,
         Err(CountFault::OutOfMemory) => true,
         Err(_) => false,
@@ -129,7 +129,7 @@ fn is_weighed(alloc: Global, grid: &Grid, seeding: &Seeding) -> Result<bool, Fai
     requires { IsPlan grid.now seeding.now }
 {
     let cocycle = tetrahedral()?;
-    match weights_by_seeds(alloc, grid, &cocycle, seeding) {
+    match weights_by_seeds(alloc, grid, &cocycle.values(), seeding) {
         Ok(weights) => Ok(weights.as_slice() == [4, 12].as_slice()),
         Err(CountFault::OutOfMemory) => Ok(true),
         Err(_) => Ok(false),

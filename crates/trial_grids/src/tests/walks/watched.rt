@@ -2,7 +2,7 @@
 
 use super::{BRAID, Lists, MIRRORED, TREFOIL, grid_of};
 use grid_core::MAX_SIZE;
-use meeting_walks::{Bounds, Progress, Watch, find_joining_by};
+use meeting_walks::{Bounds, Plan, Progress, Watch, find_joining_by};
 use std::alloc::Global;
 use std::test::Fail;
 use std::thread::Threads;
@@ -44,31 +44,36 @@ impl Watch for Counting {
     }
 }
 
+/// A plan with the seed 1.
+fn plan_of(steps: u64, room: usize, workers: u32) -> Plan {
+    let bounds = Bounds {
+        seed: 1,
+        steps,
+        room,
+    };
+    Plan { bounds, workers }
+}
+
 /// Whether some workers find nothing between the grids of lists.
 fn finds_nothing<R: Threads + Sync>(
     rt: &R,
     alloc: Global,
     lists: (Lists, Lists),
-    bounds: Bounds,
-    workers: u32,
+    plan: Plan,
     watch: &mut Counting,
 ) -> Result<bool, Fail> {
     let near = grid_of(lists.0)?;
     let far = grid_of(lists.1)?;
-    let found = find_joining_by(rt, alloc, &near, &far, bounds, workers, watch)?;
+    let found = find_joining_by(rt, alloc, &near, &far, plan, watch)?;
     Ok(found.is_none())
 }
 
 #[test]
 fn a_search_without_new_forms_ends_early(rt: HostRuntime) -> Result<(), Fail> {
     let mut watch = Counting::new();
-    let bounds = Bounds {
-        seed: 1,
-        steps: 1000000000000,
-        room: 262144,
-    };
+    let plan = plan_of(1000000000000, 262144, 2);
     let trefoils = (TREFOIL, MIRRORED);
-    assert!(rt; finds_nothing(&rt, rt.alloc(), trefoils, bounds, 2, &mut watch)?);
+    assert!(rt; finds_nothing(&rt, rt.alloc(), trefoils, plan, &mut watch)?);
     assert!(rt; watch.notes > 1 && watch.is_rising);
     let last = watch.last.ok_or("no progress")?;
     assert!(rt; last.steps > 1000000 && last.steps < 100000000);
@@ -79,13 +84,9 @@ fn a_search_without_new_forms_ends_early(rt: HostRuntime) -> Result<(), Fail> {
 #[test]
 fn a_full_table_is_emptied_and_the_steps_are_kept(rt: HostRuntime) -> Result<(), Fail> {
     let mut watch = Counting::new();
-    let bounds = Bounds {
-        seed: 1,
-        steps: 20000,
-        room: TWO_EXCURSIONS + 20,
-    };
+    let plan = plan_of(20000, TWO_EXCURSIONS + 20, 1);
     let others = (BRAID, TREFOIL);
-    assert!(rt; finds_nothing(&rt, rt.alloc(), others, bounds, 1, &mut watch)?);
+    assert!(rt; finds_nothing(&rt, rt.alloc(), others, plan, &mut watch)?);
     let last = watch.last.ok_or("no progress")?;
     assert!(rt; last.steps >= 20000 && last.steps <= 20002 + TWO_EXCURSIONS as u64);
     assert!(rt; watch.has_begun_anew);
