@@ -90,7 +90,7 @@ another p ys i lt two =
     at_most false = omega arith
 
 -- the ends of an edge that joins passages are two
-counted_both : (p q : ℕ × Bool → Bool) (ys : List (ℕ × Bool)) → count_by p ys ≡ count_by (λ y. p y && q y) ys + count_by (λ y. p y && not (q y)) ys
+pub counted_both : (p q : ℕ × Bool → Bool) (ys : List (ℕ × Bool)) → count_by p ys ≡ count_by (λ y. p y && q y) ys + count_by (λ y. p y && not (q y)) ys
 counted_both p q [] = refl
 counted_both p q (y ∷ ys) =
     let all = sum_by-cons (λ z. cond (p z) 1 0) y ys in

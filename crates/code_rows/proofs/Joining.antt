@@ -8,6 +8,7 @@ use Rattle.std.proofs.lemmas.List.Sums.{sum_by-cons}
 use Rattle.crossing_codes.specs.declared.crossing.Crossing.{Crossing}
 use Rattle.code_faults.specs.Joined.{passages_behind, passages_before, is_joined}
 use Rattle.code_faults.specs.Map.{no_crossing}
+use Rattle.code_faults.proofs.OtherEnds.{counted_both}
 use Rattle.code_faults.proofs.Ends.{four_ends, all_ends, no_end, before_is, behind_is, end_at, ends_long}
 use Rattle.code_rows.specs.declared.row.Row.{Row}
 use Rattle.code_rows.specs.Rows.{all_names}
@@ -76,20 +77,6 @@ two_places p d (x ∷ xs) le = by (p x) refl (λ more. two_places p d xs more)
         let lt = found.3 in
         (suc found.0, suc found.1, omega (arith, low), omega (arith, lt), found.4, found.5)
 
--- the ends of an edge are those where it is left and those where it isn't
-parted : (p q : ℕ × Bool → Bool) (ys : List (ℕ × Bool)) → count_by p ys ≡ count_by (λ y. p y && q y) ys + count_by (λ y. p y && not (q y)) ys
-parted p q [] = refl
-parted p q (y ∷ ys) =
-    let all = sum_by-cons (λ z. cond (p z) 1 0) y ys in
-    let left = sum_by-cons (λ z. cond (p z && q z) 1 0) y ys in
-    let others = sum_by-cons (λ z. cond (p z && not (q z)) 1 0) y ys in
-    omega (arith, all, left, others, split (p y) (q y), parted p q ys)
-  where
-    split : (a b : Bool) → cond a 1 0 ≡ cond (a && b) 1 0 + cond (a && not b) 1 0
-    split true true = refl
-    split true false = refl
-    split false b = refl
-
 -- the names at the ends of rows with signs
 names_are : (rows : List Row) (signs : List Bool) → map (λ (p : ℕ × Bool). p.0) (all_ends (with_signs rows signs)) ≡ all_names rows
 names_are [] signs = refl
@@ -153,7 +140,7 @@ joined_is rows signs e one two same twice low lt first second =
     let key = λ (p : ℕ × Bool). p.0 == e in
     let long : length ys ≡ 4 * length rows = let a = ends_long xs in let b = signed_long rows signs in omega (arith, a, b) in
     let all = names_long rows in
-    let sum = parted key (λ (p : ℕ × Bool). p.1) ys in
+    let sum = counted_both key (λ (p : ℕ × Bool). p.1) ys in
     let counted : count_by key ys ≡ 2 = counted_names e ys ∙ (ap (λ (ns : List ℕ). ends_of ns e) (names_are rows signs) ∙ twice) in
     let named = λ (d : ℕ) (within : d < length ys) (is : slice_index (all_names rows) d ≡ e).
     eq-eqb (get_or ys d no_end).0 e
@@ -181,7 +168,7 @@ joined_twice rows signs e is =
     let parts = and_parts (passages_behind xs e == 1) (passages_before xs e == 1) is in
     let behind = eqb-true (passages_behind xs e) 1 parts.0 in
     let before = eqb-true (passages_before xs e) 1 parts.1 in
-    let sum = parted (λ (p : ℕ × Bool). p.0 == e) (λ (p : ℕ × Bool). p.1) (all_ends xs) in
+    let sum = counted_both (λ (p : ℕ × Bool). p.0 == e) (λ (p : ℕ × Bool). p.1) (all_ends xs) in
     let counted = counted_names e (all_ends xs) ∙ ap (λ (ns : List ℕ). ends_of ns e) (names_are rows signs) in
     omega (arith, sum, counted, before_is e xs, behind_is e xs, behind, before)
 
