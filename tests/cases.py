@@ -286,6 +286,11 @@ def limits():
             line = name % order + b"\n" + rows
             yield Case("limits", f"colour: {name} {order}", [b"colour"], UNKNOT + b"quandle " + line)
             yield Case("limits", f"check: {name} {order}", [b"check"], UNKNOT + UNKNOT + b"different " + line + b"list 0\nlist 0\n")
+    for order in (33, 127, 128, 129):
+        rows = b"".join(b" ".join([b"%d" % x] * order) + b"\n" for x in range(order))
+        front = UNKNOT + UNKNOT + b"certificate 3\ndifferent numbers table %d\n" % order + rows
+        yield Case("limits", f"check: numbers by a table of {order}", [b"check"], front + b"seeds 0\nnumbers %d\nseeds 0\nnumbers %d\n" % (order, order))
+        yield Case("limits", f"check: a shadow cocycle of a table of {order}", [b"check"], front + b"shadow 2\n")
     for first in range(1, 33):
         for second in range(0, 34):
             yield Case("limits", f"colour: alexander {first} {second}", [b"colour"], UNKNOT + b"quandle alexander %d %d\n" % (first, second))

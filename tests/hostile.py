@@ -254,7 +254,8 @@ WORKER = {}
 def begin_worker(program, seed, patience=calls.PATIENCE, again=reader.Searched.TRIED_AGAIN):
     calls.PATIENCE = patience
     reader.Searched.TRIED_AGAIN = again
-    bases = changes.examples(EXAMPLES, reader.JOBS)
+    # The reader takes seconds for tables of many colours.
+    bases = [base for base in changes.examples(EXAMPLES, reader.JOBS) if len(base[3]) <= 5000]
     WORKER.update(trier=Trier(program), seed=seed, bases=bases, lines=[line for base in bases for line in base[3].split(b"\n")])
 
 

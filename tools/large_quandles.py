@@ -4,9 +4,8 @@
     tools/large_quandles.py tables FOLDER        writes a file for each, NAME.txt
     tools/large_quandles.py numbers BRAID ..     how many colourings the closures of braids have by each; BRAID is as "3 1 -2 1 -2"
 
-They are too large for the programs today, which take quandles of at most 32 colours; no evidence can be written with them yet. They stand here
-to be tried, and for a program that takes them. `numbers` counts in plain Python, and nothing of it is proved. It tries the order to the power of
-the strands but one, so a braid of four strands takes a minute or more.
+`seek --weights` takes the files, and `check` rules on evidence with them; quandles/larger/ has them ready. `numbers` counts in plain Python,
+and nothing of it is proved. It tries the order to the power of the strands but one, so a braid of four strands takes a minute or more.
 
 The colours are the elements of a conjugacy class of a group of permutations, in the order of their lists of images, and x ▷ y = y⁻¹ x y. The
 groups are PSL(2,7), the maps x ↦ (a x + b) / (c x + d) mod 7 with a d − b c = 1; PΓL(2,8), those over the field of 8 elements followed by
@@ -95,7 +94,7 @@ def tables():
 
 def text_of(name, words, table):
     """The whole file."""
-    head = f"# {name}: {words}.\n# Made by tools/large_quandles.py. Too large for the program today.\n"
+    head = f"# {name}: {words}.\n# Made by tools/large_quandles.py. seek takes it by --weights.\n"
     return head + quandle_text(quandle_of(f"table {len(table)}", table))
 
 

@@ -2,7 +2,7 @@
 """Makes the ready tables of quandles/weights/, quandles with 2-cocycles that tell many knots from their mirror images.
 
     tools/weight_tables.py [FOLDER]             writes T5, T7, M20a, M20b and M30, of at most 32 colours, and the list that seek tries
-    tools/weight_tables.py --larger FOLDER      writes M42a, M42b, M42c and M56b, which are too large for the program today
+    tools/weight_tables.py --larger FOLDER      writes M42a, M42b, M42c and M56b, which only seek --weights and check take
 
 FOLDER is quandles/weights/ beside this folder where none is given. A table stands behind two diagrams, as the job weights reads it:
 
@@ -157,7 +157,7 @@ def parts_of(name):
 def text_of(name):
     """The whole file of one of these names."""
     said, lines = parts_of(name)
-    use = f"Append it to two diagrams: cat problem.txt quandles/weights/{name}.txt | ./knot weights" if name in READY else "Too large for the program today."
+    use = f"Append it to two diagrams: cat problem.txt quandles/weights/{name}.txt | ./knot weights" if name in READY else "seek takes it by --weights."
     return f"{said}# Made by tools/weight_tables.py. {use}\n{lines}"
 
 

@@ -3,7 +3,7 @@ import os
 from typing import List, NamedTuple, Optional, Sequence, Tuple, Union
 
 from .cocycles import Cocycle, ShadowCocycle, read_cocycle, read_shadow
-from .diagrams import (Diagram, Grid, Lines, Move, Quandle, Rows, diagram_text, grid_of, move_text, number_of, quandle_named, quandle_text,
+from .diagrams import (MAX_LARGE_ORDER, Diagram, Grid, Lines, Move, Quandle, Rows, diagram_text, grid_of, move_text, number_of, quandle_named, quandle_text,
                        read_diagram, read_moves, read_quandle, read_quandles)
 from .faults import BadText, Fault, Illegal
 from .moves import carried, made
@@ -239,7 +239,7 @@ def read_third(lines: Lines) -> Union[DifferentNumbers, DifferentLinking]:
         return DifferentLinking(*(Linked(numbers_behind(lines, "components", 1)[0], numbers_behind(lines, "numbers")) for _ in range(2)))
     if tokens[:2] != ["different", "numbers"]:
         raise BadText("a verdict 'different numbers' or 'different linking' is due", line)
-    quandle = quandle_named(lines, line, tokens[2:])
+    quandle = quandle_named(lines, line, tokens[2:], MAX_LARGE_ORDER)
     weight = perhaps_cocycle(lines, quandle)
     count = weight.modulus if weight else 1
     return DifferentNumbers(quandle, weight, *(Counted(numbers_behind(lines, "seeds"), numbers_behind(lines, "numbers", count)) for _ in range(2)))

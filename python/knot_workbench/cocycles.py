@@ -5,7 +5,7 @@ A cocycle φ mod k is a square of numbers: line x has φ(x, 0), φ(x, 1), and so
 import itertools
 from typing import List, NamedTuple, Optional, Sequence, Tuple
 
-from .diagrams import Lines, Quandle, Table, number_of, read_quandle
+from .diagrams import MAX_ORDER, Lines, Quandle, Table, number_of, read_quandle
 from .faults import BadText
 
 MAX_MODULUS = 255
@@ -93,13 +93,15 @@ def read_shadow(lines: Lines, quandle: Quandle) -> ShadowCocycle:
     """A shadow cocycle, an item `shadow` behind its quandle."""
     line, tokens = lines.take("the line 'shadow'")
     order = len(quandle.over)
-    if tokens == ["shadow", "mochizuki"]:
+    if tokens[0] != "shadow" or len(tokens) != 2:
+        raise BadText("a line 'shadow' with a modulus or 'mochizuki' is due", line)
+    if order > MAX_ORDER:
+        raise BadText(f"the quandle of a shadow cocycle has at most {MAX_ORDER} colours", line)
+    if tokens[1] == "mochizuki":
         if order < 2 or any(order % divisor == 0 for divisor in range(2, order)) or any(
                 quandle.over[x][y] != (2 * y - x) % order for x in range(order) for y in range(order)):
             raise BadText("the formula is that of a dihedral quandle of prime order", line)
         return ShadowCocycle(order, None)
-    if tokens[0] != "shadow" or len(tokens) != 2:
-        raise BadText("a line 'shadow' with a modulus or 'mochizuki' is due", line)
     modulus = number_of(tokens[1], line)
     if not 2 <= modulus <= MAX_MODULUS:
         raise BadText(f"a modulus is 2 to {MAX_MODULUS}", line)

@@ -9,6 +9,7 @@ from .faults import BadDiagram, BadText
 MAX_SIZE = 48
 MAX_STRANDS = 8
 MAX_ORDER = 32
+MAX_LARGE_ORDER = 128
 MAX_COLOURINGS = 65536
 MAX_QUANDLES = 64
 
@@ -310,14 +311,15 @@ def read_quandle(lines: Lines, word: str = "quandle") -> Quandle:
     return quandle_named(lines, line, tokens[1:])
 
 
-def quandle_named(lines: Lines, line: int, tokens: Sequence[str]) -> Quandle:
-    """The quandle of a name, the last tokens of a line, with the lines of its table behind it. Raises BadText."""
+def quandle_named(lines: Lines, line: int, tokens: Sequence[str], largest: int = MAX_ORDER) -> Quandle:
+    """The quandle of a name, the last tokens of a line, with the lines of its table behind it, which has at most the largest order. Raises BadText."""
     name, numbers = tokens[0] if tokens else "", [number_of(token, line) for token in tokens[1:]]
     wanted = {"trivial": 1, "dihedral": 1, "tetrahedral": 0, "alexander": 2, "table": 1}.get(name)
     if wanted is None or wanted != len(numbers):
         raise BadText(f"'{' '.join(tokens)}' is no name of a quandle", line)
-    if numbers and not 1 <= numbers[0] <= MAX_ORDER:
-        raise BadText(f"the order is not 1 to {MAX_ORDER}", line)
+    most = largest if name == "table" else MAX_ORDER
+    if numbers and not 1 <= numbers[0] <= most:
+        raise BadText(f"the order is not 1 to {most}", line)
     if name == "tetrahedral":
         return tetrahedral()
     if name == "trivial":

@@ -169,7 +169,7 @@ def apply(grid, move):
 
 
 def carried(grid, move, quandle, colours):
-    """The colours behind a legal move, by the table of docs/DEFINITIONS.md."""
+    """The colours behind a legal move, by the list of docs/DEFINITIONS.md."""
     name, colours = move[0], list(colours)
     if name == "stabilise":
         return colours[:move[1] + 1] + colours[move[1]:]

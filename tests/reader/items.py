@@ -5,7 +5,7 @@ from math import gcd
 
 from .braids import closure
 from .diagrams import CORNERS, colourings
-from .lines import (LIMIT, MALFORMED, MAX_CROSSINGS, MAX_IN_LETTER, MAX_IN_MOVE, MAX_LIST, MAX_ORDER, MAX_QUANDLES, MAX_SIZE, MAX_STRANDS,
+from .lines import (LIMIT, MALFORMED, MAX_CROSSINGS, MAX_IN_LETTER, MAX_IN_MOVE, MAX_LARGE_ORDER, MAX_LIST, MAX_ORDER, MAX_QUANDLES, MAX_SIZE, MAX_STRANDS,
     MAX_WEIGHTS, are_numbers, are_short, at_most, is_letter, is_number, is_short)
 from .weights import by_formula, is_cocycle, is_dihedral_of_prime_order, is_shadow_cocycle
 
@@ -107,14 +107,14 @@ def read_rows(lines, n, bound, count=None):
     return table
 
 
-def read_name(lines, *words, is_one_too_many=False):
-    """A line of these words and the name of a quandle, and the lines of its table."""
+def read_name(lines, *words, is_one_too_many=False, largest=MAX_ORDER):
+    """A line of these words and the name of a quandle, and the lines of its table, which has at most the largest order."""
     tokens = lines.due()
     lines.form(tuple(tokens[:len(words)]) == words)
     tokens = tokens[len(words) - 1:]
     lines.form(len(tokens) >= 2 and tokens[1] in NAMES and len(tokens) == 2 + NAMES[tokens[1]] and are_numbers(tokens[2:]))
     kind = tokens[1].decode()
-    lines.limits(not is_one_too_many and (kind == "tetrahedral" or at_most(tokens[2], MAX_ORDER)) and are_short(tokens[2:]))
+    lines.limits(not is_one_too_many and (kind == "tetrahedral" or at_most(tokens[2], largest if kind == "table" else MAX_ORDER)) and are_short(tokens[2:]))
     numbers = [int(token) for token in tokens[2:]]
     lines.content(kind == "tetrahedral" or numbers[0] >= 1)
     lines.content(kind != "alexander" or (numbers[1] < numbers[0] and gcd(numbers[1], numbers[0]) == 1))
@@ -315,7 +315,7 @@ def read_evidence(lines):
     if tuple(lines.due()) == (b"different", b"linking"):
         lines.advance()
         return "linking", [read_linked(lines) for _ in range(2)]
-    quandle = read_name(lines, b"different", b"numbers")
+    quandle = read_name(lines, b"different", b"numbers", largest=MAX_LARGE_ORDER)
     cocycle = read_any_cocycle(lines, quandle) if is_cocycle_next(lines) else None
     return "numbers", quandle, cocycle, [read_counted(lines, cocycle[0] if cocycle else 1) for _ in range(2)]
 
@@ -431,10 +431,11 @@ def read_cocycle(lines, quandle):
 
 
 def read_shadow(lines, quandle):
-    """`shadow k`, and a shadow cocycle mod k of the quandle; or `shadow mochizuki`."""
+    """`shadow k`, and a shadow cocycle mod k of the quandle, which has few colours; or `shadow mochizuki`."""
     tokens = lines.due()
     named = tuple(tokens[1:]) == (b"mochizuki",)
     lines.form(len(tokens) == 2 and tokens[0] == b"shadow" and (named or is_number(tokens[1])))
+    lines.limits(quandle.order <= MAX_ORDER)
     if named:
         lines.content(is_dihedral_of_prime_order(quandle))
         lines.advance()

@@ -5,6 +5,7 @@ from functools import lru_cache
 MAX_SIZE = 48
 MAX_STRANDS = 8
 MAX_ORDER = 32
+MAX_LARGE_ORDER = 128
 MAX_QUANDLES = 64
 MAX_LIST = 65_536
 MAX_IN_MOVE = 255

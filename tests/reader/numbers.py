@@ -3,7 +3,7 @@ from itertools import combinations
 
 from .answers import Answer
 from .codes import component_count, linking_numbers
-from .diagrams import colourings, rows_of, size_of
+from .diagrams import colourings, is_up, rows_of, size_of
 from .lines import DONE, MAX_CANDIDATES
 from .weights import choices, counts_by_weight
 
@@ -38,6 +38,74 @@ def numbers_of(grid, quandle, cocycle):
     return counts_by_weight(grid, quandle, *cocycle, found) if cocycle else [len(found)]
 
 
+def is_connected(quandle):
+    """Whether the translations lead from the colour 0 to each other one."""
+    reached, waiting = {0}, [0]
+    while waiting:
+        colour = waiting.pop()
+        for further in set(quandle.table[colour]) - reached:
+            reached.add(further)
+            waiting.append(further)
+    return len(reached) == quandle.order
+
+
+def plan_of(grid, seeds):
+    """The steps by which seeds give all colours: a seed takes each colour, a row gives the colour of one end or is tried."""
+    rows, known, steps, waiting = rows_of(grid), set(), [], list(range(size_of(grid)))
+    for seed in seeds:
+        if seed in known:
+            continue
+        known.add(seed)
+        steps.append((seed, None, None))
+        ready = True
+        while ready:
+            ready = [row for row in waiting if known.issuperset(rows[row][2]) and not known.isdisjoint(rows[row][:2])]
+            for row in ready:
+                left, right, between = rows[row]
+                from_left = left in known
+                walk = [(column, is_up(grid, column) == from_left) for column in (between if from_left else reversed(between))]
+                start, end = (left, right) if from_left else (right, left)
+                steps.append((start, walk, end if end in known else end + size_of(grid)))
+                known.add(end)
+                waiting.remove(row)
+    return steps
+
+
+def colourings_from(grid, quandle, seeds, first):
+    """The colourings of which the first seed has one of these colours."""
+    steps, size = plan_of(grid, seeds), size_of(grid)
+    colours = [0] * size
+
+    def found_from(place):
+        while place < len(steps):
+            start, walk, end = steps[place]
+            place += 1
+            if walk is None:
+                for colour in first if place == 1 else range(quandle.order):
+                    colours[start] = colour
+                    yield from found_from(place)
+                return
+            colour = colours[start]
+            for column, is_back in walk:
+                colour = (quandle.back if is_back else quandle.table)[colour][colours[column]]
+            if end >= size:
+                colours[end - size] = colour
+            elif colours[end] != colour:
+                return
+        yield tuple(colours)
+
+    return found_from(0)
+
+
+def numbers_from(grid, quandle, cocycle, seeds):
+    """The same as numbers_of, from seeds that settle all columns. By a connected quandle as many colourings have each colour in one place."""
+    if not cocycle:
+        alike = is_connected(quandle)
+        count = sum(1 for _ in colourings_from(grid, quandle, seeds, (0,) if alike else range(quandle.order)))
+        return [quandle.order * count if alike else count]
+    return counts_by_weight(grid, quandle, *cocycle, colourings_from(grid, quandle, seeds, range(quandle.order)))
+
+
 def first_difference(given, own):
     """The first place at which two lists differ, or one of them has ended; None where they are equal."""
     if given == own:
@@ -57,7 +125,7 @@ def cause_of_numbers(first, second, quandle, cocycle, said):
             return f"unsettled {which} {unsettled[0]}"
         if quandle.order ** choices(cocycle, len(seeds)) > MAX_CANDIDATES:
             return f"wide {which} {len(seeds)}"
-        place = first_difference(numbers, numbers_of(grid, quandle, cocycle))
+        place = first_difference(numbers, numbers_from(grid, quandle, cocycle, seeds))
         if place is not None:
             return f"number {which} {place}"
     return "samenumbers" if said[0][1] == said[1][1] else None

@@ -13,8 +13,9 @@ from lib.connected import dual, is_connected
 # By the orders of the groups and of the centralizers of an element.
 SIZES = {"PSL2_7_56_a": 168 // 3, "PGammaL2_8_84_a": 1512 // 18, "PGammaL2_8_84_b": 1512 // 18, "AGammaL1_16_120_a": 960 // 8,
          "AGammaL1_16_120_b": 960 // 8}
-# The word of 8_17; and two knots of one Alexander polynomial, 1, and one Jones polynomial.
+# The words of 8_17 and 9_32; and two knots of one Alexander polynomial, 1, and one Jones polynomial.
 EIGHT_17 = diagrams.Braid(3, (1, 1, -2, 1, -2, 1, -2, -2))
+NINE_32 = diagrams.Braid(4, (1, 1, -2, 1, -2, 1, 3, -2, 3))
 ALIKE = (diagrams.Braid(4, (1, 1, 2, -3, 2, 1, -3, -2, -2, -3, -3)), diagrams.Braid(4, (-1, -1, -1, -3, -3, -2, 3, 1, 1, -2, 1, 3, 2)))
 
 
@@ -43,9 +44,10 @@ class Tables(unittest.TestCase):
         self.assertEqual(common.run("large_quandles.py", "tables", folder), (0, "", ""))
         self.assertEqual(sorted(os.listdir(folder)), sorted(f"{name}.txt" for name in SIZES))
         for name, table in self.tables.items():
-            with open(os.path.join(folder, f"{name}.txt"), encoding="utf-8") as text:
-                lines = text.read().splitlines()
-            self.assertEqual([line for line in lines if not line.startswith("#")],
+            with open(os.path.join(folder, f"{name}.txt"), encoding="utf-8") as file:
+                text = file.read()
+            self.assertEqual(text, common.read("quandles", "larger", f"{name}.txt"), name)
+            self.assertEqual([line for line in text.splitlines() if not line.startswith("#")],
                              [f"quandle table {len(table)}", *(" ".join(map(str, row)) for row in table)])
 
     def number(self, name, braid):
@@ -63,6 +65,9 @@ class Tables(unittest.TestCase):
         self.assertEqual(dict(quandles.read_knots(common.KNOTS))["8_17"], EIGHT_17)
         for name, wanted in (("PGammaL2_8_84_a", [3108, 84, 84]), ("PGammaL2_8_84_b", [84, 3108, 3108]), ("PSL2_7_56_a", [56, 56, 56])):
             self.assertEqual([self.number(name, braid) for braid in (EIGHT_17, diagrams.reverse(EIGHT_17), diagrams.mirror_braid(EIGHT_17))], wanted)
+
+    def test_9_32_is_told_from_its_reverse(self):
+        self.assertEqual([self.number("AGammaL1_16_120_a", braid) for braid in (NINE_32, diagrams.reverse(NINE_32))], [1080, 3960])
 
     def test_knots_that_no_polynomial_tells_apart(self):
         self.assertEqual([knot_invariants.alexander_polynomial(*braid) for braid in ALIKE], [[1], [1]])

@@ -57,6 +57,14 @@ class Tables(unittest.TestCase):
                 with open(os.path.join(folder, f"{name}.txt"), encoding="utf-8") as written:
                     self.assertEqual(written.read(), common.read("quandles", "weights", f"{name}.txt"), name)
 
+    def test_the_larger_files_are_what_the_script_writes(self):
+        with tempfile.TemporaryDirectory() as folder:
+            self.assertEqual(common.run("weight_tables.py", "--larger", folder), (0, "", ""))
+            self.assertEqual(sorted(os.listdir(folder)), sorted(f"{name}.txt" for name in weight_tables.LARGER))
+            for name in weight_tables.LARGER:
+                with open(os.path.join(folder, f"{name}.txt"), encoding="utf-8") as written:
+                    self.assertEqual(written.read(), common.read("quandles", "larger", f"{name}.txt"), name)
+
     def test_each_is_a_connected_quandle_with_a_cocycle(self):
         self.assertEqual(sorted(SIZES), sorted([*weight_tables.READY, *weight_tables.LARGER]))
         for name, (order, wanted) in SIZES.items():
@@ -103,6 +111,13 @@ class Weights(unittest.TestCase):
         for name, wanted in (("5_1", {"M20a", "M20b", "M30"}), ("6_2", {"T7", "M20b"}), ("8_16", {"T7", "M20b"}), ("7_3", {"M20b"}), ("8_2", {"T7"}),
                              ("7_1", set()), ("7_5", set())):
             self.assertEqual(told[name], wanted, name)
+
+    def test_mirror_images_by_the_larger_tables(self):
+        tables = {name: read_table(common.read("quandles", "larger", f"{name}.txt")) for name in weight_tables.LARGER}
+        knots = dict(quandles.read_knots(common.KNOTS))
+        for knot, wanted in (("7_1", set(tables)), ("7_5", {"M42a"}), ("8_14", {"M42c"})):
+            braid = knots[knot]
+            self.assertEqual({name for name, found in tables.items() if weights(braid, *found) != weights(diagrams.mirror_braid(braid), *found)}, wanted, knot)
 
 
 class Words(unittest.TestCase):
