@@ -1,12 +1,12 @@
 #!/usr/bin/env python3
-"""Finds numbers that are said twice: turns the two limits, MAX_SIZE and MAX_ORDER, in a copy of the repository, and proves and tests it.
+"""Finds numbers that are said twice: turns three limits, MAX_SIZE, MAX_ORDER and MAX_LARGE_ORDER, in a copy, and proves and tests it.
 
-    python3 bench/limits.py                    48 becomes 20 and 32 becomes 12, in every crate
-    python3 bench/limits.py 20 12 NAME..       in these crates and those below them
+    python3 bench/limits.py                       48 becomes 20, 32 becomes 12 and 128 becomes 100, in every crate
+    python3 bench/limits.py 20 12 100 NAME..      in these crates and those below them
 
-A proof, a worked row or a test that fails there says one of the two numbers where it should name the constant.
-A number of columns up to 48 and an order up to 32 still fit in the digits of a key and in the tables. The one worked row of grid_core
-and of quandle_core that spells its limit on purpose is turned with it.
+A proof, a worked row or a test that fails there says one of the numbers where it should name the constant.
+A number of columns up to 48 and orders up to 32 and 128 still fit in the digits of a key and in the tables. The worked rows of grid_core
+and of quandle_core that spell a limit on purpose are turned with it.
 The examples, the stored run and must-fail edits are not tried. From nothing it takes as long as the proofs of the gate do."""
 
 import glob
@@ -17,7 +17,7 @@ import sys
 import tempfile
 
 TOP = os.path.dirname(os.path.dirname(os.path.abspath(__file__)))
-LIMITS = (("grid_core", "MAX_SIZE", 48), ("quandle_core", "MAX_ORDER", 32))
+LIMITS = (("grid_core", "MAX_SIZE", 48), ("quandle_core", "MAX_ORDER", 32), ("quandle_core", "MAX_LARGE_ORDER", 128))
 
 
 def turn(top, crate, name, old, new):
@@ -61,7 +61,7 @@ def wanted(found, names):
 def main():
     values = [word for word in sys.argv[1:] if word.isdigit()]
     names = [word for word in sys.argv[1:] if not word.isdigit()]
-    values = values if len(values) == 2 else ["20", "12"]
+    values = values if len(values) == len(LIMITS) else ["20", "12", "100"]
     failed = []
     with tempfile.TemporaryDirectory(prefix="knot-limits-") as top:
         shutil.copytree(f"{TOP}/crates", f"{top}/crates", ignore=shutil.ignore_patterns("out"))
