@@ -51,7 +51,7 @@ impl LargeCocycle {
         }
     }
 
-    /// The same cocycle again.
+    /// The same cocycle again. Want of memory is the only error.
     pub fn copy(&self, alloc: Global) -> Result<LargeCocycle, AllocFailed<u8>>
         ensures { IfOk result (λ c. c ≡ self.now) }
     {

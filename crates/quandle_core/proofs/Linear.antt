@@ -7,7 +7,6 @@ use Rattle.std.proofs.lemmas.Nat.{mod_below, mul-mod_first, mul-mod_second}
 use Rattle.std.proofs.Math.Nat.{add-mod, add-mod_left, add-mul-mod_self_left, mod-eq_of_lt}
 use Rattle.quandle_core.specs.Quandle.{IsQuandle, over, back}
 use Rattle.quandle_core.specs.Tables.{linear, trivial, dihedral, alexander, tetrahedral, is_unit}
-use Rattle.quandle_core.specs.declared.quandle.TheConstants.{MAX_ORDER}
 use Rattle.std.proofs.lemmas.Bool.{eqb-true, eq-eqb}
 use Rattle.quandle_core.proofs.Entries.{entry, length_entries, same_table}
 use Rattle.quandle_core.proofs.Accepted.{quandle_from, quandle_from_none}
@@ -54,8 +53,8 @@ recovered n a b u x y unit lt =
     gather : (a b u x y m n : ℕ) → m + 1 ≡ n → u * (a * x + b * y) + m * (u * (b * y)) ≡ (a * u) * x + n * (u * (b * y))
     gather a b u x y m n e = let whole : (m + 1) * (u * (b * y)) ≡ n * (u * (b * y)) = ap (λ k. k * (u * (b * y))) e in omega arith
 
-pub linear_is : (n a b u : ℕ) → 1 ≤ n → n ≤ MAX_ORDER → (a + b) % n ≡ 1 % n → (a * u) % n ≡ 1 % n → IsQuandle (linear n a b)
-linear_is n a b u least most one unit =
+pub linear_is : (n a b u : ℕ) → 1 ≤ n → (a + b) % n ≡ 1 % n → (a * u) % n ≡ 1 % n → IsQuandle (linear n a b)
+linear_is n a b u least one unit =
     let f : ℕ → ℕ → ℕ = λ x y. (a * x + b * y) % n in
     let small : (x y : ℕ) → f x y < n = λ x y. mod_below (a * x + b * y) n least in
     let at : (x y : ℕ) → x < n → y < n → over (linear n a b) x y ≡ f x y = λ x y lt also. entry n f x y lt also in
@@ -76,11 +75,11 @@ linear_is n a b u least most one unit =
 pub trivial_linear : (n : ℕ) → linear n 1 0 ≡ trivial n
 trivial_linear n = same_table n (λ x y. (1 * x + 0 * y) % n) (λ x y. x) (λ x y lt also. ap (λ w. w % n) (omega arith) ∙ mod-eq_of_lt lt)
 
-pub trivial_laws : (n : ℕ) → 1 ≤ n → n ≤ MAX_ORDER → IsQuandle (linear n 1 0)
-trivial_laws n least most = linear_is n 1 0 1 least most refl refl
+pub trivial_laws : (n : ℕ) → 1 ≤ n → IsQuandle (linear n 1 0)
+trivial_laws n least = linear_is n 1 0 1 least refl refl
 
-pub trivial_is : (n : ℕ) → 1 ≤ n → n ≤ MAX_ORDER → IsQuandle (trivial n)
-trivial_is n least most = subst IsQuandle (trivial_linear n) (trivial_laws n least most)
+pub trivial_is : (n : ℕ) → 1 ≤ n → IsQuandle (trivial n)
+trivial_is n least = subst IsQuandle (trivial_linear n) (trivial_laws n least)
 
 -- the dihedral tables
 pub dihedral_linear : (n : ℕ) → 1 ≤ n → linear n (n - 1) 2 ≡ dihedral n
@@ -93,9 +92,9 @@ dihedral_linear n least =
         ∙ (ap (λ w. w % n) (let all : (m + 1) * x ≡ n * x = ap (λ s. s * x) less in let e : m * x + 2 * y + n * 1 ≡ 2 * y + k + n * x = omega arith in e)
         ∙ add-mul-mod_self_left (2 * y + k) n x)
 
-pub dihedral_laws : (n : ℕ) → 1 ≤ n → n ≤ MAX_ORDER → IsQuandle (linear n (n - 1) 2)
-dihedral_laws n least most =
-    linear_is n (n - 1) 2 (n - 1) least most (ap (λ w. w % n) (let e : n - 1 + 2 ≡ n + 1 = omega arith in e) ∙ add-mod_left n 1)
+pub dihedral_laws : (n : ℕ) → 1 ≤ n → IsQuandle (linear n (n - 1) 2)
+dihedral_laws n least =
+    linear_is n (n - 1) 2 (n - 1) least (ap (λ w. w % n) (let e : n - 1 + 2 ≡ n + 1 = omega arith in e) ∙ add-mod_left n 1)
     (squared n (n - 1) (omega arith))
   where
     squared : (n m : ℕ) → m + 1 ≡ n → (m * m) % n ≡ 1 % n
@@ -103,8 +102,8 @@ dihedral_laws n least most =
         let all : (m + 1) * m ≡ n * m = ap (λ s. s * m) e in
         sym (add-mul-mod_self_left (m * m) n 1) ∙ (ap (λ w. w % n) (let f : m * m + n * 1 ≡ 1 + n * m = omega arith in f) ∙ add-mul-mod_self_left 1 n m)
 
-pub dihedral_is : (n : ℕ) → 1 ≤ n → n ≤ MAX_ORDER → IsQuandle (dihedral n)
-dihedral_is n least most = subst IsQuandle (dihedral_linear n least) (dihedral_laws n least most)
+pub dihedral_is : (n : ℕ) → 1 ≤ n → IsQuandle (dihedral n)
+dihedral_is n least = subst IsQuandle (dihedral_linear n least) (dihedral_laws n least)
 
 -- the Alexander tables
 pub alexander_linear : (n t : ℕ) → linear n (t % n) (n + 1 - t % n) ≡ alexander n t
@@ -112,16 +111,16 @@ alexander_linear n t =
     same_table n (λ x y. (t % n * x + (n + 1 - t % n) * y) % n) (λ x y. (t * x + (n + 1 - t % n) * y) % n)
     (λ x y lt also. plus_mod n (t % n * x) ((n + 1 - t % n) * y) (t * x) ((n + 1 - t % n) * y) (mul-mod_first t x n) refl)
 
-pub alexander_laws : (n t : ℕ) → 1 ≤ n → n ≤ MAX_ORDER → is_unit n t ≡ true → IsQuandle (linear n (t % n) (n + 1 - t % n))
-alexander_laws n t least most unit =
+pub alexander_laws : (n t : ℕ) → 1 ≤ n → is_unit n t ≡ true → IsQuandle (linear n (t % n) (n + 1 - t % n))
+alexander_laws n t least unit =
     let found = Any-from_list_any (λ u. (t * u) % n == 1 % n) (range_with_len 0 n) unit in
     let below : t % n < n = mod_below t n least in
-    linear_is n (t % n) (n + 1 - t % n) found.1 least most
+    linear_is n (t % n) (n + 1 - t % n) found.1 least
     (ap (λ w. w % n) (let e : t % n + (n + 1 - t % n) ≡ n + 1 = omega arith in e) ∙ add-mod_left n 1)
     (mul-mod_first t found.1 n ∙ eqb-true ((t * found.1) % n) (1 % n) found.4)
 
-pub alexander_is : (n t : ℕ) → 1 ≤ n → n ≤ MAX_ORDER → is_unit n t ≡ true → IsQuandle (alexander n t)
-alexander_is n t least most unit = subst IsQuandle (alexander_linear n t) (alexander_laws n t least most unit)
+pub alexander_is : (n t : ℕ) → 1 ≤ n → is_unit n t ≡ true → IsQuandle (alexander n t)
+alexander_is n t least unit = subst IsQuandle (alexander_linear n t) (alexander_laws n t least unit)
 
 -- x ↦ x ▷ 0 reaches 1, so t has an inverse
 pub alexander_unit : (n t : ℕ) → 1 ≤ n → IsQuandle (alexander n t) → is_unit n t ≡ true

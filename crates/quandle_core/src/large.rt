@@ -73,7 +73,7 @@ impl LargeQuandle {
         }
     }
 
-    /// The quandle of these operations again.
+    /// The quandle of these operations again. Want of memory is the only error.
     pub fn of(alloc: Global, quandle: &Operations) -> Result<LargeQuandle, AllocFailed<u8>>
         ensures { IfOk result (λ q. q ≡ quandle.now) }
     {

@@ -5,7 +5,6 @@ ghost use Rattle.quandle_core.specs.Tables.{trivial, dihedral, alexander, tetrah
 ghost use Rattle.quandle_core.specs.Fault.{first_fault_within};
 ghost use Rattle.quandle_core.specs.Cases.{IsFirstFault};
 ghost use Rattle.quandle_core.specs.declared.fault.QuandleFault.{QuandleFault};
-ghost use Rattle.quandle_core.specs.declared.quandle.TheConstants.{MAX_ORDER};
 
 /// A table has no fault exactly where it is a quandle whose order is within the bound.
 pub fn no_fault_is_a_quandle()
@@ -23,19 +22,19 @@ pub fn back_is_the_inverse()
         → (back t x y ≡ z) ↔ (over t z y ≡ x) }
 {}
 
-/// Each trivial table is a quandle.
+/// Each trivial table of an order from 1 on is a quandle.
 pub fn trivial_is_a_quandle()
-    ensures { (n : ℕ) → 1 ≤ n → n ≤ MAX_ORDER → IsQuandle (trivial n) }
+    ensures { (n : ℕ) → 1 ≤ n → IsQuandle (trivial n) }
 {}
 
-/// Each dihedral table is a quandle.
+/// Each dihedral table of an order from 1 on is a quandle.
 pub fn dihedral_is_a_quandle()
-    ensures { (n : ℕ) → 1 ≤ n → n ≤ MAX_ORDER → IsQuandle (dihedral n) }
+    ensures { (n : ℕ) → 1 ≤ n → IsQuandle (dihedral n) }
 {}
 
-/// An Alexander table is a quandle exactly where t has an inverse mod n.
+/// An Alexander table of an order from 1 on is a quandle exactly where t has an inverse mod n.
 pub fn alexander_is_a_quandle()
-    ensures { (n t : ℕ) → 1 ≤ n → n ≤ MAX_ORDER → IsQuandle (alexander n t) ↔ (is_unit n t ≡ true) }
+    ensures { (n t : ℕ) → 1 ≤ n → IsQuandle (alexander n t) ↔ (is_unit n t ≡ true) }
 {}
 
 /// The tetrahedral table is a quandle.

@@ -82,7 +82,7 @@ mochizuki_is p prime most =
     let is = computed p prime most in
     let small : (x y : ℕ) → reflected p x y < p = λ x y. mod_below (2 * y + (p - x)) p (omega (arith, two)) in
     record {
-      quandle = dihedral_is p (omega (arith, two)) most;
+      quandle = dihedral_is p (omega (arith, two));
       least = two;
       cube = length-map-range_with_len (λ k. formula p (k / p / p) (k / p % p) (k % p)) 0 (p * p * p);
       within = λ w x y lw lx ly.

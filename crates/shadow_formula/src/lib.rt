@@ -1,4 +1,4 @@
-//! Mochizuki's formula, which gives a 3-cocycle of each dihedral quandle of prime order.
+//! Mochizuki's formula, which gives a shadow cocycle of each dihedral quandle of prime order.
 #![tactic(auto)]
 
 mod dihedral;

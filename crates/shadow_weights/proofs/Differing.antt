@@ -13,7 +13,7 @@ use Rattle.shadow_weights.proofs.WorkedRows.{no_fault, right_weights, left_weigh
 use Rattle.quandle_core.proofs.Linear.{dihedral_is}
 
 is_quandle : IsQuandle (dihedral 3)
-is_quandle = dihedral_is 3 (omega arith) (omega arith)
+is_quandle = dihedral_is 3 (omega arith)
 
 pub trefoils_differ : Equivalent right_trefoil left_trefoil → ⊥
 trefoils_differ equivalent =

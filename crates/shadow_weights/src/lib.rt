@@ -1,5 +1,5 @@
-//! Shadow weights of colourings by 3-cocycles: the type of a shadow cocycle, the weight of a colouring with a colour of the outer region, and how many of these pairs
-//! of a diagram have each weight. Every legal move carries each colouring to one of the same weight, so equivalent diagrams have equal shadow weights.
+//! Shadow weights of colourings: the type of a shadow cocycle, the weight of a colouring with a colour of the outer region, and how many of
+//! these pairs of a diagram have each weight. Every legal move carries each colouring to one of the same weight, so equivalent diagrams have equal shadow weights.
 #![tactic(auto)]
 
 mod cocycle;

@@ -12,10 +12,10 @@ use Rattle.verdict_core.specs.Names.{NamedQuandle, IsOrder, NamesWithin, Names, 
 
 -- it is a quandle
 pub named_within : (most : ℕ) (n : QuandleName) (t : Table) → NamesWithin most n t → IsQuandle t
-named_within most (name.Trivial n) t is = subst IsQuandle (sym is.1) (trivial_is n is.0.0 is.0.1)
-named_within most (name.Dihedral n) t is = subst IsQuandle (sym is.1) (dihedral_is n is.0.0 is.0.1)
+named_within most (name.Trivial n) t is = subst IsQuandle (sym is.1) (trivial_is n is.0.0)
+named_within most (name.Dihedral n) t is = subst IsQuandle (sym is.1) (dihedral_is n is.0.0)
 named_within most name.Tetrahedral t is = subst IsQuandle (sym is) tetrahedral_is
-named_within most (name.Alexander n a) t is = subst IsQuandle (sym is.2) (alexander_is n a is.0.0 is.0.1 is.1)
+named_within most (name.Alexander n a) t is = subst IsQuandle (sym is.2) (alexander_is n a is.0.0 is.1)
 named_within most name.Table t is = is.0
 
 pub named_is : (n : QuandleName) (t : Table) → Names n t → IsQuandle t

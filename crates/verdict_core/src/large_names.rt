@@ -39,7 +39,7 @@ impl LargeListed {
         }
     }
 
-    /// A smaller quandle, with its name.
+    /// A smaller quandle, with its name. Want of memory is the only error.
     pub fn listed(alloc: Global, listed: &Listed) -> Result<LargeListed, AllocFailed<u8>>
         ensures { IfOk result (λ q. q ≡ listed.now) }
     {
@@ -66,7 +66,7 @@ impl LargeListed {
         self.quandle.operations()
     }
 
-    /// The same again.
+    /// The same again. Want of memory is the only error.
     pub fn copy(&self, alloc: Global) -> Result<LargeListed, AllocFailed<u8>>
         ensures { IfOk result (λ q. q ≡ self.now) }
     {

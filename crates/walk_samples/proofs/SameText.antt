@@ -84,11 +84,11 @@ equivalent_text : (seed : ℕ) (moves : List Move) (d e : Diagram) → length mo
     → length (colourings (dihedral 7) d) ≡ 7 → walk_text seed moves d e ≡ sample_text seed
 equivalent_text seed moves d e count equivalent one two three four five =
     equal_text seed moves d e count
-    (five_counts d e (counts_of_ends d e (trivial 2) 2 (trivial_is 2 (omega arith) (omega arith)) equivalent one)
-    (counts_of_ends d e (dihedral 3) 9 (dihedral_is 3 (omega arith) (omega arith)) equivalent two)
+    (five_counts d e (counts_of_ends d e (trivial 2) 2 (trivial_is 2 (omega arith)) equivalent one)
+    (counts_of_ends d e (dihedral 3) 9 (dihedral_is 3 (omega arith)) equivalent two)
     (counts_of_ends d e tetrahedral 16 tetrahedral_is equivalent three)
-    (counts_of_ends d e (dihedral 5) 5 (dihedral_is 5 (omega arith) (omega arith)) equivalent four)
-    (counts_of_ends d e (dihedral 7) 7 (dihedral_is 7 (omega arith) (omega arith)) equivalent five))
+    (counts_of_ends d e (dihedral 5) 5 (dihedral_is 5 (omega arith)) equivalent four)
+    (counts_of_ends d e (dihedral 7) 7 (dihedral_is 7 (omega arith)) equivalent five))
 
 pub same_text : (seed : ℕ) (moves : List Move) (last : Diagram) → Walks right_trefoil (words seed) moves last
     → walk_text seed moves right_trefoil last ≡ sample_text seed
