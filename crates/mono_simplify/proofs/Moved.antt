@@ -18,7 +18,7 @@ use Rattle.grid_keys.proofs.CanonicalForms.{translated_grid, translated_size, ca
 use Rattle.grid_keys.proofs.Translated.{size-translate}
 use Rattle.next_moves.specs.declared.links.Offer.{Offer}
 use Rattle.grid_moves.specs.Kinds.{is_shift, is_exchange, is_destabilisation}
-use Rattle.next_moves.specs.Tries.{Try, tries, exchanges, try_column_exchange, try_row_exchange}
+use Rattle.next_moves.specs.Tries.{Try, tries, exchange_tries, try_column_exchange, try_row_exchange}
 use Rattle.grid_moves.specs.SizeAfter.{size_after}
 use Rattle.next_moves.specs.Offers.{is_offered, Leads, IsOfferOf, AreOffersOf, IsOfferList, try_of}
 use Rattle.grid_moves.proofs.Sizes.{step_size}
@@ -34,7 +34,7 @@ use Rattle.mono_simplify.specs.Listing.{IsExchangeList, NoTranslateDestabilises}
 abbrev pub IsExchange : Move → Type 0
 IsExchange move = (is_shift_or_exchange move ≡ true) × (is_shift move ≡ false) × (is_destabilisation move ≡ false) × ((n : ℕ) → size_after move n ≡ n)
 
-pub exchanges_exchange : (n : ℕ) → All (λ (t : Try). IsExchange t.step) (exchanges n)
+pub exchanges_exchange : (n : ℕ) → All (λ (t : Try). IsExchange t.step) (exchange_tries n)
 exchanges_exchange n =
     All-append (λ (t : Try). IsExchange t.step) (map (try_column_exchange n) (range_with_len 0 n)) (map (try_row_exchange n) (range_with_len 0 n))
     (ranged (λ (t : Try). IsExchange t.step) (try_column_exchange n) n (λ k. (refl, refl, refl, λ m. refl)))
@@ -139,8 +139,8 @@ pub exchange_led : (d : Diagram) (offers : List Offer) (offer : Offer) → IsGri
     → (f : Diagram) × (IsKeyOf offer.key f × Leads d offer.link f × (size f ≡ size d) × IsExchange offer.link.step)
 exchange_led d offers offer grid list among =
     let is = All-contains (IsOfferOf d) offers offer list.leads among in
-    let tried = offer_tried d (size d) (exchanges (size d)) offers offer list among in
-    let exchange = All-contains (λ (t : Try). IsExchange t.step) (exchanges (size d)) (try_of offer) (exchanges_exchange (size d)) tried.0 in (
+    let tried = offer_tried d (size d) (exchange_tries (size d)) offers offer list among in
+    let exchange = All-contains (λ (t : Try). IsExchange t.step) (exchange_tries (size d)) (try_of offer) (exchanges_exchange (size d)) tried.0 in (
       is.form,
       (
         record { grid = led_grid d offer is.form is.leads; key = is.key },
@@ -160,10 +160,10 @@ exchange_offered d offers before after f move grid list translated turns exchang
     let long : size m.result ≡ size d = translated_size after m.result step.after m.same ∙ same in
     let offered : is_offered d (size d) m.try ≡ true = legal_offered d (translate d m.try.before.0 m.try.before.1) m.result (size d) m.try m.columns refl m.step
     ∙ le-leb (size m.result) (size d) (omega (arith, long)) in
-    let among : Contains (exchanges (size d)) m.try = subst (λ (ts : List Try). Contains ts m.try) (exchanges_of_tries (size d))
+    let among : Contains (exchange_tries (size d)) m.try = subst (λ (ts : List Try). Contains ts m.try) (exchanges_of_tries (size d))
     (contains_filter (λ (t : Try). is_exchange t.step) (tries (size d)) m.try m.among (m.alike ∙ exchange)) in
     let tried : Contains (map try_of offers) m.try = subst (λ (ts : List Try). Contains ts m.try) (sym list.order)
-    (contains_filter (is_offered d (size d)) (exchanges (size d)) m.try among offered) in
+    (contains_filter (is_offered d (size d)) (exchange_tries (size d)) m.try among offered) in
     let found = mapped_from try_of offers m.try tried in
     let is = All-contains (IsOfferOf d) offers found.0 list.leads found.1 in
     (found.0, (found.1, led_by d found.0 m.try m.result f is found.2 m.step (canonical_of_translate after m.result f step.after m.same form)))

@@ -7,26 +7,26 @@ use Rattle.grid_core.specs.Trefoils.{left_trefoil}
 use Rattle.grid_core.proofs.WorkedRows.{unknot}
 use Rattle.grid_moves.specs.declared.step.Move.TheVariants.{ShiftColumns, ShiftRows, ExchangeColumns, ExchangeRows, SlideColumns, SlideRows, Stabilise, Destabilise}
 use Rattle.grid_keys.specs.Key.{key_of}
-use Rattle.next_moves.specs.Tries.{exchanges, all_block_tries}
+use Rattle.next_moves.specs.Tries.{exchange_tries, all_block_tries}
 use Rattle.next_moves.specs.Offers.{is_offered}
 use Rattle.mono_simplify.specs.Simplified.{is_monotonic}
 use Rattle.mono_simplify.specs.Listing.{with_key}
 
 -- the left trefoil and the unknot of two columns have neither an exchange nor a destabilisation: each is alone in its class
-alone : filter (is_offered left_trefoil 5) (exchanges 5) ≡ []
+alone : filter (is_offered left_trefoil 5) (exchange_tries 5) ≡ []
 alone = refl
 
 irreducible : filter (is_offered left_trefoil 5) (all_block_tries 5) ≡ []
 irreducible = refl
 
-smallest : filter (is_offered unknot 2) (exchanges 2) ≡ []
+smallest : filter (is_offered unknot 2) (exchange_tries 2) ≡ []
 smallest = refl
 
 -- two split unknots have exchanges, and no destabilisation
 abbrev two_circles : Diagram
 two_circles = record { x = 0 ∷ 1 ∷ 2 ∷ 3 ∷ []; o = 1 ∷ 0 ∷ 3 ∷ 2 ∷ [] }
 
-four_exchanges : length (filter (is_offered two_circles 4) (exchanges 4)) ≡ 4
+four_exchanges : length (filter (is_offered two_circles 4) (exchange_tries 4)) ≡ 4
 four_exchanges = refl
 
 none_smaller : filter (is_offered two_circles 4) (all_block_tries 4) ≡ []

@@ -8,13 +8,13 @@ use Rattle.grid_keys.specs.Translation.{translates}
 use Rattle.grid_keys.specs.CanonicalForm.{IsCanonicalForm}
 use Rattle.grid_keys.specs.Key.{key_of, same_key, IsKeyOf}
 use Rattle.next_moves.specs.declared.links.Offer.{Offer}
-use Rattle.next_moves.specs.Tries.{exchanges}
+use Rattle.next_moves.specs.Tries.{exchange_tries}
 use Rattle.next_moves.specs.Offers.{AreOffersOf}
 use Rattle.mono_simplify.specs.ExchangeClass.{MayDestabilise}
 
 -- the exchanges of d in order, of columns and then of rows, round both circles, each with the key to which it leads; slides are passed over
 abbrev pub IsExchangeList : Diagram → List Offer → Type 0
-IsExchangeList d offers = AreOffersOf d (size d) (exchanges (size d)) offers
+IsExchangeList d offers = AreOffersOf d (size d) (exchange_tries (size d)) offers
 
 abbrev pub has_key : List Packed → Packed → Bool
 has_key keys key = list_any (same_key key) keys

@@ -16,7 +16,7 @@ use Rattle.next_moves.specs.declared.links.Offer.{Offer}
 use Rattle.grid_moves.specs.Kinds.{is_shift}
 use Rattle.next_moves.specs.Neighbours.{IsNeighbour}
 use Rattle.grid_core.specs.Corners.{corners}
-use Rattle.next_moves.specs.Tries.{Try, tries, try_column_exchange, try_column_slide, column_trades, try_row_exchange, try_row_slide, row_trades}
+use Rattle.next_moves.specs.Tries.{Try, tries, try_column_exchange, try_column_slide, column_trade_tries, try_row_exchange, try_row_slide, row_trade_tries}
 use Rattle.next_moves.specs.Tries.{try_destabilisation, block_tries, try_stabilisation, stabilisation_tries}
 use Rattle.next_moves.specs.Offers.{is_offered, Leads, IsOfferOf, IsOfferList, try_of}
 use Rattle.next_moves.proofs.Extended.{legal_offered}
@@ -74,13 +74,13 @@ both_no_shift s t one two = All-cons IsNoShift s (t ∷ []) one (All-cons IsNoSh
 
 tries_no_shift : (n : ℕ) → All IsNoShift (tries n)
 tries_no_shift n =
-    All-append IsNoShift (flat_map (column_trades n) (range_with_len 0 n) ++ flat_map (row_trades n) (range_with_len 0 n) ++ flat_map (block_tries n)
+    All-append IsNoShift (flat_map (column_trade_tries n) (range_with_len 0 n) ++ flat_map (row_trade_tries n) (range_with_len 0 n) ++ flat_map (block_tries n)
     (range_with_len 0 n)) (flat_map stabilisation_tries (range_with_len 0 n))
-    (All-append IsNoShift (flat_map (column_trades n) (range_with_len 0 n) ++ flat_map (row_trades n) (range_with_len 0 n))
+    (All-append IsNoShift (flat_map (column_trade_tries n) (range_with_len 0 n) ++ flat_map (row_trade_tries n) (range_with_len 0 n))
     (flat_map (block_tries n) (range_with_len 0 n))
-    (All-append IsNoShift (flat_map (column_trades n) (range_with_len 0 n)) (flat_map (row_trades n) (range_with_len 0 n))
-    (flat_ranged IsNoShift (column_trades n) (range_with_len 0 n) (λ k. both_no_shift (try_column_exchange n k) (try_column_slide n k) refl refl))
-    (flat_ranged IsNoShift (row_trades n) (range_with_len 0 n) (λ k. both_no_shift (try_row_exchange n k) (try_row_slide n k) refl refl)))
+    (All-append IsNoShift (flat_map (column_trade_tries n) (range_with_len 0 n)) (flat_map (row_trade_tries n) (range_with_len 0 n))
+    (flat_ranged IsNoShift (column_trade_tries n) (range_with_len 0 n) (λ k. both_no_shift (try_column_exchange n k) (try_column_slide n k) refl refl))
+    (flat_ranged IsNoShift (row_trade_tries n) (range_with_len 0 n) (λ k. both_no_shift (try_row_exchange n k) (try_row_slide n k) refl refl)))
     (flat_ranged IsNoShift (block_tries n) (range_with_len 0 n) (λ c. ranged IsNoShift (try_destabilisation n c) n (λ k. refl))))
     (flat_ranged IsNoShift stabilisation_tries (range_with_len 0 n)
     (λ c. All-append IsNoShift (map (try_stabilisation c Cross) corners) (map (try_stabilisation c Ring) corners)

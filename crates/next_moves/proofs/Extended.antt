@@ -24,7 +24,7 @@ use Rattle.grid_keys.specs.Key.{key_of}
 use Rattle.grid_keys.proofs.Translated.{size-translate}
 use Rattle.next_moves.specs.declared.links.Offer.{Offer}
 use Rattle.grid_core.specs.Corners.{corners}
-use Rattle.next_moves.specs.Tries.{Try, column_trades, row_trades, block_tries, try_stabilisation, stabilisation_tries}
+use Rattle.next_moves.specs.Tries.{Try, column_trade_tries, row_trade_tries, block_tries, try_stabilisation, stabilisation_tries}
 use Rattle.next_moves.specs.Offers.{is_offered, Leads, IsOfferOf, AreOffersOf, IsOfferList, try_of}
 use Rattle.next_moves.specs.Extends.{Extends}
 
@@ -150,14 +150,14 @@ offers_from_nothing d cap list old new empty all = subst (λ xs. AreOffersOf d c
 
 -- the four parts are the whole list
 pub whole_list : (d : Diagram) (cap : ℕ) (l m o p q : List Offer) → l ≡ []
-    → Extends d cap (flat_map (column_trades (size d)) (range_with_len 0 (size d))) l m
-    → Extends d cap (flat_map (row_trades (size d)) (range_with_len 0 (size d))) m o
+    → Extends d cap (flat_map (column_trade_tries (size d)) (range_with_len 0 (size d))) l m
+    → Extends d cap (flat_map (row_trade_tries (size d)) (range_with_len 0 (size d))) m o
     → Extends d cap (flat_map (block_tries (size d)) (range_with_len 0 (size d))) o p
     → Extends d cap (flat_map stabilisation_tries (range_with_len 0 (size d))) p q → IsOfferList d cap q
 whole_list d cap l m o p q empty columns rows blocks marks =
     let n : ℕ = size d in
-    let a : List Try = flat_map (column_trades n) (range_with_len 0 n) in
-    let b : List Try = flat_map (row_trades n) (range_with_len 0 n) in
+    let a : List Try = flat_map (column_trade_tries n) (range_with_len 0 n) in
+    let b : List Try = flat_map (row_trade_tries n) (range_with_len 0 n) in
     let e : List Try = flat_map (block_tries n) (range_with_len 0 n) in
     let f : List Try = flat_map stabilisation_tries (range_with_len 0 n) in
     offers_from_nothing d cap (a ++ b ++ e ++ f) l q empty

@@ -20,8 +20,8 @@ use Rattle.grid_keys.proofs.LeastTranslates.{translates_contains, flat_map_conta
 use Rattle.grid_moves.specs.Kinds.{is_shift, is_exchange}
 use Rattle.grid_core.specs.Corners.{corners}
 use Rattle.grid_core.proofs.CornerList.{corner_listed}
-use Rattle.next_moves.specs.Tries.{Try, shift_before, place_after_shift, tries, try_column_exchange, try_column_slide, column_trades, try_row_exchange}
-use Rattle.next_moves.specs.Tries.{try_row_slide, row_trades, try_destabilisation, block_tries, try_stabilisation, stabilisation_tries}
+use Rattle.next_moves.specs.Tries.{Try, shift_before, place_after_shift, tries, try_column_exchange, try_column_slide, column_trade_tries, try_row_exchange}
+use Rattle.next_moves.specs.Tries.{try_row_slide, row_trade_tries, try_destabilisation, block_tries, try_stabilisation, stabilisation_tries}
 use Rattle.next_moves.proofs.Members.{contains_first, contains_later}
 use Rattle.next_moves.proofs.Sides.{shift_before-below, place_after_shift-below, first_origin}
 use Rattle.next_moves.proofs.Rounds.{brought, brought_next, brought_from}
@@ -42,10 +42,10 @@ pub record Matched (move : Move) (d e : Diagram) : Type 0 where
 -- the parts of the list of tries
 module _ (n : ℕ) where
   abbrev columns_part : List Try
-  columns_part = flat_map (column_trades n) (range_with_len 0 n)
+  columns_part = flat_map (column_trade_tries n) (range_with_len 0 n)
 
   abbrev rows_part : List Try
-  rows_part = flat_map (row_trades n) (range_with_len 0 n)
+  rows_part = flat_map (row_trade_tries n) (range_with_len 0 n)
 
   abbrev blocks_part : List Try
   blocks_part = flat_map (block_tries n) (range_with_len 0 n)
@@ -53,17 +53,17 @@ module _ (n : ℕ) where
   abbrev marks_part : List Try
   marks_part = flat_map stabilisation_tries (range_with_len 0 n)
 
-  tries_column : (q : ℕ) (t : Try) → q < n → Contains (column_trades n q) t → Contains (tries n) t
+  tries_column : (q : ℕ) (t : Try) → q < n → Contains (column_trade_tries n q) t → Contains (tries n) t
   tries_column q t lt among =
       Contains-append_left (columns_part ++ rows_part ++ blocks_part) marks_part t
       (Contains-append_left (columns_part ++ rows_part) blocks_part t
-      (Contains-append_left columns_part rows_part t (flat_map_contains (column_trades n) (range_with_len 0 n) q t (range_contains n q lt) among)))
+      (Contains-append_left columns_part rows_part t (flat_map_contains (column_trade_tries n) (range_with_len 0 n) q t (range_contains n q lt) among)))
 
-  tries_row : (q : ℕ) (t : Try) → q < n → Contains (row_trades n q) t → Contains (tries n) t
+  tries_row : (q : ℕ) (t : Try) → q < n → Contains (row_trade_tries n q) t → Contains (tries n) t
   tries_row q t lt among =
       Contains-append_left (columns_part ++ rows_part ++ blocks_part) marks_part t
       (Contains-append_left (columns_part ++ rows_part) blocks_part t
-      (Contains-append_right columns_part rows_part t (flat_map_contains (row_trades n) (range_with_len 0 n) q t (range_contains n q lt) among)))
+      (Contains-append_right columns_part rows_part t (flat_map_contains (row_trade_tries n) (range_with_len 0 n) q t (range_contains n q lt) among)))
 
   tries_block : (q s : ℕ) → q < n → s < n → Contains (tries n) (try_destabilisation n q s)
   tries_block q s hq hs =

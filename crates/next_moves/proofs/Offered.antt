@@ -8,8 +8,8 @@ use Rattle.std.proofs.lemmas.List.{length-append}
 use Rattle.std.proofs.lemmas.List.Elements.{filter-append}
 use Rattle.std.proofs.lemmas.List.Sums.{length-filter, count_by-le-length}
 use Rattle.grid_core.specs.Diagram.{Diagram, IsGrid, size}
-use Rattle.next_moves.specs.Tries.{Try, try_column_exchange, try_column_slide, column_trades, try_row_exchange, try_row_slide, row_trades, try_destabilisation}
-use Rattle.next_moves.specs.Tries.{block_tries, stabilisation_tries, trade_tries, all_block_tries, all_stabilisation_tries}
+use Rattle.next_moves.specs.Tries.{Try, try_column_exchange, try_column_slide, column_trade_tries, try_row_exchange, try_row_slide, row_trade_tries}
+use Rattle.next_moves.specs.Tries.{try_destabilisation, block_tries, stabilisation_tries, trade_tries, all_block_tries, all_stabilisation_tries}
 use Rattle.next_moves.specs.Offers.{is_offered}
 use Rattle.short_grids.specs.ShortTrades.{next}
 use Rattle.next_moves.specs.Blocks.{row_of_both, counted, passed}
@@ -109,9 +109,9 @@ trades_offered d cap =
     let p = is_offered d cap in
     omega (
       arith,
-      kept_append p (flat_map (column_trades n) (range_with_len 0 n)) (flat_map (row_trades n) (range_with_len 0 n)),
-      kept_each p (column_trades n) 1 n (λ c lt. one_kept d cap (try_column_exchange n c) (try_column_slide n c) (columns_once d cap n c)),
-      kept_each p (row_trades n) 1 n (λ r lt. one_kept d cap (try_row_exchange n r) (try_row_slide n r) (rows_once d cap n r)),
+      kept_append p (flat_map (column_trade_tries n) (range_with_len 0 n)) (flat_map (row_trade_tries n) (range_with_len 0 n)),
+      kept_each p (column_trade_tries n) 1 n (λ c lt. one_kept d cap (try_column_exchange n c) (try_column_slide n c) (columns_once d cap n c)),
+      kept_each p (row_trade_tries n) 1 n (λ r lt. one_kept d cap (try_row_exchange n r) (try_row_slide n r) (rows_once d cap n r)),
     )
 
 pub stabilisations_offered : (d : Diagram) (cap : ℕ) → length (filter (is_offered d cap) (all_stabilisation_tries (size d))) ≤ 8 * size d

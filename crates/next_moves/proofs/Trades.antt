@@ -14,8 +14,8 @@ use Rattle.grid_moves.specs.declared.step.MoveFault.TheVariants.{Range, Touching
 use Rattle.grid_moves.specs.MoveFault.{first_fault, exchange_fault, slide_fault}
 use Rattle.grid_keys.specs.Translation.{translate}
 use Rattle.next_moves.specs.declared.links.Offer.{Offer}
-use Rattle.next_moves.specs.Tries.{Try, shift_before, place_after_shift, try_column_exchange, try_column_slide, try_row_exchange, try_row_slide, column_trades}
-use Rattle.next_moves.specs.Tries.{row_trades}
+use Rattle.next_moves.specs.Tries.{Try, shift_before, place_after_shift, try_column_exchange, try_column_slide, column_trade_tries}
+use Rattle.next_moves.specs.Tries.{try_row_exchange, try_row_slide, row_trade_tries}
 use Rattle.grid_moves.specs.SizeAfter.{size_after}
 use Rattle.next_moves.specs.Offers.{is_legal, is_offered}
 use Rattle.next_moves.specs.Extends.{Extends}
@@ -104,7 +104,7 @@ only_exchanged false s t legal = refl
 
 -- the two tries of a column and the next one, by which of them is legal
 pub columns_exchanged : (d : Diagram) (cap n c : ℕ) (old new : List Offer) → is_legal d (try_column_exchange n c) ≡ true
-    → Extends d cap (try_column_exchange n c ∷ []) old new → Extends d cap (column_trades n c) old new
+    → Extends d cap (try_column_exchange n c ∷ []) old new → Extends d cap (column_trade_tries n c) old new
 columns_exchanged d cap n c old new legal one =
     let p : ℕ = place_after_shift n c in
     let translated : Diagram = translate d (shift_before n c) 0 in
@@ -113,18 +113,18 @@ columns_exchanged d cap n c old new legal one =
     (only_exchanged (nat_lt (p + 1) (size translated)) (column_span translated p) (column_span translated (p + 1)) legal)) one
 
 pub columns_slid : (d : Diagram) (cap n c : ℕ) (old new : List Offer) → is_legal d (try_column_exchange n c) ≡ false
-    → Extends d cap (try_column_slide n c ∷ []) old new → Extends d cap (column_trades n c) old new
+    → Extends d cap (try_column_slide n c ∷ []) old new → Extends d cap (column_trade_tries n c) old new
 columns_slid d cap n c old new no_exchange one =
     extends_second d cap (try_column_exchange n c) (try_column_slide n c) old new (illegal d cap (try_column_exchange n c) no_exchange) one
 
 pub columns_kept : (d : Diagram) (cap n c : ℕ) (old : List Offer) → is_legal d (try_column_exchange n c) ≡ false → is_legal d (try_column_slide n c) ≡ false
-    → Extends d cap (column_trades n c) old old
+    → Extends d cap (column_trade_tries n c) old old
 columns_kept d cap n c old no_exchange no_slide =
     columns_slid d cap n c old old no_exchange (extends_skip d cap (try_column_slide n c) old old refl (illegal d cap (try_column_slide n c) no_slide))
 
 -- of a row and the next one likewise
 pub rows_exchanged : (d : Diagram) (cap n r : ℕ) (old new : List Offer) → is_legal d (try_row_exchange n r) ≡ true
-    → Extends d cap (try_row_exchange n r ∷ []) old new → Extends d cap (row_trades n r) old new
+    → Extends d cap (try_row_exchange n r ∷ []) old new → Extends d cap (row_trade_tries n r) old new
 rows_exchanged d cap n r old new legal one =
     let p : ℕ = place_after_shift n r in
     let translated : Diagram = translate d 0 (shift_before n r) in
@@ -132,11 +132,11 @@ rows_exchanged d cap n r old new legal one =
     (illegal d cap (try_row_slide n r) (only_exchanged (nat_lt (p + 1) (size translated)) (ends translated p) (ends translated (p + 1)) legal)) one
 
 pub rows_slid : (d : Diagram) (cap n r : ℕ) (old new : List Offer) → is_legal d (try_row_exchange n r) ≡ false
-    → Extends d cap (try_row_slide n r ∷ []) old new → Extends d cap (row_trades n r) old new
+    → Extends d cap (try_row_slide n r ∷ []) old new → Extends d cap (row_trade_tries n r) old new
 rows_slid d cap n r old new no_exchange one =
     extends_second d cap (try_row_exchange n r) (try_row_slide n r) old new (illegal d cap (try_row_exchange n r) no_exchange) one
 
 pub rows_kept : (d : Diagram) (cap n r : ℕ) (old : List Offer) → is_legal d (try_row_exchange n r) ≡ false → is_legal d (try_row_slide n r) ≡ false
-    → Extends d cap (row_trades n r) old old
+    → Extends d cap (row_trade_tries n r) old old
 rows_kept d cap n r old no_exchange no_slide =
     rows_slid d cap n r old old no_exchange (extends_skip d cap (try_row_slide n r) old old refl (illegal d cap (try_row_slide n r) no_slide))

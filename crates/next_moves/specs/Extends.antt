@@ -1,5 +1,5 @@
 -- A list of offers in the making; only private clauses and proofs cite this file.
-use Rattle.std.specs.Prelude.{◌≡◌, ◌<◌, ◌≤◌, ◌++◌, ℕ, List, Option, IfSome}
+use Rattle.std.specs.Prelude.{◌≡◌, ◌<◌, ◌≤◌, ◌+◌, ◌++◌, ℕ, List, Option, IfSome, length}
 use Rattle.grid_core.specs.Diagram.{Diagram, size}
 use Rattle.short_grids.specs.declared.digits.TheConstants.{MAX_SHORT_SIZE}
 use Rattle.next_moves.specs.declared.links.Offer.{Offer}
@@ -20,6 +20,11 @@ pub record Extends (d : Diagram) (cap : ℕ) (list : List Try) (old new : List O
 pub record Tried : Type 0 where
   pub diagram : Diagram
   pub cap : ℕ
+
+-- the new list is the old one, followed by the offers of these tries on a grid within its cap. These offers are at most so many
+pub record ExtendsBy (most : ℕ) (tried : Tried) (list : List Try) (old new : Listed) : Type 0 where
+  pub offered : Extends tried.diagram tried.cap list old.items new.items
+  pub fits : length new.items ≤ length old.items + most
 
 -- d again as a short grid that has room for one more column, where there is one
 abbrev pub IsShortOf : Diagram → Option Diagram → Type 0

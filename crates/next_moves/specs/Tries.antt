@@ -27,8 +27,8 @@ try_column_exchange n c = record { before = (shift_before n c, 0); step = Exchan
 abbrev pub try_column_slide : ℕ → ℕ → Try
 try_column_slide n c = record { before = (shift_before n c, 0); step = SlideColumns (place_after_shift n c) }
 
-abbrev pub column_trades : ℕ → ℕ → List Try
-column_trades n c = try_column_exchange n c ∷ try_column_slide n c ∷ []
+abbrev pub column_trade_tries : ℕ → ℕ → List Try
+column_trade_tries n c = try_column_exchange n c ∷ try_column_slide n c ∷ []
 
 -- row r and the next one trade places, likewise
 abbrev pub try_row_exchange : ℕ → ℕ → Try
@@ -37,8 +37,8 @@ try_row_exchange n r = record { before = (0, shift_before n r); step = ExchangeR
 abbrev pub try_row_slide : ℕ → ℕ → Try
 try_row_slide n r = record { before = (0, shift_before n r); step = SlideRows (place_after_shift n r) }
 
-abbrev pub row_trades : ℕ → ℕ → List Try
-row_trades n r = try_row_exchange n r ∷ try_row_slide n r ∷ []
+abbrev pub row_trade_tries : ℕ → ℕ → List Try
+row_trade_tries n r = try_row_exchange n r ∷ try_row_slide n r ∷ []
 
 -- the block of column c and the next one, and of row r and the next one, becomes one mark
 abbrev pub try_destabilisation : ℕ → ℕ → ℕ → Try
@@ -61,20 +61,20 @@ abbrev pub stabilisation_tries : ℕ → List Try
 stabilisation_tries c = map unshifted (moves.stabilisations c)
 
 -- neighbouring columns that trade places, by column
-abbrev pub all_column_trades : ℕ → List Try
-all_column_trades n = flat_map (column_trades n) (range_with_len 0 n)
+abbrev pub all_column_trade_tries : ℕ → List Try
+all_column_trade_tries n = flat_map (column_trade_tries n) (range_with_len 0 n)
 
 -- neighbouring rows that do, by row
-abbrev pub all_row_trades : ℕ → List Try
-all_row_trades n = flat_map (row_trades n) (range_with_len 0 n)
+abbrev pub all_row_trade_tries : ℕ → List Try
+all_row_trade_tries n = flat_map (row_trade_tries n) (range_with_len 0 n)
 
 -- both
 abbrev pub trade_tries : ℕ → List Try
-trade_tries n = all_column_trades n ++ all_row_trades n
+trade_tries n = all_column_trade_tries n ++ all_row_trade_tries n
 
 -- of these the exchanges alone
-abbrev pub exchanges : ℕ → List Try
-exchanges n = map (try_column_exchange n) (range_with_len 0 n) ++ map (try_row_exchange n) (range_with_len 0 n)
+abbrev pub exchange_tries : ℕ → List Try
+exchange_tries n = map (try_column_exchange n) (range_with_len 0 n) ++ map (try_row_exchange n) (range_with_len 0 n)
 
 -- by column and row
 abbrev pub all_block_tries : ℕ → List Try

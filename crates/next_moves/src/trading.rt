@@ -7,11 +7,12 @@ ghost use Rattle.grid_moves.specs.Exchanged.{columns_exchanged, rows_exchanged};
 ghost use Rattle.grid_keys.specs.Translation.{translate};
 ghost use Rattle.short_grids.specs.ShortTrades.{trades_of};
 ghost use Rattle.next_moves.specs.declared.offers.TheConstants.{MAX_OFFERS};
-ghost use Rattle.next_moves.specs.Tries.{try_column_exchange, try_column_slide, column_trades, all_column_trades};
-ghost use Rattle.next_moves.specs.Tries.{try_row_exchange, try_row_slide, row_trades, all_row_trades};
+ghost use Rattle.next_moves.specs.Tries.{try_column_exchange, try_column_slide, column_trade_tries, all_column_trade_tries};
+ghost use Rattle.next_moves.specs.Tries.{try_row_exchange, try_row_slide, row_trade_tries, all_row_trade_tries};
 ghost use Rattle.next_moves.specs.Offers.{is_legal};
-ghost use Rattle.lane_spans.specs.Columns.{has_bit, trades};
-ghost use Rattle.next_moves.specs.Extends.{Extends};
+ghost use Rattle.lane_spans.specs.Columns as lane_columns;
+ghost use Rattle.lane_spans.specs.Columns.{has_bit};
+ghost use Rattle.next_moves.specs.Extends.{ExtendsBy};
 
 use crate::offer_list::OfferList;
 use crate::side_by_side::shift_before;
@@ -25,8 +26,7 @@ impl<'a> Tries<'a> {
     /// Appends the exchanges and slides of neighbouring columns.
     pub(crate) fn trade_columns(&self, list: &mut OfferList)
         requires room { length list.old.items + size self.now.diagram ≤ MAX_OFFERS }
-        ensures offered { Extends self.now.diagram self.now.cap (all_column_trades (size self.now.diagram)) list.old.items list.new.items }
-        ensures fits { length list.new.items ≤ length list.old.items + size self.now.diagram }
+        ensures { ExtendsBy (size self.now.diagram) self.now (all_column_trade_tries (size self.now.diagram)) list.old list.new }
     {
         let _size = self.size();
         match self.short() {
@@ -39,8 +39,7 @@ impl<'a> Tries<'a> {
     fn trade_short_columns(&self, list: &mut OfferList, trades: &ShortTrades)
         requires trades { trades.now ≡ trades_of (size self.now.diagram) (column_span self.now.diagram) }
         requires room { length list.old.items + size self.now.diagram ≤ MAX_OFFERS }
-        ensures offered { Extends self.now.diagram self.now.cap (all_column_trades (size self.now.diagram)) list.old.items list.new.items }
-        ensures fits { length list.new.items ≤ length list.old.items + size self.now.diagram }
+        ensures { ExtendsBy (size self.now.diagram) self.now (all_column_trade_tries (size self.now.diagram)) list.old list.new }
     {
         let size = self.size();
         for c in 0..size {
@@ -53,8 +52,7 @@ impl<'a> Tries<'a> {
         requires column { c < size self.now.diagram }
         requires trades { trades.now ≡ trades_of (size self.now.diagram) (column_span self.now.diagram) }
         requires room { length list.old.items < MAX_OFFERS }
-        ensures offered { Extends self.now.diagram self.now.cap (column_trades (size self.now.diagram) c) list.old.items list.new.items }
-        ensures fits { length list.new.items ≤ length list.old.items + 1 }
+        ensures { ExtendsBy 1 self.now (column_trade_tries (size self.now.diagram) c) list.old list.new }
     {
         let _size = self.size();
         if trades.may_exchange(c) {
@@ -67,8 +65,7 @@ impl<'a> Tries<'a> {
     /// Appends them where there is no short grid, by the spans of all columns.
     fn trade_long_columns(&self, list: &mut OfferList)
         requires room { length list.old.items + size self.now.diagram ≤ MAX_OFFERS }
-        ensures offered { Extends self.now.diagram self.now.cap (all_column_trades (size self.now.diagram)) list.old.items list.new.items }
-        ensures fits { length list.new.items ≤ length list.old.items + size self.now.diagram }
+        ensures { ExtendsBy (size self.now.diagram) self.now (all_column_trade_tries (size self.now.diagram)) list.old list.new }
     {
         let size = self.size();
         let spans = Spans::of_columns(self.grid());
@@ -84,10 +81,9 @@ impl<'a> Tries<'a> {
         requires column { c < size self.now.diagram }
         requires lows { spans.now.lows.items ≡ column_lows self.now.diagram }
         requires highs { spans.now.highs.items ≡ column_highs self.now.diagram }
-        requires exchanges { has_bit exchanges c ≡ trades (column_lows self.now.diagram) (column_highs self.now.diagram) c }
+        requires exchanges { has_bit exchanges c ≡ lane_columns.trades (column_lows self.now.diagram) (column_highs self.now.diagram) c }
         requires room { length list.old.items < MAX_OFFERS }
-        ensures offered { Extends self.now.diagram self.now.cap (column_trades (size self.now.diagram) c) list.old.items list.new.items }
-        ensures fits { length list.new.items ≤ length list.old.items + 1 }
+        ensures { ExtendsBy 1 self.now (column_trade_tries (size self.now.diagram) c) list.old list.new }
     {
         let size = self.size();
         if has_bit(exchanges, c) {
@@ -102,8 +98,7 @@ impl<'a> Tries<'a> {
         requires column { c < size self.now.diagram }
         requires legal { is_legal self.now.diagram (try_column_exchange (size self.now.diagram) c) ≡ true }
         requires room { length list.old.items < MAX_OFFERS }
-        ensures offered { Extends self.now.diagram self.now.cap (column_trades (size self.now.diagram) c) list.old.items list.new.items }
-        ensures fits { length list.new.items ≤ length list.old.items + 1 }
+        ensures { ExtendsBy 1 self.now (column_trade_tries (size self.now.diagram) c) list.old list.new }
     {
         let by = shift_before(c, self.size());
         let place = c - by;
@@ -116,8 +111,7 @@ impl<'a> Tries<'a> {
         requires no_exchange { is_legal self.now.diagram (try_column_exchange (size self.now.diagram) c) ≡ false }
         requires legal { is_legal self.now.diagram (try_column_slide (size self.now.diagram) c) ≡ true }
         requires room { length list.old.items < MAX_OFFERS }
-        ensures offered { Extends self.now.diagram self.now.cap (column_trades (size self.now.diagram) c) list.old.items list.new.items }
-        ensures fits { length list.new.items ≤ length list.old.items + 1 }
+        ensures { ExtendsBy 1 self.now (column_trade_tries (size self.now.diagram) c) list.old list.new }
     {
         let by = shift_before(c, self.size());
         let place = c - by;
@@ -131,8 +125,7 @@ impl<'a> Tries<'a> {
         requires place { place + 1 < size self.now.diagram }
         requires step { Step (translate self.now.diagram by 0) step (columns_exchanged place (translate self.now.diagram by 0)) }
         requires room { length list.old.items < MAX_OFFERS }
-        ensures offered { Extends self.now.diagram self.now.cap (record { before = (by, 0); step = step } ∷ []) list.old.items list.new.items }
-        ensures fits { length list.new.items ≤ length list.old.items + 1 }
+        ensures { ExtendsBy 1 self.now (record { before = (by, 0); step = step } ∷ []) list.old list.new }
     {
         let _size = self.size();
         match self.short() {
@@ -147,8 +140,7 @@ impl<'a> Tries<'a> {
     /// Appends the exchanges and slides of neighbouring rows.
     pub(crate) fn trade_rows(&self, list: &mut OfferList)
         requires room { length list.old.items + size self.now.diagram ≤ MAX_OFFERS }
-        ensures offered { Extends self.now.diagram self.now.cap (all_row_trades (size self.now.diagram)) list.old.items list.new.items }
-        ensures fits { length list.new.items ≤ length list.old.items + size self.now.diagram }
+        ensures { ExtendsBy (size self.now.diagram) self.now (all_row_trade_tries (size self.now.diagram)) list.old list.new }
     {
         let _size = self.size();
         match self.short() {
@@ -161,8 +153,7 @@ impl<'a> Tries<'a> {
     fn trade_short_rows(&self, list: &mut OfferList, trades: &ShortTrades)
         requires trades { trades.now ≡ trades_of (size self.now.diagram) (ends self.now.diagram) }
         requires room { length list.old.items + size self.now.diagram ≤ MAX_OFFERS }
-        ensures offered { Extends self.now.diagram self.now.cap (all_row_trades (size self.now.diagram)) list.old.items list.new.items }
-        ensures fits { length list.new.items ≤ length list.old.items + size self.now.diagram }
+        ensures { ExtendsBy (size self.now.diagram) self.now (all_row_trade_tries (size self.now.diagram)) list.old list.new }
     {
         let size = self.size();
         for r in 0..size {
@@ -175,8 +166,7 @@ impl<'a> Tries<'a> {
         requires row { r < size self.now.diagram }
         requires trades { trades.now ≡ trades_of (size self.now.diagram) (ends self.now.diagram) }
         requires room { length list.old.items < MAX_OFFERS }
-        ensures offered { Extends self.now.diagram self.now.cap (row_trades (size self.now.diagram) r) list.old.items list.new.items }
-        ensures fits { length list.new.items ≤ length list.old.items + 1 }
+        ensures { ExtendsBy 1 self.now (row_trade_tries (size self.now.diagram) r) list.old list.new }
     {
         let _size = self.size();
         if trades.may_exchange(r) {
@@ -189,8 +179,7 @@ impl<'a> Tries<'a> {
     /// Appends them where there is no short grid, by the spans of all rows.
     fn trade_long_rows(&self, list: &mut OfferList)
         requires room { length list.old.items + size self.now.diagram ≤ MAX_OFFERS }
-        ensures offered { Extends self.now.diagram self.now.cap (all_row_trades (size self.now.diagram)) list.old.items list.new.items }
-        ensures fits { length list.new.items ≤ length list.old.items + size self.now.diagram }
+        ensures { ExtendsBy (size self.now.diagram) self.now (all_row_trade_tries (size self.now.diagram)) list.old list.new }
     {
         let size = self.size();
         let spans = Spans::of_rows(self.grid());
@@ -206,10 +195,9 @@ impl<'a> Tries<'a> {
         requires row { r < size self.now.diagram }
         requires lows { spans.now.lows.items ≡ row_lows self.now.diagram }
         requires highs { spans.now.highs.items ≡ row_highs self.now.diagram }
-        requires exchanges { has_bit exchanges r ≡ trades (row_lows self.now.diagram) (row_highs self.now.diagram) r }
+        requires exchanges { has_bit exchanges r ≡ lane_columns.trades (row_lows self.now.diagram) (row_highs self.now.diagram) r }
         requires room { length list.old.items < MAX_OFFERS }
-        ensures offered { Extends self.now.diagram self.now.cap (row_trades (size self.now.diagram) r) list.old.items list.new.items }
-        ensures fits { length list.new.items ≤ length list.old.items + 1 }
+        ensures { ExtendsBy 1 self.now (row_trade_tries (size self.now.diagram) r) list.old list.new }
     {
         let size = self.size();
         if has_bit(exchanges, r) {
@@ -224,8 +212,7 @@ impl<'a> Tries<'a> {
         requires row { r < size self.now.diagram }
         requires legal { is_legal self.now.diagram (try_row_exchange (size self.now.diagram) r) ≡ true }
         requires room { length list.old.items < MAX_OFFERS }
-        ensures offered { Extends self.now.diagram self.now.cap (row_trades (size self.now.diagram) r) list.old.items list.new.items }
-        ensures fits { length list.new.items ≤ length list.old.items + 1 }
+        ensures { ExtendsBy 1 self.now (row_trade_tries (size self.now.diagram) r) list.old list.new }
     {
         let by = shift_before(r, self.size());
         let place = r - by;
@@ -238,8 +225,7 @@ impl<'a> Tries<'a> {
         requires no_exchange { is_legal self.now.diagram (try_row_exchange (size self.now.diagram) r) ≡ false }
         requires legal { is_legal self.now.diagram (try_row_slide (size self.now.diagram) r) ≡ true }
         requires room { length list.old.items < MAX_OFFERS }
-        ensures offered { Extends self.now.diagram self.now.cap (row_trades (size self.now.diagram) r) list.old.items list.new.items }
-        ensures fits { length list.new.items ≤ length list.old.items + 1 }
+        ensures { ExtendsBy 1 self.now (row_trade_tries (size self.now.diagram) r) list.old list.new }
     {
         let by = shift_before(r, self.size());
         let place = r - by;
@@ -253,8 +239,7 @@ impl<'a> Tries<'a> {
         requires place { place + 1 < size self.now.diagram }
         requires step { Step (translate self.now.diagram 0 by) step (rows_exchanged place (translate self.now.diagram 0 by)) }
         requires room { length list.old.items < MAX_OFFERS }
-        ensures offered { Extends self.now.diagram self.now.cap (record { before = (0, by); step = step } ∷ []) list.old.items list.new.items }
-        ensures fits { length list.new.items ≤ length list.old.items + 1 }
+        ensures { ExtendsBy 1 self.now (record { before = (0, by); step = step } ∷ []) list.old list.new }
     {
         let _size = self.size();
         match self.short() {

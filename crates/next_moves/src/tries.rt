@@ -10,7 +10,7 @@ ghost use Rattle.next_moves.specs.declared.offers.TheConstants.{MAX_OFFERS};
 ghost use Rattle.next_moves.specs.Tries.{block_tries, all_block_tries, try_stabilisation, all_stabilisation_tries};
 ghost use Rattle.grid_moves.specs.declared.step.Move.TheVariants.{Destabilise};
 ghost use Rattle.next_moves.specs.Blocks.{row_of_both, block_try_at, block_tries_at};
-ghost use Rattle.next_moves.specs.Extends.{Extends, IsShortOf};
+ghost use Rattle.next_moves.specs.Extends.{ExtendsBy, IsShortOf};
 
 use crate::links::{Link, Offer};
 use crate::offer_list::OfferList;
@@ -104,8 +104,7 @@ impl<'a> Tries<'a> {
         requires columns { before.0 ≤ 1 }
         requires rows { before.1 ≤ 1 }
         requires room { length list.old.items < MAX_OFFERS }
-        ensures offered { Extends self.now.diagram self.now.cap (record { before = before; step = step } ∷ []) list.old.items list.new.items }
-        ensures fits { length list.new.items ≤ length list.old.items + 1 }
+        ensures { ExtendsBy 1 self.now (record { before = before; step = step } ∷ []) list.old list.new }
     {
         let _size = self.size();
         let mut moved = self.translated(before);
@@ -132,8 +131,7 @@ impl<'a> Tries<'a> {
         requires step { Step (translate self.now.diagram before.0 before.1) step moved.now }
         requires cap { size moved.now ≤ self.now.cap }
         requires room { length list.old.items < MAX_OFFERS }
-        ensures offered { Extends self.now.diagram self.now.cap (record { before = before; step = step } ∷ []) list.old.items list.new.items }
-        ensures fits { length list.new.items ≤ length list.old.items + 1 }
+        ensures { ExtendsBy 1 self.now (record { before = before; step = step } ∷ []) list.old list.new }
     {
         let _size = self.size();
         list.push(offer_of(moved.canonical_key(), before, step));
@@ -142,8 +140,7 @@ impl<'a> Tries<'a> {
     /// Appends the destabilisations, by column and then by row.
     pub(crate) fn destabilise(&self, list: &mut OfferList)
         requires room { length list.old.items + 2 * size self.now.diagram ≤ MAX_OFFERS }
-        ensures offered { Extends self.now.diagram self.now.cap (all_block_tries (size self.now.diagram)) list.old.items list.new.items }
-        ensures fits { length list.new.items ≤ length list.old.items + 2 * size self.now.diagram }
+        ensures { ExtendsBy (2 * size self.now.diagram) self.now (all_block_tries (size self.now.diagram)) list.old list.new }
     {
         let _size = self.size();
         match self.short() {
@@ -156,8 +153,7 @@ impl<'a> Tries<'a> {
     fn destabilise_short(&self, list: &mut OfferList, trades: &ShortTrades)
         requires trades { trades.now ≡ trades_of (size self.now.diagram) (column_span self.now.diagram) }
         requires room { length list.old.items + 2 * size self.now.diagram ≤ MAX_OFFERS }
-        ensures offered { Extends self.now.diagram self.now.cap (all_block_tries (size self.now.diagram)) list.old.items list.new.items }
-        ensures fits { length list.new.items ≤ length list.old.items + 2 * size self.now.diagram }
+        ensures { ExtendsBy (2 * size self.now.diagram) self.now (all_block_tries (size self.now.diagram)) list.old list.new }
     {
         for column in 0..self.size() {
             self.destabilise_short_column(list, trades, column);
@@ -169,8 +165,7 @@ impl<'a> Tries<'a> {
         requires column { c < size self.now.diagram }
         requires trades { trades.now ≡ trades_of (size self.now.diagram) (column_span self.now.diagram) }
         requires room { length list.old.items + 2 ≤ MAX_OFFERS }
-        ensures offered { Extends self.now.diagram self.now.cap (block_tries (size self.now.diagram) c) list.old.items list.new.items }
-        ensures fits { length list.new.items ≤ length list.old.items + 2 }
+        ensures { ExtendsBy 2 self.now (block_tries (size self.now.diagram) c) list.old list.new }
     {
         let _size = self.size();
         if trades.may_slide(c) {
@@ -181,8 +176,7 @@ impl<'a> Tries<'a> {
     /// Appends them where there is no short grid, by the spans of all columns.
     fn destabilise_long(&self, list: &mut OfferList)
         requires room { length list.old.items + 2 * size self.now.diagram ≤ MAX_OFFERS }
-        ensures offered { Extends self.now.diagram self.now.cap (all_block_tries (size self.now.diagram)) list.old.items list.new.items }
-        ensures fits { length list.new.items ≤ length list.old.items + 2 * size self.now.diagram }
+        ensures { ExtendsBy (2 * size self.now.diagram) self.now (all_block_tries (size self.now.diagram)) list.old list.new }
     {
         let spans = Spans::of_columns(self.grid());
         for c in 0..self.size() {
@@ -196,8 +190,7 @@ impl<'a> Tries<'a> {
         requires lows { spans.now.lows.items ≡ column_lows self.now.diagram }
         requires highs { spans.now.highs.items ≡ column_highs self.now.diagram }
         requires room { length list.old.items + 2 ≤ MAX_OFFERS }
-        ensures offered { Extends self.now.diagram self.now.cap (block_tries (size self.now.diagram) c) list.old.items list.new.items }
-        ensures fits { length list.new.items ≤ length list.old.items + 2 }
+        ensures { ExtendsBy 2 self.now (block_tries (size self.now.diagram) c) list.old list.new }
     {
         if spans.touch_once(c, self.size()) {
             self.destabilise_column(list, c);
@@ -209,8 +202,7 @@ impl<'a> Tries<'a> {
     fn destabilise_column(&self, list: &mut OfferList, c: u8)
         requires column { c < size self.now.diagram }
         requires room { length list.old.items + 2 ≤ MAX_OFFERS }
-        ensures offered { Extends self.now.diagram self.now.cap (block_tries (size self.now.diagram) c) list.old.items list.new.items }
-        ensures fits { length list.new.items ≤ length list.old.items + 2 }
+        ensures { ExtendsBy 2 self.now (block_tries (size self.now.diagram) c) list.old list.new }
     {
         let near = row_of_both(self.grid(), c);
         let far = row_of_both(self.grid(), next(c, self.size()));
@@ -227,8 +219,7 @@ impl<'a> Tries<'a> {
     fn try_blocks(&self, list: &mut OfferList, c: u8, first: u8, second: u8)
         requires column { c < size self.now.diagram }
         requires room { length list.old.items + 2 ≤ MAX_OFFERS }
-        ensures offered { Extends self.now.diagram self.now.cap (block_tries_at (size self.now.diagram) c first second) list.old.items list.new.items }
-        ensures fits { length list.new.items ≤ length list.old.items + 2 }
+        ensures { ExtendsBy 2 self.now (block_tries_at (size self.now.diagram) c first second) list.old list.new }
     {
         self.try_block(list, c, first);
         self.try_block(list, c, second);
@@ -238,8 +229,7 @@ impl<'a> Tries<'a> {
     fn try_block(&self, list: &mut OfferList, c: u8, r: u8)
         requires column { c < size self.now.diagram }
         requires room { length list.old.items < MAX_OFFERS }
-        ensures offered { Extends self.now.diagram self.now.cap (block_try_at (size self.now.diagram) c r) list.old.items list.new.items }
-        ensures fits { length list.new.items ≤ length list.old.items + 1 }
+        ensures { ExtendsBy 1 self.now (block_try_at (size self.now.diagram) c r) list.old list.new }
     {
         let size = self.size();
         if r < size {
@@ -253,8 +243,7 @@ impl<'a> Tries<'a> {
         requires columns { before.0 ≤ 1 }
         requires rows { before.1 ≤ 1 }
         requires room { length list.old.items < MAX_OFFERS }
-        ensures offered { Extends self.now.diagram self.now.cap (record { before = before; step = Destabilise column row } ∷ []) list.old.items list.new.items }
-        ensures fits { length list.new.items ≤ length list.old.items + 1 }
+        ensures { ExtendsBy 1 self.now (record { before = before; step = Destabilise column row } ∷ []) list.old list.new }
     {
         match self.short() {
             Some(short) => self.push_narrowed(list, short, before, column, row),
@@ -275,8 +264,7 @@ impl<'a> Tries<'a> {
         requires columns { before.0 ≤ 1 }
         requires rows { before.1 ≤ 1 }
         requires room { length list.old.items < MAX_OFFERS }
-        ensures offered { Extends self.now.diagram self.now.cap (record { before = before; step = Destabilise column row } ∷ []) list.old.items list.new.items }
-        ensures fits { length list.new.items ≤ length list.old.items + 1 }
+        ensures { ExtendsBy 1 self.now (record { before = before; step = Destabilise column row } ∷ []) list.old list.new }
     {
         let _size = self.size();
         match narrowing_of(&self.translated(before), column, row) {
@@ -291,8 +279,7 @@ impl<'a> Tries<'a> {
     /// Appends the stabilisations, by column, kind and corner: none where the size is the cap.
     pub(crate) fn stabilise(&self, list: &mut OfferList)
         requires room { length list.old.items + 8 * size self.now.diagram ≤ MAX_OFFERS }
-        ensures offered { Extends self.now.diagram self.now.cap (all_stabilisation_tries (size self.now.diagram)) list.old.items list.new.items }
-        ensures fits { length list.new.items ≤ length list.old.items + 8 * size self.now.diagram }
+        ensures { ExtendsBy (8 * size self.now.diagram) self.now (all_stabilisation_tries (size self.now.diagram)) list.old list.new }
     {
         let size = self.size();
         if size >= self.cap() {
@@ -309,8 +296,7 @@ impl<'a> Tries<'a> {
         requires column { column < size self.now.diagram }
         requires cap { size self.now.diagram < self.now.cap }
         requires room { length list.old.items + 4 ≤ MAX_OFFERS }
-        ensures offered { Extends self.now.diagram self.now.cap (map (try_stabilisation column kind) corners) list.old.items list.new.items }
-        ensures fits { length list.new.items ≤ length list.old.items + 4 }
+        ensures { ExtendsBy 4 self.now (map (try_stabilisation column kind) corners) list.old list.new }
     {
         for corner in Corner::ALL {
             let at = Stabilisation {
@@ -327,8 +313,7 @@ impl<'a> Tries<'a> {
         requires column { at.column < size self.now.diagram }
         requires cap { size self.now.diagram < self.now.cap }
         requires room { length list.old.items < MAX_OFFERS }
-        ensures offered { Extends self.now.diagram self.now.cap (try_stabilisation at.column at.kind at.corner ∷ []) list.old.items list.new.items }
-        ensures fits { length list.new.items ≤ length list.old.items + 1 }
+        ensures { ExtendsBy 1 self.now (try_stabilisation at.column at.kind at.corner ∷ []) list.old list.new }
     {
         match self.short() {
             Some(short) => self.push_stabilised(list, short, at),
@@ -343,8 +328,7 @@ impl<'a> Tries<'a> {
         requires short { short.now ≡ self.now.diagram }
         requires few { size self.now.diagram < MAX_SHORT_SIZE }
         requires room { length list.old.items < MAX_OFFERS }
-        ensures offered { Extends self.now.diagram self.now.cap (try_stabilisation at.column at.kind at.corner ∷ []) list.old.items list.new.items }
-        ensures fits { length list.new.items ≤ length list.old.items + 1 }
+        ensures { ExtendsBy 1 self.now (try_stabilisation at.column at.kind at.corner ∷ []) list.old list.new }
     {
         let _size = self.size();
         let widening = widening_of(self.grid(), at.column, at.kind, at.corner);

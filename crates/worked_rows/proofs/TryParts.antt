@@ -8,7 +8,7 @@ use Rattle.grid_moves.specs.declared.step.Move.{Move}
 use Rattle.grid_moves.specs.MoveLists.{stabilisation, stabilisations}
 use Rattle.crossing_codes.proofs.Members.{Has, has_either, of_map, of_flat_map}
 use Rattle.crossing_codes.proofs.Ordered.{Ordered, ordered_append, all_pairs}
-use Rattle.next_moves.specs.Tries.{Try, tries, column_trades, all_column_trades, row_trades, all_row_trades, trade_tries}
+use Rattle.next_moves.specs.Tries.{Try, tries, column_trade_tries, all_column_trade_tries, row_trade_tries, all_row_trade_tries, trade_tries}
 use Rattle.next_moves.specs.Tries.{try_destabilisation, block_tries, all_block_tries, unshifted, stabilisation_tries, all_stabilisation_tries}
 use Rattle.worked_rows.specs.Parts.{part}
 
@@ -28,18 +28,18 @@ one_part k (x ∷ list) all =
 two_parts : (j k : ℕ) (xs ys : List Try) → j ≤ k → AreIn j xs → AreIn k ys → (x y : Try) → Has xs x → Has ys y → NotBehind x y
 two_parts j k xs ys le by_j by_k x y in_xs in_ys = omega (arith, le, by_j x in_xs, by_k y in_ys)
 
-columns_in : (n : ℕ) → AreIn 0 (all_column_trades n)
-columns_in n x has = let at = of_flat_map (column_trades n) (range_with_len 0 n) x has in by at.0 at.2
+columns_in : (n : ℕ) → AreIn 0 (all_column_trade_tries n)
+columns_in n x has = let at = of_flat_map (column_trade_tries n) (range_with_len 0 n) x has in by at.0 at.2
   where
-    by : (c : ℕ) → Has (column_trades n c) x → part x.step ≡ 0
+    by : (c : ℕ) → Has (column_trade_tries n c) x → part x.step ≡ 0
     by c (inl e) = ap (λ (t : Try). part t.step) (sym e)
     by c (inr (inl e)) = ap (λ (t : Try). part t.step) (sym e)
     by c (inr (inr none)) = absurd none
 
-rows_in : (n : ℕ) → AreIn 1 (all_row_trades n)
-rows_in n x has = let at = of_flat_map (row_trades n) (range_with_len 0 n) x has in by at.0 at.2
+rows_in : (n : ℕ) → AreIn 1 (all_row_trade_tries n)
+rows_in n x has = let at = of_flat_map (row_trade_tries n) (range_with_len 0 n) x has in by at.0 at.2
   where
-    by : (r : ℕ) → Has (row_trades n r) x → part x.step ≡ 1
+    by : (r : ℕ) → Has (row_trade_tries n r) x → part x.step ≡ 1
     by r (inl e) = ap (λ (t : Try). part t.step) (sym e)
     by r (inr (inl e)) = ap (λ (t : Try). part t.step) (sym e)
     by r (inr (inr none)) = absurd none
@@ -64,8 +64,8 @@ stabilisations_in n x has =
 
 pub tries_in_order : (n : ℕ) → AllPairs (λ (s t : Try). part s.step ≤ part t.step) (tries n)
 tries_in_order n =
-    let columns = all_column_trades n in
-    let rows = all_row_trades n in
+    let columns = all_column_trade_tries n in
+    let rows = all_row_trade_tries n in
     let blocks = all_block_tries n in
     let wider = all_stabilisation_tries n in
     all_pairs NotBehind (tries n)
@@ -79,7 +79,7 @@ tries_in_order n =
     (λ x y in_front behind. omega (arith, lower x in_front, stabilisations_in n y behind)))
   where
     low : (x : Try) → Has (trade_tries n) x → part x.step ≤ 1
-    low x has = elim (has_either (all_column_trades n) (all_row_trades n) x has) [
+    low x has = elim (has_either (all_column_trade_tries n) (all_row_trade_tries n) x has) [
       | inl column ↦ omega (arith, columns_in n x column)
       | inr row ↦ omega (arith, rows_in n x row)
     ]

@@ -15,11 +15,15 @@ push_rows_exchanged-requires-clause-step c =
     let stands = c.shift_before-by.ensures.place ∙ ap (λ (n : ℕ). place_after_shift n c.args.r) c.size.ensures.size in
     rows_exchanged_step d c.args.r _ _ c.size.ensures.grid c.requires.row shift stands c.requires.legal
 
-pub returns-clause-offered : goal.returns-clause-offered
-returns-clause-offered c =
+pub returns : goal.returns
+returns c =
     let d = c.args.self.now.diagram in
     let shift = c.shift_before-by.ensures.shift ∙ ap (λ (n : ℕ). shift_before n c.args.r) c.size.ensures.size in
     let stands = c.shift_before-by.ensures.place ∙ ap (λ (n : ℕ). place_after_shift n c.args.r) c.size.ensures.size in
-    rows_exchanged d c.args.self.now.cap (size d) c.args.r c.args.list.now.items c.push_rows_exchanged.new.list.items c.requires.legal
-    (subst (λ (t : Try). Extends d c.args.self.now.cap (t ∷ []) c.args.list.now.items c.push_rows_exchanged.new.list.items)
-    (row_made (λ q. ExchangeRows q) (size d) c.args.r _ _ shift stands) c.push_rows_exchanged.ensures.offered)
+    record {
+      offered =
+          rows_exchanged d c.args.self.now.cap (size d) c.args.r c.args.list.now.items c.push_rows_exchanged.new.list.items c.requires.legal
+          (subst (λ (t : Try). Extends d c.args.self.now.cap (t ∷ []) c.args.list.now.items c.push_rows_exchanged.new.list.items)
+          (row_made (λ q. ExchangeRows q) (size d) c.args.r _ _ shift stands) c.push_rows_exchanged.ensures.offered);
+      fits = c.push_rows_exchanged.ensures.fits;
+    }

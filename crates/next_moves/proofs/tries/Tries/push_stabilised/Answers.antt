@@ -32,8 +32,12 @@ push_moved-requires-clause-cap c =
     (subst (λ e. Step c.grid.result.now move e) (sym (c.widened.ensures ∙ of_grid)) c.widening_of-widening.ensures.step) in
     omega (arith, step_size move d moved step, c.requires.cap)
 
-pub returns-clause-offered : goal.returns-clause-offered
-returns-clause-offered c =
+pub returns : goal.returns
+returns c =
     let d = c.args.self.now.diagram in
-    subst (λ (m : Move). Extends d c.args.self.now.cap (unshifted m ∷ []) c.args.list.now.items c.push_moved.new.list.items) c.step.ensures
-    c.push_moved.ensures.offered
+    record {
+      offered =
+          subst (λ (m : Move). Extends d c.args.self.now.cap (unshifted m ∷ []) c.args.list.now.items c.push_moved.new.list.items) c.step.ensures
+          c.push_moved.ensures.offered;
+      fits = c.push_moved.ensures.fits;
+    }

@@ -17,6 +17,10 @@ loop-c-preserved c =
       fits = omega (arith, c.loop-c.invariant.fits, c.stabilise_mark.ensures.fits, c.stabilise_mark-in-loop-c.ensures.fits);
     }
 
-pub returns-then-size-cap-clause-offered : goal.returns-then-size-cap-clause-offered
-returns-then-size-cap-clause-offered c =
-    extends_too_large c.args.self.now.diagram c.args.self.now.cap c.args.list.now.items c.args.list.now.items (omega arith) refl
+pub returns-then-size-cap : goal.returns-then-size-cap
+returns-then-size-cap c =
+    record {
+      offered =
+          extends_too_large c.args.self.now.diagram c.args.self.now.cap c.args.list.now.items c.args.list.now.items (omega arith) refl;
+      fits = omega arith;
+    }

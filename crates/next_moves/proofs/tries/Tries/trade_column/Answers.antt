@@ -1,4 +1,4 @@
-use Rattle.std.proofs.Common.{◌≡◌, ◌∙◌, false, length, sym, ap}
+use Rattle.std.proofs.Common.{◌≡◌, ◌∙◌, arith, false, length, sym, ap}
 use Rattle.std.proofs.lemmas.List.FromFn.{length-map-range_with_len}
 use Rattle.grid_core.specs.Diagram.{size}
 use Rattle.grid_core.specs.Parts.{column_span}
@@ -36,8 +36,8 @@ slide_columns-requires-clause-legal c =
     c.requires.highs c.requires.column)
     ∙ sym c.touch_once.ensures ∙ c.if-touch_once.true
 
-pub returns-else-touch_once-clause-offered : goal.returns-else-touch_once-clause-offered
-returns-else-touch_once-clause-offered c =
+pub returns-else-touch_once : goal.returns-else-touch_once
+returns-else-touch_once c =
     let d = c.args.self.now.diagram in
     let grid = c.size-size.ensures.grid in
     let no_exchange =
@@ -47,4 +47,8 @@ returns-else-touch_once-clause-offered c =
     ∙ sym (columns_touch d c.args.c c.size-size.result c.args.spans.now.lows.items c.args.spans.now.highs.items c.size-size.ensures.size c.requires.lows
     c.requires.highs c.requires.column)
     ∙ sym c.touch_once.ensures ∙ c.if-touch_once.false in
-    columns_kept d c.args.self.now.cap (size d) c.args.c c.args.list.now.items no_exchange no_slide
+    record {
+      offered =
+          columns_kept d c.args.self.now.cap (size d) c.args.c c.args.list.now.items no_exchange no_slide;
+      fits = omega arith;
+    }

@@ -2,7 +2,7 @@ use Rattle.std.proofs.Common.{◌∙◌, List, ℕ, arith, sym, ap, ap₂, subst
 use Rattle.lane_spans.specs.Columns.{trades, AreSpans}
 use Rattle.grid_core.specs.Diagram.{Diagram, size}
 use Rattle.grid_core.specs.Parts.{column_lows, column_highs}
-use Rattle.next_moves.specs.Tries.{column_trades}
+use Rattle.next_moves.specs.Tries.{column_trade_tries}
 use Rattle.next_moves.proofs.Extended.{extends_flat_more}
 use Rattle.next_moves.proofs.Legal.{columns_are_spans}
 use Rattle.next_moves.proofs.tries.Tries.trade_long_columns.Goals as goal
@@ -28,7 +28,7 @@ loop-c-preserved c =
     let d = c.args.self.now.diagram in
     record {
       offered =
-          extends_flat_more d c.args.self.now.cap (column_trades (size d)) c.loop-c.c c.args.list.now.items c.loop-c.list.items
+          extends_flat_more d c.args.self.now.cap (column_trade_tries (size d)) c.loop-c.c c.args.list.now.items c.loop-c.list.items
           c.trade_column.new.list.items c.loop-c.invariant.offered c.trade_column.ensures.offered;
       fits = omega (arith, c.loop-c.invariant.fits, c.trade_column.ensures.fits);
     }

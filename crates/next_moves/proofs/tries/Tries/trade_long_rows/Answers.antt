@@ -2,7 +2,7 @@ use Rattle.std.proofs.Common.{◌∙◌, List, ℕ, arith, sym, ap, ap₂, subst
 use Rattle.lane_spans.specs.Columns.{trades, AreSpans}
 use Rattle.grid_core.specs.Diagram.{Diagram, size}
 use Rattle.grid_core.specs.Parts.{row_lows, row_highs}
-use Rattle.next_moves.specs.Tries.{row_trades}
+use Rattle.next_moves.specs.Tries.{row_trade_tries}
 use Rattle.next_moves.proofs.Extended.{extends_flat_more}
 use Rattle.next_moves.proofs.Legal.{rows_are_spans}
 use Rattle.next_moves.proofs.tries.Tries.trade_long_rows.Goals as goal
@@ -28,7 +28,7 @@ loop-r-preserved c =
     let d = c.args.self.now.diagram in
     record {
       offered =
-          extends_flat_more d c.args.self.now.cap (row_trades (size d)) c.loop-r.r c.args.list.now.items c.loop-r.list.items
+          extends_flat_more d c.args.self.now.cap (row_trade_tries (size d)) c.loop-r.r c.args.list.now.items c.loop-r.list.items
           c.trade_row.new.list.items c.loop-r.invariant.offered c.trade_row.ensures.offered;
       fits = omega (arith, c.loop-r.invariant.fits, c.trade_row.ensures.fits);
     }

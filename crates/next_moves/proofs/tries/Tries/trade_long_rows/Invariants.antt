@@ -1,12 +1,12 @@
 use Rattle.std.proofs.Common.{◌≤◌, ◌+◌, length}
 use Rattle.std.specs.List.{range_with_len, flat_map}
 use Rattle.grid_core.specs.Diagram.{size}
-use Rattle.next_moves.specs.Tries.{row_trades}
+use Rattle.next_moves.specs.Tries.{row_trade_tries}
 use Rattle.next_moves.specs.Extends.{Extends}
 use Rattle.next_moves.proofs.tries.Tries.trade_long_rows.Given as goal
 
 abbrev pub invariant-loop-r : goal.invariant-loop-r
 invariant-loop-r l = record {
-  offered : Extends l.self.diagram l.self.cap (flat_map (row_trades (size l.self.diagram)) (range_with_len 0 l.r)) l.initial.list.items l.list.items;
+  offered : Extends l.self.diagram l.self.cap (flat_map (row_trade_tries (size l.self.diagram)) (range_with_len 0 l.r)) l.initial.list.items l.list.items;
   fits : length l.list.items ≤ length l.initial.list.items + l.r;
 }

@@ -1,4 +1,4 @@
-use Rattle.std.proofs.Common.{◌≡◌, ◌∙◌, false, sym}
+use Rattle.std.proofs.Common.{◌≡◌, ◌∙◌, arith, false, sym}
 use Rattle.grid_core.specs.Diagram.{size}
 use Rattle.next_moves.specs.Tries.{try_column_exchange, try_column_slide}
 use Rattle.next_moves.specs.Offers.{is_legal}
@@ -29,10 +29,14 @@ slide_columns-requires-clause-legal c =
     let told = columns_told c.args.self.now.diagram c.args.c c.args.trades.now c.requires.trades c.size-size.ensures.grid c.requires.column in
     sym told.slide ∙ sym c.may_slide.ensures ∙ c.if-may_slide.true
 
-pub returns-else-may_slide-clause-offered : goal.returns-else-may_slide-clause-offered
-returns-else-may_slide-clause-offered c =
+pub returns-else-may_slide : goal.returns-else-may_slide
+returns-else-may_slide c =
     let d = c.args.self.now.diagram in
     let told = columns_told d c.args.c c.args.trades.now c.requires.trades c.size-size.ensures.grid c.requires.column in
     let no_exchange : is_legal d (try_column_exchange (size d) c.args.c) ≡ false = sym told.exchange ∙ sym c.may_exchange.ensures ∙ c.if-may_exchange.false in
     let no_slide : is_legal d (try_column_slide (size d) c.args.c) ≡ false = sym told.slide ∙ sym c.may_slide.ensures ∙ c.if-may_slide.false in
-    columns_kept d c.args.self.now.cap (size d) c.args.c c.args.list.now.items no_exchange no_slide
+    record {
+      offered =
+          columns_kept d c.args.self.now.cap (size d) c.args.c c.args.list.now.items no_exchange no_slide;
+      fits = omega arith;
+    }

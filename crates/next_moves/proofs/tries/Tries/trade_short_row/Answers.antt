@@ -1,4 +1,4 @@
-use Rattle.std.proofs.Common.{◌≡◌, ◌∙◌, false, sym}
+use Rattle.std.proofs.Common.{◌≡◌, ◌∙◌, arith, false, sym}
 use Rattle.grid_core.specs.Diagram.{size}
 use Rattle.next_moves.specs.Tries.{try_row_exchange, try_row_slide}
 use Rattle.next_moves.specs.Offers.{is_legal}
@@ -29,10 +29,14 @@ slide_rows-requires-clause-legal c =
     let told = rows_told c.args.self.now.diagram c.args.r c.args.trades.now c.requires.trades c.size-size.ensures.grid c.requires.row in
     sym told.slide ∙ sym c.may_slide.ensures ∙ c.if-may_slide.true
 
-pub returns-else-may_slide-clause-offered : goal.returns-else-may_slide-clause-offered
-returns-else-may_slide-clause-offered c =
+pub returns-else-may_slide : goal.returns-else-may_slide
+returns-else-may_slide c =
     let d = c.args.self.now.diagram in
     let told = rows_told d c.args.r c.args.trades.now c.requires.trades c.size-size.ensures.grid c.requires.row in
     let no_exchange : is_legal d (try_row_exchange (size d) c.args.r) ≡ false = sym told.exchange ∙ sym c.may_exchange.ensures ∙ c.if-may_exchange.false in
     let no_slide : is_legal d (try_row_slide (size d) c.args.r) ≡ false = sym told.slide ∙ sym c.may_slide.ensures ∙ c.if-may_slide.false in
-    rows_kept d c.args.self.now.cap (size d) c.args.r c.args.list.now.items no_exchange no_slide
+    record {
+      offered =
+          rows_kept d c.args.self.now.cap (size d) c.args.r c.args.list.now.items no_exchange no_slide;
+      fits = omega arith;
+    }
