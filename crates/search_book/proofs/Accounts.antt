@@ -1,5 +1,6 @@
 -- The offers of a settlement, one after another, as they are told in words.
-use Rattle.std.proofs.Common.{◌≡◌, ◌≢◌, ◌∙◌, ap, refl, sym, subst, ℕ, ◌+◌, ◌≤◌, ◌<◌, ◌⊎◌, inl, inr, List, [], ◌∷◌, ◌++◌, All, length, map, get_or, Bool, true, false, Option, Some, None, nat_lt, fold, if◌then◌else◌, arith}
+use Rattle.std.proofs.Common.{◌≡◌, ◌≢◌, ◌∙◌, ap, refl, sym, subst, ℕ, ◌+◌, ◌≤◌, ◌<◌, ◌⊎◌, inl, inr, List, [], ◌∷◌, ◌++◌, All}
+use Rattle.std.proofs.Common.{length, map, get_or, Bool, true, false, Option, Some, None, nat_lt, fold, if◌then◌else◌, arith}
 use Rattle.std.specs.List.{list_all}
 use Rattle.std.proofs.lemmas.Bool.{ltb-true, ltb-false, false_from_ne_true}
 use Rattle.std.proofs.lemmas.List.{append_assoc, append-nil, get_or-map, get_or_append_left, length-map, length_push, map_push}
@@ -19,7 +20,8 @@ use Rattle.search_book.specs.declared.event.End.TheVariants.{Met, Spent, Exhaust
 use Rattle.search_book.specs.declared.event.Meeting.TheVariants.{Offered}
 use Rattle.search_book.specs.State.{State}
 use Rattle.search_book.specs.Entries.{StandsAt, HasUnsettled, at_stage, id_of, is_settled, is_settled_stage, keys, same_side}
-use Rattle.search_book.specs.Settle.{Taken, Settles, after_settling, child, exhausted_where_all_settled, settled_unless_over, met_or_passed_over, taken_all, taken_by, taken_next}
+use Rattle.search_book.specs.Settle.{Taken, Settles, after_settling, child, exhausted_where_all_settled}
+use Rattle.search_book.specs.Settle.{settled_unless_over, met_or_passed_over, taken_all, taken_by, taken_next}
 use Rattle.search_book.specs.Sound.{IsKeyOfSide}
 use Rattle.search_book.specs.Settlement.{IsMetBy, IsNewKey, IsSettledWhole, IsSettlement, IsSpentBy, Leaves, first_of_new, is_among}
 use Rattle.search_book.proofs.Appended.{where_pushed}

@@ -10,7 +10,8 @@ use Rattle.search_book.specs.Entries.{StandsAt, at_stage}
 use Rattle.search_book.specs.EntryList.{whole_entry}
 
 -- the entry that stands for one that is read from the list
-stands_for : (brief : List BriefEntry) (id : ℕ) (b z : BriefEntry) (e : Entry) → StandsAt (map whole_entry brief) id e → b ≡ get_or brief id z → whole_entry b ≡ e
+stands_for : (brief : List BriefEntry) (id : ℕ) (b z : BriefEntry) (e : Entry)
+    → StandsAt (map whole_entry brief) id e → b ≡ get_or brief id z → whole_entry b ≡ e
 stands_for brief id b z e stands read =
     let within : id < length brief = omega (arith, slice_get_within (map whole_entry brief) id e stands, length-map brief whole_entry) in
     let there : Some (whole_entry (get_or brief id z)) ≡ Some e =

@@ -1,5 +1,6 @@
 -- The index of entries by their keys: what a look-up finds, and one id more.
-use Rattle.std.proofs.Common.{◌≡◌, ◌≢◌, ◌∙◌, ap, refl, sym, subst, ℕ, zero, suc, ◌<◌, ◌≤◌, ◌⊎◌, inl, inr, List, [], ◌∷◌, ◌++◌, ◌+◌, length, map, get_or, All, Bool, true, false, cond, Contains, Option, Some, None, IfSome, IfNone, slice_get, IsPermutation, arith}
+use Rattle.std.proofs.Common.{◌≡◌, ◌≢◌, ◌∙◌, ap, refl, sym, subst, ℕ, zero, suc, ◌<◌, ◌≤◌, ◌⊎◌, inl, inr, List, [], ◌∷◌, ◌++◌, ◌+◌, length, map}
+use Rattle.std.proofs.Common.{get_or, All, Bool, true, false, cond, Contains, Option, Some, None, IfSome, IfNone, slice_get, IsPermutation, arith}
 use Rattle.std.specs.List.{AllPairs, range_with_len}
 use Rattle.std.specs.Map.{lookup}
 use Rattle.std.specs.Option.{option_map}
@@ -146,16 +147,20 @@ module _ (ks : List Packed) (ss : List Side) (index : Indexed) (is : IsIndexOf k
 
     sides_more : All (λ (p : Packed × Known). slice_get (ss ++ known.side ∷ []) p.1.id ≡ Some p.1.side) index.paired
     sides_more =
-        All-weaker (λ (p : Packed × Known). slice_get ss p.1.id ≡ Some p.1.side) (λ (p : Packed × Known). slice_get (ss ++ known.side ∷ []) p.1.id ≡ Some p.1.side)
+        All-weaker (λ (p : Packed × Known). slice_get ss p.1.id ≡ Some p.1.side)
+        (λ (p : Packed × Known). slice_get (ss ++ known.side ∷ []) p.1.id ≡ Some p.1.side)
         (λ p. stands_before ss (known.side ∷ []) p.1.id p.1.side) index.paired is.own_sides
 
     -- beside its key
-    pub paired_more : IsIndexOf (ks ++ key ∷ []) (ss ++ known.side ∷ []) (record { room = index.room; paired = index.paired ++ (key, known) ∷ []; spilled = index.spilled })
+    pub paired_more : IsIndexOf (ks ++ key ∷ []) (ss ++ known.side ∷ [])
+        (record { room = index.room; paired = index.paired ++ (key, known) ∷ []; spilled = index.spilled })
     paired_more = record {
       differ = differ_more;
       once =
-          subst (λ (ids : List ℕ). IsOneEach (length (ks ++ key ∷ [])) (ids ++ index.spilled)) (sym (map_push (λ (p : Packed × Known). p.1.id) index.paired (key, known)))
-          (IsPermutation-trans (range_with_len 0 (length (ks ++ key ∷ []))) ((paired_ids index ++ index.spilled) ++ known.id ∷ []) ((paired_ids index ++ known.id ∷ []) ++ index.spilled) once_more (moved_in (paired_ids index) index.spilled known.id));
+          subst (λ (ids : List ℕ). IsOneEach (length (ks ++ key ∷ [])) (ids ++ index.spilled))
+          (sym (map_push (λ (p : Packed × Known). p.1.id) index.paired (key, known)))
+          (IsPermutation-trans (range_with_len 0 (length (ks ++ key ∷ []))) ((paired_ids index ++ index.spilled) ++ known.id ∷ [])
+          ((paired_ids index ++ known.id ∷ []) ++ index.spilled) once_more (moved_in (paired_ids index) index.spilled known.id));
       own_keys =
           All-push (λ (p : Packed × Known). slice_get (ks ++ key ∷ []) p.1.id ≡ Some p.0) index.paired (key, known) keys_more
           (subst (λ (i : ℕ). slice_get (ks ++ key ∷ []) i ≡ Some key) (sym place) (stands_last ks key));
@@ -165,7 +170,8 @@ module _ (ks : List Packed) (ss : List Side) (index : Indexed) (is : IsIndexOf k
     }
 
     -- alone
-    pub spilled_more : IsIndexOf (ks ++ key ∷ []) (ss ++ known.side ∷ []) (record { room = index.room; paired = index.paired; spilled = index.spilled ++ known.id ∷ [] })
+    pub spilled_more : IsIndexOf (ks ++ key ∷ []) (ss ++ known.side ∷ [])
+        (record { room = index.room; paired = index.paired; spilled = index.spilled ++ known.id ∷ [] })
     spilled_more = record {
       differ = differ_more;
       once = subst (λ (ys : List ℕ). IsOneEach (length (ks ++ key ∷ [])) ys) (append_assoc (paired_ids index) index.spilled (known.id ∷ [])) once_more;
@@ -179,8 +185,10 @@ pub rearranged : (ks : List Packed) (ss : List Side) (room : ℕ) (ps qs : List 
 rearranged ks ss room ps qs spilled moved is = record {
   differ = is.differ;
   once =
-      IsPermutation-trans (range_with_len 0 (length ks)) (map (λ (p : Packed × Known). p.1.id) ps ++ spilled) (map (λ (p : Packed × Known). p.1.id) qs ++ spilled) is.once
-      (IsPermutation-append_left spilled (map (λ (p : Packed × Known). p.1.id) ps) (map (λ (p : Packed × Known). p.1.id) qs) (IsPermutation-map (λ (p : Packed × Known). p.1.id) ps qs moved));
+      IsPermutation-trans (range_with_len 0 (length ks)) (map (λ (p : Packed × Known). p.1.id) ps ++ spilled)
+      (map (λ (p : Packed × Known). p.1.id) qs ++ spilled) is.once
+      (IsPermutation-append_left spilled (map (λ (p : Packed × Known). p.1.id) ps) (map (λ (p : Packed × Known). p.1.id) qs)
+      (IsPermutation-map (λ (p : Packed × Known). p.1.id) ps qs moved));
   own_keys = All-permutation (λ (p : Packed × Known). slice_get ks p.1.id ≡ Some p.0) ps qs moved is.own_keys;
   own_sides = All-permutation (λ (p : Packed × Known). slice_get ss p.1.id ≡ Some p.1.side) ps qs moved is.own_sides;
 }
@@ -224,7 +232,8 @@ other_key es id e key stands other there =
 
 -- what is known of a key by its place and the side there
 pub known_by_place : (es : List Entry) (key : Packed) (known : Known)
-    → AllPairs (λ (p q : Packed). p ≢ q) (keys es) → slice_get (keys es) known.id ≡ Some key → slice_get (sides es) known.id ≡ Some known.side → IsKnown es key known
+    → AllPairs (λ (p q : Packed). p ≢ q) (keys es) → slice_get (keys es) known.id ≡ Some key
+    → slice_get (sides es) known.id ≡ Some known.side → IsKnown es key known
 known_by_place es key known differ stands beside = by (slice_get es known.id) refl
   where
     side_there : (o : Option Entry) → slice_get es known.id ≡ o → option_map (λ (e : Entry). e.side) o ≡ Some known.side
@@ -255,7 +264,8 @@ spilled_none es index key None is none apart = absent_id es key (absent_key (key
 spilled_none es index key (Some known) is none apart = tt
 
 -- the index of the entries at other stages
-pub index_restaged : (old new : List Entry) (index : Indexed) → SameButStages old new → IsIndexOf (keys old) (sides old) index → IsIndexOf (keys new) (sides new) index
+pub index_restaged : (old new : List Entry) (index : Indexed) → SameButStages old new
+    → IsIndexOf (keys old) (sides old) index → IsIndexOf (keys new) (sides new) index
 index_restaged old new index same is =
     subst (λ (ks : List Packed). IsIndexOf ks (sides new) index) (sym (same_keys old new same))
     (subst (λ (ss : List Side). IsIndexOf (keys old) ss index) (sym (kept_sides old new same)) is)

@@ -1,5 +1,6 @@
 -- Look-ups in two maps, by brief keys and by whole ones.
-use Rattle.std.proofs.Common.{◌≡◌, ◌∙◌, ◌++◌, ◌∷◌, [], arith, suc, Bool, true, false, cond, List, map, Option, Some, None, IsPermutation, ap, ap₂, refl, sym, subst}
+use Rattle.std.proofs.Common.{◌≡◌, ◌∙◌, ◌++◌, ◌∷◌, [], arith, suc, Bool, true, false, cond, List}
+use Rattle.std.proofs.Common.{map, Option, Some, None, IsPermutation, ap, ap₂, refl, sym, subst}
 use Rattle.std.specs.Map.{lookup}
 use Rattle.std.proofs.lemmas.List.{append_assoc, map_push}
 use Rattle.std.proofs.lemmas.List.Sorted.{IsPermutation-append_comm, IsPermutation-append_right, IsPermutation-refl}
@@ -41,7 +42,8 @@ not_first test (x ∷ xs) ys is = by (test x.0) is (λ rest. not_first test xs y
 -- a key that no brief key stands for passes at none of them, and a key that one stands for at none of the wide keys
 pub not_brief : (key : Packed) (bs : List (BriefKey × Known)) → IsWide key → lookup (same_key key) (map whole_pair bs) ≡ None
 not_brief key [] wide = refl
-not_brief key (b ∷ bs) wide = ap (λ (t : Bool). cond t (Some b.1) (lookup (same_key key) (map whole_pair bs))) (fails (same_key key (whole_key b.0)) refl) ∙ not_brief key bs wide
+not_brief key (b ∷ bs) wide =
+    ap (λ (t : Bool). cond t (Some b.1) (lookup (same_key key) (map whole_pair bs))) (fails (same_key key (whole_key b.0)) refl) ∙ not_brief key bs wide
   where
     fails : (t : Bool) → same_key key (whole_key b.0) ≡ t → t ≡ false
     fails true is = absurd (wide b.0 (sym (same_key_true key (whole_key b.0) is)))
@@ -49,7 +51,9 @@ not_brief key (b ∷ bs) wide = ap (λ (t : Bool). cond t (Some b.1) (lookup (sa
 
 pub not_wide : (b : BriefKey) (key : Packed) (ws : List (Packed × Known)) → whole_key b ≡ key → AreWide ws → lookup (same_key key) ws ≡ None
 not_wide b key [] is wide = refl
-not_wide b key (w ∷ ws) is wide = ap (λ (t : Bool). cond t (Some w.1) (lookup (same_key key) ws)) (fails (same_key key w.0) refl) ∙ not_wide b key ws is (λ k d lt. wide (suc k) d (omega (arith, lt)))
+not_wide b key (w ∷ ws) is wide =
+    ap (λ (t : Bool). cond t (Some w.1) (lookup (same_key key) ws)) (fails (same_key key w.0) refl)
+    ∙ not_wide b key ws is (λ k d lt. wide (suc k) d (omega (arith, lt)))
   where
     fails : (t : Bool) → same_key key w.0 ≡ t → t ≡ false
     fails true same = absurd (wide 0 w (omega arith) b (is ∙ same_key_true key w.0 same))

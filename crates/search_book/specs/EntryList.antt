@@ -32,7 +32,7 @@ pub record IsWithin (columns : ℕ) (d : Diagram) : Type 0 where
   pub grid : IsGrid d
   pub small : size d ≤ columns
 
--- the key of one
+-- the key of a diagram of at most so many columns
 pub record Fits (columns : ℕ) (key : Packed) : Type 0 where
   pub diagram : Diagram
   pub within : IsWithin columns diagram

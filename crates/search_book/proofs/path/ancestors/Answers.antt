@@ -7,8 +7,8 @@ use Rattle.search_book.proofs.path.ancestors.Goals as goal
 pub returns-in-Root-clause-down : goal.returns-in-Root-clause-down
 returns-in-Root-clause-down c =
     let more : c.push.new.self.items ≡ c.loop-ids.ids.items ++ c.loop-ids.here ∷ [] = search rules in
-    down_from_root c.args.entries.now.entries c.args.id c.loop-ids.here c.in-Root.columns c.in-Root.rows _ c.loop-ids.ids.items c.push.new.self.items c.requires.order
-    c.at.ensures c.in-Root.is c.loop-ids.invariant.2 more
+    down_from_root c.args.entries.now.entries c.args.id c.loop-ids.here c.in-Root.columns c.in-Root.rows _ c.loop-ids.ids.items c.push.new.self.items
+    c.requires.order c.at.ensures c.in-Root.is c.loop-ids.invariant.2 more
 
 pub loop-ids-smaller : goal.loop-ids-smaller
 loop-ids-smaller c =
@@ -23,5 +23,6 @@ loop-ids-preserved c =
       omega (arith, c.loop-ids.invariant.0),
       subst (λ (is : List ℕ). All (λ i. i < length c.args.entries.now.entries) is) (sym more)
           (All-push (λ i. i < length c.args.entries.now.entries) c.loop-ids.ids.items c.loop-ids.here c.loop-ids.invariant.1 c.loop-ids.invariant.0),
-      down_from_child c.args.entries.now.entries c.args.id c.loop-ids.here c.in-Child.parent c.in-Child.link _ c.loop-ids.ids.items c.push.new.self.items c.requires.order stands c.in-Child.is c.loop-ids.invariant.2 more,
+      down_from_child c.args.entries.now.entries c.args.id c.loop-ids.here c.in-Child.parent c.in-Child.link _ c.loop-ids.ids.items c.push.new.self.items
+          c.requires.order stands c.in-Child.is c.loop-ids.invariant.2 more,
     )

@@ -84,7 +84,8 @@ invariant_of-self c =
       ap (λ (k : EntriesIn). k.room) c.settle_entry-self-inside.ensures.rest ∙ c.self.invariant.0,
       omega (arith, c.self.invariant.1, c.push_reserved.ensures.capacity),
       omega (arith, c.self.invariant.2, one),
-      sound_after s c.args.worker c.args.id near c.self.invariant.3 not_over flying c.offers.ensures.whole c.settle_entry-self-inside.new.roll.entries c.settle_entry-self-inside.result c.push_reserved.new.self.items is c.push_reserved.ensures.items,
+      sound_after s c.args.worker c.args.id near c.self.invariant.3 not_over flying c.offers.ensures.whole
+          c.settle_entry-self-inside.new.roll.entries c.settle_entry-self-inside.result c.push_reserved.new.self.items is c.push_reserved.ensures.items,
       ap (λ (k : EntriesIn). k.columns) c.settle_entry-self-inside.ensures.rest ∙ c.self.invariant.4,
     )
 
@@ -101,10 +102,12 @@ returns-clause-done c =
     ap (λ (os : List Offer). settled_entries s.problem.budget c.args.id flying.entry s.entries os) (sym c.offers.ensures.offers)
     ∙ c.settle_entry-self-inside.ensures.settled flying.entry flying.stands in
     let done =
-    done_after s c.args.worker c.args.id near c.self.invariant.3 not_over flying c.offers.ensures.whole c.settle_entry-self-inside.new.roll.entries c.settle_entry-self-inside.result c.push_reserved.new.self.items is c.push_reserved.ensures.items asked in
+    done_after s c.args.worker c.args.id near c.self.invariant.3 not_over flying c.offers.ensures.whole
+    c.settle_entry-self-inside.new.roll.entries c.settle_entry-self-inside.result c.push_reserved.new.self.items is c.push_reserved.ensures.items asked in
     subst
     (λ (u : State). IsDone u c.args.worker c.args.id near
-    (record s { entries = c.settle_entry-self-inside.new.roll.entries; history = c.push_reserved.new.self.items; end = c.settle_entry-self-inside.result })) c.self.view_is done
+    (record s { entries = c.settle_entry-self-inside.new.roll.entries; history = c.push_reserved.new.self.items; end = c.settle_entry-self-inside.result }))
+    c.self.view_is done
 
 pub returns-clause-sound : goal.returns-clause-sound
 returns-clause-sound c =
@@ -118,4 +121,5 @@ returns-clause-sound c =
     ≡ record { entries = c.settle_entry-self-inside.new.roll.entries; end = c.settle_entry-self-inside.result } =
     ap (λ (os : List Offer). settled_entries s.problem.budget c.args.id flying.entry s.entries os) (sym c.offers.ensures.offers)
     ∙ c.settle_entry-self-inside.ensures.settled flying.entry flying.stands in
-    sound_after s c.args.worker c.args.id near c.self.invariant.3 not_over flying c.offers.ensures.whole c.settle_entry-self-inside.new.roll.entries c.settle_entry-self-inside.result c.push_reserved.new.self.items is c.push_reserved.ensures.items
+    sound_after s c.args.worker c.args.id near c.self.invariant.3 not_over flying c.offers.ensures.whole
+    c.settle_entry-self-inside.new.roll.entries c.settle_entry-self-inside.result c.push_reserved.new.self.items is c.push_reserved.ensures.items

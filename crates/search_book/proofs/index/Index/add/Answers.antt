@@ -19,7 +19,8 @@ returns-then-not-insert-clause-index c = λ ks ss is new place beside.
     let pairs : c.insert.new.self ≡ old.paired = c.insert.ensures.refused c.if-not-insert.true in
     let ids : c.push_reserved.new.self.items ≡ old.spilled ++ c.args.known.id ∷ [] = c.push_reserved.ensures.items in
     let room : vec_capacity c.push_reserved.new.self ≡ old.room = c.push_reserved.ensures.capacity in
-    let now : record { room = old.room; paired = old.paired; spilled = old.spilled ++ c.args.known.id ∷ [] } ≡ record { room = vec_capacity c.push_reserved.new.self; paired = c.insert.new.self; spilled = c.push_reserved.new.self.items } =
+    let now : record { room = old.room; paired = old.paired; spilled = old.spilled ++ c.args.known.id ∷ [] }
+    ≡ record { room = vec_capacity c.push_reserved.new.self; paired = c.insert.new.self; spilled = c.push_reserved.new.self.items } =
     (λ j. record { room = sym room j; paired = sym pairs j; spilled = sym ids j }) in
     subst (λ (index : Indexed). IsIndexOf (ks ++ c.args.key ∷ []) (ss ++ c.args.known.side ∷ []) index) now
     (spilled_more ks ss old was c.args.key c.args.known new place beside)

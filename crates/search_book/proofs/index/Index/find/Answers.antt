@@ -14,7 +14,9 @@ spilled_entry-requires c =
     let is : IsIndexOf (keys c.args.entries.now.entries) (sides c.args.entries.now.entries) old =
     subst (λ (index : Indexed). IsIndexOf (keys c.args.entries.now.entries) (sides c.args.entries.now.entries) index) (sym c.self.view_is) c.requires in
     subst (λ (ids : List ℕ). All (λ (id : ℕ). id < length c.args.entries.now.entries) ids) (sym c.as_slice.ensures.value)
-    (subst (λ (n : ℕ). All (λ (id : ℕ). id < n) c.self.inside.spilled.items) (length-map c.args.entries.now.entries (λ (e : Entry). e.key)) (spilled_inside (keys c.args.entries.now.entries) (sides c.args.entries.now.entries) old is))
+    (subst (λ (n : ℕ). All (λ (id : ℕ). id < n) c.self.inside.spilled.items)
+    (length-map c.args.entries.now.entries (λ (e : Entry). e.key))
+    (spilled_inside (keys c.args.entries.now.entries) (sides c.args.entries.now.entries) old is))
 
 pub returns-in-Some-clause-some : goal.returns-in-Some-clause-some
 returns-in-Some-clause-some c =
@@ -40,5 +42,6 @@ returns-in-None-clause-none c =
     subst (λ (index : Indexed). IsIndexOf (keys c.args.entries.now.entries) (sides c.args.entries.now.entries) index) (sym c.self.view_is) c.requires in
     let none : lookup (same_key c.args.key.now) old.paired ≡ None = sym c.get.ensures ∙ c.in-None.is in
     let apart : IfNone c.spilled_entry.result (All (λ (id : ℕ). slice_get (keys c.args.entries.now.entries) id ≢ Some c.args.key.now) old.spilled) =
-    subst (λ (ids : List ℕ). IfNone c.spilled_entry.result (All (λ (id : ℕ). slice_get (keys c.args.entries.now.entries) id ≢ Some c.args.key.now) ids)) c.as_slice.ensures.value c.spilled_entry.ensures.none in
+    subst (λ (ids : List ℕ). IfNone c.spilled_entry.result (All (λ (id : ℕ). slice_get (keys c.args.entries.now.entries) id ≢ Some c.args.key.now) ids))
+    c.as_slice.ensures.value c.spilled_entry.ensures.none in
     spilled_none c.args.entries.now.entries old c.args.key.now c.spilled_entry.result is none apart

@@ -34,8 +34,10 @@ returns-after-insert-clause-added c = λ yes. elim c.match-insert.branch [
       by_brief c.in-Some.brief c.args.key m.brief.entries m.whole.entries c.in-Some.ensures.some c.self.invariant ∙ old in
       let entries : c.insert.new.self.entries ≡ m.brief.entries ++ (c.in-Some.brief, c.args.known) ∷ [] =
       w.in-Ok.ensures.entries ∙ insert_entry-new same_brief m.brief c.in-Some.brief c.args.known none in
-      subst (λ (ps : List (Packed × Known)). IsPermutation (ps ++ (c.args.key, c.args.known) ∷ []) (pairs c.insert.new.self.entries m.whole.entries)) c.self.view_is
-      (subst (λ (es : List (BriefKey × Known)). IsPermutation (pairs m.brief.entries m.whole.entries ++ (c.args.key, c.args.known) ∷ []) (pairs es m.whole.entries)) (sym entries)
+      subst (λ (ps : List (Packed × Known)). IsPermutation (ps ++ (c.args.key, c.args.known) ∷ []) (pairs c.insert.new.self.entries m.whole.entries))
+      c.self.view_is
+      (subst (λ (es : List (BriefKey × Known)). IsPermutation (pairs m.brief.entries m.whole.entries ++ (c.args.key, c.args.known) ∷ [])
+      (pairs es m.whole.entries)) (sym entries)
       (brief_more c.in-Some.brief c.args.key c.args.known m.brief.entries m.whole.entries c.in-Some.ensures.some))
   | in-Err w ↦ absurd (let no : ◌≡◌ {A = Bool} true false = sym yes ∙ w.result-is in cc)
 ]
@@ -49,8 +51,10 @@ returns-after-insert-2-clause-added c = λ yes. elim c.match-insert-2.branch [
       let none : lookup (same_key c.args.key) m.whole.entries ≡ None = by_whole c.args.key m.brief.entries m.whole.entries c.in-None.ensures.none ∙ old in
       let entries : c.insert-in-None.new.self.entries ≡ m.whole.entries ++ (c.args.key, c.args.known) ∷ [] =
       w.in-Ok-insert.ensures.entries ∙ insert_entry-new same_key m.whole c.args.key c.args.known none in
-      subst (λ (ps : List (Packed × Known)). IsPermutation (ps ++ (c.args.key, c.args.known) ∷ []) (pairs m.brief.entries c.insert-in-None.new.self.entries)) c.self.view_is
-      (subst (λ (es : List (Packed × Known)). IsPermutation (pairs m.brief.entries m.whole.entries ++ (c.args.key, c.args.known) ∷ []) (pairs m.brief.entries es)) (sym entries)
+      subst (λ (ps : List (Packed × Known)). IsPermutation (ps ++ (c.args.key, c.args.known) ∷ []) (pairs m.brief.entries c.insert-in-None.new.self.entries))
+      c.self.view_is
+      (subst (λ (es : List (Packed × Known)). IsPermutation (pairs m.brief.entries m.whole.entries ++ (c.args.key, c.args.known) ∷ [])
+      (pairs m.brief.entries es)) (sym entries)
       (whole_more c.args.key c.args.known m.brief.entries m.whole.entries))
   | in-Err-insert w ↦ absurd (let no : ◌≡◌ {A = Bool} true false = sym yes ∙ w.result-is in cc)
 ]
