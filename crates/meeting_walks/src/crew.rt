@@ -6,8 +6,8 @@ ghost use Rattle.std.specs.Prelude.{◌≡◌};
 ghost use Rattle.meeting_walks.specs.Rounds.{limit_after};
 
 use crate::plan::Plan;
-use crate::seeker::Seeker;
 use crate::watch::Watch;
+use crate::worker::Worker;
 use grid_core::Grid;
 use memory_core::OutOfMemory;
 use std::alloc::Global;
@@ -24,7 +24,7 @@ const LONG_ROUND: u64 = 65536;
 /// The workers.
 #[derive(Drop)]
 pub(crate) struct Crew {
-    seekers: Vec<Seeker>,
+    workers: Vec<Worker>,
     /// The steps after which no worker goes on.
     steps: u64,
     /// The steps that the last round allowed.
@@ -48,7 +48,7 @@ impl Crew {
         plan: Plan,
     ) -> Result<Crew, OutOfMemory> {
         Ok(Crew {
-            seekers: seekers_of(alloc, first, second, plan)?,
+            workers: workers_of(alloc, first, second, plan)?,
             steps: plan.bounds.steps,
             limit: 0,
         })
@@ -60,8 +60,8 @@ impl Crew {
             let Some(limit) = self.next_limit() else {
                 break;
             };
-            for seeker in self.seekers.iter_mut() {
-                seeker.walk(alloc, limit);
+            for worker in self.workers.iter_mut() {
+                worker.walk(alloc, limit);
             }
             self.report(watch);
         }
@@ -74,13 +74,13 @@ impl Crew {
         alloc: Global,
         watch: &mut W,
     ) {
-        let workers = self.seekers.len().max(1);
+        let threads = self.workers.len().max(1);
         for _round in 0..self.steps {
             let Some(limit) = self.next_limit() else {
                 break;
             };
-            let go_on = |_at: usize, seeker: &mut Seeker| seeker.walk(alloc, limit);
-            thread::for_each_mut(rt, self.seekers.as_mut_slice(), workers, &go_on);
+            let go_on = |_at: usize, worker: &mut Worker| worker.walk(alloc, limit);
+            thread::for_each_mut(rt, self.workers.as_mut_slice(), threads, &go_on);
             self.report(watch);
         }
     }
@@ -103,9 +103,9 @@ impl Crew {
     /// The fewest steps with which a worker has met, or None where none has.
     fn fewest_steps(&self) -> Option<u64> {
         let mut fewest = None;
-        for seeker in &self.seekers {
-            if seeker.has_met() {
-                fewest = Some(seeker.made().min(fewest.unwrap_or(u64::MAX)));
+        for worker in &self.workers {
+            if worker.has_met() {
+                fewest = Some(worker.made().min(fewest.unwrap_or(u64::MAX)));
             }
         }
         fewest
@@ -113,25 +113,25 @@ impl Crew {
 
     /// Whether each worker has ended or made so many steps, or one found no memory.
     fn is_done(&self, most: u64) -> bool {
-        let seekers = self.seekers.as_slice();
+        let workers = self.workers.as_slice();
         self.is_out_of_memory()
-            || seekers
+            || workers
                 .iter()
-                .all(|seeker| seeker.has_ended() || seeker.made() >= most)
+                .all(|worker| worker.has_ended() || worker.made() >= most)
     }
 
     /// Whether a worker found no memory.
     fn is_out_of_memory(&self) -> bool {
-        self.seekers
+        self.workers
             .as_slice()
             .iter()
-            .any(|seeker| seeker.is_out_of_memory())
+            .any(|worker| worker.is_out_of_memory())
     }
 
     /// Tells how far the first worker is.
     fn report<W: Watch>(&self, watch: &mut W) {
-        if let Some(seeker) = self.seekers.as_slice().first() {
-            watch.note(seeker.progress());
+        if let Some(worker) = self.workers.as_slice().first() {
+            watch.note(worker.progress());
         }
     }
 
@@ -141,17 +141,17 @@ impl Crew {
             return Err(OutOfMemory);
         }
         match self.quickest() {
-            Some(seeker) => found_by(alloc, seeker),
+            Some(worker) => found_by(alloc, worker),
             None => Ok(None),
         }
     }
 
     /// The worker that has met with the fewest steps, the first of those with as few; or None where none has.
-    fn quickest(&self) -> Option<&Seeker> {
+    fn quickest(&self) -> Option<&Worker> {
         let fewest = self.fewest_steps();
-        for seeker in &self.seekers {
-            if seeker.has_met() && Some(seeker.made()) == fewest {
-                return Some(seeker);
+        for worker in &self.workers {
+            if worker.has_met() && Some(worker.made()) == fewest {
+                return Some(worker);
             }
         }
         None
@@ -159,17 +159,17 @@ impl Crew {
 }
 
 /// The workers of a plan, at least one. The seed of each is the one above that of the worker before it.
-fn seekers_of(
+fn workers_of(
     alloc: Global,
     first: &Grid,
     second: &Grid,
     plan: Plan,
-) -> Result<Vec<Seeker>, OutOfMemory> {
-    let mut seekers = Vec::new(alloc);
-    for worker in 0..plan.workers.max(1) {
-        seekers.push(Seeker::new(alloc, first, second, plan.bounds.of(worker))?)?;
+) -> Result<Vec<Worker>, OutOfMemory> {
+    let mut workers = Vec::new(alloc);
+    for number in 0..plan.workers.max(1) {
+        workers.push(Worker::new(alloc, first, second, plan.bounds.of(number))?)?;
     }
-    Ok(seekers)
+    Ok(workers)
 }
 
 /// The steps that a round allows behind one that allowed so many, where no worker has a say after the most.
@@ -181,11 +181,11 @@ fn limit_after(limit: u64, most: u64) -> u64
 }
 
 /// What a worker has found.
-fn found_by(alloc: Global, seeker: &Seeker) -> Result<Option<Found>, OutOfMemory> {
-    match seeker.path(alloc)? {
+fn found_by(alloc: Global, worker: &Worker) -> Result<Option<Found>, OutOfMemory> {
+    match worker.path(alloc)? {
         Some(path) => Ok(Some(Found {
             path,
-            seed: seeker.seed(),
+            seed: worker.seed(),
         })),
         None => Ok(None),
     }

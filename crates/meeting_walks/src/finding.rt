@@ -1,5 +1,5 @@
 //! The search from end to end.
-ghost use Rattle.std.specs.Prelude.{◌≡◌, IfOk, IfSome, IfNone};
+ghost use Rattle.std.specs.Prelude.{IfOk};
 ghost use Rattle.grid_moves.specs.Joining.{Joins};
 ghost use Rattle.meeting_walks.specs.Answered.{JoinsIfFound, FindsTranslates};
 ghost use Rattle.meeting_walks.specs.ShiftsTo.{AreShiftsTo};
@@ -11,7 +11,7 @@ use crate::spelling::spelled;
 use crate::watch::{Unwatched, Watch};
 use grid_core::Grid;
 use grid_keys::push_shifts;
-use grid_moves::{Move, apply_all};
+use grid_moves::Move;
 use memory_core::OutOfMemory;
 use std::alloc::Global;
 use std::thread::Threads;
@@ -115,7 +115,7 @@ fn sought_by<R: Threads + Sync, W: Watch>(
     joining(alloc, first, second, found)
 }
 
-/// The moves along a path that was found, made shorter, where they join the diagrams.
+/// The moves along a path that was found, made shorter.
 fn joining(
     alloc: Global,
     first: &Grid,
@@ -128,23 +128,5 @@ fn joining(
         return Ok(None);
     };
     let path = shortened(alloc, path, seed)?;
-    let Some(moves) = spelled(alloc, first, second, path.as_slice())? else {
-        return Ok(None);
-    };
-    Ok(if_joining(first, second, moves))
-}
-
-/// The moves where they join the first diagram to the second, else None.
-fn if_joining(first: &Grid, second: &Grid, moves: Vec<Move>) -> Option<Vec<Move>>
-    ensures some { IfSome result (λ list. (list ≡ moves) × Joins first.now list.items second.now) }
-    ensures none { IfNone result (Joins first.now moves.items second.now → ⊥) }
-{
-    match apply_all(first, moves.as_slice()) {
-        Ok(last) => if last.same_as(second) {
-            Some(moves)
-        } else {
-            None
-        },
-        Err(_) => None,
-    }
+    spelled(alloc, first, second, path.as_slice())
 }

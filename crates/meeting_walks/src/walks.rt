@@ -19,7 +19,7 @@ const STREAM: u64 = 54;
 
 /// The forms of the two diagrams.
 #[derive(Clone, Copy)]
-pub(crate) struct Ends {
+pub(crate) struct Roots {
     first: Form,
     second: Form,
 }
@@ -42,10 +42,10 @@ struct Common {
     made: u64,
 }
 
-impl Ends {
+impl Roots {
     /// The forms of two grids.
-    pub(crate) fn of(first: &Grid, second: &Grid) -> Ends {
-        Ends {
+    pub(crate) fn of(first: &Grid, second: &Grid) -> Roots {
+        Roots {
             first: Form::of(&Torus::of(first)),
             second: Form::of(&Torus::of(second)),
         }
@@ -54,10 +54,10 @@ impl Ends {
 
 impl Walks {
     /// Both walks at the forms of their diagrams.
-    pub(crate) fn new(alloc: Global, ends: Ends, seed: u64) -> Result<Walks, OutOfMemory> {
+    pub(crate) fn new(alloc: Global, roots: Roots, seed: u64) -> Result<Walks, OutOfMemory> {
         let mut common = Common::new(alloc, seed);
-        let first = common.camp(alloc, Side::First, ends.first)?;
-        let second = common.camp(alloc, Side::Second, ends.second)?;
+        let first = common.camp(alloc, Side::First, roots.first)?;
+        let second = common.camp(alloc, Side::Second, roots.second)?;
         Ok(Walks {
             common,
             first,
@@ -90,10 +90,10 @@ impl Walks {
     }
 
     /// Both walks at the forms of their diagrams again; the generator goes on.
-    pub(crate) fn begin_anew(&mut self, alloc: Global, ends: Ends) -> Result<(), OutOfMemory> {
+    pub(crate) fn begin_anew(&mut self, alloc: Global, roots: Roots) -> Result<(), OutOfMemory> {
         self.common.table.clear();
-        self.first = self.common.camp(alloc, Side::First, ends.first)?;
-        self.second = self.common.camp(alloc, Side::Second, ends.second)?;
+        self.first = self.common.camp(alloc, Side::First, roots.first)?;
+        self.second = self.common.camp(alloc, Side::Second, roots.second)?;
         Ok(())
     }
 
