@@ -4,7 +4,7 @@ ghost use Rattle.knot_jobs.specs.Call.{call_of};
 ghost use Rattle.knot_jobs.specs.Jobs.Decide.{as_many_as_asked};
 ghost use Rattle.knot.specs.Exit.{port_change, IsExitOf};
 
-use knot_jobs::{Status, run};
+use knot_jobs::{Ports, Status, run};
 use knot_ports::{StdSink, StdSource};
 use knot_tells::sentence_of;
 use search_pool::OpenGate;
@@ -14,22 +14,19 @@ use std::sync::Wait;
 use std::thread::Threads;
 
 /// Does what the words ask for, with workers in threads of the second runtime, tells what is wrong, and answers the exit status: that of
-/// a status with which such a call ends. A search that `run` leaves is let go.
+/// a status with which such a call ends.
 pub(crate) fn call<T: Threads + Wait + Sync, R: Read + Drop, W: Write + Drop>(
     rt: &HostRuntime,
     threads: &T,
     words: &[String],
-    source: &mut StdSource<R>,
-    sink: &mut StdSink<W>,
+    ports: &mut Ports<StdSource<R>, StdSink<W>>,
 ) -> ExitCode
     ensures { IsExitOf (call_of (texts_of words.now) as_many_as_asked
-        (port_change R.remaining source.old source.new)
-        (port_change W.contents sink.old sink.new)) result }
+        (port_change R.remaining ports.old.source ports.new.source)
+        (port_change W.contents ports.old.sink ports.new.sink)) result }
 {
-    let alloc = rt.alloc();
-    let mut kept = None;
-    let status = run(threads, alloc, words, source, sink, &OpenGate, &mut kept);
-    tell(rt, words, status, &*source, &*sink);
+    let status = run(threads, rt.alloc(), words, ports, &OpenGate);
+    tell(rt, words, status, &ports.source, &ports.sink);
     status.exit_code()
 }
 

@@ -11,7 +11,7 @@ mod call;
 
 use crate::call::call;
 use decision_core::MAX_INPUT;
-use knot_jobs::Status;
+use knot_jobs::{Ports, Status};
 use knot_ports::{StdSink, StdSource};
 use knot_tells::reading;
 use std::io;
@@ -35,9 +35,12 @@ fn main(rt: HostRuntime) -> ExitCode {
     if rt.stdin().is_terminal() && reading(rt.alloc(), words.as_slice()).is_some() {
         let _told = eprintln!(rt; "knot: standard input is read, up to its end (Ctrl-D)");
     }
-    let mut source = StdSource::new(rt.alloc(), rt.stdin(), KEPT);
-    let mut sink = StdSink::new(rt.stdout());
-    call(&rt, &rt, words.as_slice(), &mut source, &mut sink)
+    let mut ports = Ports {
+        source: StdSource::new(rt.alloc(), rt.stdin(), KEPT),
+        sink: StdSink::new(rt.stdout()),
+        kept: None,
+    };
+    call(&rt, &rt, words.as_slice(), &mut ports)
 }
 
 /// The system gives no words.

@@ -3,6 +3,9 @@
 use Rattle.std.specs.Prelude.{◌≡◌, ◌≤◌, ◌+◌, ◌⊎◌, ℕ, List, [], Option, Some, None, length}
 use Rattle.std.specs.Io.KnownBytes.{Keeps, Consumes, IsAtEnd}
 use Rattle.knot_ports.specs.Faults.{Rose}
+use Rattle.knot_ports.specs.declared.source.Source.{Ghosts as SourceOf}
+use Rattle.knot_ports.specs.declared.sink.Sink.{Ghosts as SinkOf}
+use Rattle.knot_jobs.specs.declared.ports.Ports.{Ports}
 
 -- a source or a sink, before and after: the bytes that a source has left or a sink holds, where it tells them, and its count
 -- of faults
@@ -17,6 +20,13 @@ abbrev pub change_of : {X : Type 0} → (X → Option (List ℕ)) → (X → ℕ
 change_of bytes_of faults_of before after =
     record { before = bytes_of before; after = bytes_of after; faults_before = faults_of before; faults_after = faults_of after }
 
+-- of a source, and of a sink, by what its type tells
+abbrev pub source_change : {S : Type 0} → SourceOf S → S → S → Change
+source_change tells before after = change_of tells.left tells.faults before after
+
+abbrev pub sink_change : {K : Type 0} → SinkOf K → K → K → Change
+sink_change tells before after = change_of tells.held tells.faults before after
+
 pub record Call : Type 0 where
   pub words : List (List ℕ)
   pub searching : ℕ → ℕ
@@ -25,6 +35,11 @@ pub record Call : Type 0 where
 
 abbrev pub call_of : List (List ℕ) → (ℕ → ℕ) → Change → Change → Call
 call_of words searching source sink = record { words = words; searching = searching; source = source; sink = sink }
+
+-- over ports, before and after
+abbrev pub call_over : {S K : Type 0} → SourceOf S → SinkOf K → List (List ℕ) → (ℕ → ℕ) → Ports S K → Ports S K → Call
+call_over sources sinks words searching before after =
+    call_of words searching (source_change sources before.source after.source) (sink_change sinks before.sink after.sink)
 
 -- no byte came or went, and no fault was counted
 pub record IsUntouched (port : Change) : Type 0 where

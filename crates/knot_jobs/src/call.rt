@@ -3,11 +3,12 @@ ghost use Rattle.std.specs.Prelude.{◌≡◌, ◌≤◌, None, Ok, IfOk, IfErr,
 ghost use Rattle.knot_jobs.specs.Words.{texts_of, Asks, AsksNothing, IsWithinBounds};
 ghost use Rattle.knot_jobs.specs.Answer.{limit_of};
 ghost use Rattle.knot_jobs.specs.Jobs.Decide.{as_many_as_asked, only_one, with_workers};
-ghost use Rattle.knot_jobs.specs.Call.{call_of, change_of};
+ghost use Rattle.knot_jobs.specs.Call.{source_change, sink_change, call_over};
 ghost use Rattle.knot_jobs.specs.Truth.{Goes};
 ghost use Rattle.knot_jobs.specs.Delivered.{IsRead, IsMadeOf, IsRefused, IsWritten, IsDelivered, IsEnded};
 
 use crate::answer::{answer, answer_alone};
+use crate::ports::Ports;
 use crate::reply::Reply;
 use crate::words::{Asked, Job, WordsFault, read_words};
 use decision_core::Status;
@@ -33,7 +34,7 @@ const USAGE: &[u8] = b"usage: knot JOB [--workers W] [--budget B] [--spare S] [-
 /// `linking` or `weights` writes `different`, no list of moves joins the two; and where `braidcheck` ends with `Done`, no quandle
 /// tells the closures of the two braids apart by how many colourings they have.
 ///
-/// Where `decide` searched, and its answer was written, the search is left in `kept`; else `kept` is None. It searches with as
+/// Where `decide` searched, and its answer was written, the search is left in the ports' `kept`; else that is None. It searches with as
 /// many workers as the words ask for, which pass the gate between a claim and its settlement; where they ask for one, it
 /// searches in the calling thread and passes no gate. All this holds however the workers interleave, where the call returns:
 /// workers may wait for each other.
@@ -41,23 +42,19 @@ pub fn run<R: Threads + Wait + Sync, S: Source, K: Sink, G: Gate + Sync>(
     rt: &R,
     alloc: Global,
     words: &[String],
-    source: &mut S,
-    sink: &mut K,
+    ports: &mut Ports<S, K>,
     gate: &G,
-    kept: &mut Option<Finding>,
 ) -> Status
-    ensures goes { Goes (call_of (texts_of words.now) as_many_as_asked
-        (change_of S.left S.faults source.old source.new)
-        (change_of K.held K.faults sink.old sink.new)) result kept.new }
-    ensures reads { S.faults source.old ≤ S.faults source.new }
-    ensures writes { K.faults sink.old ≤ K.faults sink.new }
+    ensures goes { Goes (call_over S.Source K.Sink (texts_of words.now) as_many_as_asked ports.old ports.new) result ports.new.kept }
+    ensures reads { S.faults ports.old.source ≤ S.faults ports.new.source }
+    ensures writes { K.faults ports.old.sink ≤ K.faults ports.new.sink }
 {
-    let asked = match begin(alloc, words, kept) {
+    let asked = match begin(alloc, words, &mut ports.kept) {
         Ok(asked) => asked,
-        Err(fault) => return refuse(sink, fault),
+        Err(fault) => return refuse(&mut ports.sink, fault),
     };
-    let reply = answer_source(rt, alloc, &asked, source, gate);
-    end(sink, reply, kept)
+    let reply = answer_source(rt, alloc, &asked, &mut ports.source, gate);
+    end(&mut ports.sink, reply, &mut ports.kept)
 }
 
 /// What `run` does where the words ask for one worker, however many they ask for. It takes no runtime, waits for nobody, and
@@ -65,22 +62,18 @@ pub fn run<R: Threads + Wait + Sync, S: Source, K: Sink, G: Gate + Sync>(
 pub fn run_alone<S: Source, K: Sink>(
     alloc: Global,
     words: &[String],
-    source: &mut S,
-    sink: &mut K,
-    kept: &mut Option<Finding>,
+    ports: &mut Ports<S, K>,
 ) -> Status
-    ensures goes { Goes (call_of (texts_of words.now) only_one
-        (change_of S.left S.faults source.old source.new)
-        (change_of K.held K.faults sink.old sink.new)) result kept.new }
-    ensures reads { S.faults source.old ≤ S.faults source.new }
-    ensures writes { K.faults sink.old ≤ K.faults sink.new }
+    ensures goes { Goes (call_over S.Source K.Sink (texts_of words.now) only_one ports.old ports.new) result ports.new.kept }
+    ensures reads { S.faults ports.old.source ≤ S.faults ports.new.source }
+    ensures writes { K.faults ports.old.sink ≤ K.faults ports.new.sink }
 {
-    let asked = match begin(alloc, words, kept) {
+    let asked = match begin(alloc, words, &mut ports.kept) {
         Ok(asked) => by_one_worker(asked),
-        Err(fault) => return refuse(sink, fault),
+        Err(fault) => return refuse(&mut ports.sink, fault),
     };
-    let reply = answer_source_alone(alloc, &asked, source);
-    end(sink, reply, kept)
+    let reply = answer_source_alone(alloc, &asked, &mut ports.source);
+    end(&mut ports.sink, reply, &mut ports.kept)
 }
 
 /// Lets an earlier search go, and reads the words.
@@ -96,7 +89,7 @@ fn begin(alloc: Global, words: &[String], kept: &mut Option<Finding>) -> Result<
 
 /// Writes the usage line where the words ask for nothing: the status of the call.
 fn refuse<K: Sink>(sink: &mut K, fault: WordsFault) -> Status
-    ensures refused { IsRefused fault (change_of K.held K.faults sink.old sink.new) result }
+    ensures refused { IsRefused fault (sink_change K.Sink sink.old sink.new) result }
     ensures count { K.faults sink.old ≤ K.faults sink.new }
 {
     match fault {
@@ -127,7 +120,7 @@ fn answer_source<R: Threads + Wait + Sync, S: Source, G: Gate + Sync>(
     gate: &G,
 ) -> Result<Reply, Status>
     requires bounds { IsWithinBounds asked.now }
-    ensures made { IsMadeOf asked.now (change_of S.left S.faults source.old source.new) result }
+    ensures made { IsMadeOf asked.now (source_change S.Source source.old source.new) result }
     ensures count { S.faults source.old ≤ S.faults source.new }
 {
     let Some(bytes) = read_input(alloc, asked.job, source)? else {
@@ -145,7 +138,7 @@ fn answer_source_alone<S: Source>(
 ) -> Result<Reply, Status>
     requires bounds { IsWithinBounds asked.now }
     requires one { asked.now.workers ≡ 1 }
-    ensures made { IsMadeOf asked.now (change_of S.left S.faults source.old source.new) result }
+    ensures made { IsMadeOf asked.now (source_change S.Source source.old source.new) result }
     ensures count { S.faults source.old ≤ S.faults source.new }
 {
     let Some(bytes) = read_input(alloc, asked.job, source)? else {
@@ -157,7 +150,7 @@ fn answer_source_alone<S: Source>(
 /// The bytes that the source gives for a job; None where there are more than its limit. Where the job has no input there are none,
 /// and the source is not called. The error is the status of a call that can't read them.
 fn read_input<S: Source>(alloc: Global, job: Job, source: &mut S) -> Result<Option<Vec<u8>>, Status>
-    ensures read { IsRead (limit_of job) (change_of S.left S.faults source.old source.new) result }
+    ensures read { IsRead (limit_of job) (source_change S.Source source.old source.new) result }
     ensures count { S.faults source.old ≤ S.faults source.new }
 {
     let Some(limit) = job.limit() else {
@@ -185,7 +178,7 @@ fn or_no_memory(reply: Result<Reply, AllocError>) -> Result<Reply, Status>
 /// Writes the reply, if there is one: the status of the call.
 fn end<K: Sink>(sink: &mut K, reply: Result<Reply, Status>, kept: &mut Option<Finding>) -> Status
     requires none { kept.old ≡ None }
-    ensures ended { IsEnded (change_of K.held K.faults sink.old sink.new) reply result kept.new }
+    ensures ended { IsEnded (sink_change K.Sink sink.old sink.new) reply result kept.new }
     ensures count { K.faults sink.old ≤ K.faults sink.new }
 {
     match reply {
@@ -197,7 +190,7 @@ fn end<K: Sink>(sink: &mut K, reply: Result<Reply, Status>, kept: &mut Option<Fi
 /// Writes a reply, and keeps its search where all was written: the status of the call.
 fn deliver<K: Sink>(sink: &mut K, reply: Reply, kept: &mut Option<Finding>) -> Status
     requires none { kept.old ≡ None }
-    ensures delivered { IsDelivered (change_of K.held K.faults sink.old sink.new) reply result kept.new }
+    ensures delivered { IsDelivered (sink_change K.Sink sink.old sink.new) reply result kept.new }
     ensures count { K.faults sink.old ≤ K.faults sink.new }
 {
     match give_all(sink, reply.text.as_slice()) {
@@ -211,7 +204,7 @@ fn deliver<K: Sink>(sink: &mut K, reply: Reply, kept: &mut Option<Finding>) -> S
 
 /// Writes a text: its own status, where all was written.
 fn write_text<K: Sink>(sink: &mut K, text: &[u8], own: Status) -> Status
-    ensures written { IsWritten (change_of K.held K.faults sink.old sink.new) text.now own result }
+    ensures written { IsWritten (sink_change K.Sink sink.old sink.new) text.now own result }
     ensures count { K.faults sink.old ≤ K.faults sink.new }
 {
     match give_all(sink, text) {

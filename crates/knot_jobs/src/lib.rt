@@ -6,10 +6,12 @@ mod answer;
 mod call;
 mod jobs;
 pub mod laws;
+mod ports;
 mod reply;
 mod words;
 
 pub use call::{run, run_alone};
 pub use decision_core::Status;
 pub use plain_jobs::PlainJob;
+pub use ports::Ports;
 pub use words::{Asked, Job, WordsFault, read_words};

@@ -5,7 +5,7 @@
 mod tests;
 
 use decision_core::Status;
-use knot_jobs::run_alone;
+use knot_jobs::{Ports, run_alone};
 use knot_ports::{MemSink, MemSource};
 use memory_core::OutOfMemory;
 use std::alloc::{AllocError, Global};
@@ -47,9 +47,12 @@ pub fn run_line(
     let words = words_of(alloc, line)?;
     let reading = Vec::from_slice(alloc, outside.reading)?;
     let writing = Vec::from_slice(alloc, outside.writing)?;
-    let mut source = MemSource::new(Vec::from_slice(alloc, input)?, 4, reading);
-    let mut sink = MemSink::new(alloc, 3, outside.room, writing)?;
-    let status = run_alone(alloc, words.as_slice(), &mut source, &mut sink, &mut None);
-    let written = Vec::from_slice(alloc, sink.bytes())?;
+    let mut ports = Ports {
+        source: MemSource::new(Vec::from_slice(alloc, input)?, 4, reading),
+        sink: MemSink::new(alloc, 3, outside.room, writing)?,
+        kept: None,
+    };
+    let status = run_alone(alloc, words.as_slice(), &mut ports);
+    let written = Vec::from_slice(alloc, ports.sink.bytes())?;
     Ok((status, written))
 }

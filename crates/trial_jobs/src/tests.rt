@@ -6,7 +6,7 @@ mod told;
 
 use crate::tests::gate::Meeting;
 use decision_core::Status;
-use knot_jobs::run;
+use knot_jobs::{Ports, run};
 use knot_ports::{MemSink, MemSource};
 use search_book::End;
 use search_pool::Finding;
@@ -29,17 +29,13 @@ fn call<R: Threads + Wait + Sync>(
     kept: &mut Option<Finding>,
 ) -> Result<Status, Fail> {
     let words = words_of(alloc, line)?;
-    let mut source = MemSource::new(Vec::from_slice(alloc, input)?, 4096, Vec::new(alloc));
-    let mut sink = MemSink::new(alloc, 4096, 4096, Vec::new(alloc))?;
-    let status = run(
-        rt,
-        alloc,
-        words.as_slice(),
-        &mut source,
-        &mut sink,
-        gate,
-        kept,
-    );
+    let mut ports = Ports {
+        source: MemSource::new(Vec::from_slice(alloc, input)?, 4096, Vec::new(alloc)),
+        sink: MemSink::new(alloc, 4096, 4096, Vec::new(alloc))?,
+        kept: kept.take(),
+    };
+    let status = run(rt, alloc, words.as_slice(), &mut ports, gate);
+    *kept = ports.kept;
     Ok(status)
 }
 

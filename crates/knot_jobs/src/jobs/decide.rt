@@ -88,7 +88,7 @@ fn answer_decision(
     Ok(reply_of(decision, text))
 }
 
-/// The reply of a decision and its text, behind which is its search.
+/// The reply with the text of a decision and its search.
 fn reply_of(decision: Decision, text: Vec<u8>) -> Reply
     ensures { result ≡ record { status = verdict_status decision.verdict; text = text.items; kept = decision.kept } }
 {

@@ -1,7 +1,7 @@
 //! Whole calls: faults at each call of the source and the sink, and inputs of the greatest length.
 use crate::{CALM, Outside, run_line, words_of};
 use decision_core::Status;
-use knot_jobs::run_alone;
+use knot_jobs::{Ports, run_alone};
 use knot_ports::{QuietSink, QuietSource};
 use std::alloc::{AllocError, Global};
 use std::test::Fail;
@@ -79,14 +79,12 @@ fn padded(alloc: Global, head: &[u8], size: usize) -> Result<Vec<u8>, AllocError
 /// The status of a call on a text of this many bytes.
 fn status_at(alloc: Global, line: &str, head: &[u8], size: usize) -> Result<Status, Fail> {
     let words = words_of(alloc, line)?;
-    let mut source = QuietSource::new(padded(alloc, head, size)?);
-    Ok(run_alone(
-        alloc,
-        words.as_slice(),
-        &mut source,
-        &mut QuietSink::new(),
-        &mut None,
-    ))
+    let mut ports = Ports {
+        source: QuietSource::new(padded(alloc, head, size)?),
+        sink: QuietSink::new(),
+        kept: None,
+    };
+    Ok(run_alone(alloc, words.as_slice(), &mut ports))
 }
 
 /// The longest inputs: at the limit they are read, one byte over it they aren't.

@@ -1,7 +1,7 @@
 //! Hostile use of `decide`: a read or a write that fails at each place, the most quandles and the most workers.
 use crate::{CALM, Outside, run_line, words_of};
 use decision_core::Status;
-use knot_jobs::run;
+use knot_jobs::{Ports, run};
 use knot_ports::{QuietSink, QuietSource};
 use search_pool::OpenGate;
 use std::alloc::{AllocError, Global};
@@ -64,19 +64,13 @@ fn quandles_are_taken_up_to_their_limit(rt: HostRuntime) -> Result<(), Fail> {
 fn a_decision_takes_the_most_workers(rt: HostRuntime) -> Result<(), Fail> {
     let alloc = rt.alloc();
     let words = words_of(alloc, "knot decide --workers 64")?;
-    let mut source = QuietSource::new(Vec::from_slice(alloc, UNKNOTS)?);
-    let mut sink = QuietSink::new();
-    let mut kept = None;
-    let status = run(
-        &rt,
-        alloc,
-        words.as_slice(),
-        &mut source,
-        &mut sink,
-        &OpenGate,
-        &mut kept,
-    );
+    let mut ports = Ports {
+        source: QuietSource::new(Vec::from_slice(alloc, UNKNOTS)?),
+        sink: QuietSink::new(),
+        kept: None,
+    };
+    let status = run(&rt, alloc, words.as_slice(), &mut ports, &OpenGate);
     assert_eq!(rt; status, Status::Done);
-    assert!(rt; kept.is_some());
+    assert!(rt; ports.kept.is_some());
     Ok(())
 }

@@ -19,7 +19,7 @@ fn asked(job: Job, workers: u32, budget: u32, spare: u8, seed: u64) -> Result<As
 }
 
 #[test]
-fn words_are_taken_or_refused(rt: HostRuntime) -> Result<(), Fail> {
+fn jobs_and_bounds_are_taken_and_other_words_are_usage(rt: HostRuntime) -> Result<(), Fail> {
     let none: Vec<String> = Vec::new(rt.alloc());
     assert_eq!(rt; read_words(rt.alloc(), &none), Err(WordsFault::Usage));
     let rows = [
@@ -49,6 +49,8 @@ fn words_are_taken_or_refused(rt: HostRuntime) -> Result<(), Fail> {
         ("knot weights", plain(PlainJob::Weights)),
         ("knot grid", plain(PlainJob::Grid)),
         ("knot numbers", plain(PlainJob::Numbers)),
+        ("knot decide", asked(Job::Decide, 1, 20_000, 1, 1)),
+        ("knot sample --seed 7", asked(Job::Sample, 1, 20_000, 1, 7)),
         ("knot simplify", asked(Job::Simplify, 1, 20_000, 1, 1)),
         ("knot simplify --budget 2", asked(Job::Simplify, 1, 2, 1, 1)),
         ("knot simplified", Err(WordsFault::Usage)),

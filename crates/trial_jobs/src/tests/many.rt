@@ -2,7 +2,7 @@
 use super::gate::Meeting;
 use super::{TREFOILS, call, is_exhausted};
 use decision_core::Status;
-use knot_jobs::run_alone;
+use knot_jobs::{Ports, run_alone};
 use knot_ports::{MemSink, MemSource};
 use search_book::Event;
 use search_pool::Finding;
@@ -38,11 +38,13 @@ fn search_at<R: Threads + Wait + Sync>(
 /// The search that a call alone on both trefoils keeps.
 fn search_alone(alloc: Global, line: &str) -> Result<Finding, Fail> {
     let words = words_of(alloc, line)?;
-    let mut source = MemSource::new(Vec::from_slice(alloc, TREFOILS)?, 4096, Vec::new(alloc));
-    let mut sink = MemSink::new(alloc, 4096, 100, Vec::new(alloc))?;
-    let mut kept = None;
-    let status = run_alone(alloc, words.as_slice(), &mut source, &mut sink, &mut kept);
-    search_of(status, kept)
+    let mut ports = Ports {
+        source: MemSource::new(Vec::from_slice(alloc, TREFOILS)?, 4096, Vec::new(alloc)),
+        sink: MemSink::new(alloc, 4096, 100, Vec::new(alloc))?,
+        kept: None,
+    };
+    let status = run_alone(alloc, words.as_slice(), &mut ports);
+    search_of(status, ports.kept)
 }
 
 /// What happened to the book of a search.

@@ -1,5 +1,5 @@
 //! What is told of streams that fail in the middle, and of answers; and which words ask for a job that reads.
-use knot_jobs::{Job, PlainJob, Status, run_alone};
+use knot_jobs::{Job, PlainJob, Ports, Status, run_alone};
 use knot_ports::{StdSink, StdSource, give_all};
 use knot_tells::{reading, sentence_of};
 use std::alloc::Global;
@@ -50,13 +50,9 @@ impl Write for Room {
 }
 
 /// The status of a call of `code`.
-fn code(
-    alloc: Global,
-    source: &mut StdSource<Bytes>,
-    sink: &mut StdSink<Room>,
-) -> Result<Status, Fail> {
+fn code(alloc: Global, ports: &mut Ports<StdSource<Bytes>, StdSink<Room>>) -> Result<Status, Fail> {
     let words = words_of(alloc, "knot code")?;
-    Ok(run_alone(alloc, words.as_slice(), source, sink, &mut None))
+    Ok(run_alone(alloc, words.as_slice(), ports))
 }
 
 /// What is told of a call with the words of a line that ended with a status; nothing, where nothing is.
@@ -84,10 +80,13 @@ fn ends(
     words: &str,
 ) -> Result<bool, Fail> {
     let alloc = rt.alloc();
-    let mut source = StdSource::new(alloc, reader, 100);
-    let mut sink = StdSink::new(Room { left: room });
-    let ended = code(alloc, &mut source, &mut sink)?;
-    let said = said(rt, "knot code", ended, &source, &sink)?;
+    let mut ports = Ports {
+        source: StdSource::new(alloc, reader, 100),
+        sink: StdSink::new(Room { left: room }),
+        kept: None,
+    };
+    let ended = code(alloc, &mut ports)?;
+    let said = said(rt, "knot code", ended, &ports.source, &ports.sink)?;
     Ok(ended == status && said.as_str().starts_with(words))
 }
 
