@@ -18,7 +18,7 @@ use Rattle.seek.specs.declared.failure.Failure.TheVariants as failure
 use Rattle.seek.specs.Failure.{failure_status}
 use Rattle.seek.specs.Blocks.{AreBlocksOf}
 use Rattle.seek.specs.Inputs.{IsPartsFailure, IsInputsFailure}
-use Rattle.seek.specs.Exit.{Outside, IsUntouched, IsSoughtTo, EndsUnread, EndsBy, EndsRefused, EndsCall, IsWrittenTo, IsAnswered}
+use Rattle.seek.specs.Exit.{Outside, IsUntouched, IsSought, EndsUnread, EndsBy, EndsRefused, EndsCall, IsWrittenTo, IsAnswered}
 use Rattle.seek.proofs.Found.{written_where_done}
 
 -- only Done has the number 0
@@ -40,7 +40,7 @@ failed (failure.ReadAndWritten name) is = cc
 failed (failure.Write name error) is = cc
 failed failure.OutOfMemory is = cc
 
-written : (out : Option (Bor (List ℕ))) (bytes : List ℕ) (blocks : List Block) (old new : Outside) (s : Status) → IsSoughtTo out bytes blocks old new s
+written : (out : Option (Bor (List ℕ))) (bytes : List ℕ) (blocks : List Block) (old new : Outside) (s : Status) → IsSought out bytes blocks old new s
     → s ≡ status.Done → IsWrittenTo out bytes old new
 written None bytes blocks old new s (sought, kept) done = written_where_done bytes blocks old.output new.output s sought done
 written (Some path) bytes blocks old new s (inl (is, puts), kept) done = puts
@@ -50,7 +50,7 @@ written (Some path) bytes blocks old new s (inr (same, inr (not_done, sought)), 
 -- a call that has what it reads ends as one that does what is asked
 pub with_inputs : (told : Told) (asked : Asked) (parts : List (List ℕ)) (blocks : List Block) (old new : Outside) (s : Status)
     → ArePartsOf told (all_due asked) parts → AreBlocksOf told asked.weights.items blocks
-    → IsSoughtTo asked.out (joined parts) blocks old new s → EndsBy told asked old new s
+    → IsSought asked.out (joined parts) blocks old new s → EndsBy told asked old new s
 with_inputs told asked parts blocks old new s are given sought =
     inl record { parts = parts; are = are; ends = record { blocks = blocks; given = given; sought = sought } }
 

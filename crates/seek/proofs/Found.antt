@@ -11,8 +11,8 @@ use Rattle.decision_core.specs.declared.status.Status.TheVariants as status
 use Rattle.seek_core.specs.declared.ending.Ending.{Ending}
 use Rattle.seek_core.specs.declared.ending.Ending.TheVariants as end
 use Rattle.seek_core.specs.Answers.{Ends, WritesDecision, ending_status}
-use Rattle.seek.specs.Exit.{Outside, IsKept, IsSoughtTo}
-use Rattle.seek.specs.Search.{Held, unseen, EndsSearch, IsSoughtWith, IsDecisionText, IsUnput, IsSoughtAt}
+use Rattle.seek.specs.Exit.{Outside, IsKept, IsSought}
+use Rattle.seek.specs.Search.{Held, unseen, EndsSearch, IsSoughtToSink, IsDecisionText, IsUnput, IsSoughtToFile}
 
 -- only the ending of a verdict that was written has the status of one
 pub only_done : (e : Ending) → ending_status e ≡ status.Done → e ≡ end.Done
@@ -26,7 +26,7 @@ only_done end.OutOfMemory is = cc
 
 -- a call that is done has written a text that decides the input
 pub written_where_done : (bytes : List ℕ) (blocks : List Block) (before after : Held) (s : Status)
-    → IsSoughtWith bytes blocks before after s → s ≡ status.Done → WritesDecision bytes before.bytes after.bytes
+    → IsSoughtToSink bytes blocks before after s → s ≡ status.Done → WritesDecision bytes before.bytes after.bytes
 written_where_done bytes blocks before after s sought done =
     subst (Ends bytes before.bytes after.bytes) (only_done sought.ending (sym sought.status_is ∙ done)) sought.ends.ends
 
@@ -42,7 +42,7 @@ untold bytes before after end.OutOfMemory h = tt
 
 -- a search whose sink is in memory, didn't fail, and holds nothing that is put anywhere
 pub sought_in_memory : (bytes : List ℕ) (blocks : List Block) (before after : Held) (e : Ending) (s : Status)
-    → EndsSearch bytes blocks before after e → (e ≡ end.WriteFault → ⊥) → s ≡ ending_status e → IsSoughtWith bytes blocks unseen unseen s
+    → EndsSearch bytes blocks before after e → (e ≡ end.WriteFault → ⊥) → s ≡ ending_status e → IsSoughtToSink bytes blocks unseen unseen s
 sought_in_memory bytes blocks before after e s ends unfailed is = record {
   ending = e;
   status_is = is;
@@ -67,7 +67,7 @@ decided bytes blocks before after e text ends done empty held = record {
 }
 
 -- memory may be wanting for any search
-pub wanting : (bytes : List ℕ) (blocks : List Block) (s : Status) → s ≡ status.OutOfMemory → IsSoughtWith bytes blocks unseen unseen s
+pub wanting : (bytes : List ℕ) (blocks : List Block) (s : Status) → s ≡ status.OutOfMemory → IsSoughtToSink bytes blocks unseen unseen s
 wanting bytes blocks s is = record {
   ending = end.OutOfMemory;
   status_is = is;
@@ -83,17 +83,17 @@ unwritten bytes blocks s (inr memory) = inr ((λ done. cc), wanting bytes blocks
 -- how a text that decides the input is put: whole, or what stands at each path is as it was
 pub put_at : (bytes : List ℕ) (blocks : List Block) (text : List ℕ) (before after : Option Standing) (path : List ℕ) (s : Status)
     → IsDecisionText bytes text → (s ≡ status.Done → PutsAt before after path text) → (s ≢ status.Done → after ≡ before)
-    → (s ≡ status.Done) ⊎ ((s ≡ status.WriteFault) ⊎ (s ≡ status.OutOfMemory)) → IsSoughtAt bytes blocks before after path s
+    → (s ≡ status.Done) ⊎ ((s ≡ status.WriteFault) ⊎ (s ≡ status.OutOfMemory)) → IsSoughtToFile bytes blocks before after path s
 put_at bytes blocks text before after path s decided whole none (inl done) = inl (done, (text, (decided, whole done)))
 put_at bytes blocks text before after path s decided whole none (inr (inl fault)) = inr (none (λ done. cc), inl fault)
 put_at bytes blocks text before after path s decided whole none (inr (inr memory)) =
     inr (none (λ done. cc), unwritten bytes blocks s (inr memory))
 
 -- a search whose words name a file
-pub sought_at_path : (out : Option (Bor (List ℕ))) (path : Bor (List ℕ)) (bytes : List ℕ) (blocks : List Block) (old new : Outside) (s : Status)
-    → out ≡ Some path → IsSoughtAt bytes blocks old.files new.files path.now s → IsKept old.output new.output
-    → IsSoughtTo out bytes blocks old new s
-sought_at_path out path bytes blocks old new s is sought kept = subst (λ o. IsSoughtTo o bytes blocks old new s) (sym is) (sought, kept)
+pub sought_to_file : (out : Option (Bor (List ℕ))) (path : Bor (List ℕ)) (bytes : List ℕ) (blocks : List Block) (old new : Outside) (s : Status)
+    → out ≡ Some path → IsSoughtToFile bytes blocks old.files new.files path.now s → IsKept old.output new.output
+    → IsSought out bytes blocks old new s
+sought_to_file out path bytes blocks old new s is sought kept = subst (λ o. IsSought o bytes blocks old new s) (sym is) (sought, kept)
 
 pub kept : (held : Held) → IsKept held held
 kept held = record { bytes = Keeps-refl held.bytes; faults = refl }

@@ -21,7 +21,7 @@ use Rattle.seek.specs.declared.failure.Failure.{Failure}
 use Rattle.seek.specs.declared.outlets.Outlets.{Outlets}
 use Rattle.seek.specs.Failure.{failure_status}
 use Rattle.seek.specs.Blocks.{AreBlocksOf, IsBlocksFailure}
-use Rattle.seek.specs.Search.{Held, IsSoughtWith, PutsDecision, IsSoughtAt}
+use Rattle.seek.specs.Search.{Held, port_held, IsSoughtToSink, PutsDecision, IsSoughtToFile}
 
 -- what a call may change, as far as it is told: what the lent output holds, with its count of faults, and what stands at each path
 pub record Outside : Type 0 where
@@ -31,7 +31,7 @@ pub record Outside : Type 0 where
 -- what outlets come to, by what tells what stands at each path, and what tells what a writer holds
 abbrev pub outside_of : {P W : Type 0} → (P → Option Standing) → (W → Option (List ℕ)) → Outlets P W → Outside
 outside_of standing contents outlets = record {
-  output = record { bytes = contents outlets.output.port; faults = outlets.output.errors };
+  output = port_held contents outlets.output;
   files = standing outlets.places;
 }
 
@@ -47,15 +47,15 @@ pub record IsUntouched (old new : Outside) : Type 0 where
 -- ---- what words ask for, and how a call ends that does it
 
 -- a verdict on the input was sought, to be written to standard output, or to the file that the words name
-abbrev pub IsSoughtTo : Option (Bor (List ℕ)) → List ℕ → List Block → Outside → Outside → Status → Type 0
-IsSoughtTo None bytes blocks old new s = IsSoughtWith bytes blocks old.output new.output s × (new.files ≡ old.files)
-IsSoughtTo (Some path) bytes blocks old new s = IsSoughtAt bytes blocks old.files new.files path.now s × IsKept old.output new.output
+abbrev pub IsSought : Option (Bor (List ℕ)) → List ℕ → List Block → Outside → Outside → Status → Type 0
+IsSought None bytes blocks old new s = IsSoughtToSink bytes blocks old.output new.output s × (new.files ≡ old.files)
+IsSought (Some path) bytes blocks old new s = IsSoughtToFile bytes blocks old.files new.files path.now s × IsKept old.output new.output
 
 -- on these parts a verdict was sought, by the blocks of the files that are asked too
 pub record EndsWithBlocks (told : Told) (asked : Asked) (parts : List (List ℕ)) (old new : Outside) (s : Status) : Type 0 where
   pub blocks : List Block
   pub given : AreBlocksOf told asked.weights.items blocks
-  pub sought : IsSoughtTo asked.out (joined parts) blocks old new s
+  pub sought : IsSought asked.out (joined parts) blocks old new s
 
 -- a file of blocks can't be had
 pub record EndsWithoutBlocks (told : Told) (asked : Asked) (old new : Outside) (s : Status) : Type 0 where
@@ -77,7 +77,7 @@ pub record EndsUnread (told : Told) (asked : Asked) (old new : Outside) (s : Sta
   pub status_is : s ≡ fault_status fault
   pub untouched : IsUntouched old new
 
--- it is said that a file would be read and written
+-- it is said that a file would be read and written: no clause says which paths are one file, only that the words name one to write
 pub record EndsClashing (asked : Asked) (old new : Outside) (s : Status) : Type 0 where
   pub out : IsSome asked.out
   pub status_is : s ≡ status.Usage

@@ -1,6 +1,7 @@
 -- How a search ends whose verdict is written: to a sink, or to a file at a path.
 use Rattle.std.specs.Prelude.{◌≡◌, ◌≢◌, ◌⊎◌, ◌<◌, ◌≤◌, ℕ, List, [], Option, Some, None, length}
 use Rattle.knot_ports.specs.Faults.{Rose}
+use Rattle.knot_ports.specs.Standard.{Counted}
 use Rattle.decision_core.specs.declared.limits.TheConstants.{MAX_INPUT}
 use Rattle.whole_files.specs.Places.{Standing, PutsAt}
 use Rattle.decision_core.specs.declared.status.Status.{Status}
@@ -16,6 +17,14 @@ pub record Held : Type 0 where
   pub bytes : Option (List ℕ)
   pub faults : ℕ
 
+-- what a sink comes to, by what tells the bytes that it holds, and what tells how many faults it counts
+abbrev pub held_of : {X : Type 0} → (X → Option (List ℕ)) → (X → ℕ) → X → Held
+held_of bytes_of faults_of sink = record { bytes = bytes_of sink; faults = faults_of sink }
+
+-- the same of a sink over a writer, by what tells the bytes that a writer holds
+abbrev pub port_held : {X : Type 0} → (X → Option (List ℕ)) → Counted X → Held
+port_held bytes_of sink = record { bytes = bytes_of sink.port; faults = sink.errors }
+
 -- what is told of a sink whose text is put nowhere: it never fails
 abbrev pub unseen : Held
 unseen = record { bytes = None; faults = 0 }
@@ -29,7 +38,7 @@ pub record EndsSearch (bytes : List ℕ) (blocks : List Block) (before after : H
   pub fault : ending ≡ WriteFault → Rose before.faults after.faults
 
 -- the status is that of an ending by which the search ended
-pub record IsSoughtWith (bytes : List ℕ) (blocks : List Block) (before after : Held) (s : Status) : Type 0 where
+pub record IsSoughtToSink (bytes : List ℕ) (blocks : List Block) (before after : Held) (s : Status) : Type 0 where
   pub ending : Ending
   pub status_is : s ≡ ending_status ending
   pub ends : EndsSearch bytes blocks before after ending
@@ -45,9 +54,9 @@ PutsDecision bytes before after path = (text : List ℕ) × (IsDecisionText byte
 
 -- no decision was put: the file can't be written, or the search ended without one, of which nothing was written
 abbrev pub IsUnput : List ℕ → List Block → Status → Type 0
-IsUnput bytes blocks s = (s ≡ status.WriteFault) ⊎ ((s ≢ status.Done) × IsSoughtWith bytes blocks unseen unseen s)
+IsUnput bytes blocks s = (s ≡ status.WriteFault) ⊎ ((s ≢ status.Done) × IsSoughtToSink bytes blocks unseen unseen s)
 
 -- the file at the path is whole, and decides the input, where the call is done; and else what stands at each path is as it was
-abbrev pub IsSoughtAt : List ℕ → List Block → Option Standing → Option Standing → List ℕ → Status → Type 0
-IsSoughtAt bytes blocks before after path s =
+abbrev pub IsSoughtToFile : List ℕ → List Block → Option Standing → Option Standing → List ℕ → Status → Type 0
+IsSoughtToFile bytes blocks before after path s =
     ((s ≡ status.Done) × PutsDecision bytes before after path) ⊎ ((after ≡ before) × IsUnput bytes blocks s)

@@ -7,26 +7,26 @@ ghost use Rattle.clap.specs.declared.error.kind.ErrorKind.TheVariants as kind;
 ghost use Rattle.decision_core.specs.declared.status.Status.TheVariants as status;
 ghost use Rattle.seek_core.specs.Parts.{joined};
 ghost use Rattle.seek_words.specs.Words.{texts_of, IsShown, AskForText};
-ghost use Rattle.seek.specs.Exit.{outside_of, IsSoughtTo, EndsBy, EndsCall, IsExitOf, IsAnswered};
+ghost use Rattle.seek.specs.Exit.{outside_of, IsSought, EndsBy, EndsCall, IsExitOf, IsAnswered};
 
 use crate::clash::read_and_written;
 use crate::failure::{Failure, OUTPUT};
 use crate::inputs::{Inputs, read_inputs};
 use crate::outlets::Outlets;
-use crate::report::tell;
-use crate::search::{seek_to_file, seek_to_output};
+use crate::report::{tell, tell_reading};
+use crate::search::Search;
 use clap::error::ErrorKind;
 use decision_core::Status;
 use seek_parts::Texts;
-use seek_words::{Asked, Talk, option_bounds, read_words};
+use seek_words::{Asked, option_bounds, read_words};
 use std::io;
-use std::io::{IsTerminal, Write};
+use std::io::Write;
 use std::process::ExitCode;
 use std::thread::Threads;
 use whole_files::Places;
 
-/// Does what the words ask for, with workers in threads of the second runtime, tells what is wrong, and answers the exit status: that of
-/// a status with which such a call ends. It is 0 only where the words are answered by a decision, or ask for the help or the version.
+/// Does what the words ask for, with workers in `threads` (`main` gives its one runtime for both), tells what is wrong, and answers the exit
+/// status of a status with which such a call ends: 0 only where a decision answers the words, or they ask for the help or the version.
 pub(crate) fn call<R: Threads + Sync, F: Texts, P: Places, W: Write + Drop>(
     rt: &HostRuntime,
     threads: &R,
@@ -114,28 +114,29 @@ fn seek<R: Threads + Sync, F: Texts, P: Places, W: Write + Drop>(
     if let Some(name) = read_and_written(rt, asked) {
         return tell(rt, &Failure::ReadAndWritten { name });
     }
-    if asked.talk != Talk::Quiet && asked.reads_input() && rt.stdin().is_terminal() {
-        let _told = eprintln!(rt; "seek: standard input is read, up to its end (Ctrl-D)");
-    }
+    tell_reading(rt, asked);
     match read_inputs(rt.alloc(), files, asked) {
-        Ok(inputs) => seek_with(rt, threads, &inputs, asked, outlets),
+        Ok(inputs) => seek_on(rt, threads, &inputs, asked, outlets),
         Err(failure) => tell(rt, &failure),
     }
 }
 
-/// Seeks a verdict on what was read, and writes it there.
-fn seek_with<R: Threads + Sync, P: Places, W: Write + Drop>(
+/// Seeks a verdict on what was read, and writes it to the file that the words name, else to standard output.
+fn seek_on<R: Threads + Sync, P: Places, W: Write + Drop>(
     rt: &HostRuntime,
     threads: &R,
     inputs: &Inputs,
     asked: &Asked,
     outlets: &mut Outlets<P, W>,
 ) -> Status
-    ensures { IsSoughtTo asked.now.out (joined inputs.now.parts.texts) inputs.now.blocks
+    ensures { IsSought asked.now.out (joined inputs.now.parts.texts) inputs.now.blocks
         (outside_of P.standing W.contents outlets.old) (outside_of P.standing W.contents outlets.new) result }
 {
-    match asked.out {
-        None => seek_to_output(rt, threads, inputs, asked, &mut outlets.output),
-        Some(path) => seek_to_file(rt, threads, inputs, asked, &mut outlets.places, path),
-    }
+    let search = Search {
+        rt,
+        threads,
+        inputs,
+        asked,
+    };
+    search.seek_inputs(outlets)
 }

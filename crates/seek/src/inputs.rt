@@ -18,7 +18,7 @@ pub(crate) struct Inputs<'a> {
     pub(crate) blocks: Blocks,
 }
 
-/// Reads the parts and the blocks of what is asked. Else the answer is why one of them can't be had: the parts come first.
+/// Reads the parts and the blocks of what is asked. Else the answer is why one of them can't be had.
 pub(crate) fn read_inputs<'a, F: Texts>(
     alloc: Global,
     files: &F,

@@ -1,54 +1,30 @@
 //! What is told on standard error.
 ghost use Rattle.std.specs.Prelude.{◌≡◌, ◌≢◌};
 ghost use Rattle.decision_core.specs.declared.status.Status.TheVariants as status;
-ghost use Rattle.seek_core.specs.declared.ending.Ending.TheVariants as end;
-ghost use Rattle.seek_core.specs.Answers.{ending_status};
 ghost use Rattle.seek.specs.Failure.{failure_status};
 
 use crate::failure::Failure;
 use decision_core::Status;
-use seek_core::{Ending, Tried, join_parts, place};
+use seek_core::{Tried, join_parts, place};
 use seek_faults::{BraidReason, Reason, reason_at};
 use seek_parts::{PartFault, Parts};
 use seek_words::{Asked, Talk};
 use std::fmt;
+use std::io::IsTerminal;
 use verdict_core::{Listed, QuandleName};
 
 /// What an input without parts is called in messages.
 const INPUT: &str = "the problem";
 
-/// How a search ended, and how many steps its first worker has made.
-#[derive(Drop)]
-pub(crate) struct Ended {
-    pub(crate) ending: Ending,
-    pub(crate) made: u64,
-}
-
-/// Tells how a search ended, where that is not with a verdict: the status. Where the sink failed, it was by this failure.
-pub(crate) fn tell_ending(
-    rt: &HostRuntime,
-    asked: &Asked,
-    parts: &Parts,
-    ended: &Ended,
-    failure: &Failure,
-) -> Status
-    requires { ended.now.ending ≡ end.WriteFault → failure_status failure.now ≡ status.WriteFault }
-    ensures { result ≡ ending_status ended.now.ending }
-{
-    match &ended.ending {
-        Ending::Done => Status::Done,
-        Ending::NotFound(tried) => tell_tried(rt, asked, tried, ended.made),
-        Ending::Malformed { line } | Ending::Limit { line } => {
-            tell_line(rt, parts, *line, ended.ending.status())
-        }
-        Ending::TooLong => tell_long(rt, parts),
-        Ending::WriteFault => tell(rt, failure),
-        Ending::OutOfMemory => tell(rt, &Failure::OutOfMemory),
+/// Tells that standard input is read, where it is a terminal and the words don't ask for silence.
+pub(crate) fn tell_reading(rt: &HostRuntime, asked: &Asked) {
+    if asked.talk != Talk::Quiet && asked.reads_input() && rt.stdin().is_terminal() {
+        let _told = eprintln!(rt; "seek: standard input is read, up to its end (Ctrl-D)");
     }
 }
 
 /// Tells what was tried in vain, but where the words ask for silence: the status. The first worker has made so many steps.
-fn tell_tried(rt: &HostRuntime, asked: &Asked, tried: &Tried, made: u64) -> Status
+pub(crate) fn tell_tried(rt: &HostRuntime, asked: &Asked, tried: &Tried, made: u64) -> Status
     ensures { result ≡ status.Unknown }
 {
     if asked.talk != Talk::Quiet {
@@ -60,7 +36,7 @@ fn tell_tried(rt: &HostRuntime, asked: &Asked, tried: &Tried, made: u64) -> Stat
 }
 
 /// Tells that the input is too long: the status.
-fn tell_long(rt: &HostRuntime, parts: &Parts) -> Status
+pub(crate) fn tell_long(rt: &HostRuntime, parts: &Parts) -> Status
     ensures { result ≡ status.Limit }
 {
     let name = parts.last_name().unwrap_or(INPUT);
@@ -77,7 +53,7 @@ pub(crate) fn tell(rt: &HostRuntime, failure: &Failure) -> Status
 }
 
 /// Tells why a line is bad: the status. Where memory is wanting for the reason, the line is told without one.
-fn tell_line(rt: &HostRuntime, parts: &Parts, at: usize, kind: Status) -> Status
+pub(crate) fn tell_line(rt: &HostRuntime, parts: &Parts, at: usize, kind: Status) -> Status
     ensures { result ≡ kind }
 {
     let (name, line) = place_of(parts, at);

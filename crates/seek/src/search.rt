@@ -1,14 +1,19 @@
 //! A verdict on what was read is sought and written: to a writer that is lent, or to a file at a path, whole or not at all.
 ghost use Rattle.std.specs.Prelude.{◌≡◌, ◌≢◌, ◌⊎◌, IfOk, IfErr};
 ghost use Rattle.decision_core.specs.declared.status.Status.TheVariants as status;
+ghost use Rattle.seek_core.specs.declared.ending.Ending.TheVariants as end;
+ghost use Rattle.seek_core.specs.Answers.{ending_status};
 ghost use Rattle.seek_core.specs.Parts.{joined};
 ghost use Rattle.whole_files.specs.Places.{PutsAt};
-ghost use Rattle.seek.specs.Search.{unseen, EndsSearch, IsSoughtWith, IsDecisionText, IsSoughtAt};
+ghost use Rattle.seek.specs.Failure.{failure_status};
+ghost use Rattle.seek.specs.Search.{held_of, port_held, unseen, EndsSearch, IsSoughtToSink, IsDecisionText, IsSoughtToFile};
+ghost use Rattle.seek.specs.Exit.{outside_of, IsSought};
 
 use crate::failure::{Failure, OUTPUT};
 use crate::inputs::Inputs;
+use crate::outlets::Outlets;
 use crate::progress::Teller;
-use crate::report::{Ended, tell, tell_ending};
+use crate::report::{tell, tell_line, tell_long, tell_tried};
 use decision_core::Status;
 use knot_ports::{Sink, StdSink};
 use seek_core::{Bounds, Ending, run};
@@ -18,62 +23,113 @@ use std::io::Write;
 use std::thread::Threads;
 use whole_files::{Places, TextSink};
 
-/// Seeks a verdict on what was read, writes it to the sink over standard output, and tells how that ended: the status.
-pub(crate) fn seek_to_output<R: Threads + Sync, W: Write + Drop>(
-    rt: &HostRuntime,
-    threads: &R,
-    inputs: &Inputs,
-    asked: &Asked,
-    sink: &mut StdSink<W>,
-) -> Status
-    ensures { IsSoughtWith (joined inputs.now.parts.texts) inputs.now.blocks (record { bytes = W.contents sink.old.port; faults = sink.old.errors })
-        (record { bytes = W.contents sink.new.port; faults = sink.new.errors }) result }
-{
-    let ended = run_told(rt, threads, inputs, asked, sink);
-    let failure = Failure::Write {
-        name: OUTPUT,
-        error: sink.take_error(),
-    };
-    tell_ending(rt, asked, &inputs.parts, &ended, &failure)
+/// What was read and what is asked, for a search with workers in threads that `threads` starts.
+#[derive(Drop)]
+pub(crate) struct Search<'a, R> {
+    pub(crate) rt: &'a HostRuntime,
+    pub(crate) threads: &'a R,
+    pub(crate) inputs: &'a Inputs<'a>,
+    pub(crate) asked: &'a Asked<'a>,
 }
 
-/// Seeks a verdict on what was read, puts it in a file at a path, whole or not at all, and tells how that ended: the status.
-pub(crate) fn seek_to_file<R: Threads + Sync, P: Places>(
-    rt: &HostRuntime,
-    threads: &R,
-    inputs: &Inputs,
-    asked: &Asked,
-    places: &mut P,
-    path: &str,
-) -> Status
-    ensures { IsSoughtAt (joined inputs.now.parts.texts) inputs.now.blocks (P.standing places.old) (P.standing places.new) path.now result }
-{
-    if let Err(error) = places.try_path(path) {
-        return tell_unwritten(rt, path, error);
-    }
-    match find_text(rt, threads, inputs, asked) {
-        Ok(text) => put_text(rt, places, path, text.bytes()),
-        Err(status) => status,
-    }
+/// How a search ended, and how many steps its first worker has made.
+#[derive(Drop)]
+struct Ended {
+    ending: Ending,
+    made: u64,
 }
 
-/// The text of a verdict on what was read; the error is the status of a search that finds none, which is told.
-fn find_text<R: Threads + Sync>(
-    rt: &HostRuntime,
-    threads: &R,
-    inputs: &Inputs,
-    asked: &Asked,
-) -> Result<TextSink, Status>
-    ensures found { IfOk result (λ text. IsDecisionText (joined inputs.now.parts.texts) text.bytes) }
-    ensures none { IfErr result (λ s. s ≢ status.Done) }
-    ensures sought { IfErr result (λ s. IsSoughtWith (joined inputs.now.parts.texts) inputs.now.blocks unseen unseen s) }
-{
-    let mut text = TextSink::new(rt.alloc());
-    let ended = run_told(rt, threads, inputs, asked, &mut text);
-    match &ended.ending {
-        Ending::Done => Ok(text),
-        Ending::WriteFault => Err(tell(rt, &Failure::OutOfMemory)),
-        _ => Err(tell_ending(rt, asked, &inputs.parts, &ended, &Failure::OutOfMemory)),
+impl<'a, R: Threads + Sync> Search<'a, R> {
+    /// Seeks a verdict on what was read, and writes it to the file that the words name, else to standard output.
+    pub(crate) fn seek_inputs<P: Places, W: Write + Drop>(
+        &self,
+        outlets: &mut Outlets<P, W>,
+    ) -> Status
+        ensures { IsSought self.now.asked.now.out (joined self.now.inputs.now.parts.texts) self.now.inputs.now.blocks
+            (outside_of P.standing W.contents outlets.old) (outside_of P.standing W.contents outlets.new) result }
+    {
+        match self.asked.out {
+            None => self.seek_to_output(&mut outlets.output),
+            Some(path) => self.seek_to_file(&mut outlets.places, path),
+        }
+    }
+
+    /// Seeks a verdict on what was read, writes it to the sink over standard output, and tells how that ended: the status.
+    fn seek_to_output<W: Write + Drop>(&self, sink: &mut StdSink<W>) -> Status
+        ensures { IsSoughtToSink (joined self.now.inputs.now.parts.texts) self.now.inputs.now.blocks
+            (port_held W.contents sink.old) (port_held W.contents sink.new) result }
+    {
+        let ended = self.run_told(sink);
+        let failure = Failure::Write {
+            name: OUTPUT,
+            error: sink.take_error(),
+        };
+        self.tell_ending(&ended, &failure)
+    }
+
+    /// Seeks a verdict on what was read, puts it in a file at a path, whole or not at all, and tells its end: the status.
+    fn seek_to_file<P: Places>(&self, places: &mut P, path: &str) -> Status
+        ensures { IsSoughtToFile (joined self.now.inputs.now.parts.texts) self.now.inputs.now.blocks
+            (P.standing places.old) (P.standing places.new) path.now result }
+    {
+        if let Err(error) = places.try_path(path) {
+            return tell_unwritten(self.rt, path, error);
+        }
+        match self.find_text() {
+            Ok(text) => put_text(self.rt, places, path, text.bytes()),
+            Err(status) => status,
+        }
+    }
+
+    /// The text of a verdict on what was read; the error is the status of a search that finds none, which is told.
+    fn find_text(&self) -> Result<TextSink, Status>
+        ensures found { IfOk result (λ text. IsDecisionText (joined self.now.inputs.now.parts.texts) text.bytes) }
+        ensures none { IfErr result (λ s. s ≢ status.Done) }
+        ensures sought { IfErr result (λ s. IsSoughtToSink (joined self.now.inputs.now.parts.texts) self.now.inputs.now.blocks unseen unseen s) }
+    {
+        let mut text = TextSink::new(self.rt.alloc());
+        let ended = self.run_told(&mut text);
+        match &ended.ending {
+            Ending::Done => Ok(text),
+            Ending::WriteFault => Err(tell(self.rt, &Failure::OutOfMemory)),
+            _ => Err(self.tell_ending(&ended, &Failure::OutOfMemory)),
+        }
+    }
+
+    /// Seeks a verdict, writes it to the sink, and tells how far the search is.
+    fn run_told<K: Sink>(&self, sink: &mut K) -> Ended
+        ensures { EndsSearch (joined self.now.inputs.now.parts.texts) self.now.inputs.now.blocks
+            (held_of K.held K.faults sink.old) (held_of K.held K.faults sink.new) result.ending }
+    {
+        let alloc = self.rt.alloc();
+        let mut watch = Teller::new(self.rt, self.asked.talk);
+        let bounds = bounds_of(self.asked);
+        let texts = self.inputs.parts.texts();
+        let blocks = &self.inputs.blocks;
+        let ending = run(self.threads, alloc, texts, blocks, bounds, sink, &mut watch);
+        watch.end();
+        Ended {
+            ending,
+            made: watch.steps(),
+        }
+    }
+
+    /// Tells how a search ended, where that is not with a verdict: the status. Where the sink failed, it was by this failure.
+    fn tell_ending(&self, ended: &Ended, failure: &Failure) -> Status
+        requires { ended.now.ending ≡ end.WriteFault → failure_status failure.now ≡ status.WriteFault }
+        ensures { result ≡ ending_status ended.now.ending }
+    {
+        let (rt, parts) = (self.rt, &self.inputs.parts);
+        match &ended.ending {
+            Ending::Done => Status::Done,
+            Ending::NotFound(tried) => tell_tried(rt, self.asked, tried, ended.made),
+            Ending::Malformed { line } | Ending::Limit { line } => {
+                tell_line(rt, parts, *line, ended.ending.status())
+            }
+            Ending::TooLong => tell_long(rt, parts),
+            Ending::WriteFault => tell(rt, failure),
+            Ending::OutOfMemory => tell(rt, &Failure::OutOfMemory),
+        }
     }
 }
 
@@ -103,29 +159,6 @@ fn tell_unwritten(rt: &HostRuntime, path: &str, error: io::Error) -> Status
             error: Some(error),
         },
     )
-}
-
-/// Seeks a verdict, writes it to the sink, and tells how far the search is.
-fn run_told<R: Threads + Sync, K: Sink>(
-    rt: &HostRuntime,
-    threads: &R,
-    inputs: &Inputs,
-    asked: &Asked,
-    sink: &mut K,
-) -> Ended
-    ensures { EndsSearch (joined inputs.now.parts.texts) inputs.now.blocks (record { bytes = K.held sink.old; faults = K.faults sink.old })
-        (record { bytes = K.held sink.new; faults = K.faults sink.new }) result.ending }
-{
-    let mut watch = Teller::new(rt, asked.talk);
-    let bounds = bounds_of(asked);
-    let texts = inputs.parts.texts();
-    let blocks = &inputs.blocks;
-    let ending = run(threads, rt.alloc(), texts, blocks, bounds, sink, &mut watch);
-    watch.end();
-    Ended {
-        ending,
-        made: watch.steps(),
-    }
 }
 
 /// What bounds the search.

@@ -8,4 +8,4 @@ returns-in-Err g c = without_inputs _ _ _ _ _ c.in-Err.failure
     (record { output = kept _; files = refl }) c.in-Err.ensures.failure c.tell-in-Err.ensures.is
 
 pub returns-in-Ok : goal.returns-in-Ok
-returns-in-Ok g c = with_inputs _ _ _ _ _ _ _ c.in-Ok.ensures.parts c.in-Ok.ensures.blocks c.seek_with.ensures
+returns-in-Ok g c = with_inputs _ _ _ _ _ _ _ c.in-Ok.ensures.parts c.in-Ok.ensures.blocks c.seek_on.ensures

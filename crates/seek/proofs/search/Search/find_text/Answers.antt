@@ -1,7 +1,7 @@
 use Rattle.std.proofs.Common.{◌∙◌, Some, refl, sym, ap}
 use Rattle.whole_files.specs.Place.{HeldText}
 use Rattle.seek.proofs.Found.{decided, only_done, sought_in_memory, wanting}
-use Rattle.seek.proofs.search.find_text.Goals as goal
+use Rattle.seek.proofs.search.Search.find_text.Goals as goal
 
 pub returns-in-Done-clause-found : goal.returns-in-Done-clause-found
 returns-in-Done-clause-found g c =

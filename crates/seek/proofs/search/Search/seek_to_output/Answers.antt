@@ -1,7 +1,7 @@
 use Rattle.std.proofs.Common.{sym, subst}
 use Rattle.seek_core.specs.Parts.{joined}
-use Rattle.seek.specs.Search.{EndsSearch}
-use Rattle.seek.proofs.search.seek_to_output.Goals as goal
+use Rattle.seek.specs.Search.{port_held, EndsSearch}
+use Rattle.seek.proofs.search.Search.seek_to_output.Goals as goal
 
 pub returns : goal.returns
 returns g c =
@@ -9,7 +9,7 @@ returns g c =
     record {
       ending = c.run_told-ended.result.ending;
       status_is = c.tell_ending.ensures;
-      ends = subst (λ s. EndsSearch (joined c.args.inputs.now.parts.texts) c.args.inputs.now.blocks
-          (record { bytes = g.W.Write.contents sink.port; faults = sink.errors }) (record { bytes = g.W.Write.contents s.port; faults = s.errors })
+      ends = subst (λ s. EndsSearch (joined c.args.self.now.inputs.now.parts.texts) c.args.self.now.inputs.now.blocks
+          (port_held g.W.Write.contents sink) (port_held g.W.Write.contents s)
           c.run_told-ended.result.ending) (sym c.take_error.ensures) c.run_told-ended.ensures;
     }
