@@ -15,7 +15,7 @@ use quandle_core::Operations;
 use shadow_numbers::shadow_weights_by_seeds;
 use std::alloc::Global;
 
-/// How many colours are chosen by so many seeds: one for each, and by a 3-cocycle one more, for the outer region.
+/// How many colours are chosen by so many seeds: one for each, and by a shadow cocycle one more, for the outer region.
 pub fn choices_of(cocycle: &Option<LargeWeighing>, seeds: usize) -> usize
     requires { seeds < 2 ^ 64 - 1 }
     ensures { result ≡ choices_of cocycle.now seeds }
@@ -27,7 +27,7 @@ pub fn choices_of(cocycle: &Option<LargeWeighing>, seeds: usize) -> usize
     }
 }
 
-/// Whether there are at most `MAX_CANDIDATES` choices of a colour for each seed, and by a 3-cocycle for the outer region too. Takes no memory.
+/// Whether there are at most `MAX_CANDIDATES` choices of a colour for each seed, and by a shadow cocycle for the outer region too. Takes no memory.
 pub fn fits_by(quandle: &Operations, cocycle: &Option<LargeWeighing>, seeding: &Seeding) -> bool
     ensures { result ≡ fits_by quandle.now cocycle.now seeding.now }
 {
@@ -49,8 +49,8 @@ fn strands_fit(cocycle: &LargeCocycle, seeding: &Seeding) -> bool
 }
 
 /// Without a cocycle the number of colourings of a grid by the quandle. With one, for each weight from 0 to its modulus less one, the
-/// number of colourings by the cocycle's quandle that have this weight; by a 3-cocycle, of pairs of a colouring and a colour of the outer region.
-/// They are counted by seeds of the grid, and not kept.
+/// number of colourings by the cocycle's quandle that have this weight. By a shadow cocycle pairs of a colouring and a colour of the outer
+/// region are counted. All are counted by seeds of the grid, and not kept.
 ///
 /// `TooWide` exactly where there are too many choices of colours.
 pub fn numbers(

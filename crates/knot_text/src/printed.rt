@@ -197,7 +197,7 @@ pub fn push_quandle(out: &mut Vec<u8>, word: &[u8], listed: &Listed) -> Result<(
     push_named(out, word, listed.name(), &quandle)
 }
 
-/// The same of a quandle that may be larger.
+/// The same of a quandle that may be larger. Where memory is wanting, a part of it may have been appended.
 pub fn push_large(out: &mut Vec<u8>, word: &[u8], listed: &LargeListed) -> Result<(), AllocError>
     ensures text { OnOk result (out.new.items ≡ out.old.items ++ lines_text (quandle_lines word.now listed.now)) }
     ensures part { OnErr result (AppendsPart out.old.items out.new.items (lines_text (quandle_lines word.now listed.now))) }

@@ -16,7 +16,7 @@ pub enum Cause {
     Outside { which: u8, column: u8 },
     /// The leftmost column of this diagram that its seeds do not settle.
     Unsettled { which: u8, column: u8 },
-    /// The order of the quandle to the power of so many seeds of this diagram, and by a 3-cocycle one more, is over `MAX_CANDIDATES` of colour_seeds.
+    /// The order of the quandle to the power of so many seeds of this diagram is over `MAX_CANDIDATES`. By a shadow cocycle the power is one more.
     Wide { which: u8, seeds: usize },
     /// The link has another number of components.
     Components { which: u8 },

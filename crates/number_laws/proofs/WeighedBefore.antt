@@ -1,4 +1,4 @@
--- Two diagrams, a quandle and a 2-cocycle are read as they were before there were 3-cocycles.
+-- Two diagrams, a quandle and a 2-cocycle are read as they were before there were shadow cocycles.
 use Rattle.std.proofs.Common.{◌≡◌, ◌∙◌, ℕ, List, [], ◌∷◌, Bool, true, false, Result, Ok, Err, refl, sym, ap, codes}
 use Rattle.std.specs.Str.{bytes_eq}
 use Rattle.std.proofs.lemmas.Slice.Eq.{bytes_eq-Decides}
@@ -22,7 +22,7 @@ use Rattle.number_text.specs.Weighed.{cocycle_due, weighed_in}
 
 -- ---- a 2-cocycle
 
--- no 2-cocycle begins with the word of a 3-cocycle
+-- no 2-cocycle begins with the word of a shadow cocycle
 shadow_fails : (q : Table) (n ending : ℕ) (tokens : List (List ℕ)) (lines : List NumberedLine)
     → cocycle_item q (record { lines = record { number = n; tokens = codes "shadow" ∷ tokens } ∷ lines; ending = ending }) ≡ Err (Malformed n)
 unfolding cocycle_item next_line modulus_at word next_token
@@ -66,7 +66,7 @@ behind_second d second = quandle_item second.1 >>= behind_quandle d second.0
 abbrev behind_first : Diagram × Text → Result WeightText TextFault
 behind_first first = diagram_item first.1 >>= behind_second first.0
 
--- the same, of which the cocycle may be a 3-cocycle
+-- the same, of which the cocycle may be a shadow cocycle
 abbrev pub as_weighed : WeightText → WeighedText
 as_weighed w = record { first = w.first; second = w.second; listed = w.listed; cocycle = Strands w.cocycle }
 

@@ -37,7 +37,7 @@ pub fn a_fault_of_weighed_diagrams_is_that_of_the_first_bad_line()
     ensures { FailsFirst weighed_in }
 {}
 
-/// Whatever is read as two diagrams, a quandle and a 2-cocycle, where no 3-cocycles are known, is read as these.
+/// Whatever is read as two diagrams, a quandle and a 2-cocycle, where no shadow cocycles are known, is read as these.
 pub fn what_was_weighed_before_is_read_so()
     ensures { (bytes : List ℕ) (w : WeightText) → weight_of bytes ≡ Ok w
         → weighed_of bytes ≡ Ok (record { first = w.first; second = w.second; listed = w.listed; cocycle = Strands w.cocycle }) }

@@ -27,7 +27,7 @@ some_regions quandle text = do
   shadow ← shadow_item quandle text
   Ok (Some (Regions shadow.0), shadow.1)
 
--- a 2-cocycle of the quandle where a line that begins with `weight` is next, a 3-cocycle where one that begins with `shadow` is, else nothing
+-- a 2-cocycle of the quandle where a line that begins with `weight` is next, a shadow cocycle where one that begins with `shadow` is, else nothing
 unfoldable pub cocycle_or_none : Table → Text → Result (Option LargeWeighing × Text) TextFault
 cocycle_or_none quandle text =
     if begins (codes "weight") text then some_strands quandle text else if begins (codes "shadow") text then some_regions quandle text else Ok (None, text)

@@ -22,7 +22,7 @@ regions_item quandle text = do
   shadow ← shadow_item quandle text
   Ok (Regions shadow.0, shadow.1)
 
--- a 3-cocycle of the quandle where a line that begins with `shadow` is next, else a 2-cocycle
+-- a shadow cocycle of the quandle where a line that begins with `shadow` is next, else a 2-cocycle
 unfoldable pub cocycle_due : Table → Text → Result (Weighing × Text) TextFault
 cocycle_due quandle text = if begins (codes "shadow") text then regions_item quandle text else strands_item quandle text
 

@@ -4,7 +4,8 @@ ghost use Rattle.quandle_core.specs.declared.operations.TheConstants.{MAX_LARGE_
 ghost use Rattle.text_items.specs.Reading.{Gives};
 ghost use Rattle.text_items.specs.Quandles.{built_in};
 ghost use Rattle.text_items.specs.declared.fault.TextFault.TheVariants as fault;
-ghost use Rattle.number_text.specs.Blocks.{alone, cocycle_or_none, block_quandle, block_item, order_form, factor_form, end_form, spelled_form, name_form, surplus_block, blocks, block_list, blocks_of};
+ghost use Rattle.number_text.specs.Blocks.{alone, cocycle_or_none, block_quandle, block_item, order_form, factor_form, end_form, spelled_form};
+ghost use Rattle.number_text.specs.Blocks.{name_form, surplus_block, blocks, block_list, blocks_of};
 
 use cocycle_core::LargeCocycle;
 use large_tables::{large_cocycle_item, large_quandle_at};
@@ -22,7 +23,7 @@ use verdict_core::{LargeListed, Listed};
 pub enum LargeWeighing {
     /// A 2-cocycle, behind the word `weight`: it looks at the two strands of a crossing.
     Strands(LargeCocycle),
-    /// A 3-cocycle, behind the word `shadow`: it looks at a region too. Its quandle has at most `MAX_ORDER` colours.
+    /// A shadow cocycle, behind the word `shadow`: it looks at a region too. Its quandle has at most `MAX_ORDER` colours.
     Regions(SpelledShadow),
 }
 
@@ -34,7 +35,7 @@ pub struct Block {
     pub cocycle: Option<LargeWeighing>,
 }
 
-/// A 2-cocycle of a quandle where a line that begins with `weight` is next, a 3-cocycle where one that begins with `shadow` is, else nothing.
+/// A 2-cocycle of a quandle where a line that begins with `weight` is next; a shadow cocycle where it begins with `shadow`; else nothing.
 #[tactic(auto, unfolding(crate::specs::Blocks::cocycle_or_none))]
 fn cocycle_or_none(
     alloc: Global,

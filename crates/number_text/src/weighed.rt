@@ -18,7 +18,7 @@ use verdict_core::{Diagram, Listed};
 pub enum Weighing {
     /// A 2-cocycle, behind the word `weight`: it looks at the two strands of a crossing.
     Strands(Cocycle),
-    /// A 3-cocycle, behind the word `shadow`: it looks at a region too.
+    /// A shadow cocycle, behind the word `shadow`: it looks at a region too.
     Regions(SpelledShadow),
 }
 
@@ -31,7 +31,7 @@ pub struct WeighedText {
     pub cocycle: Weighing,
 }
 
-/// A cocycle of a quandle: a 3-cocycle where a line that begins with `shadow` is next, else a 2-cocycle.
+/// A cocycle of a quandle: a shadow cocycle where a line that begins with `shadow` is next, else a 2-cocycle.
 #[tactic(auto, unfolding(crate::specs::Weighed::cocycle_due))]
 fn cocycle_due(alloc: Global, quandle: &Quandle, lines: &mut Lines) -> Result<Weighing, TextFault>
     ensures { Gives (λ c. (c, lines.new)) result (cocycle_due quandle.now lines.old) }
@@ -42,7 +42,7 @@ fn cocycle_due(alloc: Global, quandle: &Quandle, lines: &mut Lines) -> Result<We
     Ok(Weighing::Strands(cocycle_item(quandle, lines)?))
 }
 
-/// A 3-cocycle of a quandle.
+/// A shadow cocycle of a quandle.
 fn shadow_due(
     alloc: Global,
     quandle: &Quandle,

@@ -1,9 +1,9 @@
 -- What blocks tell that are tried in two turns, the larger ones last.
-use Rattle.std.proofs.Common.{◌≡◌, ◌∙◌, ◌++◌, ◌+◌, ◌<◌, ◌≤◌, ℕ, Bool, true, false, List, [], ◌∷◌, Option, Some, None, All, length, get_or, drop, cond, refl, sym, ap}
+use Rattle.std.proofs.Common.{◌≡◌, ◌∙◌, ◌++◌, ◌+◌, ◌<◌, ℕ, Bool, true, false, List, [], ◌∷◌, Option, Some, None, All, length, get_or, drop, cond, refl, sym, ap}
 use Rattle.std.specs.Bool.{beq}
 use Rattle.std.specs.List.{find}
 use Rattle.std.specs.Option.{is_some, option_or, option_map}
-use Rattle.std.proofs.lemmas.List.{drop_more, drop_all}
+use Rattle.std.proofs.lemmas.List.{drop_more}
 use Rattle.std.proofs.lemmas.List.Folds.{find-append}
 use Rattle.std.proofs.lemmas.List.Elements.{All-append, All-filter, filter-append}
 use Rattle.grid_core.specs.Diagram.{Diagram}
@@ -88,18 +88,6 @@ one_more d e s larger blocks i b lt is =
     ∙ ap (told_by_blocks d e s) (filter-append (λ (x : Block). beq (is_larger x) larger) (b ∷ []) (drop (i + 1) blocks))
     ∙ told_by_both d e s (of_size larger (b ∷ [])) (of_size larger (drop (i + 1) blocks))
 
-untold : (o : Option Evidence) → is_some o ≡ false → o ≡ None
-untold None none = refl
-untold (Some x) none = absurd cc
-
-pub one_past : (d e : Diagram) (s : SeedPair) (larger : Bool) (blocks : List Block) (i : ℕ) (b : Block) (o : Option Evidence) → i < length blocks
-    → b ≡ get_or blocks i b → o ≡ told_by_blocks d e s (of_size larger (b ∷ [])) → is_some o ≡ false
-    → told_by_blocks d e s (of_size larger (drop i blocks)) ≡ told_by_blocks d e s (of_size larger blocks)
-    → told_by_blocks d e s (of_size larger (drop (i + 1) blocks)) ≡ told_by_blocks d e s (of_size larger blocks)
-one_past d e s larger blocks i b o lt is one none so_far =
-    let here : told_by_blocks d e s (of_size larger (b ∷ [])) ≡ None = sym one ∙ untold o none in
-    sym (one_more d e s larger blocks i b lt is ∙ ap (λ (p : Option Evidence). option_or p (told_from d e s larger (i + 1) blocks)) here) ∙ so_far
-
 pub one_tells : (d e : Diagram) (s : SeedPair) (larger : Bool) (blocks : List Block) (i : ℕ) (b : Block) (o : Option Evidence) → i < length blocks
     → b ≡ get_or blocks i b → o ≡ told_by_blocks d e s (of_size larger (b ∷ [])) → is_some o ≡ true
     → told_by_blocks d e s (of_size larger (drop i blocks)) ≡ told_by_blocks d e s (of_size larger blocks)
@@ -107,16 +95,3 @@ pub one_tells : (d e : Diagram) (s : SeedPair) (larger : Bool) (blocks : List Bl
 one_tells d e s larger blocks i b None lt is one some so_far = absurd cc
 one_tells d e s larger blocks i b (Some x) lt is one some so_far =
     sym (sym so_far ∙ one_more d e s larger blocks i b lt is ∙ ap (λ (p : Option Evidence). option_or p (told_from d e s larger (i + 1) blocks)) (sym one))
-
-pub none_left : (d e : Diagram) (s : SeedPair) (larger : Bool) (blocks : List Block) (i : ℕ) → length blocks ≤ i
-    → told_by_blocks d e s (of_size larger (drop i blocks)) ≡ told_by_blocks d e s (of_size larger blocks)
-    → None ≡ told_by_blocks d e s (of_size larger blocks)
-none_left d e s larger blocks i all so_far =
-    ap (λ (bs : List Block). told_by_blocks d e s (of_size larger bs)) (sym (drop_all i blocks all)) ∙ so_far
-
--- one block, where it is of the size and where it is not
-pub one_kept : (larger : Bool) (b : Block) (t : Bool) → t ≡ beq (is_larger b) larger → t ≡ true → of_size larger (b ∷ []) ≡ b ∷ []
-one_kept larger b t is true_is = ap (λ (k : Bool). cond k (b ∷ []) []) (sym is ∙ true_is)
-
-pub one_left_out : (larger : Bool) (b : Block) (t : Bool) → t ≡ beq (is_larger b) larger → t ≡ false → of_size larger (b ∷ []) ≡ []
-one_left_out larger b t is false_is = ap (λ (k : Bool). cond k (b ∷ []) []) (sym is ∙ false_is)

@@ -58,8 +58,8 @@ abbrev pub IsFoundOn : SeededPair → List NamedQuandle → List Block → Optio
 IsFoundOn p quandles blocks o =
     IsFoundWhere p.first p.second (first_separating p.first p.second quandles) (told_apart p.first p.second p.seeds blocks) o
 
--- what a search on two diagrams and listed quandles tried, with so many of the blocks that fit plans of both diagrams, and what it found. The
--- larger blocks were tried last
+-- what a search on two diagrams and listed quandles tried and found, where so many of the blocks fit plans of both diagrams. Where linking
+-- numbers don't differ, evidence is by the first block that tells, in the order of `as_tried`
 pub record IsSearchOn (d e : Diagram) (listed : List NamedQuandle) (blocks : List Block) (s : Search) : Type 0 where
   pub quandles : s.quandles.items ≡ candidates d e listed
   pub seeds : SeedPair

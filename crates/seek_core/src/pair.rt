@@ -82,8 +82,7 @@ impl<'a> Pair<'a> {
         first_separation(alloc, self.first, self.second, self.seeds, quandles)
     }
 
-    /// The verdict `equal` by a tidy list of moves, if the walks find a list. It joins the diagrams as given: the list that was found was
-    /// made move by move at the end.
+    /// The verdict `equal` by a tidy list of moves, if the walks find a list. It joins the diagrams as given.
     pub(crate) fn joining<R: Threads + Sync, W: Watch>(
         &self,
         rt: &R,

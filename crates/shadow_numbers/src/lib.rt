@@ -1,4 +1,4 @@
-//! How many pairs of a colouring and a colour of the outer region have each weight by a 3-cocycle, counted from few seeds of a diagram.
+//! How many pairs of a colouring and a colour of the outer region have each weight by a shadow cocycle, counted from few seeds of a diagram.
 #![tactic(auto)]
 
 mod counting;

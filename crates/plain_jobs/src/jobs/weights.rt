@@ -125,7 +125,7 @@ fn strand_counts(alloc: Global, grid: &Grid, cocycle: &Cocycle) -> Result<Vec<u3
     }
 }
 
-/// The same by a 3-cocycle.
+/// The same by a shadow cocycle.
 fn region_counts(
     alloc: Global,
     grid: &Grid,
