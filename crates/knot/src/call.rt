@@ -13,7 +13,7 @@ use std::process::ExitCode;
 use std::sync::Wait;
 use std::thread::Threads;
 
-/// Does what the words ask for, with workers in threads of the second runtime, tells what is wrong, and answers the exit status: that of
+/// Does what the words ask for, with workers in `threads`, tells what is wrong, and answers the exit status: that of
 /// a status with which such a call ends.
 pub(crate) fn call<T: Threads + Wait + Sync, R: Read + Drop, W: Write + Drop>(
     rt: &HostRuntime,

@@ -25,8 +25,8 @@ use std::process::ExitCode;
 use std::thread::Threads;
 use whole_files::Places;
 
-/// Does what the words ask for, with workers in `threads` (`main` gives its one runtime for both), tells what is wrong, and answers the exit
-/// status of a status with which such a call ends: 0 only where a decision answers the words, or they ask for the help or the version.
+/// Does what the words ask for, tells what is wrong, and answers the exit status of a status with which such a call ends. It is 0 only where
+/// a decision answers the words, or they ask for the help or the version. Workers run in `threads`: `main` gives its one runtime twice.
 pub(crate) fn call<R: Threads + Sync, F: Texts, P: Places, W: Write + Drop>(
     rt: &HostRuntime,
     threads: &R,
@@ -100,7 +100,7 @@ fn printed_status(rt: &HostRuntime, printed: io::Result<()>) -> Status
     }
 }
 
-/// Reads the parts and the blocks of what is asked, seeks a verdict on them, and writes it: to the sink, if the words name no file for it.
+/// Refuses a file that would be read and written. Else reads the parts and the blocks of what is asked, and seeks a verdict on them.
 fn seek<R: Threads + Sync, F: Texts, P: Places, W: Write + Drop>(
     rt: &HostRuntime,
     threads: &R,
