@@ -5,8 +5,8 @@
     python3 bench/cited.py low [CRATE..]   the same item by item, and what it serves
     python3 bench/cited.py who [CRATE..]   each item, and the crates that cite it
 
-A lemma stands in proofs/, a definition in specs/, and a law is a function of src/laws.rt. A program needs the code of the crates
-that it stands on, with contracts and answers. From there the script follows what is cited: definitions, lemmas, laws and their
+A lemma stands in proofs/, a definition in specs/. A law is a function of src/laws.rt, or of a public module of a crate of laws,
+NAME_laws. A program needs the code of the crates that it stands on, with contracts and answers. From there the script follows what is cited: definitions, lemmas, laws and their
 proofs. An item that it doesn't come to stands too low: the program waits for its proof, and doesn't need it. Such an item serves
 the first of these that leads to it:
 
@@ -161,16 +161,25 @@ class Tree:
                 if os.path.basename(path) != "Lib.antt" and (part == "specs" or os.path.basename(path) not in ANSWERS):
                     self.files[crate, part, inside.replace("/", ".")] = File(crate, part, path)
 
+    def law_modules(self, crate):
+        """The modules of a crate that have its laws."""
+        root = os.path.join(self.top, "crates", crate, "src", "lib.rt")
+        public = re.findall(r"^pub mod (\w+);$", read(root), re.M) if crate.endswith("_laws") and os.path.isfile(root) else []
+        return {"laws", *public}
+
     def find_laws(self, crate):
-        """The functions of src/laws.rt, each with its comments and attributes."""
-        path = os.path.join(self.top, "crates", crate, "src", "laws.rt")
-        if not os.path.isfile(path):
-            return
+        """The functions of each module of laws, with their comments and attributes."""
+        for module in sorted(self.law_modules(crate)):
+            path = os.path.join(self.top, "crates", crate, "src", f"{module}.rt")
+            if os.path.isfile(path):
+                self.find_laws_of(crate, module, path)
+
+    def find_laws_of(self, crate, module, path):
         ahead, law, open_text = [], None, False
         for row in read(path).splitlines():
             found = re.match(r"(?:pub(?:\([a-z]+\))? )?fn (\w+)", row)
             if found:
-                law = self.laws[crate, found.group(1)] = Item(crate, "law", found.group(1), path)
+                law = self.laws[crate, module, found.group(1)] = Item(crate, "law", found.group(1), path)
                 law.text = ahead
                 open_text = True
             if open_text:
@@ -256,27 +265,28 @@ class Tree:
         known = {}
         for path in rust_uses(around):
             parts = [crate if part == "crate" else part for part in path.partition(" as ")[0].split("::")]
-            law = self.laws.get((parts[0], parts[-1])) if len(parts) > 1 else None
+            law = self.laws.get((parts[0], parts[-2] if len(parts) > 2 else "laws", parts[-1])) if len(parts) > 1 else None
             if law:
                 known[path.partition(" as ")[2] or parts[-1]] = law
         cited = {law for word, law in known.items() if re.search(rf"(?<![\w:]){word}\(", text)}
-        for first, name in re.findall(r"\b(\w+)::(?:laws::)?(\w+)\(", text):
-            cited.add(self.laws.get((crate if first in ("crate", "laws") else first, name)))
+        for first, module, name in re.findall(r"\b(\w+)::(?:(\w+)::)?(\w+)\(", text):
+            cited.add(self.laws.get((crate if first in ("crate", "laws") else first, module or "laws", name)))
         return cited - {None}
 
     def cite_code(self, crate):
+        modules = self.law_modules(crate)
         files = [(inside, read(path)) for path, inside in self.walk(crate, "src", ".rt")]
         tests = {name for _, whole in files for name in re.findall(r"^#\[cfg\(test\)\]\nmod (\w+);$", whole, re.M)}
         for inside, whole in files:
             uses = [match for match in (USE.match(f"use {it}") for it in re.findall(r"\bghost use ([^;]*);", " ".join(whole.split()))) if match]
             uses = [match.groups() for match in uses]
-            if inside == "laws":
-                for (other, _), law in self.laws.items():
-                    if other == crate:
+            if inside in modules:
+                for (other, module, _), law in self.laws.items():
+                    if (other, module) == (crate, inside):
                         text = "\n".join(law.text)
                         law.cites |= self.cited_in_rust(crate, text, uses) | self.cited_laws(crate, text, whole)
                         called = set(re.findall(r"(?<![\w:])(\w+)\(", text)) - {law.name}
-                        law.cites |= {self.laws[crate, name] for name in called if (crate, name) in self.laws}
+                        law.cites |= {self.laws[crate, module, name] for name in called if (crate, module, name) in self.laws}
                 continue
             owner, text = self.code[crate], whole
             if tests & set(inside.split("/")):
@@ -295,8 +305,8 @@ class Tree:
             owner = self.code[crate]
             if parts[0] == "tests" or "tests" in parts[:-1]:
                 owner = self.tests[crate]
-            elif parts[0] == "laws" and (crate, parts[1]) in self.laws:
-                owner = self.laws[crate, parts[1]]
+            elif (crate, parts[0], parts[1]) in self.laws:
+                owner = self.laws[crate, parts[0], parts[1]]
             text = read(path)
             uses = [match.groups() for match in map(USE.match, text.splitlines()) if match]
             items, files = self.imported(uses)

@@ -9,7 +9,8 @@ A finding is a place to look. Statements are compared by their text, with the na
 `pages` counts the words of every page `*.md` of the tree between white space, as `wc -w` does, and beside them the words of prose: those
 with a letter or a digit that stand in no block of commands or texts, where all between two backticks is one word. `sentences` reads the
 prose by the same rule. A sentence ends at a full stop or at the end of its paragraph, list item or cell of a table. `stated` finds the
-links of pages that lead nowhere, and the names that docs/DEFINITIONS.md says are stated in a file, or are laws of its crate, and aren't.
+links of pages that lead nowhere, the files that docs/DEFINITIONS.md names and that aren't there, and the names that it says are stated in a
+file, or are laws of its crate or of a crate of laws, and aren't.
 """
 import os
 import re
@@ -293,8 +294,9 @@ def code_of(crate):
 
 
 def stated():
-    """Names that stand in no file where docs/DEFINITIONS.md says that they do, and are no laws of its crate."""
+    """Names that stand in no file where docs/DEFINITIONS.md says that they do, and are no laws of its crate or of a crate of laws."""
     count = names_of = 0
+    laws = "".join("\n".join(lines_of(path)) for name, path in files("src", ".rt") if name.endswith("_laws"))
     for number, line in enumerate(lines_of(os.path.join(TOP, "docs", "DEFINITIONS.md")), 1):
         crate = folder = text = ""
         for code in re.findall(r"`([^`]+)`", line.partition("*Stated in*")[2].partition("Source")[0]):
@@ -302,11 +304,13 @@ def stated():
                 if code.startswith("crates/"):
                     crate, folder = code.split("/")[1:3]
                 file = os.path.join(TOP, "crates", crate, folder, code.split(f"{folder}/", 1)[-1])
+                if not os.path.exists(file):
+                    print(f"docs/DEFINITIONS.md:{number}: no file {os.path.relpath(file, TOP)}")
                 text = "\n".join(lines_of(file)) if os.path.exists(file) else ""
             elif re.fullmatch(r"[^\W\d][\w']*", code):
                 names_of += 1
                 name = rf"(?<![\w']){re.escape(code)}(?![\w'])"
-                if not re.search(name, text) and not re.search(name, code_of(crate)):
+                if not any(re.search(name, held) for held in (text, code_of(crate), laws)):
                     count += 1
                     print(f"docs/DEFINITIONS.md:{number}: {code}")
     print(f"{count} of {names_of} names are stated elsewhere")

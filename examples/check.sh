@@ -1,11 +1,13 @@
 #!/bin/sh
 # Runs every example through ./knot: examples/JOB/NAME.txt must give NAME.out, and the exit status in NAME.status, or 0.
 # Further words stand in NAME.args, in one line. What decide answers with status 0 must be accepted by check behind its input.
+# Those of check are answered likewise by the separate checker, where crates/knot_check/out/knot_check is there or KNOT_CHECK names it.
 # Then every example of ./seek: the words in seek/NAME.words, one a line, must give NAME.out and NAME.err, or nothing, and the status.
 set -u
 
 here=$(CDPATH='' cd -- "$(dirname -- "$0")" && pwd) || exit 1
 knot=$here/../knot
+checker=${KNOT_CHECK:-$here/../crates/knot_check/out/knot_check}
 found=${TMPDIR:-/tmp}/knot-example.$$
 trap 'rm -f "$found" "$found".*' EXIT
 passed=0
@@ -39,6 +41,16 @@ for input in "$here"/*/*.txt; do
         echo "not accepted behind its input: $name"
     else
         passed=$((passed + 1))
+    fi
+    if [ "$job" = check ] && [ -x "$checker" ]; then
+        "$checker" <"$input" >"$found" 2>"$found.told"
+        status=$?
+        if [ "$status" -ne "$wanted" ] || ! cmp -s "$found" "$stem.out" || [ -s "$found.told" ]; then
+            failed=$((failed + 1))
+            echo "differs: $name by the separate checker, status $status, wanted $wanted"
+        else
+            passed=$((passed + 1))
+        fi
     fi
 done
 

@@ -28,10 +28,10 @@ def _on_alarm(_signal, _frame):
 
 
 class Caller:
-    """Calls one program, with a folder of its own for inputs and outputs."""
+    """Calls one program, with a folder of its own for inputs and outputs. A program of one job isn't given so many of the first words."""
 
-    def __init__(self, program):
-        self.program = program
+    def __init__(self, program, dropped=0):
+        self.program, self.dropped = program, dropped
         self.folder = tempfile.TemporaryDirectory(prefix="knot-hostile.")
         self.paths = [os.path.join(self.folder.name, name) for name in ("in", "out", "err")]
 
@@ -41,7 +41,7 @@ class Caller:
         with open(path_in, "wb") as file:
             file.write(data)
         fresh = os.O_WRONLY | os.O_CREAT | os.O_TRUNC
-        child = os.posix_spawn(self.program, [name, *words], os.environ, file_actions=[
+        child = os.posix_spawn(self.program, [name, *words[self.dropped:]], os.environ, file_actions=[
             (os.POSIX_SPAWN_OPEN, 0, path_in, os.O_RDONLY, 0), (os.POSIX_SPAWN_OPEN, 1, path_out, fresh, 0o600),
             (os.POSIX_SPAWN_OPEN, 2, path_err, fresh, 0o600)], setsigdef=[signal.SIGPIPE, signal.SIGXFSZ])
         status = wait_for(child)
@@ -61,7 +61,7 @@ class Caller:
 
         # (standard error is a pipe, so that a limit of files doesn't cut what is told there)
         with open(self.paths[0], "rb") as given, open(self.paths[1], "wb") as taken:
-            child = subprocess.Popen([b"knot", *words], executable=self.program, stdin=given if stdin is None else stdin,
+            child = subprocess.Popen([b"knot", *words[self.dropped:]], executable=self.program, stdin=given if stdin is None else stdin,
                                      stdout=taken if stdout is None else stdout, stderr=subprocess.PIPE, preexec_fn=prepare, restore_signals=False)
             try:
                 told, status = child.communicate(timeout=PATIENCE)[1], child.returncode

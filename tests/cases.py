@@ -407,7 +407,8 @@ def wanting():
     yield "usage", [], b""
     yield "a search", [b"decide", b"--spare=3"], MIRRORED + TREFOIL
     yield "a large search", [b"decide", b"--budget=500000"], SHIFTED
-    yield "a search by eight workers", [b"decide", b"--spare=3", b"--workers=8"], MIRRORED + TREFOIL
+    for workers in (b"2", b"8", b"33", b"64"):
+        yield f"a search by {workers.decode()} workers", [b"decide", b"--spare=3", b"--workers=" + workers], MIRRORED + TREFOIL
     yield "a large search that separates", [b"decide", b"--budget=500000"], TREFOIL + UNKNOT
     for number, (words_, data) in enumerate(loud()):
         yield f"loud {number}", words_, data
@@ -430,13 +431,24 @@ def memory():
         if len(data) < 1000:
             for pages in range(0, 1200, 40):
                 yield Case("memory", f"{name}: 2 MB and {pages} pages", words_, data, way="memory", need=2_000_000 + 4096 * pages)
+    yield from windows()
+
+
+def windows():
+    """Every address space from 3 to 64 MB: near each further stack of a thread the first thread's can't grow."""
+    for workers in (1, 2, 8, 64):
+        for size in range(3 * 1024, 64 * 1024 + 1, 64):
+            yield Case("memory", f"a search by {workers} workers: {size} KB", [b"decide", b"--spare=3", b"--workers=%d" % workers], MIRRORED + TREFOIL,
+                       way="memory", need=size * KIBIBYTE)
+    for size in range(3 * 1024, 8 * 1024 + 1, 8):
+        yield Case("memory", f"a check: {size} KB", [b"check"], SHIFTED + b"equal 0\n", way="memory", need=size * KIBIBYTE)
 
 
 def stack():
     for name, words_, data in wanting():
-        # Of the same limit a worker's thread has less for itself than the first thread.
-        enough = 2048 if b"--workers=8" in words_ else 384
-        for size in (4, 16, 64, 128, 256, 384, 512, 768, 1024, 2048, 4096, 8192):
+        # Of the same limit a worker's thread has less for itself than the first thread. How many there are makes no difference.
+        enough = 640 if any(word.startswith(b"--workers=") for word in words_) else 384
+        for size in (4, 16, 64, 128, 256, 384, 512, 640, 768, 1024, 2048, 4096, 8192):
             way = "stack" if size >= enough else "tiny stack"
             yield Case("stack", f"{name}: {size} KB", words_, data, way=way, need=size * KIBIBYTE)
 

@@ -6,12 +6,16 @@
     tests/hostile.sh --only streams,memory        some sections
     tests/hostile.sh --only changes --first 7041 --cases 1    one case again
     KNOT=/some/where/knot tests/hostile.sh        another program; also --program
+    tests/hostile.sh --checker PATH               and another separate checker; also KNOT_CHECK
 
-It is no part of the gate. It looks for these things: that no call ends by a signal or hangs, that nothing is half written but by a
-counted write fault, and that status and text are what docs/FORMATS.md says. The last line has the figures, and the exit status is 1
-where anything differs. Each difference is put into a folder (--folder), with its words, its input and both answers.
+It is no part of the gate. It looks for these things: that no call ends by a signal or hangs, that nothing is written on standard error,
+which is no terminal here, that nothing is half written but by a counted write fault, and that status and text are what docs/FORMATS.md
+says. The last line has the figures, and the exit status is 1 where anything differs. Each difference is put into a folder (--folder),
+with its words, its input and both answers. Cases of the job `check` without options are tried on the separate checker too, where it was
+built or is named.
 """
 import argparse
+import itertools
 import os
 import resource
 import signal
@@ -24,14 +28,12 @@ import calls
 import cases
 import changes
 import reader
-from reader import DONE, OUT_OF_MEMORY, READ_FAULT, REJECTED, UNKNOWN, USAGE, WRITE_FAULT
+from reader import DONE, MALFORMED, OUT_OF_MEMORY, READ_FAULT, USAGE, WRITE_FAULT
 
 HERE = os.path.dirname(os.path.abspath(__file__))
 TOP = os.path.dirname(HERE)
 BAD_INPUTS = os.path.join(TOP, "docs", "BAD-INPUTS.md")
 EXAMPLES = os.path.join(TOP, "examples")
-# The statuses of answers, beside which nothing stands on standard error.
-ANSWERED = (DONE, UNKNOWN, REJECTED)
 
 
 # ---------------------------------------------------------------- one case
@@ -50,18 +52,14 @@ class Tried:
 
 
 def crash_of(ended):
+    """What is wrong with a call whatever its input was; None: nothing."""
     if ended.status is None:
         return "it hangs"
     if ended.status < 0:
         return f"it ends by signal {signal.Signals(-ended.status).name}"
-    if not is_told(ended.errors) or ended.errors and ended.status in ANSWERED:
+    if ended.errors:
         return f"it writes on standard error: {ended.errors[:200]!r}"
     return None
-
-
-def is_told(errors):
-    """Whether nothing stands on standard error but at most one sentence of the program."""
-    return not errors or errors.startswith(b"knot: ") and errors.count(b"\n") == 1
 
 
 def is_front(part, whole):
@@ -78,11 +76,10 @@ def reads_input(words):
 
 
 class Trier:
-    """Tries cases with one program."""
+    """Tries cases with one program: knot, or the separate checker, which isn't given the word `check`."""
 
-    def __init__(self, program):
-        self.caller = calls.Caller(program)
-        self.program = program
+    def __init__(self, program, is_checker=False):
+        self.caller = calls.Caller(program, 1 if is_checker else 0)
         self.whole = {}
         self.starts = {}
 
@@ -204,7 +201,7 @@ class Trier:
         if case.need not in self.starts:
             # Whether the system can load the program at all within so little.
             ended = self.caller.call_by([], b"", before=before)
-            self.starts[case.need] = ended.status in (USAGE, OUT_OF_MEMORY) and is_told(ended.errors)
+            self.starts[case.need] = ended.status in (USAGE, OUT_OF_MEMORY, MALFORMED) and not ended.errors
         ended = self.caller.call_by(case.words, case.data, before=before)
         if not self.starts[case.need]:
             return calls.Ended(None, b""), "not started", "text on standard output" if ended.text else None
@@ -251,20 +248,31 @@ class Trier:
 WORKER = {}
 
 
-def begin_worker(program, seed, patience=calls.PATIENCE, again=reader.Searched.TRIED_AGAIN):
+def begin_worker(programs, seed, patience=calls.PATIENCE, again=reader.Searched.TRIED_AGAIN):
     calls.PATIENCE = patience
     reader.Searched.TRIED_AGAIN = again
     # The reader takes seconds for tables of many colours.
     bases = [base for base in changes.examples(EXAMPLES, reader.JOBS) if len(base[3]) <= 5000]
-    WORKER.update(trier=Trier(program), seed=seed, bases=bases, lines=[line for base in bases for line in base[3].split(b"\n")])
+    program, checker = programs
+    WORKER.update(trier=Trier(program), checker=Trier(checker, is_checker=True) if checker else None)
+    WORKER.update(seed=seed, bases=bases, lines=[line for base in bases for line in base[3].split(b"\n")])
+
+
+def is_checkers(case):
+    """Whether a case asks for what the separate checker does. (It rules whatever its own name is.)"""
+    return case.words == [b"check"] and case.program_name == b"knot"
 
 
 def try_one(case):
-    """A case, or the number of a random change."""
+    """A case, or the number of a random change: what came of it, by each program that does this job."""
     if isinstance(case, int):
         words, data = changes.make(WORKER["seed"], case, WORKER["bases"], WORKER["lines"])
         case = cases.Case("changes", f"{case}", words, data)
-    return WORKER["trier"].tried(case)
+    found = [WORKER["trier"].tried(case)]
+    if WORKER["checker"] and is_checkers(case):
+        found.append(WORKER["checker"].tried(case))
+        found[-1].name += ", by the separate checker"
+    return found
 
 
 class Figures:
@@ -309,7 +317,7 @@ def report(folder, tried):
 
 def run_section(pool, name, all_cases, folder, chunk):
     figures, shown, begin = Figures(), 0, time.time()
-    for tried in pool.imap_unordered(try_one, all_cases, chunk):
+    for tried in itertools.chain.from_iterable(pool.imap_unordered(try_one, all_cases, chunk)):
         figures.count(tried)
         if tried.problem:
             shown += 1
@@ -329,9 +337,18 @@ def program_of(given):
     return os.path.join(TOP, "crates", "knot", "out", "knot")
 
 
+def checker_of(given):
+    """The separate checker: what is named, or what was built; None where it wasn't."""
+    built = os.path.join(TOP, "crates", "knot_check", "out", "knot_check")
+    if given and not os.access(given, os.X_OK):
+        sys.exit(f"{given} is no program")
+    return os.path.abspath(given) if given else built if os.access(built, os.X_OK) else None
+
+
 def options_given():
     parser = argparse.ArgumentParser(description=__doc__, formatter_class=argparse.RawDescriptionHelpFormatter)
     parser.add_argument("--program", default=os.environ.get("KNOT"), help="the program to run; also by the environment, as KNOT")
+    parser.add_argument("--checker", default=os.environ.get("KNOT_CHECK"), help="the separate checker; crates/knot_check/out/knot_check where it is there")
     parser.add_argument("--seed", default="1", help="what random changes are made from")
     parser.add_argument("--cases", type=int, default=100_000, help="how many random changes")
     parser.add_argument("--first", type=int, default=0, help="the number of the first one")
@@ -347,20 +364,20 @@ def options_given():
 
 def main():
     options = options_given()
-    program = program_of(options.program)
+    program, checker = program_of(options.program), checker_of(options.checker)
     wanted = [name for name in options.only.split(",") if name]
     bases = changes.examples(EXAMPLES, reader.JOBS)
     sections = cases.sections(bases, options.seed, BAD_INPUTS)
     sections["changes"] = lambda: range(options.first, options.first + options.cases)
     total, begin = Figures(), time.time()
-    with Pool(options.jobs, begin_worker, (program, options.seed, options.patience, options.again)) as pool:
+    with Pool(options.jobs, begin_worker, ((program, checker), options.seed, options.patience, options.again)) as pool:
         for name, make in sections.items():
             if not wanted or name in wanted:
                 chunk = 50 if name in ("changes", "cuts", "words") else 1
                 chosen = (case for case in make() if isinstance(case, int) or options.match in case.name)
                 total.add(run_section(pool, name, chosen, options.folder, chunk))
     number = sum(total.kinds.values())
-    print(f"all: {total}\n    with seed {options.seed}, in {time.time() - begin:.0f} seconds, by {program}")
+    print(f"all: {total}\n    with seed {options.seed}, in {time.time() - begin:.0f} seconds, by {program}{f' and {checker}' if checker else ''}")
     if total.differences:
         print(f"each difference stands in {options.folder}")
     return 0 if number and not total.differences else 1

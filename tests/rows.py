@@ -4,8 +4,11 @@
     tests/rows.py                            all rows
     tests/rows.py codes texts/braids         those of some files of tests/rows/
     tests/rows.py --knot PATH --seek PATH    on these programs; KNOT and SEEK in the environment name them too
+    tests/rows.py --check PATH               and the rows of `knot check` on the separate checker too; or KNOT_CHECK
 
-Where none is named, ./knot and ./seek are called once, which builds them, and then what they built is called itself.
+Where none is named, ./knot and ./seek are called once, which builds them, and then what they built is called itself. The separate checker
+answers too where it is named, or crates/knot_check/out/knot_check is there. It writes nothing on standard error. Rows that call it by its own
+name, knot_check, are passed over where it isn't there.
 
 A file has a subject, and is read by people. A row is a name, a call, and parts. What stands in a part is set in by four blanks:
 
@@ -23,11 +26,13 @@ A file has a subject, and is read by people. A row is a name, a call, and parts.
 
   input                     standard input; without it there is none
   unreadable input          standard input is a folder, so that each read fails
+  input is NAME             standard input is this file, which lies where the call is made
+  word WORD                 one word more, with escapes as within lines
   file NAME                 a file that lies where the call is made, or in a folder there
   each of                   so many cases: each line stands in turn in the place of the line `...` above, up to the next `each of`
   answer STATUS             the exit status, and standard output
   front STATUS              the exit status, and what standard output begins with
-  error                     standard error
+  error                     standard error; of knot it is what a terminal gets, since knot says nothing where standard error is none
   taken                     the input is read: the status is 0, 1 or 8
   accepted behind it        the status is 0, and `knot check` accepts what is written behind the input
   accepted in NAME          the same of what stands in this file
@@ -61,7 +66,9 @@ import subprocess
 import sys
 import tempfile
 from concurrent.futures import ThreadPoolExecutor
-from dataclasses import dataclass, field
+from dataclasses import dataclass, field, replace
+
+import terminals
 
 TOP = os.path.dirname(os.path.dirname(os.path.abspath(__file__)))
 ROWS = os.path.join(TOP, "tests", "rows")
@@ -70,11 +77,13 @@ PATIENCE = 600
 # The statuses of an input that was read.
 TAKEN = (0, 1, 8)
 MALFORMED = 3
+CHECKER = "knot_check"
 MARGIN = "    "
 ONE_BYTE = {"\\": b"\\", "t": b"\t", "r": b"\r", "n": b"\n", "0": b"\0"}
 ESCAPE = re.compile(r"\\(?:\{(?P<sum>[^}]*)\}|x(?P<byte>[0-9a-f]{2})|(?P<one>.))")
 NUMBER = re.compile(r"(?P<front>\w+)(?: (?P<sign>[+-]) (?P<rest>[0-9]+))?")
-PART = re.compile(r"input|unreadable input|file (?P<file>\S+)|each of|(?:answer|front) (?P<status>[0-9]+)|error|taken|accepted behind it"
+PART = re.compile(r"input|unreadable input|input is (?P<input>\S+)|word (?P<word>.+)|file (?P<file>\S+)|each of"
+                  r"|(?:answer|front) (?P<status>[0-9]+)|error|taken|accepted behind it"
                   r"|(?:simplified to|equal within|drawn in) (?P<columns>[0-9]+) columns|lists of (?P<lists>[0-9]+(?: [0-9]+)*)"
                   r"|(?:(?:un)?written|accepted in) (?P<written>\S+)|(?:cut|altered) at each byte")
 
@@ -85,12 +94,13 @@ class RowError(Exception):
 
 @dataclass
 class Case:
-    """A call and its input, None where it can't be read, and the parts that say what is expected."""
+    """A call and its input, None where it can't be read, or the name of the file that is read, and the parts that say what is expected."""
     name: str
     words: list
     given: bytes
     files: dict = field(default_factory=dict)
     wanted: list = field(default_factory=list)
+    input: str = None
 
 
 @dataclass
@@ -204,8 +214,8 @@ def detail_of(part):
 def cases_of(name, blocks, known):
     """The cases of a row: one, or one a line below each `each of`."""
     words = words_of(name, blocks[0][1]) if blocks else []
-    if not words or words[0] not in ("knot", "seek") or blocks[0][2]:
-        raise RowError(f"{name}: a call is due, of knot or seek")
+    if not words or words[0] not in ("knot", "seek", CHECKER) or blocks[0][2]:
+        raise RowError(f"{name}: a call is due, of knot, seek or {CHECKER}")
     frame, group, made = Case(name, words, []), [None], []
     for number, line, lines in [*blocks[1:], (0, "each of", [])]:
         part = PART.fullmatch(line)
@@ -218,6 +228,10 @@ def cases_of(name, blocks, known):
             frame.given = lines
         elif line == "unreadable input":
             frame.given = None
+        elif part["input"]:
+            frame.input = part["input"]
+        elif part["word"]:
+            frame.words.append(bytes_of(part["word"], known))
         elif part["file"]:
             frame.files[part["file"]] = lines
         else:
@@ -247,7 +261,7 @@ def one_case(frame, other, place, known):
 
     given = None if frame.given is None else put(frame.given)
     name = frame.name if other is None else f"{frame.name}, {place}: {other}"
-    return Case(name, frame.words, given, {path: put(lines) for path, lines in frame.files.items()}, frame.wanted)
+    return Case(name, frame.words, given, {path: put(lines) for path, lines in frame.files.items()}, frame.wanted, frame.input)
 
 
 def all_cases(names):
@@ -273,9 +287,13 @@ class Runner:
     def __init__(self, programs):
         self.programs, self.counter = programs, itertools.count()
 
-    def call(self, words, given, folder=None):
+    def call(self, words, given, folder=None, name=None):
         next(self.counter)
         command = [self.programs[words[0]], *words[1:]]
+        if name is not None:
+            with open(os.path.join(folder, name), "rb") as source:
+                done = subprocess.run(command, stdin=source, capture_output=True, cwd=folder, timeout=PATIENCE, check=False)
+            return Ended(done.returncode, done.stdout, done.stderr, folder)
         if given is not None:
             done = subprocess.run(command, input=given, capture_output=True, cwd=folder, timeout=PATIENCE, check=False)
             return Ended(done.returncode, done.stdout, done.stderr, folder)
@@ -297,13 +315,14 @@ class Runner:
                     os.makedirs(os.path.dirname(path), exist_ok=True)
                     with open(path, "wb") as file:
                         file.write(text)
-                return self.differences(case, self.call(case.words, case.given, folder))
+                return self.differences(case, self.call(case.words, case.given, folder, case.input))
         except subprocess.TimeoutExpired:
             return [f"a call took over {PATIENCE} seconds"]
 
     def differences(self, case, ended):
         """What differs where a call ended so."""
-        return [problem for part, detail, text in case.wanted for problem in getattr(self, f"part_{part}")(case, ended, detail, text) if problem]
+        silent = differs("standard error", ended.error, b"") if case.words[0] in ("knot", CHECKER) else None
+        return ([silent] if silent else []) + [problem for part, detail, text in case.wanted for problem in getattr(self, f"part_{part}")(case, ended, detail, text) if problem]
 
     def part_answer(self, _case, ended, status, text):
         return [differs("status", ended.status, status), differs("standard output", ended.text, text)]
@@ -311,8 +330,12 @@ class Runner:
     def part_front(self, _case, ended, status, text):
         return [differs("status", ended.status, status), differs("the front of standard output", ended.text[:len(text)], text)]
 
-    def part_error(self, _case, ended, _number, text):
-        return [differs("standard error", ended.error, text)]
+    def part_error(self, case, ended, _number, text):
+        if case.words[0] != "knot":
+            return [differs("standard error", ended.error, text)]
+        next(self.counter)
+        status, said, told = terminals.run([self.programs["knot"], *case.words[1:]], case.given, ended.folder, PATIENCE)
+        return [differs("what a terminal gets", told, text), differs("the answer beside a terminal", (status, said), (ended.status, ended.text))]
 
     def part_taken(self, _case, ended, _number, _text):
         return [None if ended.status in TAKEN else f"the input isn't taken: status {ended.status}, {ended.text!r}"]
@@ -321,8 +344,8 @@ class Runner:
         found = text_in(ended.folder, name) if name else ended.text
         if found is None:
             return [f"no file {name} is written"]
-        ruled = self.call(["knot", "check"], case.given + found)
-        return [differs("status", ended.status, 0), differs("what `check` says of it", ruled.text, b"accepted\n")]
+        ruled = [self.call(words, case.given + found) for words in ([["knot", "check"], [CHECKER]] if CHECKER in self.programs else [["knot", "check"]])]
+        return [differs("status", ended.status, 0), *(differs("what `check` says of it", ruling.text, b"accepted\n") for ruling in ruled)]
 
     def part_simplified(self, case, ended, columns, _text):
         lines = ended.text.splitlines(keepends=True)
@@ -409,20 +432,54 @@ def program_of(name, path):
     return os.path.join(TOP, "crates", name, "out", name)
 
 
+def checkers_cases(cases):
+    """The rows of `knot check` as calls of the separate checker."""
+    for subject, case in cases:
+        if case.words == ["knot", "check"]:
+            wanted = [(part, detail, b"" if part == "error" else text) for part, detail, text in case.wanted]
+            yield subject, replace(case, name=f"{case.name}, by the separate checker", words=[CHECKER], wanted=wanted)
+
+
+def without_checker(cases):
+    """All cases but those that call the separate checker by its name; a line says how many these are."""
+    kept = [(subject, case) for subject, case in cases if case.words[0] != CHECKER]
+    if len(kept) < len(cases):
+        print(f"passed over, since the separate checker isn't built: {len(cases) - len(kept)} cases", flush=True)
+    return kept
+
+
+def checker_of(path):
+    """The separate checker: what is named, or what was built; None where it wasn't."""
+    path = path or os.environ.get("KNOT_CHECK")
+    return program_of(CHECKER, path) if path else built_checker()
+
+
+def built_checker():
+    built = os.path.join(TOP, "crates", CHECKER, "out", CHECKER)
+    return built if os.access(built, os.X_OK) else None
+
+
 def main():
     about, _, epilog = __doc__.partition("\n\n")
     parser = argparse.ArgumentParser(description=about, epilog=epilog, formatter_class=argparse.RawDescriptionHelpFormatter)
     parser.add_argument("names", nargs="*", metavar="FILE", help="a file of tests/rows/ without its ending; none: all")
     parser.add_argument("--knot", metavar="PATH", help="the program that is called as knot")
     parser.add_argument("--seek", metavar="PATH", help="the program that is called as seek")
+    parser.add_argument("--check", metavar="PATH", help="the separate checker, on which the rows of `knot check` are tried too")
     asked = parser.parse_args()
     try:
         cases = all_cases(asked.names)
-        used = {case.words[0] for _, case in cases} | {"knot"}
+        used = {case.words[0] for _, case in cases} - {CHECKER} | {"knot"}
         runner = Runner({name: program_of(name, getattr(asked, name)) for name in sorted(used)})
+        checker = checker_of(asked.check)
     except RowError as error:
         print(f"rows.py: {error}", file=sys.stderr)
         return 2
+    if checker:
+        runner.programs[CHECKER] = checker
+        cases += list(checkers_cases(cases))
+    else:
+        cases = without_checker(cases)
     failed = 0
     with ThreadPoolExecutor(max_workers=os.cpu_count()) as pool:
         for (subject, case), problems in zip(cases, pool.map(lambda it: runner.problems(it[1]), cases)):

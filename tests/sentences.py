@@ -1,6 +1,6 @@
 #!/usr/bin/env python3
 """Sets what `seek` says of bad lines beside what `knot decide` answers: the same line, the same status, and a reason for it, which
-`knot` tells on standard error too.
+`knot` tells on a terminal too. Where its standard error is none, it tells nothing.
 
     python3 tests/sentences.py                  20,000 random changes of the examples of `decide` and of the texts below
     python3 tests/sentences.py --cases 500      fewer
@@ -20,6 +20,7 @@ from collections import Counter
 from concurrent.futures import ThreadPoolExecutor
 
 import changes
+import terminals
 
 TOP = os.path.dirname(os.path.dirname(os.path.abspath(__file__)))
 KNOT = os.environ.get("KNOT", os.path.join(TOP, "crates", "knot", "out", "knot"))
@@ -39,10 +40,10 @@ def bases():
 
 
 def said_by_knot(text):
-    """The status, the line that is named, if one is, and what is told on standard error."""
-    done = subprocess.run([KNOT, "decide", "--budget", "2"], input=text, capture_output=True)
-    named = re.fullmatch(rb"(?:malformed|limit) line ([0-9]+)\n", done.stdout)
-    return done.returncode, int(named[1]) if named else None, done.stderr
+    """The status, the line that is named, if one is, and what is told on a terminal."""
+    status, said, told = terminals.run([KNOT, "decide", "--budget", "2"], text)
+    named = re.fullmatch(rb"(?:malformed|limit) line ([0-9]+)\n", said)
+    return status, int(named[1]) if named else None, told
 
 
 def said_by_seek(text):

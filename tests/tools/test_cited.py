@@ -130,6 +130,27 @@ class Cited(unittest.TestCase):
         self.assertEqual(told["low law a_size_is_itself (7 lines)"], "middle, own laws")
         self.assertEqual(told["low law twice_is_twice (9 lines)"], "nobody")
 
+    def test_public_modules_of_a_crate_of_laws_have_laws(self):
+        law = "/// It is no code.\npub fn it_is_one()\n    ensures { (n : ℕ) → n ≡ n }\n{}\n"
+        for path, text in {
+            "crates.txt": FILES["crates.txt"].replace("middle: low", "middle: low low_laws") + "low_laws: low\n",
+            "crates/low_laws/src/lib.rt": "pub mod doubles;\nmod shown;\npub mod sizes;\n",
+            "crates/low_laws/src/doubles.rt": law,
+            "crates/low_laws/src/shown.rt": "pub fn show() {}\n",
+            "crates/low_laws/src/sizes.rt": law,
+            "crates/low_laws/proofs/sizes/it_is_one/Answers.antt": "use Rattle.low.proofs.Sizes.{alone}\n\npub returns : goal.returns\nreturns c = alone\n",
+        }.items():
+            path = os.path.join(self.top, path)
+            os.makedirs(os.path.dirname(path), exist_ok=True)
+            with open(path, "w", encoding="utf-8") as file:
+                file.write(text)
+        self.assertEqual(self.lines("low", "low_laws"), [
+            "low_laws: 11 lines in 2 items",
+            "  crates/low_laws/src/doubles.rt, for laws, 4 lines: it_is_one",
+            "  crates/low_laws/src/sizes.rt, for laws, 7 lines: it_is_one",
+        ])
+        self.assertIn("  crates/low/proofs/Sizes.antt, for laws, 5 lines: of_twice, alone", self.lines("low", "low"))
+
     def test_a_program_needs_what_it_stands_on(self):
         self.assertEqual(self.lines("low", "middle"), [])
         self.assertEqual(self.lines("low", "middle", "--programs", "beside"), [])

@@ -13,18 +13,27 @@ import rows  # noqa: E402
 
 KNOWN = {"MAX_SIZE": 6}
 
+# How it is called: Python itself doesn't start where standard input is a folder, which the job `sample` takes.
+LAUNCHER = """#!/bin/sh
+if [ "$1" = sample ]; then
+    cat >/dev/null 2>&1 && exit 5
+    exit 0
+fi
+exec '{python}' '{path}' "$@"
+"""
+
 # A program that takes lines `good`, writes them again as one line, and names the first other one.
-STAND_IN = """#!{python}
+STAND_IN = """import os
 import sys
 if sys.argv[1:] == ["tell"]:
-    print("told", file=sys.stderr)
+    if sys.stderr.isatty():
+        print("told", file=sys.stderr)
     sys.exit(1)
-if sys.argv[1:] == ["sample"]:
-    try:
-        sys.stdin.read()
-    except OSError:
-        sys.exit(0)
-    sys.exit(5)
+if sys.argv[1:] == ["chatter"]:
+    print("told", file=sys.stderr)
+    sys.exit(0)
+if len(sys.argv) == 3 and sys.argv[1] == "word":
+    sys.exit(10 if os.fsencode(sys.argv[2]) == bytes([255, 97]) else 0)
 if sys.argv[1:2] == ["write"]:
     with open(sys.argv[2], "w") as file:
         file.write("certificate\\nand more\\n")
@@ -42,16 +51,24 @@ if sys.argv[1:] == ["grid"]:
 if sys.argv[1:] == ["shown"]:
     sys.stdout.write(open("shown").read())
     sys.exit(0)
+if sys.argv[1:] == ["check"] and sys.stderr.isatty():
+    print("bad day", file=sys.stderr, end="")
 lines = sys.stdin.buffer.read().split(b"\\n")
 lines = lines[:-1] if lines[-1] == b"" else lines
 for number, line in enumerate(lines, 1):
     if line != b"good":
-        print(f"malformed line {{number}}")
+        print(f"malformed line {number}")
         sys.exit(3)
 if not lines:
     print("malformed line 1")
     sys.exit(3)
-print("accepted" if sys.argv[1] == "check" else "good")
+print("good" if sys.argv[1:] and sys.argv[1] != "check" else "accepted")
+"""
+
+# A separate checker that takes all.
+TAKES_ALL = """#!/bin/sh
+cat >/dev/null
+echo accepted
 """
 
 # All kinds of answers, of which the last is another one.
@@ -234,13 +251,16 @@ class Rows(unittest.TestCase):
     def setUp(self):
         self.folder = scratch(self)
         self.stand_in = os.path.join(self.folder, "knot")
+        with open(f"{self.stand_in}.py", "w", encoding="utf-8") as file:
+            file.write(STAND_IN)
         with open(self.stand_in, "w", encoding="utf-8") as file:
-            file.write(STAND_IN.format(python=sys.executable))
+            file.write(LAUNCHER.format(python=sys.executable, path=f"{self.stand_in}.py"))
         os.chmod(self.stand_in, 0o755)
         os.mkdir(os.path.join(self.folder, "rows"))
-        patch = mock.patch.object(rows, "ROWS", os.path.join(self.folder, "rows"))
-        patch.start()
-        self.addCleanup(patch.stop)
+        # (nor is a checker that was built in this tree asked)
+        for patch in (mock.patch.object(rows, "ROWS", os.path.join(self.folder, "rows")), mock.patch.object(rows, "built_checker", lambda: None)):
+            patch.start()
+            self.addCleanup(patch.stop)
 
     def found(self, text, *words):
         """The exit status of the script, and what it prints, where these are all rows."""
@@ -257,7 +277,18 @@ class Rows(unittest.TestCase):
             1, "some: many, 4: good\\nbad\n    standard output is b'malformed line 3\\n', and not b'malformed line 2\\n'\n6 cases, 6 calls, 1 different\n"))
 
     def test_streams_and_files(self):
-        self.assertEqual(self.found(STREAMS), (0, "3 cases, 3 calls, 0 different\n"))
+        self.assertEqual(self.found(STREAMS), (0, "3 cases, 4 calls, 0 different\n"))
+
+    def test_knot_says_nothing_but_to_a_terminal(self):
+        self.assertEqual(self.found("== one\nknot chatter\nanswer 0\n"), (
+            1, "some: one\n    standard error is b'told\\n', and not b''\n1 cases, 1 calls, 1 different\n"))
+
+    def test_a_word_of_other_bytes(self):
+        self.assertEqual(self.found("== one\nknot word\nword \\xffa\nanswer 10\n"), (0, "1 cases, 1 calls, 0 different\n"))
+
+    def test_a_file_as_standard_input(self):
+        self.assertEqual(self.found("== one\nknot job\nfile here\n    good\n    bad\ninput is here\nanswer 3\n    malformed line 2\n"),
+                         (0, "1 cases, 1 calls, 0 different\n"))
 
     def test_what_a_call_writes(self):
         self.assertEqual(self.found(WRITTEN), (1, NOT_WRITTEN))
@@ -273,6 +304,27 @@ class Rows(unittest.TestCase):
         self.assertEqual(self.found("== cut\nknot check\ninput\n    good\n    good\nanswer 0\n    accepted\naltered at each byte\ncut at each byte\n"), (
             1, "some: cut\n    cut to 4 bytes: the status is 0, and not 3\n    cut to 5 bytes: the status is 0, and not 3\n1 cases, 21 calls, 1 different\n"))
         self.assertEqual(self.found("== behind\nknot job\ninput\n    good\naccepted behind it\n"), (0, "1 cases, 2 calls, 0 different\n"))
+
+    def test_the_separate_checker_answers_the_rows_of_check_too(self):
+        text = "== one\nknot check\ninput\n    good\nanswer 0\n    accepted\nerror\n    bad day\\\n" \
+               "== options\nknot check --seed 1\nanswer 3\n    malformed line 1\n== behind\nknot job\ninput\n    good\naccepted behind it\n"
+        self.assertEqual(self.found(text), (0, "3 cases, 5 calls, 0 different\n"))
+        self.assertEqual(self.found(text, "--check", self.stand_in), (0, "4 cases, 7 calls, 0 different\n"))
+        other = os.path.join(self.folder, "other")
+        with open(other, "w", encoding="utf-8") as file:
+            file.write(TAKES_ALL)
+        os.chmod(other, 0o755)
+        status, said = self.found("== two\nknot check\ninput\n    bad\nanswer 3\n    malformed line 1\n", "--check", other)
+        self.assertEqual(status, 1)
+        self.assertTrue(said.startswith("some: two, by the separate checker\n    status is 0, and not 3\n"), said)
+        self.assertEqual(self.found(text, "--check", "/no/such/program")[0], 2)
+
+    def test_rows_of_the_checker_are_passed_over_where_it_is_not_there(self):
+        text = "== one\nknot job\ninput\n    good\ntaken\n== its own\nknot_check word\nword \\xffa\nanswer 10\n== loud\nknot_check chatter\nanswer 0\n"
+        passed_over = "passed over, since the separate checker isn't built: 2 cases\n"
+        self.assertEqual(self.found(text), (0, f"{passed_over}1 cases, 1 calls, 0 different\n"))
+        self.assertEqual(self.found(text, "--check", self.stand_in), (
+            1, "some: loud\n    standard error is b'told\\n', and not b''\n3 cases, 3 calls, 1 different\n"))
 
     def test_what_is_no_row_is_refused(self):
         for text, why in NO_ROWS:

@@ -8,4 +8,3 @@ pub use Rattle.quandle_core.specs.Bijection
 pub use Rattle.colour_rows.specs.Colouring
 pub use Rattle.braid_core.specs.Braid
 pub use Rattle.braid_core.specs.Action
-pub use Rattle.braid_core.specs.FixedPoints

@@ -5,13 +5,13 @@ ghost use Rattle.braid_closure.specs.Columns.{begun, ended, open_columns, at_pos
 use arrayvec::ArrayVec;
 use grid_core::MAX_SIZE;
 
-/// A column, which is open until it ends with an O.
+/// A column of a grid in the making, which is open until it ends with an O.
 #[derive(Clone, Copy, Default)]
-pub(crate) struct Column {
-    /// The row of the X with which it begins.
-    pub(crate) x: u8,
+pub struct Column {
+    /// The row of the X with which it begins, counted from 0.
+    pub x: u8,
     /// The row of the O, once it has ended.
-    pub(crate) o: Option<u8>,
+    pub o: Option<u8>,
 }
 
 /// Columns from left to right.

@@ -4,6 +4,6 @@
 
 mod closure;
 mod columns;
-pub mod laws;
 
 pub use closure::{Closure, close};
+pub use columns::Column;

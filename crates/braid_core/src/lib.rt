@@ -5,7 +5,6 @@
 mod action;
 mod braid;
 mod fault;
-pub mod laws;
 #[cfg(test)]
 mod tests;
 mod tuples;

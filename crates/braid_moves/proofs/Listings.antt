@@ -9,7 +9,7 @@ use Rattle.quandle_core.specs.Bijection.{IsBijection}
 use Rattle.quandle_core.proofs.Lengths.{IsOneOf, AreDistinct, IsListing, equal_lengths}
 use Rattle.braid_core.specs.Braid.{Word}
 use Rattle.braid_core.specs.FixedPoints.{fixed_points, IsFixedPoint}
-use Rattle.braid_core.proofs.Listed.{IsBefore, fixed_in_order, listed_fixed, fixed_listed}
+use Rattle.braid_laws.proofs.Listed.{IsBefore, fixed_in_order, listed_fixed, fixed_listed}
 
 -- what stands at a place of a list is one of its items
 one_at : (ys : List (List ℕ)) (k : ℕ) (d : List ℕ) → k < length ys → IsOneOf (get_or ys k d) ys

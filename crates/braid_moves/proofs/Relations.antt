@@ -5,7 +5,7 @@ use Rattle.std.proofs.lemmas.List.{drop_more, take-append-drop, length-take-le}
 use Rattle.std.proofs.lemmas.List.Elements.{All-get_or}
 use Rattle.quandle_core.specs.Quandle.{Table, IsQuandle, over, back}
 use Rattle.braid_core.specs.Action.{IsTuple, letter_action, action}
-use Rattle.braid_core.proofs.Pairs.{second_assoc, low_of, high_of, letter_pair, Split, split_at}
+use Rattle.braid_laws.proofs.Pairs.{second_assoc, low_of, high_of, letter_pair, Split, split_at}
 use Rattle.quandle_core.proofs.Distributed.{back_back_kept}
 
 -- letters of strands far from each other, on a tuple around both of their pairs: each changes its own pair, in either order

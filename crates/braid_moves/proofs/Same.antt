@@ -13,7 +13,7 @@ use Rattle.quandle_core.specs.Bijection.{IsBijection}
 use Rattle.braid_core.specs.Braid.{IsLetter}
 use Rattle.braid_core.specs.Action.{IsTuple, letter_action, action}
 use Rattle.braid_core.specs.FixedPoints.{IsFixedPoint}
-use Rattle.braid_core.proofs.Letters.{letter_undone, action_bijection}
+use Rattle.braid_laws.proofs.Letters.{letter_undone, action_bijection}
 use Rattle.braid_moves.specs.Fault.{are_far, is_negative, are_triple}
 use Rattle.braid_moves.proofs.Relations.{far_letters, triple_positive, triple_negative}
 

@@ -17,7 +17,7 @@ use Rattle.braid_core.specs.Braid.{Word, IsLetter, IsBraid}
 use Rattle.braid_core.specs.Fault.{is_outside}
 use Rattle.braid_core.specs.FixedPoints.{IsFixedPoint}
 use Rattle.braid_core.specs.declared.braid.TheConstants.{MAX_STRANDS}
-use Rattle.braid_core.proofs.Letters.{letter_negated}
+use Rattle.braid_laws.proofs.Letters.{letter_negated}
 use Rattle.braid_core.proofs.Accepted.{letter_from}
 use Rattle.braid_moves.specs.declared.step.BraidMove.{BraidMove}
 use Rattle.braid_moves.specs.declared.step.BraidMove.TheVariants.{Far, Triple, Cancel, Insert, Turn, Grow, Shrink}

@@ -9,8 +9,8 @@ use Rattle.quandle_core.specs.Bijection.{IsBijection}
 use Rattle.braid_core.specs.Braid.{Word, IsLetter}
 use Rattle.braid_core.specs.Action.{IsTuple, letter_action, action}
 use Rattle.braid_core.specs.FixedPoints.{IsFixedPoint}
-use Rattle.braid_core.proofs.Letters.{letter_stays}
-use Rattle.braid_core.proofs.Pairs.{split_at, letter_pair, low_of, high_of}
+use Rattle.braid_laws.proofs.Letters.{letter_stays}
+use Rattle.braid_laws.proofs.Pairs.{split_at, letter_pair, low_of, high_of}
 use Rattle.braid_moves.specs.Step.{crossing}
 use Rattle.braid_moves.proofs.Same.{acts_stay}
 

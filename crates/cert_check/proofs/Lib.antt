@@ -2,4 +2,3 @@ pub mod FirstDifference
 pub mod ToldApart
 pub mod ListCauses
 pub mod Rulings
-mod WorkedRows

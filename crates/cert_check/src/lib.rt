@@ -2,7 +2,6 @@
 //! It accepts exactly what holds, and otherwise names the first cause.
 #![tactic(auto)]
 
-pub mod laws;
 mod lists;
 mod moves;
 mod ruling;

@@ -1,3 +1,1 @@
 pub mod Accepted
-mod FirstFaults
-pub mod WorkedRows

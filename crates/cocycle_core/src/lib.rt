@@ -6,7 +6,6 @@ mod cocycle;
 mod draft;
 mod fault;
 mod large;
-pub mod laws;
 #[cfg(test)]
 mod tests;
 mod values;

@@ -1,4 +1,4 @@
-//! What becomes of the colourings of a grid diagram under each move, as a function and as laws.
+//! Colourings of a grid diagram under each move: the carried colouring, and the laws of carrying.
 //! Each legal move carries the colourings of the old diagram one to one to those of the new one, so equivalent diagrams have equally many.
 #![tactic(auto)]
 

@@ -4,7 +4,6 @@
 
 mod complete;
 mod grouping;
-pub mod laws;
 mod level;
 mod limits;
 

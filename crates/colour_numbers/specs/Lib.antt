@@ -1,5 +1,4 @@
 pub mod Numbers
-pub mod Lines
 pub use Rattle.colour_seeds.specs.Plan
 pub use Rattle.colour_seeds.specs.Fits
 pub use Rattle.colour_list.specs.Listing

@@ -5,13 +5,13 @@ use Rattle.quandle_core.specs.Quandle.{Table}
 use Rattle.cocycle_core.specs.Cocycle.{IsCocycle}
 use Rattle.colour_list.specs.Listing.{colourings}
 use Rattle.colour_weights.specs.Weights.{weights}
-use Rattle.shadow_weights.specs.Cocycle.{IsShadowCocycle}
+use Rattle.shadow_cocycles.specs.Cocycle.{IsShadowCocycle}
 use Rattle.shadow_weights.specs.Weights.{shadow_weights}
 use Rattle.colour_seeds.specs.declared.progress.Step.{Step}
 use Rattle.colour_seeds.specs.declared.counting.TheConstants.{MAX_CANDIDATES}
 use Rattle.colour_seeds.specs.Plan.{seeds_in}
-use Rattle.number_text.specs.declared.blocks.LargeWeighing.{LargeWeighing}
-use Rattle.number_text.specs.declared.blocks.LargeWeighing.TheVariants.{Strands, Regions}
+use Rattle.evidence_core.specs.declared.blocks.LargeWeighing.{LargeWeighing}
+use Rattle.evidence_core.specs.declared.blocks.LargeWeighing.TheVariants.{Strands, Regions}
 
 -- the number of colourings; with a cocycle, for each weight the number of those that have it, and with one that looks at regions
 -- the number of pairs of a colouring and a colour of the outer region that have it

@@ -8,12 +8,13 @@ ghost use Rattle.colour_seeds.specs.declared.counting.CountFault.TheVariants as 
 ghost use Rattle.colour_numbers.specs.Numbers.{choices_of, fits_by, numbers};
 
 use cocycle_core::LargeCocycle;
-use colour_seeds::{CountFault, Seeding, count, fits, weights_by_seeds};
+use colour_seeds::{CountFault, Seeding, count, fits};
+use evidence_core::LargeWeighing;
 use grid_core::Grid;
-use number_text::LargeWeighing;
 use quandle_core::Operations;
 use shadow_numbers::shadow_weights_by_seeds;
 use std::alloc::Global;
+use strand_numbers::weights_by_seeds;
 
 /// How many colours are chosen by so many seeds: one for each, and by a shadow cocycle one more, for the outer region.
 pub fn choices_of(cocycle: &Option<LargeWeighing>, seeds: usize) -> usize

@@ -4,7 +4,6 @@
 
 mod colouring;
 mod equation;
-pub mod laws;
 #[cfg(test)]
 mod plain;
 mod spans;

@@ -4,9 +4,7 @@ pub mod Settlings
 pub mod Seeds
 pub mod Levels
 pub mod Caps
-pub mod Determined
 pub mod Tallying
 pub mod Automorphisms
 pub mod Connections
 pub mod FirstColours
-pub mod WorkedRows

@@ -3,7 +3,6 @@ pub mod Plan
 pub mod Seeded
 pub mod Leaves
 pub mod Fits
-pub mod Tallies
 pub mod Connected
 pub use Rattle.grid_core.specs.Diagram
 pub use Rattle.grid_core.specs.Parts

@@ -112,7 +112,7 @@ fn count_all(grid: &Grid, rows: &[Row], quandle: &Operations, steps: &[Step]) ->
 }
 
 /// The rows of a grid, from the lowest upward.
-pub(crate) fn rows_of(alloc: Global, grid: &Grid) -> Result<Vec<Row>, AllocFailed<Row>>
+pub fn rows_of(alloc: Global, grid: &Grid) -> Result<Vec<Row>, AllocFailed<Row>>
     ensures { IfOk result (λ v. v.items ≡ map (equation grid.now) (range_with_len 0 (size grid.now))) }
 {
     let spans = Spans::of(grid);

@@ -3,16 +3,11 @@
 
 mod connected;
 mod counting;
-pub mod laws;
 mod progress;
 mod seeding;
-mod seeking;
-mod settling;
-mod weighing;
+pub mod settling;
 
 pub use connected::is_connected;
-pub use counting::{CountFault, MAX_CANDIDATES, count, fits};
+pub use counting::{CountFault, MAX_CANDIDATES, count, fits, rows_of};
 pub use progress::Step;
 pub use seeding::{SeedFault, Seeding};
-pub use seeking::seeds_of;
-pub use weighing::weights_by_seeds;

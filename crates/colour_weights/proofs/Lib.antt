@@ -3,4 +3,3 @@ pub mod CrossingSums
 pub mod Lifted
 pub mod Carried
 pub mod Counted
-mod WorkedRows

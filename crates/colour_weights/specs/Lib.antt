@@ -14,4 +14,4 @@ pub use Rattle.colour_rows.specs.Equation
 pub use Rattle.colour_rows.specs.Colouring
 pub use Rattle.colour_list.specs.Fits
 pub use Rattle.colour_list.specs.Listing
-pub use Rattle.colour_laws.specs.Carried
+pub use Rattle.carried_colours.specs.Carried

@@ -4,7 +4,7 @@ use Rattle.std.specs.Prelude.{codes}
 use Rattle.std.specs.Fmt.{digits}
 use Rattle.grid_core.specs.Diagram.{Diagram}
 use Rattle.grid_core.specs.Trefoils.{right_trefoil, left_trefoil}
-use Rattle.grid_core.proofs.WorkedRows.{unknot}
+use Rattle.grid_laws.proofs.WorkedDiagrams.{unknot}
 use Rattle.quandle_core.specs.Tables.{dihedral, tetrahedral}
 use Rattle.crossing_codes.specs.Components.{component, starts}
 use Rattle.crossing_codes.specs.StrandPlaces.{on_column, on_row, place_after, met_after, at_cross}

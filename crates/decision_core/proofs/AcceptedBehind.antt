@@ -7,18 +7,18 @@ use Rattle.text_lines.specs.Spelled.{line_bytes, line_text, lines_text}
 use Rattle.verdict_core.specs.declared.problem.ProblemText.{ProblemText}
 use Rattle.verdict_core.specs.declared.verdict.Verdict.{Verdict}
 use Rattle.verdict_core.specs.declared.verdict.Verdict.TheVariants.{Equal, Different, UnknownBudget, UnknownExhausted}
-use Rattle.verdict_core.specs.Names.{NamedQuandle}
+use Rattle.named_quandles.specs.Names.{NamedQuandle}
 use Rattle.verdict_core.specs.Diagrams.{grid_of, columns}
 use Rattle.verdict_core.specs.Evidence.{Holds}
 use Rattle.text_items.specs.declared.reading.TheConstants.{MAX_NUMBER}
-use Rattle.knot_text.specs.declared.verdicts.Version.TheVariants.{Tidy}
+use Rattle.verdict_text.specs.declared.verdicts.Version.TheVariants.{Tidy}
 use Rattle.text_items.specs.Quandles.{built_in, or_built_in}
 use Rattle.knot_text.specs.Printed.{move_tokens, version_lines, version_text, HasQuandleText, HasVersionText}
-use Rattle.knot_text.specs.Shapes.{problem_of, check_of}
+use Rattle.verdict_text.specs.Problems.{problem_of, check_of}
 use Rattle.knot_text.proofs.ShapesSay.{problem_in_says}
 use Rattle.knot_text.proofs.ReadBack.{verdict_behind}
 use Rattle.knot_text.proofs.FeedBetween.{verdict_behind_feed}
-use Rattle.decision_core.specs.declared.limits.TheConstants.{MAX_CERTIFICATE}
+use Rattle.knot_ports.specs.declared.limits.TheConstants.{MAX_CERTIFICATE}
 use Rattle.decision_core.specs.Decision.{put_behind, IsAccepted, IsShort}
 
 -- ---- the quandles of a problem have texts

@@ -5,7 +5,7 @@ use Rattle.text_lines.specs.Lines.{text_of}
 use Rattle.verdict_core.specs.declared.problem.ProblemText.{ProblemText}
 use Rattle.verdict_core.specs.Diagrams.{grid_of}
 use Rattle.text_items.specs.Reading.{◌>>=◌, text_end}
-use Rattle.knot_text.specs.Shapes.{problem_item, problem_in, problem_of}
+use Rattle.verdict_text.specs.Problems.{problem_item, problem_in, problem_of}
 use Rattle.knot_text.proofs.Steady.{bind_ok, ok_is}
 use Rattle.knot_text.proofs.GridsRead.{problem_grids}
 

@@ -7,11 +7,11 @@ use Rattle.verdict_core.specs.declared.verdict.Verdict.{Verdict}
 use Rattle.verdict_core.specs.declared.verdict.Verdict.TheVariants.{Equal, Different, UnknownBudget, UnknownExhausted}
 use Rattle.verdict_core.specs.Diagrams.{grid_of}
 use Rattle.verdict_core.specs.Evidence.{Claims, Holds, HasEvidence, IsTidyVerdict}
-use Rattle.verdict_core.proofs.Named.{named_is}
+use Rattle.named_quandles.proofs.Named.{named_is}
 use Rattle.cert_check.proofs.ToldApart.{told_apart}
 use Rattle.knot_text.specs.Printed.{version_text}
-use Rattle.knot_text.specs.declared.verdicts.Version.TheVariants.{Tidy}
-use Rattle.knot_text.specs.Shapes.{problem_of}
+use Rattle.verdict_text.specs.declared.verdicts.Version.TheVariants.{Tidy}
+use Rattle.verdict_text.specs.Problems.{problem_of}
 use Rattle.decision_core.specs.Decision.{IsDecision, IsByWrittenQuandle}
 use Rattle.decision_core.proofs.Grids.{grids_of_problem}
 use Rattle.decision_core.proofs.PrintedVerdicts.{FewColourings, held_text}

@@ -17,11 +17,11 @@ use Rattle.colour_rows.proofs.Colourings.{coloured}
 use Rattle.colour_list.specs.Listing.{colourings, lists_of}
 use Rattle.colour_list.specs.Fits.{fits}
 use Rattle.colour_list.specs.declared.limits.TheConstants.{MAX_COLOURINGS}
-use Rattle.verdict_core.specs.Names.{NamedQuandle}
+use Rattle.named_quandles.specs.Names.{NamedQuandle}
 use Rattle.verdict_core.specs.declared.verdict.Verdict.{Verdict}
 use Rattle.verdict_core.specs.declared.verdict.Verdict.TheVariants.{Equal, Different, UnknownBudget, UnknownExhausted}
 use Rattle.verdict_core.specs.Evidence.{Holds, TellsApart}
-use Rattle.verdict_core.proofs.Named.{named_is}
+use Rattle.named_quandles.proofs.Named.{named_is}
 use Rattle.text_items.specs.declared.reading.TheConstants.{MAX_NUMBER}
 use Rattle.knot_text.specs.Printed.{HasMoveText, HaveMovesText, HasListText, HasQuandleText, HasVerdictText}
 use Rattle.decision_core.specs.Decision.{IsByWrittenQuandle, IsShort}

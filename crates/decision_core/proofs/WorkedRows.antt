@@ -1,6 +1,6 @@
 -- The limits by their numbers, which stand here alone beside the constants, and a text behind an input.
 use Rattle.std.proofs.Common.{◌≡◌, refl, codes}
-use Rattle.decision_core.specs.declared.limits.TheConstants.{MAX_INPUT, MAX_CERTIFICATE}
+use Rattle.knot_ports.specs.declared.limits.TheConstants.{MAX_INPUT, MAX_CERTIFICATE}
 use Rattle.decision_core.specs.Decision.{put_behind}
 
 most_of_an_input : MAX_INPUT ≡ 1048576

@@ -5,19 +5,15 @@ use Rattle.verdict_core.specs.declared.problem.ProblemText.{ProblemText}
 use Rattle.verdict_core.specs.declared.verdict.Verdict.{Verdict}
 use Rattle.verdict_core.specs.declared.verdict.Verdict.TheVariants.{Equal, Different, UnknownBudget, UnknownExhausted}
 use Rattle.verdict_core.specs.Diagrams.{grid_of}
-use Rattle.verdict_core.specs.Evidence.{Claims, Holds, HasEvidence}
+use Rattle.verdict_core.specs.Evidence.{Holds, HasEvidence}
+use Rattle.cert_check.specs.Truth.{IsTrueVerdict}
 use Rattle.text_items.specs.declared.reading.TheConstants.{MAX_NUMBER}
-use Rattle.knot_text.specs.declared.verdicts.Version.TheVariants.{Tidy}
+use Rattle.verdict_text.specs.declared.verdicts.Version.TheVariants.{Tidy}
 use Rattle.knot_text.specs.Printed.{version_text, HasQuandleText}
-use Rattle.knot_text.specs.Shapes.{problem_of, check_of}
+use Rattle.verdict_text.specs.Problems.{problem_of, check_of}
 use Rattle.cert_check.specs.declared.ruling.Ruling.TheVariants.{Accepted}
 use Rattle.cert_check.specs.Ruling.{RulesOn}
-use Rattle.decision_core.specs.declared.limits.TheConstants.{MAX_CERTIFICATE}
-
--- what the verdict says of the diagrams is true: diagrams said to be equal are equivalent, and no list of moves joins diagrams
--- that are told apart
-abbrev pub IsTrueVerdict : ProblemText → Verdict → Type 0
-IsTrueVerdict problem verdict = Claims (grid_of problem.first) (grid_of problem.second) verdict
+use Rattle.knot_ports.specs.declared.limits.TheConstants.{MAX_CERTIFICATE}
 
 -- a text behind an input, with a line feed between where the last line of the input lacks one
 abbrev pub put_behind : List ℕ → List ℕ → List ℕ

@@ -1,9 +1,8 @@
-pub mod Status
 pub mod Decision
 pub use Rattle.grid_moves.specs.Joining
 pub use Rattle.verdict_core.specs.Diagrams
 pub use Rattle.verdict_core.specs.Evidence
-pub use Rattle.verdict_core.specs.Names
+pub use Rattle.named_quandles.specs.Names
 pub use Rattle.knot_text.specs.Printed
 pub use Rattle.knot_text.specs.Shapes
 pub use Rattle.cert_check.specs.Ruling

@@ -6,11 +6,11 @@ ghost use Rattle.verdict_core.specs.declared.verdict.Verdict.{Verdict};
 ghost use Rattle.verdict_core.specs.Diagrams.{grid_of};
 ghost use Rattle.verdict_core.specs.Evidence.{Holds, IsTidyVerdict};
 ghost use Rattle.knot_text.specs.Printed.{HasQuandleText, version_text};
-ghost use Rattle.knot_text.specs.Shapes.{problem_of};
+ghost use Rattle.verdict_text.specs.Problems.{problem_of};
 ghost use Rattle.decision_core.specs.Decision.{IsDecision, IsByWrittenQuandle};
 
-use colour_list::laws::no_more_colourings_than_choices;
 use knot_text::Version;
+use quandle_laws::lists::no_more_colourings_than_choices;
 
 /// The quandles of a problem that was read have texts. A verdict that holds of its diagrams, whoever found it, by moves or by a quandle
 /// that has a text, whose moves, if any, are a tidy list, is as it is printed a decision on the input: it is true, and accepted

@@ -7,7 +7,7 @@ use Rattle.std.proofs.lemmas.List.Elements.{All-nil, All-cons, All-same}
 use Rattle.quandle_core.specs.Quandle.{Table, over, back}
 use Rattle.braid_core.specs.Braid.{IsLetter}
 use Rattle.braid_core.specs.Action.{positive, action}
-use Rattle.braid_core.proofs.Pairs.{second_assoc, pair_positive, pair_negative}
+use Rattle.braid_laws.proofs.Pairs.{second_assoc, pair_positive, pair_negative}
 use Rattle.grid_braid.specs.Word.{leftward, rightward}
 
 -- the letters of a move, one by one

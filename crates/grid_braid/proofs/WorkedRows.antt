@@ -4,7 +4,7 @@ use Rattle.std.specs.List.{range_with_len}
 use Rattle.std.proofs.Common.{refl}
 use Rattle.grid_core.specs.Diagram.{Diagram, size}
 use Rattle.grid_core.specs.Trefoils.{right_trefoil, left_trefoil}
-use Rattle.grid_core.proofs.WorkedRows.{unknot}
+use Rattle.grid_laws.proofs.WorkedDiagrams.{unknot}
 use Rattle.quandle_core.specs.Quandle.{Table}
 use Rattle.quandle_core.specs.Tables.{trivial, dihedral, tetrahedral}
 use Rattle.quandle_core.specs.Colours.{all_lists}

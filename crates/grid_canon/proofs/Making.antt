@@ -9,7 +9,7 @@ use Rattle.grid_moves.specs.Joining.{Joins}
 use Rattle.grid_moves.specs.SizeAfter.{size_after}
 use Rattle.grid_moves.specs.Step.{Step}
 use Rattle.grid_moves.specs.Kinds.{is_shift}
-use Rattle.grid_moves.proofs.Sizes.{step_size}
+use Rattle.grid_laws.proofs.Sizes.{step_size}
 use Rattle.grid_canon.specs.declared.tidying.Run.{Run}
 use Rattle.grid_keys.specs.Shifts.{shift_moves}
 use Rattle.grid_canon.specs.Tidied.{tidied}

@@ -14,7 +14,7 @@ use Rattle.grid_moves.specs.Step.{Step}
 use Rattle.grid_moves.specs.Kinds.{is_shift, is_column_shift, is_row_shift}
 use Rattle.grid_moves.specs.Tidy.{may_follow, are_tidy_behind, is_tidy}
 use Rattle.grid_moves.proofs.OneResult.{step_once}
-use Rattle.grid_moves.proofs.Sizes.{step_size}
+use Rattle.grid_laws.proofs.Sizes.{step_size}
 use Rattle.grid_moves.proofs.Within.{within_append, within_joins, within_larger, joins_within_most}
 use Rattle.grid_keys.specs.Shifts.{shift_moves}
 use Rattle.grid_canon.specs.Tidied.{tidied}

@@ -5,7 +5,6 @@
 mod crossing;
 mod fault;
 mod grid;
-pub mod laws;
 mod mark;
 mod parts;
 mod span;

@@ -5,7 +5,6 @@
 mod applying;
 mod destabilisation;
 mod exchange;
-pub mod laws;
 mod shift;
 mod slide;
 mod stabilisation;

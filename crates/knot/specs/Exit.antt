@@ -1,23 +1,38 @@
--- How the process ends: the exit status of a call, and what it says of the words, the input and the output.
-use Rattle.std.specs.Prelude.{◌≡◌, ℕ, List, Option}
+-- How the process ends: the status of a call, and what it says of the words, the input and the output.
+use Rattle.std.specs.Prelude.{◌≡◌, ℕ, List, Option, Result, Ok, Err, String, Vec}
 use Rattle.std.specs.Process.{exit_status}
+use Rattle.std.specs.declared.alloc.Global.{Global}
 use Rattle.std.specs.declared.process.ExitCode.{ExitCode}
-use Rattle.knot_ports.specs.Standard.{Counted}
 use Rattle.search_pool.specs.declared.finding.Finding.{Finding}
-use Rattle.decision_core.specs.declared.status.Status.{Status}
-use Rattle.decision_core.specs.Status.{status_number}
-use Rattle.knot_jobs.specs.Call.{Call, Change, change_of}
+use Rattle.knot_ports.specs.Change.{Change, IsUntouched}
+use Rattle.knot_ports.specs.declared.status.Status.{Status}
+use Rattle.knot_ports.specs.Status.{status_number}
+use Rattle.given_words.specs.declared.given.NoWords.{NoWords}
+use Rattle.given_words.specs.Given.{status_without_words}
+use Rattle.knot_jobs.specs.Call.{Call, call_of}
 use Rattle.knot_jobs.specs.Ending.{Ends}
 use Rattle.knot_jobs.specs.Truth.{TellsOnlyTruth}
+use Rattle.knot_words.specs.Numbers.{texts_of}
 
--- a port over a reader or a writer, before and after, by what that tells of its bytes
-abbrev pub port_change : {X : Type 0} → (X → Option (List ℕ)) → Counted X → Counted X → Change
-port_change bytes_of before after = change_of (λ (c : Counted _). bytes_of c.port) (λ (c : Counted _). c.errors) before after
-
--- the exit status is the number of a status with which the call ended as is due, and what was written with it is true
-pub record IsExitOf (call : Call) (exit : ExitCode) : Type 0 where
-  pub status : Status
-  pub number : exit_status exit ≡ status_number status
+-- the call ended as is due with this status, and what was written with it is true
+pub record IsStatusOf (call : Call) (status : Status) : Type 0 where
   pub kept : Option Finding
   pub ends : Ends call status kept
   pub truth : TellsOnlyTruth call status
+
+-- the exit status is the number of such a status
+pub record IsExitOf (call : Call) (exit : ExitCode) : Type 0 where
+  pub status : Status
+  pub number : exit_status exit ≡ status_number status
+  pub is : IsStatusOf call status
+
+-- the words that came, as texts
+abbrev pub came : Result (Vec (String Global) Global) NoWords → Result (List (List ℕ)) NoWords
+came (Ok words) = Ok (texts_of words.items)
+came (Err why) = Err why
+
+-- the words came and the program ended as a call of them; or none did, and nothing was read or written
+abbrev pub EndsProgram : Result (List (List ℕ)) NoWords → (ℕ → ℕ) → Change → Change → ExitCode → Type 0
+EndsProgram (Ok words) searching source sink exit = IsExitOf (call_of words searching source sink) exit
+EndsProgram (Err why) searching source sink exit =
+    (exit_status exit ≡ status_without_words why) × (IsUntouched source × IsUntouched sink)

@@ -5,23 +5,25 @@ use Rattle.std.specs.Io.KnownBytes.{Appends, Consumes, IsAtEnd}
 use Rattle.std.proofs.lemmas.Bool.{cases_lt}
 use Rattle.std.proofs.lemmas.List.{append-nil, take_at, take_all, length-take-le}
 use Rattle.search_pool.specs.declared.finding.Finding.{Finding}
-use Rattle.knot_jobs.specs.declared.reply.Reply.{Reply}
-use Rattle.knot_jobs.specs.declared.words.Asked.{Asked}
-use Rattle.knot_jobs.specs.declared.words.WordsFault.{WordsFault}
-use Rattle.knot_jobs.specs.declared.words.WordsFault.TheVariants as bad_words
-use Rattle.decision_core.specs.declared.status.Status.{Status}
-use Rattle.decision_core.specs.declared.status.Status.TheVariants as status
-use Rattle.knot_jobs.specs.Words.{Asks, AsksNothing}
-use Rattle.decision_core.specs.Status.{IsOfAnswer}
-use Rattle.plain_jobs.specs.Reply.{plain_reply, too_long}
-use Rattle.knot_jobs.specs.Reply.{without_search}
-use Rattle.knot_jobs.specs.Jobs.Decide.{with_workers}
-use Rattle.knot_jobs.specs.Answer.{limit_of, part_for, leaves_no_choice, IsOver, IsWithin, AnswersText, Answers}
-use Rattle.knot_jobs.specs.Call.{Call, Change, IsUntouched, Failed, TakesAll, Comes, Loses}
+use Rattle.search_jobs.specs.declared.reply.Reply.{Reply}
+use Rattle.knot_words.specs.declared.words.Asked.{Asked}
+use Rattle.knot_words.specs.declared.words.WordsFault.{WordsFault}
+use Rattle.knot_words.specs.declared.words.WordsFault.TheVariants as bad_words
+use Rattle.knot_ports.specs.declared.status.Status.{Status}
+use Rattle.knot_ports.specs.declared.status.Status.TheVariants as status
+use Rattle.knot_words.specs.Words.{Asks, AsksNothing}
+use Rattle.knot_ports.specs.Status.{IsOfAnswer}
+use Rattle.reply_text.specs.Reply.{plain_reply, too_long}
+use Rattle.search_jobs.specs.Reply.{without_search}
+use Rattle.knot_jobs.specs.Call.{with_workers, Call, TakesAll, Comes, Loses}
+use Rattle.knot_words.specs.Limits.{limit_of, part_for}
+use Rattle.knot_jobs.specs.Answer.{leaves_no_choice, IsOver, IsWithin, AnswersText, Answers}
+use Rattle.knot_ports.specs.Change.{Change, IsUntouched, Failed}
 use Rattle.knot_jobs.specs.Ending.{usage_line, IsReplyTo, IsAnswered, IsMisused, IsDue, IsCutOff, LosesInput, Writes, Ends}
 use Rattle.knot_jobs.specs.Truth.{IsTrueReply, IsTrueOf, TellsOnlyTruth, Goes}
-use Rattle.knot_jobs.specs.Delivered.{IsWithoutReply, IsMadeOf, IsWritten, IsDelivered, IsRefused, IsEnded}
-use Rattle.knot_jobs.proofs.AskedOnce.{asked_once, never_both}
+use Rattle.check_job.specs.Ports.{IsWritten}
+use Rattle.knot_jobs.specs.Delivered.{IsWithoutReply, IsMadeOf, IsDelivered, IsRefused, IsEnded}
+use Rattle.knot_words.proofs.AskedOnce.{asked_once, never_both}
 use Rattle.knot_jobs.proofs.OneAnswer.{answer_status, answers_once, not_decide, by_so_many, not_over}
 
 pub usage_ends : (call : Call) (s : Status) → AsksNothing call.words → IsUntouched call.source → IsWritten call.sink usage_line status.Usage s

@@ -1,10 +1,5 @@
-mod OptionReads
-mod KnotReads
-mod WorkedWords
-mod AskedOnce
 mod Plainly
 mod OneAnswer
+mod InputRead
 mod Endings
-mod Decisions
-pub mod PrintedVerdicts
 mod AcceptedBehind

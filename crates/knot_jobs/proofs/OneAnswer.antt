@@ -6,21 +6,23 @@ use Rattle.text_items.specs.declared.fault.TextFault.TheVariants as bad
 use Rattle.verdict_core.specs.declared.verdict.Verdict.{Verdict}
 use Rattle.verdict_core.specs.declared.verdict.Verdict.TheVariants.{Equal, Different, UnknownBudget, UnknownExhausted}
 use Rattle.walk_samples.specs.Text.{sample_text}
-use Rattle.decision_core.specs.declared.status.Status.{Status}
-use Rattle.decision_core.specs.declared.status.Status.TheVariants as status
-use Rattle.decision_core.specs.Status.{IsOfDefinedAnswer, IsOfAnswer}
-use Rattle.plain_jobs.specs.declared.reply.PlainReply.{PlainReply}
-use Rattle.plain_jobs.specs.Lines.{malformed_line, limit_line}
-use Rattle.plain_jobs.specs.Reply.{plain_reply, done, too_long}
+use Rattle.knot_ports.specs.declared.status.Status.{Status}
+use Rattle.knot_ports.specs.declared.status.Status.TheVariants as status
+use Rattle.knot_ports.specs.Status.{IsOfDefinedAnswer, IsOfAnswer}
+use Rattle.reply_text.specs.declared.reply.PlainReply.{PlainReply}
+use Rattle.reply_text.specs.Lines.{malformed_line, limit_line}
+use Rattle.reply_text.specs.Reply.{plain_reply, done, too_long}
 use Rattle.plain_jobs.proofs.Replies.{replies_defined as plain_defined, too_wide_status, replies_once as plain_once}
 use Rattle.plain_jobs.proofs.Replies.{some_reply as some_plain, never_memory as plain_memory}
-use Rattle.knot_jobs.specs.declared.reply.Reply.{Reply}
-use Rattle.knot_jobs.specs.declared.words.Job.{Job}
-use Rattle.knot_jobs.specs.declared.words.Job.TheVariants.{Decide, Simplify, Sample, Plain}
-use Rattle.knot_jobs.specs.declared.words.Asked.{Asked}
-use Rattle.knot_jobs.specs.Reply.{without_search, plain_of, RepliesRead}
-use Rattle.knot_jobs.specs.Jobs.Decide.{verdict_status, with_workers}
-use Rattle.knot_jobs.specs.Answer.{limit_of, IsOver, IsWithin, task_of, leaves_no_choice, IsInShape, IsBeyondColumns, Answers}
+use Rattle.search_jobs.specs.declared.reply.Reply.{Reply}
+use Rattle.knot_words.specs.declared.job.Job.{Job}
+use Rattle.knot_words.specs.declared.job.Job.TheVariants.{Decide, Simplify, Sample, Plain}
+use Rattle.knot_words.specs.declared.words.Asked.{Asked}
+use Rattle.search_jobs.specs.Reply.{without_search, plain_of, RepliesRead}
+use Rattle.knot_jobs.specs.Call.{with_workers}
+use Rattle.search_jobs.specs.Decide.{verdict_status}
+use Rattle.knot_words.specs.Limits.{limit_of}
+use Rattle.knot_jobs.specs.Answer.{IsOver, IsWithin, task_of, leaves_no_choice, IsInShape, IsBeyondColumns, Answers}
 
 abbrev status_of : PlainReply → Status
 status_of r = r.status

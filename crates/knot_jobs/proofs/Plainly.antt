@@ -1,12 +1,12 @@
 -- A plain reply to what was read, as the reply of a call.
 use Rattle.std.proofs.Common.{◌≡◌, ℕ, List, Result, Ok, Err, refl, sym, subst}
 use Rattle.text_items.specs.declared.fault.TextFault.{TextFault}
-use Rattle.plain_jobs.specs.declared.reply.PlainReply.{PlainReply}
-use Rattle.plain_jobs.specs.Reply.{AnswersRead}
-use Rattle.knot_jobs.specs.declared.reply.Reply.{Reply}
-use Rattle.knot_jobs.specs.declared.words.Job.{Job}
-use Rattle.knot_jobs.specs.declared.words.Asked.{Asked}
-use Rattle.knot_jobs.specs.Reply.{without_search, plainly, RepliesRead}
+use Rattle.reply_text.specs.declared.reply.PlainReply.{PlainReply}
+use Rattle.reply_text.specs.Reply.{AnswersRead}
+use Rattle.search_jobs.specs.declared.reply.Reply.{Reply}
+use Rattle.knot_words.specs.declared.job.Job.{Job}
+use Rattle.knot_words.specs.declared.words.Asked.{Asked}
+use Rattle.search_jobs.specs.Reply.{without_search, plainly, RepliesRead}
 use Rattle.knot_jobs.specs.Answer.{task_of, AnswersText}
 
 -- by its own job

@@ -1,37 +1,24 @@
 -- What is due to an input: how many bytes it may have, how each job reads it, and the replies to what was read.
-use Rattle.std.specs.Prelude.{◌≡◌, ◌<◌, ◌≤◌, ◌⊎◌, if◌then◌else◌, ℕ, List, [], length, Bool, true, false}
-use Rattle.std.specs.Prelude.{Option, Some, None, is_some, Result, Ok, IsOk}
+use Rattle.std.specs.Prelude.{◌≡◌, ◌<◌, ◌≤◌, ◌⊎◌, ℕ, List, length, Bool, true, false}
+use Rattle.std.specs.Prelude.{Option, Some, None, Result, Ok, IsOk}
 use Rattle.verdict_core.specs.declared.diagrams.Diagram.{Diagram}
 use Rattle.text_items.specs.declared.fault.TextFault.{TextFault}
 use Rattle.verdict_core.specs.declared.problem.ProblemText.{ProblemText}
-use Rattle.knot_text.specs.Shapes.{problem_of, lone_diagram_of}
-use Rattle.decision_core.specs.declared.limits.TheConstants.{MAX_INPUT, MAX_CERTIFICATE}
-use Rattle.plain_jobs.specs.declared.job.PlainJob.TheVariants.{Check}
-use Rattle.plain_jobs.specs.Reply.{too_long}
+use Rattle.verdict_text.specs.Problems.{problem_of}
+use Rattle.knot_text.specs.Shapes.{lone_diagram_of}
+use Rattle.reply_text.specs.Reply.{too_long}
 use Rattle.plain_jobs.specs.Job.{plain_task, is_determined, IsTooWideFor}
-use Rattle.knot_jobs.specs.declared.reply.Reply.{Reply}
-use Rattle.knot_jobs.specs.declared.words.Job.{Job}
-use Rattle.knot_jobs.specs.declared.words.Job.TheVariants.{Decide, Simplify, Sample, Plain}
-use Rattle.knot_jobs.specs.declared.words.Asked.{Asked}
-use Rattle.knot_jobs.specs.Reply.{without_search, plain_of, plainly, RepliesRead}
-use Rattle.knot_jobs.specs.Jobs.Decide.{AnswersDecide}
-use Rattle.knot_jobs.specs.Jobs.Simplify.{AnswersSimplify}
-use Rattle.knot_jobs.specs.Jobs.Sample.{AnswersSample}
+use Rattle.search_jobs.specs.declared.reply.Reply.{Reply}
+use Rattle.knot_words.specs.Limits.{limit_of}
+use Rattle.knot_words.specs.declared.job.Job.{Job}
+use Rattle.knot_words.specs.declared.job.Job.TheVariants.{Decide, Simplify, Sample, Plain}
+use Rattle.knot_words.specs.declared.words.Asked.{Asked}
+use Rattle.search_jobs.specs.Reply.{without_search, plain_of, plainly, RepliesRead}
+use Rattle.search_jobs.specs.Decide.{AnswersDecide}
+use Rattle.search_jobs.specs.Simplify.{AnswersSimplify}
+use Rattle.search_jobs.specs.Sample.{AnswersSample}
 
 -- ---- the bytes of an input
-
--- the most bytes that an input may have; `sample` has no input
-abbrev pub limit_of : Job → Option ℕ
-limit_of (Plain Check) = Some MAX_CERTIFICATE
-limit_of Sample = None
-limit_of job = Some MAX_INPUT
-
-abbrev pub has_input : Job → Bool
-has_input job = is_some (limit_of job)
-
--- of the bytes that a source has, those that are for the job
-abbrev pub part_for : Job → List ℕ → List ℕ
-part_for job bytes = if has_input job then bytes else []
 
 -- there are more bytes than the limit
 abbrev pub IsOver : Option ℕ → List ℕ → Type 0

@@ -4,14 +4,17 @@ use Rattle.std.specs.declared.alloc.Global.{Global}
 use Rattle.std.specs.Io.KnownBytes.{Appends}
 use Rattle.knot_ports.specs.Sink.{AppendsFront}
 use Rattle.search_pool.specs.declared.finding.Finding.{Finding}
-use Rattle.knot_jobs.specs.declared.reply.Reply.{Reply}
-use Rattle.knot_jobs.specs.declared.words.Asked.{Asked}
-use Rattle.knot_jobs.specs.declared.words.WordsFault.{WordsFault}
-use Rattle.knot_jobs.specs.declared.words.WordsFault.TheVariants.{Usage, OutOfMemory}
-use Rattle.decision_core.specs.declared.status.Status.{Status}
-use Rattle.decision_core.specs.declared.status.Status.TheVariants as status
-use Rattle.knot_jobs.specs.Answer.{limit_of, IsOver, IsWithin}
-use Rattle.knot_jobs.specs.Call.{Change, IsUntouched, Failed, TakesAll, TakesTooMuch, Loses}
+use Rattle.search_jobs.specs.declared.reply.Reply.{Reply}
+use Rattle.knot_words.specs.declared.words.Asked.{Asked}
+use Rattle.knot_words.specs.declared.words.WordsFault.{WordsFault}
+use Rattle.knot_words.specs.declared.words.WordsFault.TheVariants.{Usage, OutOfMemory}
+use Rattle.knot_ports.specs.declared.status.Status.{Status}
+use Rattle.knot_ports.specs.declared.status.Status.TheVariants as status
+use Rattle.knot_words.specs.Limits.{limit_of}
+use Rattle.knot_jobs.specs.Answer.{IsOver, IsWithin}
+use Rattle.knot_ports.specs.Change.{Change, IsUntouched, Failed}
+use Rattle.check_job.specs.Ports.{IsWritten}
+use Rattle.knot_jobs.specs.Call.{TakesAll, TakesTooMuch, Loses}
 use Rattle.knot_jobs.specs.Ending.{usage_line, IsReplyTo}
 use Rattle.knot_jobs.specs.Truth.{IsTrueOf}
 
@@ -39,12 +42,6 @@ IsMadeOf asked source (Ok reply) = IsReplyTo asked source reply × IsTrueOf aske
 IsMadeOf asked source (Err s) = IsWithoutReply (limit_of asked.job) source s
 
 -- ---- what is written
-
--- the text was written, and its own status ends the call; or the sink failed, and a front was written
-abbrev pub IsWritten : Change → List ℕ → Status → Status → Type 0
-IsWritten sink text own s =
-    ((s ≡ own) × Appends sink.before sink.after text)
-    ⊎ ((s ≡ status.WriteFault) × (Failed sink × AppendsFront sink.before sink.after text))
 
 -- the search is kept where the text was written
 abbrev pub IsDelivered : Change → Reply → Status → Option Finding → Type 0

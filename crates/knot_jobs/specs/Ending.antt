@@ -3,16 +3,17 @@ use Rattle.std.specs.Prelude.{◌≡◌, ◌⊎◌, ℕ, List, codes, Option, No
 use Rattle.std.specs.Io.KnownBytes.{Appends}
 use Rattle.knot_ports.specs.Sink.{AppendsFront}
 use Rattle.search_pool.specs.declared.finding.Finding.{Finding}
-use Rattle.knot_jobs.specs.declared.reply.Reply.{Reply}
-use Rattle.knot_jobs.specs.declared.words.Asked.{Asked}
-use Rattle.decision_core.specs.declared.status.Status.{Status}
-use Rattle.decision_core.specs.declared.status.Status.TheVariants as status
-use Rattle.knot_jobs.specs.Words.{Asks, AsksNothing}
-use Rattle.plain_jobs.specs.Reply.{plain_reply}
-use Rattle.knot_jobs.specs.Reply.{without_search}
-use Rattle.knot_jobs.specs.Jobs.Decide.{with_workers}
-use Rattle.knot_jobs.specs.Answer.{limit_of, Answers}
-use Rattle.knot_jobs.specs.Call.{Call, Change, IsUntouched, Failed, Comes, Loses}
+use Rattle.search_jobs.specs.declared.reply.Reply.{Reply}
+use Rattle.knot_words.specs.declared.words.Asked.{Asked}
+use Rattle.knot_ports.specs.declared.status.Status.{Status}
+use Rattle.knot_ports.specs.declared.status.Status.TheVariants as status
+use Rattle.knot_words.specs.Words.{Asks, AsksNothing}
+use Rattle.reply_text.specs.Reply.{plain_reply}
+use Rattle.search_jobs.specs.Reply.{without_search}
+use Rattle.knot_jobs.specs.Call.{with_workers, Call, Comes, Loses}
+use Rattle.knot_words.specs.Limits.{limit_of}
+use Rattle.knot_jobs.specs.Answer.{Answers}
+use Rattle.knot_ports.specs.Change.{Change, IsUntouched, Failed}
 
 -- ---- the reply that is due
 

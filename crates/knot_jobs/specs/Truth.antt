@@ -2,22 +2,24 @@
 use Rattle.std.specs.Prelude.{◌≡◌, ℕ, List, Option}
 use Rattle.std.specs.Io.KnownBytes.{Appends}
 use Rattle.cert_check.specs.declared.ruling.Ruling.TheVariants.{Accepted}
-use Rattle.decision_core.specs.declared.status.Status.{Status}
-use Rattle.decision_core.specs.declared.status.Status.TheVariants as status
+use Rattle.knot_ports.specs.declared.status.Status.{Status}
+use Rattle.knot_ports.specs.declared.status.Status.TheVariants as status
 use Rattle.decision_core.specs.Decision.{put_behind, IsDecision}
-use Rattle.plain_jobs.specs.declared.job.PlainJob.TheVariants.{Check}
-use Rattle.plain_jobs.specs.Lines.{ruling_line}
-use Rattle.plain_jobs.specs.Reply.{done}
+use Rattle.knot_words.specs.declared.job.PlainJob.TheVariants.{Check}
+use Rattle.reply_text.specs.Lines.{ruling_line}
+use Rattle.reply_text.specs.Reply.{done}
 use Rattle.plain_jobs.specs.Job.{AnswersPlainly}
 use Rattle.plain_jobs.specs.Truth.{IsTrueText}
 use Rattle.search_pool.specs.declared.finding.Finding.{Finding}
-use Rattle.knot_jobs.specs.declared.reply.Reply.{Reply}
-use Rattle.knot_jobs.specs.declared.words.Asked.{Asked}
-use Rattle.knot_jobs.specs.declared.words.Job.{Job}
-use Rattle.knot_jobs.specs.declared.words.Job.TheVariants.{Decide, Plain}
-use Rattle.knot_jobs.specs.Words.{Asks}
-use Rattle.knot_jobs.specs.Answer.{limit_of, IsWithin}
-use Rattle.knot_jobs.specs.Call.{Call, Change, TakesAll}
+use Rattle.search_jobs.specs.declared.reply.Reply.{Reply}
+use Rattle.knot_words.specs.declared.words.Asked.{Asked}
+use Rattle.knot_words.specs.declared.job.Job.{Job}
+use Rattle.knot_words.specs.declared.job.Job.TheVariants.{Decide, Plain}
+use Rattle.knot_words.specs.Words.{Asks}
+use Rattle.knot_words.specs.Limits.{limit_of}
+use Rattle.knot_jobs.specs.Answer.{IsWithin}
+use Rattle.knot_ports.specs.Change.{Change}
+use Rattle.knot_jobs.specs.Call.{Call, TakesAll}
 use Rattle.knot_jobs.specs.Ending.{Ends}
 
 -- ---- a verdict that was written

@@ -1,33 +1,15 @@
-//! How many bytes an input may have, and which job answers it.
-ghost use Rattle.std.specs.Prelude.{◌≡◌, ◌≤◌, IfOk, IfSome};
-ghost use Rattle.decision_core.specs.declared.limits.TheConstants.{MAX_CERTIFICATE};
-ghost use Rattle.knot_jobs.specs.Words.{IsWithinBounds};
-ghost use Rattle.knot_jobs.specs.Answer.{limit_of, AnswersText};
+//! Which job answers an input.
+ghost use Rattle.std.specs.Prelude.{◌≡◌, IfOk};
+ghost use Rattle.knot_words.specs.Words.{IsWithinBounds};
+ghost use Rattle.knot_jobs.specs.Answer.{AnswersText};
 ghost use Rattle.knot_jobs.specs.Truth.{IsTrueIfDone};
 
-use crate::jobs::{decide, sample, simplify};
-use crate::reply::Reply;
-use crate::words::{Asked, Job};
-use decision_core::{MAX_CERTIFICATE, MAX_INPUT};
-use plain_jobs::PlainJob;
+use knot_words::{Asked, Job};
+use search_jobs::{Reply, decide, sample, simplify};
 use search_pool::Gate;
 use std::alloc::{AllocError, Global};
 use std::sync::Wait;
 use std::thread::Threads;
-
-impl Job {
-    /// The most bytes that an input of the job may have; `sample` has no input.
-    pub fn limit(self) -> Option<usize>
-        ensures limit { result ≡ limit_of self }
-        ensures small { IfSome result (λ limit. limit ≤ MAX_CERTIFICATE) }
-    {
-        match self {
-            Job::Plain(PlainJob::Check) => Some(MAX_CERTIFICATE),
-            Job::Sample => None,
-            _ => Some(MAX_INPUT),
-        }
-    }
-}
 
 /// The answer of the job that is asked for to the bytes of an input that is not too long. The gate is for `decide`.
 pub(crate) fn answer<R: Threads + Wait + Sync, G: Gate + Sync>(

@@ -1,18 +1,20 @@
 //! The top call: words, read, length, text, job, write.
 ghost use Rattle.std.specs.Prelude.{◌≡◌, ◌≤◌, None, Ok, IfOk, IfErr, IsErrOf};
-ghost use Rattle.knot_jobs.specs.Words.{texts_of, Asks, AsksNothing, IsWithinBounds};
-ghost use Rattle.knot_jobs.specs.Answer.{limit_of};
-ghost use Rattle.knot_jobs.specs.Jobs.Decide.{as_many_as_asked, only_one, with_workers};
-ghost use Rattle.knot_jobs.specs.Call.{source_change, sink_change, call_over};
+ghost use Rattle.knot_words.specs.Numbers.{texts_of};
+ghost use Rattle.knot_words.specs.Words.{Asks, AsksNothing, IsWithinBounds};
+ghost use Rattle.knot_words.specs.Limits.{limit_of};
+ghost use Rattle.knot_ports.specs.Change.{source_change, sink_change};
+ghost use Rattle.knot_jobs.specs.Call.{call_over, as_many_as_asked, only_one, with_workers};
 ghost use Rattle.knot_jobs.specs.Truth.{Goes};
-ghost use Rattle.knot_jobs.specs.Delivered.{IsRead, IsMadeOf, IsRefused, IsWritten, IsDelivered, IsEnded};
+ghost use Rattle.knot_jobs.specs.Delivered.{IsRead, IsMadeOf, IsRefused, IsDelivered, IsEnded};
 
 use crate::answer::{answer, answer_alone};
 use crate::ports::Ports;
-use crate::reply::Reply;
-use crate::words::{Asked, Job, WordsFault, read_words};
+use check_job::{read_input, write_text};
 use decision_core::Status;
-use knot_ports::{ReadEnd, Sink, Source, give_all, read_all};
+use knot_ports::{Sink, Source, give_all};
+use knot_words::{Asked, Job, WordsFault, read_words};
+use search_jobs::Reply;
 use search_pool::{Finding, Gate};
 use std::alloc::{AllocError, Global};
 use std::sync::Wait;
@@ -123,7 +125,7 @@ fn answer_source<R: Threads + Wait + Sync, S: Source, G: Gate + Sync>(
     ensures made { IsMadeOf asked.now (source_change S.Source source.old source.new) result }
     ensures count { S.faults source.old ≤ S.faults source.new }
 {
-    let Some(bytes) = read_input(alloc, asked.job, source)? else {
+    let Some(bytes) = read_for(alloc, asked.job, source)? else {
         return or_no_memory(Reply::too_long(alloc));
     };
     or_no_memory(answer(rt, alloc, asked, bytes.as_slice(), gate))
@@ -141,7 +143,7 @@ fn answer_source_alone<S: Source>(
     ensures made { IsMadeOf asked.now (source_change S.Source source.old source.new) result }
     ensures count { S.faults source.old ≤ S.faults source.new }
 {
-    let Some(bytes) = read_input(alloc, asked.job, source)? else {
+    let Some(bytes) = read_for(alloc, asked.job, source)? else {
         return or_no_memory(Reply::too_long(alloc));
     };
     or_no_memory(answer_alone(alloc, asked, bytes.as_slice()))
@@ -149,18 +151,13 @@ fn answer_source_alone<S: Source>(
 
 /// The bytes that the source gives for a job; None where there are more than its limit. Where the job has no input there are none,
 /// and the source is not called. The error is the status of a call that can't read them.
-fn read_input<S: Source>(alloc: Global, job: Job, source: &mut S) -> Result<Option<Vec<u8>>, Status>
+fn read_for<S: Source>(alloc: Global, job: Job, source: &mut S) -> Result<Option<Vec<u8>>, Status>
     ensures read { IsRead (limit_of job) (source_change S.Source source.old source.new) result }
     ensures count { S.faults source.old ≤ S.faults source.new }
 {
-    let Some(limit) = job.limit() else {
-        return Ok(Some(Vec::new(alloc)));
-    };
-    match read_all(alloc, source, limit) {
-        Ok(bytes) => Ok(Some(bytes)),
-        Err(ReadEnd::TooLong) => Ok(None),
-        Err(ReadEnd::Fault) => Err(Status::ReadFault),
-        Err(ReadEnd::OutOfMemory) => Err(Status::OutOfMemory),
+    match job.limit() {
+        Some(limit) => read_input(alloc, source, limit),
+        None => Ok(Some(Vec::new(alloc))),
     }
 }
 
@@ -198,17 +195,6 @@ fn deliver<K: Sink>(sink: &mut K, reply: Reply, kept: &mut Option<Finding>) -> S
             *kept = reply.kept;
             reply.status
         }
-        Err(_) => Status::WriteFault,
-    }
-}
-
-/// Writes a text: its own status, where all was written.
-fn write_text<K: Sink>(sink: &mut K, text: &[u8], own: Status) -> Status
-    ensures written { IsWritten (sink_change K.Sink sink.old sink.new) text.now own result }
-    ensures count { K.faults sink.old ≤ K.faults sink.new }
-{
-    match give_all(sink, text) {
-        Ok(()) => own,
         Err(_) => Status::WriteFault,
     }
 }

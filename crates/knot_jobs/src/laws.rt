@@ -1,37 +1,20 @@
 //! Laws of words, answers and endings, over the definitions alone.
-ghost use Rattle.std.specs.Prelude.{◌≡◌, ◌⊎◌, ◌+◌, ℕ, List, [], ◌∷◌, Option, Some, None, true, min, max};
-ghost use Rattle.clap.specs.Walk.{Text};
-ghost use Rattle.std.specs.List.{AllByRecursion};
-ghost use Rattle.grid_core.specs.Diagram.{Diagram, IsGrid, size};
-ghost use Rattle.grid_core.specs.declared.grid.TheConstants.{MAX_SIZE};
-ghost use Rattle.verdict_core.specs.declared.verdict.Verdict.{Verdict};
-ghost use Rattle.verdict_core.specs.Names.{NamedQuandle};
-ghost use Rattle.knot_text.specs.Printed.{HasQuandleText, HasVersionText};
-ghost use Rattle.search_book.specs.declared.problem.Problem.{Problem};
+ghost use Rattle.std.specs.Prelude.{◌≡◌, ◌⊎◌, ℕ, List, Option, Some, None, true};
 ghost use Rattle.search_pool.specs.declared.finding.Finding.{Finding};
-ghost use Rattle.pair_verdict.specs.Decided.{Decides};
-ghost use Rattle.knot_jobs.specs.Words.{Asks, AsksNothing};
-ghost use Rattle.decision_core.specs.Status.{IsOfDefinedAnswer, IsOfAnswer};
-ghost use Rattle.decision_core.specs.Decision.{IsDecision, IsShort};
+ghost use Rattle.knot_words.specs.Words.{Asks, AsksNothing};
+ghost use Rattle.knot_ports.specs.Status.{IsOfDefinedAnswer, IsOfAnswer};
+ghost use Rattle.decision_core.specs.Decision.{IsDecision};
 ghost use Rattle.number_decision.specs.Evidence.{IsEvidenceOn};
-ghost use Rattle.knot_jobs.specs.Answer.{limit_of, part_for, leaves_no_choice, IsWithin, IsInShape, IsBeyondColumns, Answers};
-ghost use Rattle.knot_jobs.specs.Call.{Call, Failed};
+ghost use Rattle.knot_words.specs.Limits.{limit_of, part_for};
+ghost use Rattle.knot_jobs.specs.Answer.{leaves_no_choice, IsWithin, IsInShape, IsBeyondColumns, Answers};
+ghost use Rattle.knot_ports.specs.Change.{Failed};
+ghost use Rattle.knot_jobs.specs.Call.{Call, with_workers};
 ghost use Rattle.knot_jobs.specs.Ending.{IsDue, Ends};
-ghost use Rattle.knot_jobs.specs.Jobs.Decide.{with_workers, problem_for};
 ghost use Rattle.knot_jobs.specs.Truth.{IsAcceptedByCheck};
 
-use crate::reply::Reply;
-use crate::words::{Asked, Job};
-use colour_list::laws::no_more_colourings_than_choices;
 use decision_core::Status;
-use knot_text::Version;
-use plain_jobs::PlainJob;
-
-/// Words ask for at most one thing, and no words both ask for something and ask for nothing.
-pub fn words_ask_for_one_thing()
-    ensures once { (words : List Text) (a b : Asked) → Asks words a → Asks words b → a ≡ b }
-    ensures never_both { (words : List Text) (a : Asked) → Asks words a → AsksNothing words → ⊥ }
-{}
+use knot_words::Asked;
+use search_jobs::Reply;
 
 /// A job that leaves no choice, which is every one but `decide`, `simplify`, `numbers` and `grid`, has one answer to each input: there is
 /// one, which keeps no search, and no other. Those four may have several.
@@ -79,25 +62,6 @@ pub fn a_call_without_faults_ends_with_what_is_due()
         → (s ≡ Status.Usage) ⊎ (s ≡ Status.OutOfMemory) }
 {}
 
-/// The most bytes that an input may have: 33,554,432 of `check`, which reads evidence, and 1,048,576 of the others, `braidcheck` and
-/// `weights` among them. `sample` has no input.
-pub fn each_job_has_its_limit()
-    ensures check { limit_of (Job.Plain PlainJob.Check) ≡ Some 33554432 }
-    ensures searches { AllByRecursion (λ (job : Job). limit_of job ≡ Some 1048576) (Job.Decide ∷ Job.Simplify ∷ []) }
-    ensures others { AllByRecursion (λ (job : PlainJob). limit_of (Job.Plain job) ≡ Some 1048576) (PlainJob.Replay ∷ PlainJob.Colour
-        ∷ PlainJob.Close ∷ PlainJob.Code ∷ PlainJob.Braid ∷ PlainJob.Linking ∷ PlainJob.Braidcheck ∷ PlainJob.Weights ∷ PlainJob.Numbers
-        ∷ PlainJob.Grid ∷ []) }
-    ensures sample { limit_of Job.Sample ≡ None }
-{}
-
-/// Without a spare, a search is capped at the size of the larger diagram. Each further one raises the cap by one, up to `MAX_SIZE`.
-pub fn each_spare_raises_the_cap()
-    ensures none { (asked : Asked) (d e : Diagram) → IsGrid d → IsGrid e → asked.spare ≡ 0
-        → (problem_for asked d e).cap ≡ max (size d) (size e) }
-    ensures more { (asked more : Asked) (d e : Diagram) → more.spare ≡ asked.spare + 1
-        → (problem_for more d e).cap ≡ min MAX_SIZE ((problem_for asked d e).cap + 1) }
-{}
-
 /// An input of the job's shape within its limit has the job's defined answer: `Done`, `Unknown` or `Rejected`; but `grid` may tell that
 /// a diagram of the code takes too many columns.
 pub fn an_input_in_shape_has_a_defined_answer()
@@ -107,20 +71,6 @@ pub fn an_input_in_shape_has_a_defined_answer()
         → Answers asked bytes reply
         → IsOfDefinedAnswer reply.status ⊎ IsBeyondColumns asked.job reply }
 {}
-
-/// A decision has a text behind its two diagrams, where the listed quandles have texts, and its moves, if any, are not too many
-/// for one: so what is printed is read back.
-pub fn a_decision_has_a_text()
-    ensures { (p : Problem) (quandles : List NamedQuandle) (workers : ℕ) (v : Verdict) (kept : Option Finding)
-        → IsGrid p.first
-        → IsGrid p.second
-        → AllByRecursion HasQuandleText quandles
-        → Decides p quandles workers v kept
-        → IsShort v
-        → HasVersionText Version.Tidy (size p.first) (size p.second) v }
-{
-    no_more_colourings_than_choices();
-}
 
 /// A decision on an input, whoever found it, is accepted by the job `check` behind the input, where both are within its limit of bytes, and so is
 /// evidence by numbers.

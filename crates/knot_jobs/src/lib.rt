@@ -4,14 +4,10 @@
 
 mod answer;
 mod call;
-mod jobs;
 pub mod laws;
 mod ports;
-mod reply;
-mod words;
 
 pub use call::{run, run_alone};
 pub use decision_core::Status;
-pub use plain_jobs::PlainJob;
+pub use knot_words::{Asked, Job, PlainJob, WordsFault, read_words};
 pub use ports::Ports;
-pub use words::{Asked, Job, WordsFault, read_words};

@@ -3,3 +3,5 @@ pub mod Source
 pub mod Sink
 pub mod Memory
 pub mod Standard
+pub mod Status
+pub mod Change

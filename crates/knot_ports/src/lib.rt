@@ -5,6 +5,7 @@
 mod calls;
 mod failure;
 mod give;
+mod limits;
 mod memory_sink;
 mod memory_source;
 mod quiet;
@@ -12,9 +13,11 @@ mod read;
 mod sink;
 mod source;
 mod standard;
+mod status;
 
 pub use failure::Failed;
 pub use give::give_all;
+pub use limits::{MAX_CERTIFICATE, MAX_INPUT};
 pub use memory_core::OutOfMemory;
 pub use memory_sink::MemSink;
 pub use memory_source::MemSource;
@@ -23,3 +26,4 @@ pub use read::{ReadEnd, read_all};
 pub use sink::Sink;
 pub use source::Source;
 pub use standard::{StdSink, StdSource};
+pub use status::Status;

@@ -1,3 +1,3 @@
 pub mod Told
-pub use Rattle.decision_core.specs.Status
-pub use Rattle.knot_jobs.specs.Words
+pub use Rattle.knot_ports.specs.Status
+pub use Rattle.knot_words.specs.Words

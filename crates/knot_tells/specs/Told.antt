@@ -1,7 +1,7 @@
 -- Of which endings a sentence is told.
 use Rattle.std.specs.Prelude.{◌≡◌, Bool, true, false}
-use Rattle.decision_core.specs.declared.status.Status.{Status}
-use Rattle.decision_core.specs.declared.status.Status.TheVariants as status
+use Rattle.knot_ports.specs.declared.status.Status.{Status}
+use Rattle.knot_ports.specs.declared.status.Status.TheVariants as status
 use Rattle.knot_tells.specs.declared.sentence.Sentence.{Sentence}
 use Rattle.knot_tells.specs.declared.sentence.Sentence.TheVariants as told
 

@@ -1,14 +1,15 @@
 //! What is told of a call, as a sentence.
 ghost use Rattle.std.specs.Prelude.{◌≡◌, ◌≢◌, IfSome, IsSome, None};
-ghost use Rattle.decision_core.specs.Status.{IsOfDefinedAnswer, IsOfAnswer};
-ghost use Rattle.knot_jobs.specs.Words.{texts_of, Asks};
+ghost use Rattle.knot_ports.specs.Status.{IsOfDefinedAnswer, IsOfAnswer};
+ghost use Rattle.knot_words.specs.Numbers.{texts_of};
+ghost use Rattle.knot_words.specs.Words.{Asks};
 ghost use Rattle.knot_tells.specs.Told.{IsOf, IsOfInput};
 
 use crate::lines::{Named, has_line, named_in};
 use crate::shapes::shape_of;
 use crate::words::{BadWords, JOBS, bad_words};
-use knot_jobs::{Asked, Job, Status, read_words};
-use knot_ports::{StdSink, StdSource};
+use knot_ports::{Status, StdSink, StdSource};
+use knot_words::{Asked, Job, read_words};
 use seek_faults::{Reason, Shown, reason_in};
 use std::alloc::Global;
 use std::fs::Files;

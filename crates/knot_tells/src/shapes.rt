@@ -1,6 +1,6 @@
 //! The shape of each job's input.
 
-use knot_jobs::{Job, PlainJob};
+use knot_words::{Job, PlainJob};
 use seek_faults::{PROBLEM, Part, Shape, Then};
 
 /// A diagram alone.

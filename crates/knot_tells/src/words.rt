@@ -1,6 +1,6 @@
 //! Why words ask for no job.
 
-use knot_jobs::{WordsFault, read_words};
+use knot_words::{WordsFault, read_words};
 use std::alloc::{AllocError, Global};
 use std::fs::Files;
 use std::{fmt, fs};

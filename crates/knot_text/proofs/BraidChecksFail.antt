@@ -7,7 +7,7 @@ use Rattle.text_items.specs.declared.reading.TheConstants.{MAX_NUMBER}
 use Rattle.knot_text.specs.declared.braid_checks.BraidCheckText.{BraidCheckText}
 use Rattle.text_items.specs.Reading.{◌>>=◌, text_end, word, last_count}
 use Rattle.text_items.specs.Braids.{braid_item}
-use Rattle.text_items.specs.BraidSteps.{step_at, next_step, step_lines, steps_item}
+use Rattle.knot_text.specs.BraidSteps.{step_at, next_step, step_lines, steps_item}
 use Rattle.knot_text.specs.BraidChecks.{braidcheck_in}
 use Rattle.knot_text.specs.FirstBadLine.{FailsFirst}
 use Rattle.knot_text.proofs.Steady.{Anywhere, Steady, turns_steady}

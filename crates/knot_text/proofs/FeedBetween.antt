@@ -1,13 +1,13 @@
 -- A verdict behind its problem, with a line feed between them.
 use Rattle.std.proofs.Common.{◌≡◌, ℕ, List, ◌++◌, false, Ok, sym, ap, ◌∙◌, append_assoc, codes}
 use Rattle.text_lines.specs.Lines.{are_whole_lines}
-use Rattle.text_lines.proofs.LastFeed.{feed_added, feed_ends}
+use Rattle.knot_text.proofs.LastFeed.{feed_added, feed_ends}
 use Rattle.verdict_core.specs.declared.verdict.Verdict.{Verdict}
 use Rattle.verdict_core.specs.declared.problem.ProblemText.{ProblemText}
 use Rattle.verdict_core.specs.Diagrams.{columns}
-use Rattle.knot_text.specs.Shapes.{problem_in, problem_of, check_of}
+use Rattle.verdict_text.specs.Problems.{problem_in, problem_of, check_of}
 use Rattle.knot_text.specs.Printed.{version_text, HasVersionText}
-use Rattle.knot_text.specs.declared.verdicts.Version.{Version}
+use Rattle.verdict_text.specs.declared.verdicts.Version.{Version}
 use Rattle.knot_text.proofs.ReadBack.{verdict_behind}
 
 pub verdict_behind_feed : (version : Version) (bytes : List ℕ) (p : ProblemText) (v : Verdict) → are_whole_lines bytes ≡ false → problem_of bytes ≡ Ok p

@@ -27,12 +27,12 @@ use Rattle.text_items.specs.Reading.{◌>>=◌, next_token, word, number, last_n
 use Rattle.text_items.specs.Numbers.{is_long, numbers_behind}
 use Rattle.text_items.specs.Grids.{are_rows, x_at, o_at}
 use Rattle.text_items.specs.Braids.{letter_of, exceeds, braid_of, braid_at}
-use Rattle.text_items.specs.Colours.{colours_at}
-use Rattle.text_items.specs.Moves.{last_place, one_place, on_axis, shift, exchange, slide, kind_at, corner_at, stabilise, destabilise, move_at, tidy_move_at}
+use Rattle.knot_text.specs.Colours.{colours_at}
+use Rattle.diagram_items.specs.Moves.{last_place, one_place, on_axis, shift, exchange, slide, kind_at, corner_at, stabilise, destabilise, move_at, tidy_move_at}
 use Rattle.grid_moves.specs.Tidy.{may_follow}
-use Rattle.knot_text.specs.declared.verdicts.TheConstants.{TIDY_VERSION}
+use Rattle.verdict_text.specs.declared.verdicts.TheConstants.{TIDY_VERSION}
 use Rattle.text_items.specs.Quandles.{with_order, alexander_at, tetrahedral_at, written_at}
-use Rattle.knot_text.specs.Verdicts.{budget_at, exhausted_at, unknown_at, version_at}
+use Rattle.verdict_text.specs.Verdicts.{budget_at, exhausted_at, unknown_at, version_at}
 use Rattle.knot_text.proofs.AtLine.{At, Keeps, at_ok, at_malformed, at_limit, at_bind, at_cond, at_same, keeps_ok, keeps_err, keeps_bind}
 use Rattle.knot_text.proofs.AtLine.{keeps_cond, keeps_same, next_token_at, next_token_keeps, line_end_at, line_end_keeps, word_at}
 use Rattle.knot_text.proofs.AtLine.{word_keeps, number_at, number_keeps, last_number_at, last_number_keeps, at_most_at, counted_at}

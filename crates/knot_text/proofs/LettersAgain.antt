@@ -5,7 +5,7 @@ use Rattle.std.specs.Fmt.{decimal}
 use Rattle.std.proofs.lemmas.Bool.{eqb-true}
 use Rattle.text_lines.specs.Numbers.{number_of}
 use Rattle.text_lines.specs.Spelled.{is_word}
-use Rattle.text_lines.proofs.NumberTexts.{decimal_read}
+use Rattle.knot_text.proofs.NumberTexts.{decimal_read}
 use Rattle.text_items.specs.declared.reading.TheConstants.{MAX_NUMBER}
 use Rattle.text_items.specs.Braids.{letter_of}
 use Rattle.knot_text.specs.Printed.{letter_token}

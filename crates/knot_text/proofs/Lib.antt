@@ -1,3 +1,7 @@
+pub mod Parted
+pub mod LastFeed
+pub mod Written
+pub mod NumberTexts
 pub mod LineTexts
 pub mod LetterTexts
 pub mod StepsAgain
@@ -33,3 +37,4 @@ pub mod ShapesSay
 mod WorkedRows
 mod WorkedSteps
 pub mod SpelledNumbers
+pub mod ColoursLines

@@ -10,7 +10,7 @@ use Rattle.colour_rows.specs.Colouring.{AreColours, are_colours}
 use Rattle.colour_rows.proofs.Colourings.{colours_from}
 use Rattle.text_lines.specs.Lines.{NumberedLine}
 use Rattle.text_lines.specs.Numbers.{number_of}
-use Rattle.text_lines.proofs.NumberTexts.{number_spelling}
+use Rattle.knot_text.proofs.NumberTexts.{number_spelling}
 use Rattle.text_items.specs.declared.reading.TheConstants.{MAX_NUMBER}
 use Rattle.text_items.specs.Reading.{token_among, next_token, no_token_among, line_end, word, or_malformed}
 use Rattle.text_items.specs.Reading.{number, last_number, at_most, last_count, each_token}

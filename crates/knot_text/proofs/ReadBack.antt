@@ -5,25 +5,25 @@ use Rattle.grid_core.specs.Diagram.{Diagram as Marks, IsGrid, size}
 use Rattle.grid_moves.specs.declared.step.Move.{Move}
 use Rattle.text_lines.specs.Lines.{NumberedLine, Text, first_starts, line_count, are_whole_lines, text_from, text_of}
 use Rattle.text_lines.specs.Spelled.{numbered}
-use Rattle.text_lines.proofs.Written.{lines_read}
-use Rattle.text_lines.proofs.Parted.{text_lines_parted, text_ending_parted}
+use Rattle.knot_text.proofs.Written.{lines_read}
+use Rattle.knot_text.proofs.Parted.{text_lines_parted, text_ending_parted}
 use Rattle.text_items.specs.declared.fault.TextFault.{TextFault}
 use Rattle.verdict_core.specs.declared.diagrams.Diagram.TheVariants.{Grid}
 use Rattle.text_items.specs.declared.quandles.TheConstants.{MAX_QUANDLES}
-use Rattle.knot_text.specs.declared.verdicts.Version.{Version}
-use Rattle.knot_text.specs.declared.verdicts.Version.TheVariants.{Plain, Tidy}
+use Rattle.verdict_text.specs.declared.verdicts.Version.{Version}
+use Rattle.verdict_text.specs.declared.verdicts.Version.TheVariants.{Plain, Tidy}
 use Rattle.verdict_core.specs.declared.verdict.Verdict.{Verdict}
 use Rattle.verdict_core.specs.declared.verdict.Verdict.TheVariants.{Equal, Different, UnknownBudget, UnknownExhausted}
 use Rattle.verdict_core.specs.declared.problem.ProblemText.{ProblemText}
 use Rattle.text_items.specs.Quandles.{built_in, or_built_in}
 use Rattle.text_items.specs.Reading.{◌>>=◌, no_line_among, text_end}
 use Rattle.text_items.specs.Grids.{grid_item}
-use Rattle.text_items.specs.Moves.{moves_item}
+use Rattle.diagram_items.specs.Moves.{moves_item}
 use Rattle.text_items.specs.Quandles.{quandle_list}
-use Rattle.knot_text.specs.Verdicts.{verdict_item}
+use Rattle.verdict_text.specs.Verdicts.{verdict_item}
 use Rattle.verdict_core.specs.Diagrams.{grid_of, columns}
-use Rattle.text_items.specs.Diagrams.{diagram_item}
-use Rattle.knot_text.specs.Shapes.{problem_item, problem_in, check_in, problem_of, check_of}
+use Rattle.diagram_items.specs.Diagrams.{diagram_item}
+use Rattle.verdict_text.specs.Problems.{problem_item, problem_in, check_in, problem_of, check_of}
 use Rattle.knot_text.specs.Printed.{grid_lines, grid_text, move_tokens, moves_lines, moves_text, HaveMovesText, version_lines, version_text, HasVersionText}
 use Rattle.knot_text.specs.FirstBadLine.{lines_then, put_behind}
 use Rattle.knot_text.proofs.Steady.{bind_ok, ok_is}

@@ -5,17 +5,18 @@ use Rattle.text_lines.specs.Lines.{NumberedLine, Text, first_starts}
 use Rattle.text_items.specs.declared.fault.TextFault.{TextFault}
 use Rattle.verdict_core.specs.declared.diagrams.Diagram.TheVariants.{Grid, Braid}
 use Rattle.verdict_core.specs.declared.problem.ProblemText.{ProblemText}
-use Rattle.verdict_core.specs.Names.{NamedQuandle}
+use Rattle.named_quandles.specs.Names.{NamedQuandle}
 use Rattle.text_items.specs.Reading.{◌>>=◌, next_line, text_end}
 use Rattle.text_items.specs.Grids.{grid_item}
 use Rattle.text_items.specs.Braids.{braid_item}
-use Rattle.text_items.specs.Moves.{moves_item}
+use Rattle.diagram_items.specs.Moves.{moves_item}
 use Rattle.text_items.specs.Quandles.{quandle_list}
-use Rattle.text_items.specs.Colours.{coloured_item, coloured}
-use Rattle.knot_text.specs.Verdicts.{verdict_item}
+use Rattle.knot_text.specs.Colours.{coloured_item, coloured}
+use Rattle.verdict_text.specs.Verdicts.{verdict_item}
 use Rattle.verdict_core.specs.Diagrams.{columns}
-use Rattle.text_items.specs.Diagrams.{braid_diagram, grid_diagram, diagram_item}
-use Rattle.knot_text.specs.Shapes.{problem_item, problem_in, check_in, replay_in, colour_in}
+use Rattle.diagram_items.specs.Diagrams.{braid_diagram, grid_diagram, diagram_item}
+use Rattle.verdict_text.specs.Problems.{problem_item, problem_in, check_in}
+use Rattle.knot_text.specs.Shapes.{replay_in, colour_in}
 use Rattle.knot_text.specs.Shapes.{close_in, lone_diagram_in}
 use Rattle.knot_text.specs.Pairs.{pair_in}
 use Rattle.knot_text.specs.FirstBadLine.{lines_then, put_behind, FailsFirst}

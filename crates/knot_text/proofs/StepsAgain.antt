@@ -8,7 +8,7 @@ use Rattle.std.proofs.lemmas.Slice.Eq.{bytes_eq-Decides}
 use Rattle.text_lines.specs.Lines.{NumberedLine, Text}
 use Rattle.text_lines.specs.Spelled.{numbered}
 use Rattle.text_lines.specs.Numbers.{number_of}
-use Rattle.text_lines.proofs.NumberTexts.{decimal_read}
+use Rattle.knot_text.proofs.NumberTexts.{decimal_read}
 use Rattle.text_items.specs.declared.fault.TextFault.{TextFault}
 use Rattle.text_items.specs.declared.reading.TheConstants.{MAX_NUMBER}
 use Rattle.text_items.specs.Reading.{in_turn, next_token, line_end, word, number, last_number, last_count, at_most, each_token}

@@ -11,14 +11,14 @@ use Rattle.text_lines.specs.Spelled.{numbered}
 use Rattle.text_items.specs.declared.reading.TheConstants.{MAX_NUMBER}
 use Rattle.verdict_core.specs.declared.verdict.Verdict.{Verdict}
 use Rattle.verdict_core.specs.declared.verdict.Verdict.TheVariants.{Equal, Different, UnknownBudget, UnknownExhausted}
-use Rattle.verdict_core.proofs.Named.{names_order}
-use Rattle.verdict_core.specs.Names.{NamedQuandle}
+use Rattle.named_quandles.proofs.Named.{names_order}
+use Rattle.named_quandles.specs.Names.{NamedQuandle}
 use Rattle.text_items.specs.Reading.{◌>>=◌, next_line, next_token}
-use Rattle.knot_text.specs.Verdicts.{equal_at, colour_line, list_item, different_at, budget_at, exhausted_at, unknown_at, unknown_item}
-use Rattle.knot_text.specs.Verdicts.{verdict_of, version_at, tidy_item, plain_item, versioned_item, verdict_item}
-use Rattle.knot_text.specs.declared.verdicts.TheConstants.{TIDY_VERSION}
-use Rattle.knot_text.specs.declared.verdicts.Version.{Version}
-use Rattle.knot_text.specs.declared.verdicts.Version.TheVariants.{Plain, Tidy}
+use Rattle.verdict_text.specs.Verdicts.{equal_at, colour_line, list_item, different_at, budget_at, exhausted_at, unknown_at, unknown_item}
+use Rattle.verdict_text.specs.Verdicts.{verdict_of, version_at, tidy_item, plain_item, versioned_item, verdict_item}
+use Rattle.verdict_text.specs.declared.verdicts.TheConstants.{TIDY_VERSION}
+use Rattle.verdict_text.specs.declared.verdicts.Version.{Version}
+use Rattle.verdict_text.specs.declared.verdicts.Version.TheVariants.{Plain, Tidy}
 use Rattle.grid_moves.specs.Tidy.{is_tidy}
 use Rattle.knot_text.specs.Printed.{move_tokens, name_tokens, table_lines, list_lines, verdict_lines, head_tokens}
 use Rattle.knot_text.specs.Printed.{version_lines, HaveMovesText, HasListText, HasVerdictText, HasVersionText}

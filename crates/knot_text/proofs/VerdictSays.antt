@@ -10,11 +10,11 @@ use Rattle.text_lines.specs.Lines.{NumberedLine, Text, begins}
 use Rattle.text_items.specs.declared.reading.TheConstants.{MAX_NUMBER}
 use Rattle.verdict_core.specs.declared.verdict.Verdict.{Verdict}
 use Rattle.verdict_core.specs.declared.verdict.Verdict.TheVariants.{Equal, Different, UnknownBudget, UnknownExhausted}
-use Rattle.knot_text.specs.Verdicts.{equal_at, colour_line, list_item, different_at, budget_at, exhausted_at, unknown_at, unknown_item}
-use Rattle.knot_text.specs.Verdicts.{verdict_of, version_at, tidy_item, plain_item, versioned_item, verdict_item}
-use Rattle.knot_text.specs.declared.verdicts.TheConstants.{TIDY_VERSION}
-use Rattle.knot_text.specs.declared.verdicts.Version.{Version}
-use Rattle.knot_text.specs.declared.verdicts.Version.TheVariants.{Plain, Tidy}
+use Rattle.verdict_text.specs.Verdicts.{equal_at, colour_line, list_item, different_at, budget_at, exhausted_at, unknown_at, unknown_item}
+use Rattle.verdict_text.specs.Verdicts.{verdict_of, version_at, tidy_item, plain_item, versioned_item, verdict_item}
+use Rattle.verdict_text.specs.declared.verdicts.TheConstants.{TIDY_VERSION}
+use Rattle.verdict_text.specs.declared.verdicts.Version.{Version}
+use Rattle.verdict_text.specs.declared.verdicts.Version.TheVariants.{Plain, Tidy}
 use Rattle.knot_text.specs.WrittenThere.{StandInFront}
 use Rattle.verdict_core.specs.Evidence.{IsTidyVerdict}
 use Rattle.std.proofs.lemmas.Bool.{eqb-true}

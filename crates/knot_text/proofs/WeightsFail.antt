@@ -5,11 +5,12 @@ use Rattle.quandle_core.specs.Quandle.{Table}
 use Rattle.cocycle_core.specs.Fault.{first_fault}
 use Rattle.text_lines.specs.Lines.{NumberedLine}
 use Rattle.text_items.specs.declared.fault.TextFault.TheVariants.{Malformed}
-use Rattle.text_items.specs.declared.cocycles.TheConstants.{MAX_MODULUS}
+use Rattle.text_items.specs.declared.modulus.TheConstants.{MAX_MODULUS}
 use Rattle.text_items.specs.Reading.{◌>>=◌, at_most, text_end}
 use Rattle.text_items.specs.Quandles.{table_rows, quandle_item}
-use Rattle.text_items.specs.Diagrams.{diagram_item}
-use Rattle.text_items.specs.Cocycles.{modulus_at, cochain, cochain_item, cocycle_item}
+use Rattle.diagram_items.specs.Diagrams.{diagram_item}
+use Rattle.diagram_items.specs.Cocycles.{cochain, cochain_item, cocycle_item}
+use Rattle.text_items.specs.Modulus.{modulus_at}
 use Rattle.knot_text.specs.Weights.{weight_in}
 use Rattle.knot_text.specs.FirstBadLine.{FailsFirst}
 use Rattle.knot_text.proofs.Steady.{Anywhere, Steady, then_steady}

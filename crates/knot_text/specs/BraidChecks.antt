@@ -5,7 +5,7 @@ use Rattle.text_items.specs.declared.fault.TextFault.{TextFault}
 use Rattle.knot_text.specs.declared.braid_checks.BraidCheckText.{BraidCheckText}
 use Rattle.text_items.specs.Reading.{◌>>=◌, text_end}
 use Rattle.text_items.specs.Braids.{braid_item}
-use Rattle.text_items.specs.BraidSteps.{steps_item}
+use Rattle.knot_text.specs.BraidSteps.{steps_item}
 
 -- two braids and steps, and nothing behind them
 unfoldable pub braidcheck_in : Text → Result BraidCheckText TextFault

@@ -3,12 +3,13 @@ ghost use Rattle.std.specs.Prelude.{◌≡◌};
 ghost use Rattle.text_items.specs.Reading.{Gives};
 ghost use Rattle.knot_text.specs.BraidChecks.{braidcheck_of};
 
+use crate::braid_steps::steps_item;
 use braid_core::Braid;
 use braid_moves::BraidMove;
 use memory_core::Items;
 use std::alloc::Global;
 use text_items::reading::text_end;
-use text_items::{TextFault, braid_item, steps_item};
+use text_items::{TextFault, braid_item};
 use text_lines::Lines;
 
 /// Two braids, and the steps that are to lead from the first to the second.

@@ -3,22 +3,25 @@
 #![tactic(auto)]
 
 mod braid_checks;
+mod braid_steps;
+mod colours;
 mod letters;
 mod pairs;
 mod printed;
 mod shapes;
 mod spelled_colours;
-mod verdicts;
 mod weights;
 
 pub use braid_checks::{BraidCheckText, read_braidcheck};
+pub use braid_steps::steps_item;
 pub use letters::{push_braid, push_letter_line};
 pub use pairs::read_pair;
 pub use printed::{print_grid, print_moves, print_verdict, push_large, push_list, push_quandle};
 pub use shapes::{
-    CloseText, ColourText, ReplayText, problem_item, read_check, read_close, read_colour,
-    read_diagram, read_problem, read_replay,
+    CloseText, ColourText, ReplayText, read_close, read_colour, read_diagram, read_replay,
 };
 pub use verdict_core::{Diagram, Listed, ProblemText, QuandleName, Verdict};
-pub use verdicts::{TIDY_VERSION, Version, verdict_item};
+pub use verdict_text::{
+    TIDY_VERSION, Version, problem_item, read_check, read_problem, verdict_item,
+};
 pub use weights::WeightText;

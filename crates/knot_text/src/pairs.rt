@@ -3,9 +3,10 @@ ghost use Rattle.std.specs.Prelude.{◌≡◌};
 ghost use Rattle.text_items.specs.Reading.{Gives};
 ghost use Rattle.knot_text.specs.Pairs.{pair_of};
 
+use diagram_items::diagram_item;
 use std::alloc::Global;
+use text_items::TextFault;
 use text_items::reading::text_end;
-use text_items::{TextFault, diagram_item};
 use text_lines::Lines;
 use verdict_core::Diagram;
 

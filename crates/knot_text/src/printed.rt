@@ -5,13 +5,12 @@ ghost use Rattle.std.specs.Fmt.{decimal};
 ghost use Rattle.quandle_core.specs.Quandle.{over};
 ghost use Rattle.text_lines.specs.Spelled.{line_text, lines_text};
 ghost use Rattle.text_lines.specs.Appended.{AppendsPart};
-ghost use Rattle.verdict_core.specs.Names.{NamedQuandle, called};
+ghost use Rattle.named_quandles.specs.Names.{NamedQuandle, called};
 ghost use Rattle.knot_text.specs.Printed.{grid_text, kind_word, corner_word, move_tokens, moves_text};
 ghost use Rattle.knot_text.specs.Printed.{row_tokens, table_behind, quandle_lines, list_lines, verdict_lines, version_text};
 ghost use Rattle.verdict_core.specs.Evidence.{IsTidyVerdict};
 
 use crate::spelled_colours::push_colour_line;
-use crate::verdicts::{TIDY_VERSION, Version};
 use arrayvec::ArrayVec;
 use colour_rows::Colouring;
 use grid_core::{Corner, Grid, Kind};
@@ -21,6 +20,7 @@ use quandle_core::{MAX_LARGE_ORDER, Operations};
 use std::alloc::{AllocError, Global};
 use text_lines::{push_counted, push_number, push_number_line, push_paired, push_word_line};
 use verdict_core::{LargeListed, Listed, QuandleName, Verdict};
+use verdict_text::{TIDY_VERSION, Version};
 
 /// The text of a grid: the line `x` with the rows of its Xs by column, and the line `o` with those of its Os; or want of memory.
 pub fn print_grid(alloc: Global, grid: &Grid) -> Result<Vec<u8>, OutOfMemory>

@@ -3,8 +3,6 @@
 
 mod cocycles;
 mod quandles;
-mod rows;
 
 pub use cocycles::large_cocycle_item;
 pub use quandles::large_quandle_at;
-pub use rows::table_rows;

@@ -3,17 +3,17 @@ ghost use Rattle.std.specs.Prelude.{◌≡◌, ◌≤◌, false, true, is_none, 
 ghost use Rattle.quandle_core.specs.declared.operations.TheConstants.{MAX_LARGE_ORDER};
 ghost use Rattle.quandle_core.specs.declared.quandle.TheConstants.{MAX_ORDER};
 ghost use Rattle.quandle_core.specs.Fault.{first_fault_within};
-ghost use Rattle.verdict_core.specs.declared.names.QuandleName.TheVariants as name;
-ghost use Rattle.verdict_core.specs.Names.{called};
+ghost use Rattle.named_quandles.specs.declared.names.QuandleName.TheVariants as name;
+ghost use Rattle.named_quandles.specs.Names.{called};
 ghost use Rattle.text_items.specs.declared.fault.TextFault.TheVariants as fault;
 ghost use Rattle.text_items.specs.declared.quandles.Written.TheVariants as written;
 ghost use Rattle.text_items.specs.Reading.{Gives};
 ghost use Rattle.text_items.specs.Quandles.{table_item, judged, quandle_at};
 
-use crate::rows::{numbers_below, table_front};
 use quandle_core::{LargeFault, LargeQuandle};
 use std::alloc::Global;
 use text_items::reading::next_line;
+use text_items::rows::{numbers_below, table_front};
 use text_items::{TextFault, Written, is_over, quandle_of, written_at};
 use text_lines::{Line, Lines};
 use verdict_core::LargeListed;

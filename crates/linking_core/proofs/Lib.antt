@@ -1,4 +1,3 @@
-pub mod WorkedRows
 pub mod Shuffles
 pub mod Sums
 pub mod Forms
@@ -16,6 +15,4 @@ pub mod Slides
 pub mod Growths
 pub mod GrowthSums
 pub mod Steps
-pub mod Lines
 pub mod Loops
-pub mod Order

@@ -3,7 +3,6 @@
 #![tactic(auto)]
 
 mod components;
-pub mod laws;
 mod linking_numbers;
 
 pub use components::component;

@@ -18,7 +18,7 @@ use Rattle.grid_keys.proofs.Keys.{key_once}
 use Rattle.grid_keys.proofs.CanonicalForms.{translated_back, translated_size, canonical_exists, canonical_grid, canonical_once, canonical_of_translate}
 use Rattle.grid_moves.specs.Kinds.{is_shift, is_exchange}
 use Rattle.grid_moves.specs.SizeAfter.{size_after}
-use Rattle.grid_moves.proofs.Sizes.{step_size}
+use Rattle.grid_laws.proofs.Sizes.{step_size}
 use Rattle.next_moves.proofs.Closed.{shift_translates}
 use Rattle.mono_simplify.specs.ExchangeClass.{is_shift_or_exchange, JoinedByExchanges, IsInClass, IsIrreducible}
 use Rattle.mono_simplify.specs.Listing.{with_keys, IsListing, NoTranslateDestabilises}

@@ -21,7 +21,7 @@ use Rattle.grid_moves.specs.Kinds.{is_shift, is_exchange, is_destabilisation}
 use Rattle.next_moves.specs.Tries.{Try, tries, exchange_tries, try_column_exchange, try_row_exchange}
 use Rattle.grid_moves.specs.SizeAfter.{size_after}
 use Rattle.next_moves.specs.Offers.{is_offered, Leads, IsOfferOf, AreOffersOf, IsOfferList, try_of}
-use Rattle.grid_moves.proofs.Sizes.{step_size}
+use Rattle.grid_laws.proofs.Sizes.{step_size}
 use Rattle.next_moves.proofs.Extended.{legal_offered}
 use Rattle.next_moves.proofs.Members.{contains_first, contains_later, contains_filter, filter_contains, mapped_from}
 use Rattle.next_moves.proofs.Matched.{matched}

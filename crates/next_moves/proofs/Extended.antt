@@ -16,7 +16,7 @@ use Rattle.grid_moves.specs.MoveFault.{first_fault}
 use Rattle.grid_moves.specs.Step.{Step}
 use Rattle.grid_moves.specs.SizeAfter.{size_after}
 use Rattle.grid_moves.proofs.OneResult.{step_legal}
-use Rattle.grid_moves.proofs.Sizes.{step_size}
+use Rattle.grid_laws.proofs.Sizes.{step_size}
 use Rattle.grid_keys.specs.Translation.{translate}
 use Rattle.grid_keys.specs.CanonicalForm.{IsLeastForm}
 use Rattle.grid_keys.specs.declared.least_form.LeastForm.{LeastForm}

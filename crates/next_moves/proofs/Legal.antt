@@ -14,7 +14,7 @@ use Rattle.grid_core.specs.declared.span.Span.{Span}
 use Rattle.grid_core.specs.Diagram.{Diagram, IsGrid, size, row_of}
 use Rattle.grid_core.specs.Span.{span, share_an_end, share_both_ends, share_one_end, are_disjoint, are_nested}
 use Rattle.grid_core.specs.Parts.{column_span, column_of, ends, column_lows, column_highs, row_lows, row_highs}
-use Rattle.grid_core.proofs.ListedSpans.{span_at_place}
+use Rattle.grid_laws.proofs.ListedSpans.{span_at_place}
 use Rattle.grid_core.proofs.Marks.{row_below, no_cell_twice, column_mark, column_is}
 use Rattle.grid_moves.specs.declared.step.MoveFault.{MoveFault}
 use Rattle.grid_moves.specs.declared.step.MoveFault.TheVariants.{Range, Touching, Interleaved, Apart}

@@ -19,7 +19,7 @@ use Rattle.grid_keys.proofs.Joined.{at_origin}
 use Rattle.grid_keys.proofs.LeastTranslates.{translates_contains, flat_map_contains, range_contains, map_contains, origin_zero}
 use Rattle.grid_moves.specs.Kinds.{is_shift, is_exchange}
 use Rattle.grid_core.specs.Corners.{corners}
-use Rattle.grid_core.proofs.CornerList.{corner_listed}
+use Rattle.grid_laws.proofs.CornerList.{corner_listed}
 use Rattle.next_moves.specs.Tries.{Try, shift_before, place_after_shift, tries, try_column_exchange, try_column_slide, column_trade_tries, try_row_exchange}
 use Rattle.next_moves.specs.Tries.{try_row_slide, row_trade_tries, try_destabilisation, block_tries, try_stabilisation, stabilisation_tries}
 use Rattle.next_moves.proofs.Members.{contains_first, contains_later}

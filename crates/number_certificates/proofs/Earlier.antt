@@ -10,10 +10,10 @@ use Rattle.text_items.specs.Reading.{◌>>=◌, next_line, next_token, number, l
 use Rattle.verdict_core.specs.Diagrams.{columns}
 use Rattle.verdict_core.specs.declared.problem.ProblemText.{ProblemText}
 use Rattle.verdict_core.specs.declared.verdict.Verdict.{Verdict}
-use Rattle.knot_text.specs.Verdicts.{version_at, tidy_item, versioned_item, verdict_item}
-use Rattle.knot_text.specs.Shapes.{problem_item, check_in, check_of}
-use Rattle.number_certificates.specs.declared.said.Said.TheVariants as said
-use Rattle.number_certificates.specs.Said.{is_third_line, starts_third, has_third, with_verdict, said_of}
+use Rattle.verdict_text.specs.Verdicts.{version_at, tidy_item, versioned_item, verdict_item}
+use Rattle.verdict_text.specs.Problems.{problem_item, check_in, check_of}
+use Rattle.certificate_text.specs.declared.said.Said.TheVariants as said
+use Rattle.certificate_text.specs.Said.{is_third_line, starts_third, has_third, with_verdict, said_of}
 
 pub as_before : (bytes : List ℕ) → has_third (problem_item (text_of bytes)) ≡ false → said_of bytes ≡ with_verdict (check_of bytes)
 as_before bytes none = rw none refl

@@ -1,4 +1,3 @@
-mod Behind
 pub mod Earlier
 mod WorkedRows
 pub mod PartTexts

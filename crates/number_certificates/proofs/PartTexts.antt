@@ -6,12 +6,12 @@ use Rattle.std.specs.Fmt.{decimal}
 use Rattle.std.specs.List.{flat_map}
 use Rattle.std.proofs.lemmas.Grind.{flat_map-append}
 use Rattle.text_lines.specs.Spelled.{spaced, line_text, lines_text}
-use Rattle.verdict_core.specs.Names.{NamedQuandle}
+use Rattle.named_quandles.specs.Names.{NamedQuandle}
 use Rattle.knot_text.specs.Printed.{letter_token, name_tokens, table_lines, quandle_lines}
-use Rattle.number_text.specs.declared.blocks.Block.{Block}
-use Rattle.number_text.specs.declared.evidence.Counted.{Counted}
-use Rattle.number_text.specs.declared.evidence.Linked.{Linked}
-use Rattle.number_text.specs.declared.evidence.Evidence.TheVariants.{Numbers}
+use Rattle.evidence_core.specs.declared.blocks.Block.{Block}
+use Rattle.evidence_core.specs.declared.evidence.Counted.{Counted}
+use Rattle.evidence_core.specs.declared.evidence.Linked.{Linked}
+use Rattle.evidence_core.specs.declared.evidence.Evidence.TheVariants.{Numbers}
 use Rattle.number_certificates.specs.Printed.{perhaps_cocycle, counted_lines, linked_lines, evidence_lines}
 
 -- what is appended where there was memory

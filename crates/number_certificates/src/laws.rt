@@ -1,10 +1,10 @@
 //! Laws of what `check` reads, over the definitions alone.
 ghost use Rattle.std.specs.Prelude.{◌≡◌, ℕ, List, Ok, false};
 ghost use Rattle.text_lines.specs.Lines.{text_of};
-ghost use Rattle.knot_text.specs.Shapes.{problem_item, check_of};
-ghost use Rattle.number_certificates.specs.Said.{has_third, with_verdict, said_of};
+ghost use Rattle.verdict_text.specs.Problems.{problem_item, check_of};
+ghost use Rattle.certificate_text.specs.Said.{has_third, with_verdict, said_of};
 
-use crate::said::Said;
+use check_job::Said;
 use knot_text::{ProblemText, Verdict};
 
 /// A text in which no line `certificate 3` stands behind the problem is read as without this version: the same problem and verdict, or the same fault.

@@ -1,9 +1,9 @@
-//! Certificates of the third version, both ways: what `check` reads is a verdict of an earlier version or evidence by numbers, and evidence is printed.
+//! Numbers of colourings as texts: those of a diagram, and evidence by numbers as it stands in a certificate.
 #![tactic(auto)]
 
 pub mod laws;
+mod lines;
 mod printed;
-mod said;
 
+pub use lines::{numbers_text, push_number_line};
 pub use printed::print_evidence;
-pub use said::{Said, read_said};

@@ -6,12 +6,12 @@ ghost use Rattle.text_lines.specs.Spelled.{line_text, lines_text, spaced};
 ghost use Rattle.cocycle_core.specs.Cocycle.{value};
 ghost use Rattle.knot_text.specs.Printed.{letter_token};
 ghost use Rattle.knot_text.specs.WrittenThere.{cocycle_lines, value_lines, value_tokens};
-ghost use Rattle.number_text.specs.declared.evidence.Evidence.TheVariants.{Numbers, Linking};
+ghost use Rattle.evidence_core.specs.declared.evidence.Evidence.TheVariants.{Numbers, Linking};
 ghost use Rattle.number_certificates.specs.Printed.{perhaps_cocycle, counted_lines, linked_lines, evidence_lines, third_text};
 
+use crate::lines::push_number_line;
 use arrayvec::ArrayVec;
 use cocycle_core::Values;
-use colour_numbers::push_number_line;
 use knot_text::push_large;
 use number_text::{Block, Counted, Evidence, LargeWeighing, Linked, THIRD_VERSION};
 use quandle_core::MAX_LARGE_ORDER;

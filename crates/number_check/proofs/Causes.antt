@@ -1,45 +1,33 @@
 -- What a cause of one diagram, or none, says.
-use Rattle.std.proofs.Common.{◌≡◌, ◌==◌, ◌<◌, ◌≤◌, ◌+◌, ◌^◌, ◌∙◌, inl, inr, ℕ, ℤ, Bool, true, false, List, Option, Some, None, length, slice_index, IfSome, refl, sym, ap, cond, subst, arith}
+use Rattle.std.proofs.Common.{◌≡◌, ◌<◌, ◌≤◌, ◌+◌, ◌^◌, ◌∙◌, inl, inr, ℕ, Bool, true, false, List, Option, Some, None, length, slice_index, IfSome, refl, sym, ap, cond, subst, arith}
 use Rattle.std.specs.Prelude.{nat_le, nat_eq}
-use Rattle.std.specs.Ordering.{int_eq}
-use Rattle.std.proofs.lemmas.Bool.{leb-true, le-leb, eqb-true, eq-eqb}
+use Rattle.std.proofs.lemmas.Bool.{leb-true, le-leb, eqb-true}
 use Rattle.std.proofs.Math.Nat.{pow-le-pow_right}
 use Rattle.colour_seeds.specs.declared.progress.Step.{Step}
 use Rattle.colour_seeds.specs.Plan.{seeds_in}
-use Rattle.std.proofs.lemmas.Bool.Decides.{Decides-eqb, Decides-int_eq}
+use Rattle.std.proofs.lemmas.Bool.Decides.{Decides-eqb}
 use Rattle.grid_core.specs.Diagram.{Diagram, size}
 use Rattle.quandle_core.specs.Fault.{or_else}
-use Rattle.linking_core.specs.Component.{components}
-use Rattle.linking_core.specs.Linking.{linking}
 use Rattle.colour_seeds.specs.Settled.{Determine}
 use Rattle.colour_seeds.specs.Seeded.{IsFault}
 use Rattle.colour_seeds.specs.declared.seeding.SeedFault.TheVariants as fault
 use Rattle.colour_seeds.specs.declared.counting.TheConstants.{MAX_CANDIDATES}
-use Rattle.number_text.specs.declared.blocks.LargeWeighing.{LargeWeighing}
-use Rattle.number_text.specs.declared.blocks.LargeWeighing.TheVariants.{Strands, Regions}
-use Rattle.number_text.specs.declared.blocks.Block.{Block}
+use Rattle.evidence_core.specs.declared.blocks.LargeWeighing.{LargeWeighing}
+use Rattle.evidence_core.specs.declared.blocks.LargeWeighing.TheVariants.{Strands, Regions}
+use Rattle.evidence_core.specs.declared.blocks.Block.{Block}
 use Rattle.colour_numbers.specs.Numbers.{choices_of, fits_by}
-use Rattle.number_text.specs.declared.evidence.Counted.{Counted}
-use Rattle.number_text.specs.declared.evidence.Linked.{Linked}
-use Rattle.number_check.specs.declared.cause.Cause.{Cause}
-use Rattle.number_check.specs.declared.cause.Cause.TheVariants as cause
-use Rattle.number_check.specs.Unequal.{first_unequal}
-use Rattle.number_check.specs.Holds.{table_of, choices_by, numbers_by, AreNumbersOf, AreLinkingOf}
-use Rattle.number_check.specs.Cause.{place_cause, IsSeedCause, counts_cause, IsCauseOf, linked_cause}
-use Rattle.number_check.proofs.FirstUnequal.{equal_of_none, none_of_equal}
+use Rattle.evidence_core.specs.declared.evidence.Counted.{Counted}
+use Rattle.linking_check.specs.declared.cause.Cause.{Cause}
+use Rattle.linking_check.specs.declared.cause.Cause.TheVariants as cause
+use Rattle.linking_check.specs.Unequal.{first_unequal}
+use Rattle.number_check.specs.Holds.{table_of, choices_by, numbers_by, AreNumbersOf}
+use Rattle.number_check.specs.Cause.{IsSeedCause, counts_cause, IsCauseOf}
+use Rattle.linking_check.proofs.FirstUnequal.{equal_of_none, none_of_equal}
+use Rattle.linking_check.specs.Links.{place_cause}
+use Rattle.linking_check.proofs.LinksOfGrids.{no_place}
 
 pub itself : (a : ℕ) → nat_eq a a ≡ true
 itself a = (Decides-eqb a a).1 refl
-
-same_letters : (a b : ℤ) → int_eq a b ≡ true → a ≡ b
-same_letters a b is = (Decides-int_eq a b).0 is
-
-itself_letter : (a : ℤ) → int_eq a a ≡ true
-itself_letter a = (Decides-int_eq a a).1 refl
-
-no_place : (which : ℕ) (o : Option ℕ) → place_cause which o ≡ None → o ≡ None
-no_place which None none = refl
-no_place which (Some k) none = absurd cc
 
 -- ---- numbers of colourings
 
@@ -82,26 +70,6 @@ numbers_have_no_cause b which d c why is are = elim is [
   | inl seeds ↦ seeds_faultless which d c.seeds.items why seeds are.settled
   | inr counts ↦ let no : ◌≡◌ {A = Option Cause} None (Some why) = sym (numbers_faultless b which d c are) ∙ counts.1 in cc
 ]
-
--- ---- linking numbers
-
-pub linking_holds : (which : ℕ) (d : Diagram) (l : Linked) → linked_cause which d l ≡ None → AreLinkingOf d l
-linking_holds which d l none = by (l.components == length (components d)) refl none
-  where
-    by : (t : Bool) → (l.components == length (components d)) ≡ t
-        → cond t (place_cause which (first_unequal int_eq l.numbers (linking d))) (Some (cause.Components which)) ≡ None → AreLinkingOf d l
-    by true same none = record {
-      components = eqb-true l.components (length (components d)) same;
-      own = equal_of_none int_eq same_letters l.numbers (linking d) (no_place which (first_unequal int_eq l.numbers (linking d)) none);
-    }
-    by false other none = absurd cc
-
-pub linking_has_no_cause : (which : ℕ) (d : Diagram) (l : Linked) → AreLinkingOf d l → linked_cause which d l ≡ None
-linking_has_no_cause which d l are =
-    let count : (l.components == length (components d)) ≡ true = eq-eqb l.components (length (components d)) are.components in
-    let same : first_unequal int_eq l.numbers (linking d) ≡ None =
-    ap (λ (xs : List ℤ). first_unequal int_eq xs (linking d)) are.own ∙ none_of_equal int_eq itself_letter (linking d) in
-    rw (count, same) refl
 
 -- ---- as a call answers them
 

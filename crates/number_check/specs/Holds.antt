@@ -2,16 +2,14 @@
 use Rattle.std.specs.Prelude.{◌≡◌, ◌≢◌, ◌≤◌, ◌^◌, ℕ, List, length}
 use Rattle.grid_core.specs.Diagram.{Diagram}
 use Rattle.quandle_core.specs.Quandle.{Table}
-use Rattle.linking_core.specs.Component.{components}
-use Rattle.linking_core.specs.Linking.{linking}
 use Rattle.colour_seeds.specs.Settled.{Determine}
 use Rattle.colour_seeds.specs.declared.counting.TheConstants.{MAX_CANDIDATES}
 use Rattle.colour_numbers.specs.Numbers.{numbers, coloured_by, choices_of}
-use Rattle.number_text.specs.declared.blocks.Block.{Block}
-use Rattle.number_text.specs.declared.evidence.Counted.{Counted}
-use Rattle.number_text.specs.declared.evidence.Linked.{Linked}
-use Rattle.number_text.specs.declared.evidence.Evidence.{Evidence}
-use Rattle.number_text.specs.declared.evidence.Evidence.TheVariants.{Numbers, Linking}
+use Rattle.evidence_core.specs.declared.blocks.Block.{Block}
+use Rattle.evidence_core.specs.declared.evidence.Counted.{Counted}
+use Rattle.evidence_core.specs.declared.evidence.Evidence.{Evidence}
+use Rattle.evidence_core.specs.declared.evidence.Evidence.TheVariants.{Numbers, Linking}
+use Rattle.linking_check.specs.Links.{LinkingDiffers}
 
 -- the quandle that gives the colours
 abbrev pub table_of : Block → Table
@@ -31,26 +29,11 @@ pub record AreNumbersOf (b : Block) (d : Diagram) (c : Counted) : Type 0 where
   pub few : (table_of b).order ^ choices_by b (length c.seeds.items) ≤ MAX_CANDIDATES
   pub own : c.numbers ≡ numbers_by b d
 
--- how many components a link has, and its linking numbers
-abbrev pub linked_of : Diagram → Linked
-linked_of d = record { components = length (components d); numbers = linking d }
-
--- the number of components and the linking numbers are the link's own
-pub record AreLinkingOf (d : Diagram) (l : Linked) : Type 0 where
-  pub components : l.components ≡ length (components d)
-  pub own : l.numbers ≡ linking d
-
 -- the numbers of colourings are the diagrams' own, and differ
 pub record NumbersDiffer (b : Block) (d e : Diagram) (one two : Counted) : Type 0 where
   pub first : AreNumbersOf b d one
   pub second : AreNumbersOf b e two
   pub differ : one.numbers ≢ two.numbers
-
--- the numbers of components and linking numbers are the links' own, and differ
-pub record LinkingDiffers (d e : Diagram) (one two : Linked) : Type 0 where
-  pub first : AreLinkingOf d one
-  pub second : AreLinkingOf e two
-  pub differ : one.components ≡ two.components → one.numbers ≢ two.numbers
 
 -- the evidence holds
 abbrev pub Holds : Diagram → Diagram → Evidence → Type 0

@@ -5,15 +5,14 @@ ghost use Rattle.colour_numbers.specs.Numbers.{fits_by};
 ghost use Rattle.colour_seeds.specs.Settled.{Determine};
 ghost use Rattle.colour_seeds.specs.Plan.{IsPlan, seeds_in};
 ghost use Rattle.number_check.specs.Holds.{AreNumbersOf, table_of, numbers_by};
-ghost use Rattle.number_check.specs.Cause.{IsCauseOf, counts_cause, place_cause};
+ghost use Rattle.number_check.specs.Cause.{IsCauseOf, counts_cause};
 
-use crate::cause::Cause;
-use crate::unequal::first_unequal;
 use colour_numbers::{choices_of, numbers};
 use colour_seeds::{CountFault, MAX_CANDIDATES, SeedFault, Seeding};
+use evidence_core::{Block, Counted, LargeWeighing};
 use grid_core::Grid;
+use linking_check::{Cause, first_unequal, place_cause};
 use memory_core::OutOfMemory;
-use number_text::{Block, Counted, LargeWeighing};
 use quandle_core::Operations;
 use std::alloc::Global;
 
@@ -117,14 +116,4 @@ fn are_few(quandle: &Operations, choices: usize) -> bool
     let _order = quandle.order();
     let count = choices.min(64) as u32;
     u32::from(quandle.order()).saturating_pow(count) <= MAX_CANDIDATES
-}
-
-/// The cause of a place at which numbers differ.
-pub(crate) fn place_cause(which: u8, place: Option<usize>) -> Option<Cause>
-    ensures { result ≡ place_cause which place }
-{
-    match place {
-        Some(place) => Some(Cause::Number { which, place }),
-        None => None,
-    }
 }

@@ -3,16 +3,15 @@ ghost use Rattle.std.specs.Prelude.{◌≡◌, ◌↔◌, IfOk};
 ghost use Rattle.grid_moves.specs.Joining.{Equivalent};
 ghost use Rattle.quandle_core.specs.Quandle.{IsQuandle};
 ghost use Rattle.colour_numbers.specs.Numbers.{IsCocycleOrNone};
-ghost use Rattle.number_text.specs.declared.evidence.Evidence.TheVariants.{Numbers, Linking};
+ghost use Rattle.evidence_core.specs.declared.evidence.Evidence.TheVariants.{Numbers, Linking};
 ghost use Rattle.number_check.specs.Holds.{Holds};
 ghost use Rattle.number_check.specs.Ruling.{RulesOn};
 
-use crate::cause::{Cause, Ruling};
 use crate::counts::cause_of_counts;
-use crate::links::cause_of_links;
+use evidence_core::{Block, Counted, Evidence, LargeWeighing, Linked};
 use grid_core::Grid;
+use linking_check::{Cause, Ruling, cause_of_links};
 use memory_core::OutOfMemory;
-use number_text::{Block, Counted, Evidence, LargeWeighing, Linked};
 use std::alloc::Global;
 
 /// Whether evidence by numbers tells two diagrams apart: accepted exactly where it holds, else rejected for the first cause.

@@ -6,13 +6,13 @@ use Rattle.quandle_core.specs.declared.operations.TheConstants.{MAX_LARGE_ORDER}
 use Rattle.quandle_core.specs.Quandle.{Table, IsQuandle}
 use Rattle.text_lines.specs.Lines.{NumberedLine, Text, begins, text_of}
 use Rattle.verdict_core.specs.declared.problem.ProblemText.{ProblemText}
-use Rattle.verdict_core.specs.Names.{NamedQuandle}
-use Rattle.verdict_core.proofs.Named.{named_within, named_wider}
+use Rattle.named_quandles.specs.Names.{NamedQuandle}
+use Rattle.named_quandles.proofs.Named.{named_within, named_wider}
 use Rattle.text_items.specs.declared.fault.TextFault.{TextFault}
 use Rattle.text_items.specs.Reading.{◌>>=◌, next_line, next_token, line_end, word, text_end}
 use Rattle.knot_text.specs.Printed.{HasQuandleTextWithin}
 use Rattle.knot_text.specs.WrittenThere.{cocycle_lines, HasCocycleText}
-use Rattle.knot_text.specs.Shapes.{problem_item, check_of}
+use Rattle.verdict_text.specs.Problems.{problem_item, check_of}
 use Rattle.knot_text.proofs.Steady.{bind_ok, ok_is}
 use Rattle.knot_text.proofs.Says.{Says, says_ok, says_err, says_bind, says_if, says_more}
 use Rattle.knot_text.proofs.ItemsSay.{IsWritten}
@@ -20,15 +20,16 @@ use Rattle.knot_text.proofs.QuandleSays.{IsQuandleAt, quandle_at_says}
 use Rattle.knot_text.proofs.CocycleSays.{cocycle_says}
 use Rattle.shadow_print.specs.Printed.{HasShadowText}
 use Rattle.shadow_print.proofs.ShadowSays.{shadow_says}
-use Rattle.number_text.specs.declared.blocks.LargeWeighing.TheVariants.{Strands, Regions}
-use Rattle.number_text.specs.declared.blocks.Block.{Block}
-use Rattle.number_text.specs.declared.evidence.Evidence.{Evidence}
-use Rattle.number_text.specs.declared.evidence.Evidence.TheVariants.{Numbers, Linking}
-use Rattle.number_text.specs.Blocks.{cocycle_or_none, block_quandle, block_item, name_form, surplus_block, blocks}
+use Rattle.evidence_core.specs.declared.blocks.LargeWeighing.TheVariants.{Strands, Regions}
+use Rattle.evidence_core.specs.declared.blocks.Block.{Block}
+use Rattle.evidence_core.specs.declared.evidence.Evidence.{Evidence}
+use Rattle.evidence_core.specs.declared.evidence.Evidence.TheVariants.{Numbers, Linking}
+use Rattle.block_text.specs.Blocks.{block_quandle, block_item, name_form, surplus_block, blocks}
+use Rattle.number_text.specs.Blocks.{cocycle_or_none}
 use Rattle.number_text.specs.Evidence.{count_of, counted_item, numbers_evidence, linked_item, linking_evidence, evidence_at, head_at, third_item}
-use Rattle.number_certificates.specs.declared.said.Said.{Said}
-use Rattle.number_certificates.specs.declared.said.Said.TheVariants as said
-use Rattle.number_certificates.specs.Said.{has_third, third_in, third_of, with_verdict, said_of}
+use Rattle.certificate_text.specs.declared.said.Said.{Said}
+use Rattle.certificate_text.specs.declared.said.Said.TheVariants as said
+use Rattle.certificate_text.specs.Said.{has_third, third_in, third_of, with_verdict, said_of}
 use Rattle.number_certificates.specs.Printed.{HasPerhapsText, HasBlockText}
 
 -- whatever is read

@@ -7,21 +7,23 @@ use Rattle.quandle_core.specs.Quandle.{Table, IsQuandle}
 use Rattle.text_lines.specs.Lines.{are_whole_lines}
 use Rattle.verdict_core.specs.declared.problem.ProblemText.{ProblemText}
 use Rattle.verdict_core.specs.Diagrams.{grid_of}
-use Rattle.verdict_core.proofs.Named.{named_within}
-use Rattle.knot_text.specs.Shapes.{problem_of}
+use Rattle.named_quandles.proofs.Named.{named_within}
+use Rattle.verdict_text.specs.Problems.{problem_of}
 use Rattle.knot_text.proofs.Steady.{ok_is}
 use Rattle.colour_numbers.specs.Numbers.{IsCocycleOrNone}
-use Rattle.number_text.specs.declared.blocks.LargeWeighing.{LargeWeighing}
-use Rattle.number_text.specs.declared.blocks.LargeWeighing.TheVariants.{Strands, Regions}
-use Rattle.number_text.specs.declared.evidence.Evidence.{Evidence}
-use Rattle.number_text.specs.declared.evidence.Evidence.TheVariants.{Numbers, Linking}
-use Rattle.number_certificates.specs.declared.said.Said.TheVariants as said
-use Rattle.number_certificates.specs.Said.{said_of}
+use Rattle.evidence_core.specs.declared.blocks.LargeWeighing.{LargeWeighing}
+use Rattle.evidence_core.specs.declared.blocks.LargeWeighing.TheVariants.{Strands, Regions}
+use Rattle.evidence_core.specs.declared.evidence.Evidence.{Evidence}
+use Rattle.evidence_core.specs.declared.evidence.Evidence.TheVariants.{Numbers, Linking}
+use Rattle.certificate_text.specs.declared.said.Said.TheVariants as said
+use Rattle.certificate_text.specs.Said.{said_of}
 use Rattle.number_certificates.specs.Printed.{third_text, HasPerhapsText, HasEvidenceText}
 use Rattle.number_check.specs.Holds.{Holds}
-use Rattle.number_check.proofs.Rulings.{numbers_apart, linking_apart}
+use Rattle.number_check.proofs.Rulings.{numbers_apart}
+use Rattle.linking_check.proofs.LinksOfGrids.{linking_apart}
 use Rattle.number_laws.proofs.EvidenceBehind.{evidence_behind, evidence_behind_feed}
-use Rattle.number_decision.specs.Evidence.{AreApart, IsAcceptedEvidence, IsEvidenceOn}
+use Rattle.check_job.specs.Truth.{AreApart}
+use Rattle.number_decision.specs.Evidence.{IsAcceptedEvidence, IsEvidenceOn}
 use Rattle.number_decision.proofs.BlocksSay.{HasBlock, said_block}
 
 -- ---- it tells apart

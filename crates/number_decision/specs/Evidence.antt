@@ -1,29 +1,20 @@
 -- What evidence by numbers is worth that was written behind its problem.
 use Rattle.std.specs.Prelude.{◌≡◌, ◌≤◌, ℕ, List, length, Ok}
 use Rattle.grid_core.specs.declared.grid.TheConstants.{MAX_SIZE}
-use Rattle.grid_moves.specs.Joining.{Equivalent}
 use Rattle.verdict_core.specs.declared.problem.ProblemText.{ProblemText}
 use Rattle.verdict_core.specs.Diagrams.{grid_of}
-use Rattle.knot_text.specs.Shapes.{problem_of}
-use Rattle.number_text.specs.declared.evidence.Evidence.{Evidence}
-use Rattle.number_text.specs.declared.evidence.Evidence.TheVariants.{Numbers, Linking}
-use Rattle.number_certificates.specs.declared.said.Said.{Said}
-use Rattle.number_certificates.specs.declared.said.Said.TheVariants as said
-use Rattle.number_certificates.specs.Said.{said_of}
+use Rattle.verdict_text.specs.Problems.{problem_of}
+use Rattle.evidence_core.specs.declared.evidence.Evidence.{Evidence}
+use Rattle.evidence_core.specs.declared.evidence.Evidence.TheVariants.{Numbers, Linking}
+use Rattle.certificate_text.specs.declared.said.Said.{Said}
+use Rattle.certificate_text.specs.declared.said.Said.TheVariants as said
+use Rattle.certificate_text.specs.Said.{said_of}
 use Rattle.number_certificates.specs.Printed.{third_text, HasBlockText}
-use Rattle.number_check.specs.declared.cause.Ruling.TheVariants.{Accepted}
+use Rattle.linking_check.specs.declared.cause.Ruling.TheVariants.{Accepted}
 use Rattle.number_check.specs.Holds.{Holds}
 use Rattle.number_check.specs.Ruling.{RulesOn}
-use Rattle.decision_core.specs.Decision.{IsTrueVerdict, put_behind}
-
--- no list of moves joins the two diagrams of a problem
-abbrev pub AreApart : ProblemText → Type 0
-AreApart problem = Equivalent (grid_of problem.first) (grid_of problem.second) → ⊥
-
--- what is said of the two diagrams is true: what a verdict claims; of evidence by numbers, that the diagrams are not equivalent
-abbrev pub IsTrueSaid : ProblemText → Said → Type 0
-IsTrueSaid problem (said.Verdict verdict) = IsTrueVerdict problem verdict
-IsTrueSaid problem (said.Evidence evidence) = AreApart problem
+use Rattle.check_job.specs.Truth.{AreApart}
+use Rattle.decision_core.specs.Decision.{put_behind}
 
 -- the bytes are read as a certificate of this problem and this evidence, and the ruling on the evidence is that it is accepted
 pub record IsAcceptedEvidence (bytes : List ℕ) (problem : ProblemText) (evidence : Evidence) : Type 0 where

@@ -3,7 +3,7 @@ pub use Rattle.grid_moves.specs.Joining
 pub use Rattle.verdict_core.specs.Diagrams
 pub use Rattle.knot_text.specs.Shapes
 pub use Rattle.number_text.specs.Blocks
-pub use Rattle.number_certificates.specs.Said
+pub use Rattle.certificate_text.specs.Said
 pub use Rattle.number_certificates.specs.Printed
 pub use Rattle.number_check.specs.Holds
 pub use Rattle.number_check.specs.Ruling

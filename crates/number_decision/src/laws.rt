@@ -6,13 +6,14 @@ ghost use Rattle.quandle_core.specs.declared.operations.TheConstants.{MAX_LARGE_
 ghost use Rattle.text_lines.specs.Lines.{Text};
 ghost use Rattle.verdict_core.specs.declared.problem.ProblemText.{ProblemText};
 ghost use Rattle.verdict_core.specs.Diagrams.{grid_of};
-ghost use Rattle.knot_text.specs.Shapes.{problem_of};
-ghost use Rattle.number_text.specs.declared.blocks.Block.{Block};
-ghost use Rattle.number_text.specs.declared.evidence.Evidence.{Evidence};
-ghost use Rattle.number_text.specs.Blocks.{block_item, blocks};
+ghost use Rattle.verdict_text.specs.Problems.{problem_of};
+ghost use Rattle.evidence_core.specs.declared.blocks.Block.{Block};
+ghost use Rattle.evidence_core.specs.declared.evidence.Evidence.{Evidence};
+ghost use Rattle.block_text.specs.Blocks.{block_item, blocks};
 ghost use Rattle.number_certificates.specs.Printed.{third_text, HasBlockText, HasEvidenceText};
 ghost use Rattle.number_check.specs.Holds.{Holds};
-ghost use Rattle.number_decision.specs.Evidence.{AreApart, IsAcceptedEvidence, IsEvidenceOn, IsByWrittenBlock};
+ghost use Rattle.check_job.specs.Truth.{AreApart};
+ghost use Rattle.number_decision.specs.Evidence.{IsAcceptedEvidence, IsEvidenceOn, IsByWrittenBlock};
 
 /// Evidence that holds of the diagrams of a problem, whoever found it, is as it is printed evidence on the input, if it has a text: the diagrams are
 /// not equivalent, and it is accepted behind the input.

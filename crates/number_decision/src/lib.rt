@@ -2,7 +2,4 @@
 //! them. Whoever found evidence that holds has found such a text. The ruling on the evidence about a problem stands here too.
 #![tactic(auto)]
 
-mod evidence;
 pub mod laws;
-
-pub use evidence::check_evidence;

@@ -7,7 +7,7 @@ use Rattle.arrayvec.specs.ArrayVec.{ArrayVec}
 use Rattle.grid_core.specs.declared.grid.TheConstants.{MAX_SIZE}
 use Rattle.quandle_core.specs.declared.operations.TheConstants.{MAX_LARGE_ORDER}
 use Rattle.quandle_core.specs.Quandle.{Table}
-use Rattle.shadow_weights.specs.Cocycle.{ShadowCochain}
+use Rattle.shadow_cocycles.specs.Cocycle.{ShadowCochain}
 use Rattle.text_lines.specs.Lines.{Text, begins}
 use Rattle.text_lines.specs.Spelled.{numbered}
 use Rattle.text_items.specs.declared.reading.TheConstants.{MAX_NUMBER}
@@ -21,18 +21,18 @@ use Rattle.knot_text.proofs.QuandleAgain.{quandle_within_again}
 use Rattle.knot_text.proofs.VerdictAgain.{parted}
 use Rattle.knot_text.proofs.LettersAgain.{letter_again}
 use Rattle.knot_text.proofs.CocycleAgain.{cocycle_again}
-use Rattle.shadow_text.specs.declared.shadows.Spelling.{Spelling}
-use Rattle.shadow_text.specs.declared.shadows.Spelling.TheVariants as spelling
-use Rattle.shadow_text.specs.declared.shadows.SpelledShadow.{SpelledShadow}
+use Rattle.evidence_core.specs.declared.shadows.Spelling.{Spelling}
+use Rattle.evidence_core.specs.declared.shadows.Spelling.TheVariants as spelling
+use Rattle.evidence_core.specs.declared.shadows.SpelledShadow.{SpelledShadow}
 use Rattle.shadow_print.specs.Printed.{lines_of, shadow_lines, HasShadowText}
 use Rattle.shadow_print.proofs.ShadowAgain.{shadow_again}
-use Rattle.number_text.specs.declared.blocks.LargeWeighing.{LargeWeighing}
-use Rattle.number_text.specs.declared.blocks.LargeWeighing.TheVariants.{Strands, Regions}
-use Rattle.number_text.specs.declared.blocks.Block.{Block}
-use Rattle.number_text.specs.declared.evidence.Counted.{Counted}
-use Rattle.number_text.specs.declared.evidence.Linked.{Linked}
-use Rattle.number_text.specs.declared.evidence.Evidence.{Evidence}
-use Rattle.number_text.specs.declared.evidence.Evidence.TheVariants.{Numbers, Linking}
+use Rattle.evidence_core.specs.declared.blocks.LargeWeighing.{LargeWeighing}
+use Rattle.evidence_core.specs.declared.blocks.LargeWeighing.TheVariants.{Strands, Regions}
+use Rattle.evidence_core.specs.declared.blocks.Block.{Block}
+use Rattle.evidence_core.specs.declared.evidence.Counted.{Counted}
+use Rattle.evidence_core.specs.declared.evidence.Linked.{Linked}
+use Rattle.evidence_core.specs.declared.evidence.Evidence.{Evidence}
+use Rattle.evidence_core.specs.declared.evidence.Evidence.TheVariants.{Numbers, Linking}
 use Rattle.number_text.specs.declared.evidence_items.TheConstants.{THIRD_VERSION}
 use Rattle.number_text.specs.Blocks.{cocycle_or_none}
 use Rattle.number_text.specs.Evidence.{seeds_at, numbers_at, counted_item, count_of, numbers_evidence, components_at, letters_at, linked_item, linking_evidence, evidence_at, head_at, third_item}

@@ -4,24 +4,24 @@ use Rattle.std.specs.Fmt.{decimal, digits}
 use Rattle.std.proofs.lemmas.List.{append-nil}
 use Rattle.text_lines.specs.Lines.{NumberedLine, Text, first_starts, line_count, are_whole_lines, text_from, text_of}
 use Rattle.text_lines.specs.Spelled.{numbered}
-use Rattle.text_lines.proofs.LastFeed.{feed_added, feed_ends}
-use Rattle.text_lines.proofs.Written.{lines_read}
-use Rattle.text_lines.proofs.Parted.{text_lines_parted, text_ending_parted}
+use Rattle.knot_text.proofs.LastFeed.{feed_added, feed_ends}
+use Rattle.knot_text.proofs.Written.{lines_read}
+use Rattle.knot_text.proofs.Parted.{text_lines_parted, text_ending_parted}
 use Rattle.text_items.specs.declared.fault.TextFault.{TextFault}
 use Rattle.text_items.specs.Reading.{◌>>=◌, text_end}
 use Rattle.verdict_core.specs.declared.problem.ProblemText.{ProblemText}
-use Rattle.knot_text.specs.Shapes.{problem_item, problem_in, problem_of}
+use Rattle.verdict_text.specs.Problems.{problem_item, problem_in, problem_of}
 use Rattle.knot_text.specs.FirstBadLine.{lines_then, put_behind}
 use Rattle.knot_text.proofs.ReadBack.{no_lines, at_end}
 use Rattle.knot_text.proofs.Steady.{bind_ok, ok_is}
 use Rattle.knot_text.proofs.StepsAgain.{lines_before}
 use Rattle.knot_text.proofs.ShapesFail.{problem_stable}
-use Rattle.number_text.specs.declared.evidence.Evidence.{Evidence}
+use Rattle.evidence_core.specs.declared.evidence.Evidence.{Evidence}
 use Rattle.number_text.specs.declared.evidence_items.TheConstants.{THIRD_VERSION}
 use Rattle.number_text.specs.Evidence.{third_item}
-use Rattle.number_certificates.specs.declared.said.Said.{Said}
-use Rattle.number_certificates.specs.declared.said.Said.TheVariants as said
-use Rattle.number_certificates.specs.Said.{starts_third, has_third, third_in, third_of, said_of}
+use Rattle.certificate_text.specs.declared.said.Said.{Said}
+use Rattle.certificate_text.specs.declared.said.Said.TheVariants as said
+use Rattle.certificate_text.specs.Said.{starts_third, has_third, third_in, third_of, said_of}
 use Rattle.number_certificates.specs.Printed.{third_lines, third_text, HasEvidenceText}
 use Rattle.number_laws.proofs.EvidenceAgain.{third_again}
 use Rattle.number_laws.proofs.EvidenceWords.{third_words}

@@ -10,8 +10,8 @@ use Rattle.quandle_core.specs.Quandle.{Table, over}
 use Rattle.cocycle_core.specs.Cocycle.{Cochain, IsCocycle}
 use Rattle.text_lines.specs.Spelled.{is_word, is_line}
 use Rattle.text_items.specs.declared.reading.TheConstants.{MAX_NUMBER}
-use Rattle.text_items.specs.declared.cocycles.TheConstants.{MAX_MODULUS}
-use Rattle.verdict_core.specs.Names.{NamedQuandle}
+use Rattle.text_items.specs.declared.modulus.TheConstants.{MAX_MODULUS}
+use Rattle.named_quandles.specs.Names.{NamedQuandle}
 use Rattle.knot_text.specs.Printed.{letter_token, name_tokens, table_lines, HasQuandleTextWithin}
 use Rattle.knot_text.specs.WrittenThere.{value_tokens, cocycle_lines}
 use Rattle.knot_text.proofs.LineTexts.{map_decimals}
@@ -20,12 +20,12 @@ use Rattle.knot_text.proofs.Tables.{row, row_below}
 use Rattle.knot_text.proofs.Words.{both_lines, decimal_word, name_words, table_words, numbers_words, numbers_line}
 use Rattle.knot_text.proofs.LettersAgain.{letter_word}
 use Rattle.shadow_print.proofs.ShadowAgain.{shadow_words}
-use Rattle.number_text.specs.declared.blocks.LargeWeighing.{LargeWeighing}
-use Rattle.number_text.specs.declared.blocks.LargeWeighing.TheVariants.{Strands, Regions}
-use Rattle.number_text.specs.declared.evidence.Counted.{Counted}
-use Rattle.number_text.specs.declared.evidence.Linked.{Linked}
-use Rattle.number_text.specs.declared.evidence.Evidence.{Evidence}
-use Rattle.number_text.specs.declared.evidence.Evidence.TheVariants.{Numbers, Linking}
+use Rattle.evidence_core.specs.declared.blocks.LargeWeighing.{LargeWeighing}
+use Rattle.evidence_core.specs.declared.blocks.LargeWeighing.TheVariants.{Strands, Regions}
+use Rattle.evidence_core.specs.declared.evidence.Counted.{Counted}
+use Rattle.evidence_core.specs.declared.evidence.Linked.{Linked}
+use Rattle.evidence_core.specs.declared.evidence.Evidence.{Evidence}
+use Rattle.evidence_core.specs.declared.evidence.Evidence.TheVariants.{Numbers, Linking}
 use Rattle.number_text.specs.declared.evidence_items.TheConstants.{THIRD_VERSION}
 use Rattle.number_certificates.specs.Printed.{perhaps_cocycle, counted_lines, linked_lines, evidence_lines, third_lines, HasPerhapsText, HasCountedText, HasLinkedText, HasEvidenceText}
 use Rattle.number_laws.proofs.EvidenceAgain.{bytes_short}

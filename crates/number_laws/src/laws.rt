@@ -2,14 +2,14 @@
 ghost use Rattle.std.specs.Prelude.{◌≡◌, ◌+◌, ◌++◌, ℕ, List, length, true, Ok};
 ghost use Rattle.text_lines.specs.Lines.{are_whole_lines, text_from};
 ghost use Rattle.knot_text.specs.FirstBadLine.{FailsFirst};
-ghost use Rattle.knot_text.specs.Shapes.{problem_of};
+ghost use Rattle.verdict_text.specs.Problems.{problem_of};
 ghost use Rattle.knot_text.specs.Weights.{weight_of};
-ghost use Rattle.number_text.specs.declared.evidence.Evidence.{Evidence};
+ghost use Rattle.evidence_core.specs.declared.evidence.Evidence.{Evidence};
 ghost use Rattle.number_text.specs.Evidence.{third_item};
-ghost use Rattle.number_text.specs.Weighed.{weighed_in, weighed_of};
-ghost use Rattle.number_text.specs.declared.weighed.Weighing.TheVariants.{Strands};
-ghost use Rattle.number_certificates.specs.declared.said.Said.TheVariants as said;
-ghost use Rattle.number_certificates.specs.Said.{said_in, said_of};
+ghost use Rattle.block_text.specs.Weighed.{weighed_in, weighed_of};
+ghost use Rattle.block_text.specs.declared.weighed.Weighing.TheVariants.{Strands};
+ghost use Rattle.certificate_text.specs.declared.said.Said.TheVariants as said;
+ghost use Rattle.certificate_text.specs.Said.{said_in, said_of};
 ghost use Rattle.number_certificates.specs.Printed.{third_lines, third_text, HasEvidenceText};
 
 use knot_text::WeightText;

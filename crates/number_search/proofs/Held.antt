@@ -17,11 +17,12 @@ use Rattle.colour_seeds.specs.declared.counting.TheConstants.{MAX_CANDIDATES}
 use Rattle.colour_seeds.specs.Plan.{IsPlan, seeds_in}
 use Rattle.colour_numbers.specs.Numbers.{fits_by}
 use Rattle.colour_seeds.proofs.Seeds.{seeds_are, plan_determines}
-use Rattle.number_text.specs.declared.blocks.Block.{Block}
-use Rattle.number_text.specs.declared.evidence.Linked.{Linked}
-use Rattle.number_text.specs.declared.evidence.Evidence.{Evidence}
-use Rattle.number_check.specs.Holds.{table_of, choices_by, numbers_by, linked_of, AreNumbersOf, NumbersDiffer, LinkingDiffers, Holds}
-use Rattle.number_check.specs.Cause.{are_same}
+use Rattle.evidence_core.specs.declared.blocks.Block.{Block}
+use Rattle.evidence_core.specs.declared.evidence.Linked.{Linked}
+use Rattle.evidence_core.specs.declared.evidence.Evidence.{Evidence}
+use Rattle.number_check.specs.Holds.{table_of, choices_by, numbers_by, AreNumbersOf, NumbersDiffer, Holds}
+use Rattle.linking_check.specs.Links.{linked_of, LinkingDiffers}
+use Rattle.linking_check.specs.Links.{are_same}
 use Rattle.number_search.specs.declared.seed_pair.SeedPair.{SeedPair}
 use Rattle.number_search.specs.Told.{ArePlansOf, fits_both, agree, tells, counted, evidence_by, first_telling, told_by_linking, told_by_blocks, told_apart}
 

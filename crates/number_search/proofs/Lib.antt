@@ -1,2 +1,3 @@
+mod CopiedValues
 pub mod Held
 mod WorkedRows

@@ -1,13 +1,13 @@
 -- Worked examples, by computing: what is found of links by linking numbers, and of the right trefoil and the unknot by colourings.
 use Rattle.std.proofs.Common.{◌≡◌, [], ◌∷◌, Some, None, refl, pos, negsuc}
 use Rattle.grid_core.specs.Trefoils.{right_trefoil}
-use Rattle.grid_core.proofs.WorkedRows.{unknot}
+use Rattle.grid_laws.proofs.WorkedDiagrams.{unknot}
 use Rattle.quandle_core.specs.Tables.{dihedral}
-use Rattle.verdict_core.specs.declared.names.QuandleName.TheVariants as name
-use Rattle.linking_core.proofs.WorkedRows.{hopf_link, negative_link, two_unknots}
+use Rattle.named_quandles.specs.declared.names.QuandleName.TheVariants as name
+use Rattle.weight_laws.proofs.WorkedLinking.{hopf_link, negative_link, two_unknots}
 use Rattle.colour_seeds.specs.declared.progress.Step.TheVariants.{Seed, Rightward, Test}
-use Rattle.number_text.specs.declared.blocks.Block.{Block}
-use Rattle.number_text.specs.declared.evidence.Evidence.TheVariants.{Numbers, Linking}
+use Rattle.evidence_core.specs.declared.blocks.Block.{Block}
+use Rattle.evidence_core.specs.declared.evidence.Evidence.TheVariants.{Numbers, Linking}
 use Rattle.number_search.specs.declared.seed_pair.SeedPair.{SeedPair}
 use Rattle.number_search.specs.Told.{told_by_linking, told_by_blocks}
 

@@ -7,12 +7,13 @@ use Rattle.grid_core.specs.Diagram.{Diagram}
 use Rattle.colour_seeds.specs.declared.progress.Step.{Step}
 use Rattle.colour_seeds.specs.Plan.{IsPlan, seed_columns}
 use Rattle.colour_numbers.specs.Numbers.{fits_by}
-use Rattle.number_text.specs.declared.blocks.Block.{Block}
-use Rattle.number_text.specs.declared.evidence.Counted.{Counted}
-use Rattle.number_text.specs.declared.evidence.Evidence.{Evidence}
-use Rattle.number_text.specs.declared.evidence.Evidence.TheVariants.{Numbers, Linking}
-use Rattle.number_check.specs.Holds.{numbers_by, linked_of}
-use Rattle.number_check.specs.Cause.{are_same}
+use Rattle.evidence_core.specs.declared.blocks.Block.{Block}
+use Rattle.evidence_core.specs.declared.evidence.Counted.{Counted}
+use Rattle.evidence_core.specs.declared.evidence.Evidence.{Evidence}
+use Rattle.evidence_core.specs.declared.evidence.Evidence.TheVariants.{Numbers, Linking}
+use Rattle.number_check.specs.Holds.{numbers_by}
+use Rattle.linking_check.specs.Links.{linked_of}
+use Rattle.linking_check.specs.Links.{are_same}
 use Rattle.number_search.specs.declared.seed_pair.SeedPair.{SeedPair}
 
 -- ---- linking numbers

@@ -2,8 +2,8 @@
 ghost use Rattle.std.specs.Prelude.{◌≡◌, List, Some, None, true, length};
 ghost use Rattle.std.specs.List.{All};
 ghost use Rattle.grid_core.specs.Diagram.{Diagram, IsGrid};
-ghost use Rattle.number_text.specs.declared.blocks.Block.{Block};
-ghost use Rattle.number_text.specs.declared.evidence.Evidence.{Evidence};
+ghost use Rattle.evidence_core.specs.declared.blocks.Block.{Block};
+ghost use Rattle.evidence_core.specs.declared.evidence.Evidence.{Evidence};
 ghost use Rattle.linking_core.specs.Component.{components};
 ghost use Rattle.linking_core.specs.Linking.{linking};
 ghost use Rattle.number_check.specs.Holds.{Holds, numbers_by};

@@ -2,6 +2,7 @@
 //! What is found is evidence that `rule` of number_check accepts, so that no moves join the two; nothing is found exactly where these numbers agree.
 #![tactic(auto)]
 
+mod copied;
 pub mod laws;
 mod seed_pair;
 mod told;

@@ -1,10 +1,11 @@
 //! Evidence by numbers, found.
 ghost use Rattle.std.specs.Prelude.{◌≡◌, ◌∷◌, [], count_by, IfOk, IfSome};
 ghost use Rattle.grid_moves.specs.Joining.{Equivalent};
-ghost use Rattle.number_check.specs.declared.cause.Ruling.TheVariants.{Accepted};
+ghost use Rattle.linking_check.specs.declared.cause.Ruling.TheVariants.{Accepted};
 ghost use Rattle.number_check.specs.Ruling.{RulesOn};
 ghost use Rattle.number_search.specs.Told.{ArePlansOf, fits_both, counted, evidence_by, told_by_linking, told_by_blocks, told_apart};
 
+use crate::copied::copied;
 use crate::seed_pair::SeedPair;
 use colour_numbers::fits_by;
 use colour_seeds::Seeding;
@@ -162,7 +163,7 @@ fn copy_of_cocycle(
             Ok(cocycle) => Ok(Some(LargeWeighing::Strands(cocycle))),
             Err(_) => Err(OutOfMemory),
         },
-        Some(LargeWeighing::Regions(shadow)) => match shadow.copy(alloc) {
+        Some(LargeWeighing::Regions(shadow)) => match copied(alloc, shadow) {
             Ok(shadow) => Ok(Some(LargeWeighing::Regions(shadow))),
             Err(_) => Err(OutOfMemory),
         },

@@ -3,8 +3,8 @@ use Rattle.std.proofs.Common.{◌≡◌, ℕ, pos, negsuc, List, [], ◌∷◌, 
 use Rattle.text_lines.specs.Lines.{text_of}
 use Rattle.text_items.specs.declared.fault.TextFault.TheVariants.{Malformed}
 use Rattle.text_items.specs.Reading.{next_line, next_token, line_end, word, number, last_number, last_count, each_token}
-use Rattle.number_text.specs.declared.evidence.Linked.{Linked}
-use Rattle.number_text.specs.declared.evidence.Evidence.TheVariants.{Linking}
+use Rattle.evidence_core.specs.declared.evidence.Linked.{Linked}
+use Rattle.evidence_core.specs.declared.evidence.Evidence.TheVariants.{Linking}
 use Rattle.number_text.specs.Evidence.{components_at, letters_at, linked_item, linking_evidence, evidence_at, head_at, third_item}
 
 -- two links, of two components and of one

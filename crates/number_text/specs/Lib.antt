@@ -1,10 +1,7 @@
 pub mod Blocks
-pub mod Numbered
 pub mod Evidence
-pub mod Weighed
 pub use Rattle.text_items.specs.Reading
 pub use Rattle.text_items.specs.Quandles
-pub use Rattle.text_items.specs.Cocycles
-pub use Rattle.text_items.specs.Diagrams
+pub use Rattle.diagram_items.specs.Cocycles
 pub use Rattle.cocycle_core.specs.Cocycle
 pub use Rattle.shadow_text.specs.Shadows

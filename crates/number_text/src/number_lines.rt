@@ -5,7 +5,7 @@ ghost use Rattle.text_items.specs.Reading.{Gives};
 ghost use Rattle.text_items.specs.Braids.{is_long_letter, letter_of, letters};
 ghost use Rattle.number_text.specs.Evidence.{seeds_at, numbers_at, counted_item, components_at, letters_at, linked_item};
 
-use crate::evidence::{Counted, Linked};
+use evidence_core::{Counted, Linked};
 use grid_core::Rows;
 use memory_core::Items;
 use std::alloc::Global;

@@ -5,12 +5,12 @@ use Rattle.quandle_core.specs.Bijection.{IsBijection}
 use Rattle.quandle_core.proofs.Lengths.{equal_lengths}
 use Rattle.colour_rows.specs.Colouring.{IsColouring}
 use Rattle.colour_list.specs.Listing.{colourings}
-use Rattle.colour_laws.proofs.Listings.{listing}
+use Rattle.carried_colours.proofs.Listings.{listing}
 use Rattle.braid_core.specs.Braid.{Word, IsBraid}
 use Rattle.braid_core.specs.FixedPoints.{fixed_points, IsFixedPoint}
 use Rattle.braid_closure.specs.Closure.{closure, at_feet}
-use Rattle.braid_closure.proofs.Feet.{feet_fixed}
-use Rattle.braid_closure.proofs.Colourings.{feet_onto, feet_one}
+use Rattle.braid_laws.proofs.Feet.{feet_fixed}
+use Rattle.braid_laws.proofs.Colourings.{feet_onto, feet_one}
 use Rattle.braid_moves.specs.declared.step.BraidMove.{BraidMove}
 use Rattle.braid_moves.specs.declared.ruling.BraidRuling.TheVariants.{Accepted}
 use Rattle.braid_moves.specs.Ruling.{ruling}

@@ -15,7 +15,7 @@ use Rattle.quandle_core.specs.Bijection.{IsBijection}
 use Rattle.colour_rows.specs.Colouring.{IsColouring}
 use Rattle.colour_list.specs.Listing.{colourings, lists_of, times}
 use Rattle.braid_core.specs.FixedPoints.{fixed_points, IsFixedPoint}
-use Rattle.braid_core.proofs.Listed.{IsBefore}
+use Rattle.braid_laws.proofs.Listed.{IsBefore}
 use Rattle.grid_braid.specs.Word.{word}
 use Rattle.grid_braid.specs.Feet.{at_feet}
 use Rattle.plain_jobs.proofs.InOrder.{found, IsAscendingList, images_in_order}

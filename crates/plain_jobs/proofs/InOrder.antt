@@ -22,7 +22,7 @@ use Rattle.arrayvec.specs.ArrayVec.{ArrayVec}
 use Rattle.quandle_core.specs.Colours.{ComesBefore}
 use Rattle.quandle_core.specs.Bijection.{IsBijection}
 use Rattle.quandle_core.proofs.Lengths.{IsOneOf}
-use Rattle.braid_core.proofs.Listed.{IsBefore, Rises}
+use Rattle.braid_laws.proofs.Listed.{IsBefore, Rises}
 use Rattle.colour_list.specs.Listing.{lists_of, is_same, times}
 
 -- ---- where a list stands

@@ -10,13 +10,13 @@ use Rattle.text_items.specs.declared.fault.TextFault.{TextFault}
 use Rattle.text_items.specs.declared.fault.TextFault.TheVariants as bad
 use Rattle.verdict_core.specs.declared.problem.ProblemText.{ProblemText}
 use Rattle.verdict_core.specs.declared.verdict.Verdict.{Verdict}
-use Rattle.verdict_core.specs.Names.{NamedQuandle}
+use Rattle.named_quandles.specs.Names.{NamedQuandle}
 use Rattle.knot_text.specs.Printed.{grid_text}
 use Rattle.verdict_core.specs.Diagrams.{grid_of}
 use Rattle.knot_text.specs.Shapes.{replay_in, colour_in, close_in, lone_diagram_in}
 use Rattle.knot_text.specs.Pairs.{pair_in}
 use Rattle.knot_text.specs.BraidChecks.{braidcheck_in}
-use Rattle.number_text.specs.Weighed.{weighed_in}
+use Rattle.block_text.specs.Weighed.{weighed_in}
 use Rattle.knot_text.specs.FirstBadLine.{FailsFirst}
 use Rattle.knot_text.proofs.ShapesFail.{replay_fails, colour_fails, close_fails, lone_diagram_fails, pair_fails}
 use Rattle.knot_text.proofs.BraidChecksFail.{braidcheck_fails}
@@ -27,27 +27,27 @@ use Rattle.braid_moves.specs.Ruling.{ruling}
 use Rattle.cert_check.specs.declared.ruling.Ruling.{Ruling}
 use Rattle.cert_check.specs.declared.ruling.Ruling.TheVariants.{Accepted, Rejected}
 use Rattle.cert_check.proofs.Rulings.{ruled_once, some_ruling}
-use Rattle.number_certificates.specs.declared.said.Said.{Said}
-use Rattle.number_certificates.specs.declared.said.Said.TheVariants as said
-use Rattle.number_certificates.specs.Said.{said_in}
+use Rattle.certificate_text.specs.declared.said.Said.{Said}
+use Rattle.certificate_text.specs.declared.said.Said.TheVariants as said
+use Rattle.certificate_text.specs.Said.{said_in}
 use Rattle.number_laws.proofs.EvidenceFails.{said_fails}
-use Rattle.number_check.specs.declared.cause.Ruling.{Ruling as NumberRuling}
-use Rattle.number_check.specs.declared.cause.Ruling.TheVariants as numbers
-use Rattle.number_check.proofs.OneRuling.{one_ruling}
-use Rattle.number_check.proofs.SomeRuling.{some_ruling as some_number_ruling}
+use Rattle.linking_check.specs.declared.cause.Ruling.{Ruling as NumberRuling}
+use Rattle.linking_check.specs.declared.cause.Ruling.TheVariants as numbers
+use Rattle.verdict_laws.proofs.OneRuling.{one_ruling}
+use Rattle.verdict_laws.proofs.SomeRuling.{some_ruling as some_number_ruling}
 use Rattle.code_text.specs.declared.whole.CodeText.{CodeText}
 use Rattle.code_text.specs.declared.refusal.TextRefusal.{TextRefusal}
 use Rattle.code_text.specs.declared.refusal.TextRefusal.TheVariants.{Rows, Gauss, Columns, Lost}
 use Rattle.code_text.specs.TextGrid.{IsAnswer}
-use Rattle.decision_core.specs.declared.status.Status.{Status}
-use Rattle.decision_core.specs.declared.status.Status.TheVariants as status
-use Rattle.decision_core.specs.Status.{IsOfDefinedAnswer}
-use Rattle.plain_jobs.specs.declared.reply.PlainReply.{PlainReply}
-use Rattle.plain_jobs.specs.declared.job.PlainJob.{PlainJob}
-use Rattle.plain_jobs.specs.declared.job.PlainJob.TheVariants.{Check, Replay, Colour, Close, Code, Braid, Linking, Braidcheck, Weights, Numbers, Grid}
-use Rattle.plain_jobs.specs.Lines.{ruling_line, number_ruling_line, step_tokens}
-use Rattle.plain_jobs.specs.Reply.{plain_reply, done, rejected}
-use Rattle.plain_jobs.specs.Jobs.Check.{ruling_status, number_ruling_status, AnswersSaid}
+use Rattle.knot_ports.specs.declared.status.Status.{Status}
+use Rattle.knot_ports.specs.declared.status.Status.TheVariants as status
+use Rattle.knot_ports.specs.Status.{IsOfDefinedAnswer}
+use Rattle.reply_text.specs.declared.reply.PlainReply.{PlainReply}
+use Rattle.knot_words.specs.declared.job.PlainJob.{PlainJob}
+use Rattle.knot_words.specs.declared.job.PlainJob.TheVariants.{Check, Replay, Colour, Close, Code, Braid, Linking, Braidcheck, Weights, Numbers, Grid}
+use Rattle.reply_text.specs.Lines.{ruling_line, number_ruling_line, step_tokens}
+use Rattle.reply_text.specs.Reply.{plain_reply, done, rejected}
+use Rattle.check_job.specs.Answer.{ruling_status, number_ruling_status, AnswersSaid}
 use Rattle.plain_jobs.specs.Jobs.Replay.{coloured_text, Replays, ReplaysColoured, Stops, AnswersMoves}
 use Rattle.plain_jobs.specs.Jobs.Colour.{colour_text}
 use Rattle.plain_jobs.specs.Jobs.Close.{close_text}

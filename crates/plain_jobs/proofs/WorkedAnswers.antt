@@ -7,9 +7,9 @@ use Rattle.cert_check.specs.declared.ruling.Why.TheVariants as why
 use Rattle.braid_core.specs.Braid.{Word}
 use Rattle.braid_moves.specs.declared.step.BraidMove.TheVariants.{Far, Triple, Cancel, Insert, Turn, Shrink}
 use Rattle.braid_moves.specs.Ruling.{ruling}
-use Rattle.decision_core.specs.declared.status.Status.TheVariants as status
-use Rattle.plain_jobs.specs.Lines.{ruling_line, limit_bytes}
-use Rattle.plain_jobs.specs.Reply.{plain_reply, done, rejected}
+use Rattle.knot_ports.specs.declared.status.Status.TheVariants as status
+use Rattle.reply_text.specs.Lines.{ruling_line, limit_bytes}
+use Rattle.reply_text.specs.Reply.{plain_reply, done, rejected}
 use Rattle.braid_moves.specs.declared.step.BraidMoveFault.TheVariants as fault
 use Rattle.plain_jobs.specs.Jobs.Braidcheck.{ruled_reply, braid_step_tokens}
 

@@ -10,19 +10,19 @@ use Rattle.knot_text.specs.declared.braid_checks.BraidCheckText.{BraidCheckText}
 use Rattle.knot_text.specs.Shapes.{replay_of, colour_of, close_of, lone_diagram_of}
 use Rattle.knot_text.specs.Pairs.{pair_of}
 use Rattle.knot_text.specs.BraidChecks.{braidcheck_of}
-use Rattle.number_text.specs.declared.numbered.NumbersText.{NumbersText}
-use Rattle.number_text.specs.Numbered.{numbers_of}
-use Rattle.number_text.specs.declared.weighed.WeighedText.{WeighedText}
-use Rattle.number_text.specs.Weighed.{weighed_of}
-use Rattle.number_certificates.specs.declared.said.Said.{Said}
-use Rattle.number_certificates.specs.Said.{said_of}
+use Rattle.block_text.specs.declared.numbered.NumbersText.{NumbersText}
+use Rattle.block_text.specs.Numbered.{numbers_of}
+use Rattle.block_text.specs.declared.weighed.WeighedText.{WeighedText}
+use Rattle.block_text.specs.Weighed.{weighed_of}
+use Rattle.certificate_text.specs.declared.said.Said.{Said}
+use Rattle.certificate_text.specs.Said.{said_of}
 use Rattle.code_text.specs.declared.whole.CodeText.{CodeText}
 use Rattle.code_text.specs.Whole.{code_text_of}
-use Rattle.plain_jobs.specs.declared.reply.PlainReply.{PlainReply}
-use Rattle.plain_jobs.specs.declared.job.PlainJob.{PlainJob}
-use Rattle.plain_jobs.specs.declared.job.PlainJob.TheVariants.{Check, Replay, Colour, Close, Code, Braid, Linking, Braidcheck, Weights, Numbers, Grid}
-use Rattle.plain_jobs.specs.Reply.{AnswersRead}
-use Rattle.plain_jobs.specs.Jobs.Check.{AnswersCheck}
+use Rattle.reply_text.specs.declared.reply.PlainReply.{PlainReply}
+use Rattle.knot_words.specs.declared.job.PlainJob.{PlainJob}
+use Rattle.knot_words.specs.declared.job.PlainJob.TheVariants.{Check, Replay, Colour, Close, Code, Braid, Linking, Braidcheck, Weights, Numbers, Grid}
+use Rattle.reply_text.specs.Reply.{AnswersRead}
+use Rattle.check_job.specs.Answer.{AnswersCheck}
 use Rattle.plain_jobs.specs.Jobs.Replay.{AnswersReplay}
 use Rattle.plain_jobs.specs.Jobs.Colour.{AnswersColour}
 use Rattle.plain_jobs.specs.Jobs.Close.{AnswersClose}

@@ -1,5 +1,4 @@
 -- What each job answers to its input: a file a job.
-pub mod Check
 pub mod Replay
 pub mod Colour
 pub mod Close

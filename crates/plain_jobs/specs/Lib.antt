@@ -1,10 +1,10 @@
 pub mod Lines
 pub mod Comparison
 pub mod EquallyMany
-pub mod Reply
+pub use Rattle.reply_text.specs.Reply
 pub mod Jobs
 pub mod Job
 pub mod Truth
-pub use Rattle.decision_core.specs.Status
-pub use Rattle.number_certificates.specs.Said
+pub use Rattle.knot_ports.specs.Status
+pub use Rattle.certificate_text.specs.Said
 pub use Rattle.number_decision.specs.Evidence

@@ -2,30 +2,18 @@
 use Rattle.std.specs.Prelude.{◌≡◌, ℕ, List, Ok}
 use Rattle.grid_moves.specs.Joining.{Equivalent}
 use Rattle.verdict_core.specs.declared.diagrams.Diagram.{Diagram}
-use Rattle.verdict_core.specs.declared.problem.ProblemText.{ProblemText}
 use Rattle.verdict_core.specs.Diagrams.{grid_of}
 use Rattle.knot_text.specs.Pairs.{pair_of}
 use Rattle.knot_text.specs.declared.braid_checks.BraidCheckText.{BraidCheckText}
 use Rattle.knot_text.specs.BraidChecks.{braidcheck_of}
-use Rattle.number_text.specs.declared.weighed.WeighedText.{WeighedText}
-use Rattle.number_text.specs.Weighed.{weighed_of}
+use Rattle.block_text.specs.declared.weighed.WeighedText.{WeighedText}
+use Rattle.block_text.specs.Weighed.{weighed_of}
 use Rattle.code_text.specs.TextGrid.{IsTrueDrawing}
-use Rattle.number_certificates.specs.declared.said.Said.{Said}
-use Rattle.number_certificates.specs.Said.{said_of}
-use Rattle.number_decision.specs.Evidence.{IsTrueSaid}
-use Rattle.plain_jobs.specs.declared.job.PlainJob.{PlainJob}
-use Rattle.plain_jobs.specs.declared.job.PlainJob.TheVariants.{Check, Linking, Braidcheck, Weights, Grid}
+use Rattle.check_job.specs.Truth.{IsCertificate}
+use Rattle.knot_words.specs.declared.job.PlainJob.{PlainJob}
+use Rattle.knot_words.specs.declared.job.PlainJob.TheVariants.{Check, Linking, Braidcheck, Weights, Grid}
 use Rattle.plain_jobs.specs.Comparison.{EndsDifferent}
 use Rattle.plain_jobs.specs.EquallyMany.{HaveEquallyMany}
-
--- ---- a certificate that was accepted
-
--- the bytes are a problem, and what they say of its diagrams, by a verdict or by numbers, is true
-pub record IsCertificate (bytes : List ℕ) : Type 0 where
-  pub problem : ProblemText
-  pub said : Said
-  pub read : said_of bytes ≡ Ok (problem, said)
-  pub is_true : IsTrueSaid problem said
 
 -- ---- two diagrams that were compared
 

@@ -1,7 +1,6 @@
 //! What each job answers to its input: a file a job.
 pub(crate) mod braid;
 pub(crate) mod braidcheck;
-pub(crate) mod check;
 pub(crate) mod close;
 pub(crate) mod code;
 pub(crate) mod colour;

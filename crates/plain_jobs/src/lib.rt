@@ -6,8 +6,7 @@ mod comparison;
 mod job;
 mod jobs;
 pub mod laws;
-mod lines;
-mod reply;
 
-pub use job::{PlainJob, answer};
-pub use reply::PlainReply;
+pub use job::answer;
+pub use knot_words::PlainJob;
+pub use reply_text::PlainReply;

@@ -4,7 +4,6 @@
 
 mod fault;
 mod large;
-pub mod laws;
 mod operations;
 mod quandle;
 mod tables;

@@ -68,7 +68,9 @@ impl<L: Ledger, M: Ledger, K: OfProblem> SharedBook<L, M, K> {
     /// gate and finds the offers for each, and settles them, again and again. Where each entry is claimed and the book is not over it
     /// waits for others. Each settlement that it makes is counted in its seat. What is promised holds where it returns. As the code
     /// is written it takes no memory: of all that it calls only the index of the book has an allocator, with room for the whole
-    /// budget.
+    /// budget. It stands out of line, since its frame holds the offers of all that is in hand: whoever halves the seats among threads
+    /// would have that frame once a level.
+    #[inline(never)]
     pub fn work<R: Wait, G: Gate>(&self, rt: &R, seat: &mut Seat<L, M>, gate: &G)
         ensures worker { seat.new.worker ≡ seat.old.worker }
         ensures made { seat.old.made ≤ seat.new.made }

@@ -1,16 +1,15 @@
 -- Blocks of files, one file behind the other.
-use Rattle.std.proofs.Common.{◌≡◌, ◌++◌, ◌+◌, ◌<◌, ◌∙◌, ℕ, List, [], ◌∷◌, Option, Some, None, Result, Ok, Err, IfOk, IfErr, IfSome, Contains}
-use Rattle.std.proofs.Common.{length, get_or, take, refl, sym, ap, subst}
+use Rattle.std.proofs.Common.{◌≡◌, ◌++◌, ◌+◌, ◌<◌, ◌∙◌, ℕ, List, [], ◌∷◌, Option, Some, None, Result, Ok, Err, IfOk, IfErr, IfSome}
+use Rattle.std.proofs.Common.{length, get_or, take, drop, refl, sym, ap, subst, append_assoc}
 use Rattle.std.specs.Borrow.{Bor}
 use Rattle.std.specs.List.{AllZip, flat_map}
 use Rattle.std.proofs.lemmas.Grind.{flat_map-append}
-use Rattle.std.proofs.lemmas.List.{take_more, append-nil}
-use Rattle.std.proofs.lemmas.List.Elements.{Contains-get_or}
+use Rattle.std.proofs.lemmas.List.{take_more, take-append-drop, append-nil}
 use Rattle.text_items.specs.declared.fault.TextFault.{TextFault}
 use Rattle.text_items.specs.declared.fault.TextFault.TheVariants as bad
 use Rattle.text_items.specs.Reading.{◌>>=◌, Fails}
-use Rattle.number_text.specs.declared.blocks.Block.{Block}
-use Rattle.number_text.specs.Blocks.{blocks_of}
+use Rattle.evidence_core.specs.declared.blocks.Block.{Block}
+use Rattle.block_text.specs.Blocks.{blocks_of}
 use Rattle.seek_core.specs.Given.{more_blocks}
 use Rattle.seek_parts.specs.Parts.{Told}
 use Rattle.seek.specs.declared.failure.Failure.{Failure}
@@ -97,11 +96,22 @@ file_added told paths seen i d old new same lt are adds =
     let path = subst (λ (ps : List (Bor (List ℕ))). AddsBlocksOf told (get_or ps i d) old new) same adds in
     subst (λ ps. AreBlocksOf told ps new) (sym (take_more paths i d within)) (added told (take i paths) (get_or paths i d) old new are path)
 
--- a file that can't be had is one of those that a loop sees
-pub file_failed : (told : Told) (paths seen : List (Bor (List ℕ))) (i : ℕ) (d : Bor (List ℕ)) (f : Failure) → seen ≡ paths
-    → i < length seen → HasNoBlocks told (get_or seen i d) f → IsBlocksFailure told paths f
-file_failed told paths seen i d f same lt is = record {
-  path = get_or seen i d;
-  among = subst (λ (ps : List (Bor (List ℕ))). Contains ps (get_or seen i d)) same (Contains-get_or seen i d lt);
-  is = is;
+-- what stands before a file, and what behind it
+parted : (paths : List (Bor (List ℕ))) (i : ℕ) (d : Bor (List ℕ)) → i < length paths
+    → paths ≡ take i paths ++ get_or paths i d ∷ drop (i + 1) paths
+parted paths i d lt =
+    sym (take-append-drop (i + 1) paths) ∙ ap (λ (front : List (Bor (List ℕ))). front ++ drop (i + 1) paths) (take_more paths i d lt)
+    ∙ append_assoc (take i paths) (get_or paths i d ∷ []) (drop (i + 1) paths)
+
+-- a file that can't be had, of those that a loop sees
+pub file_failed : (told : Told) (paths seen : List (Bor (List ℕ))) (i : ℕ) (d : Bor (List ℕ)) (old : List Block) (f : Failure) → seen ≡ paths
+    → i < length seen → AreBlocksOf told (take i paths) old → HasNoBlocks told (get_or seen i d) f → IsBlocksFailure told paths f
+file_failed told paths seen i d old f same lt are is = record {
+  front = take i paths;
+  path = get_or paths i d;
+  back = drop (i + 1) paths;
+  split = parted paths i d (subst (λ (ps : List (Bor (List ℕ))). i < length ps) same lt);
+  blocks = old;
+  had = are;
+  is = subst (λ (ps : List (Bor (List ℕ))). HasNoBlocks told (get_or ps i d) f) same is;
 }

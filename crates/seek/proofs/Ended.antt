@@ -1,25 +1,28 @@
 -- What the exit status 0 says.
-use Rattle.std.proofs.Common.{◌≡◌, ◌⊎◌, ◌∙◌, inl, inr, ℕ, List, Option, Some, None, refl, sym, arith}
+use Rattle.std.proofs.Common.{◌≡◌, ◌⊎◌, ◌∙◌, inl, inr, ℕ, List, Option, Some, None, refl, sym, subst, arith}
 use Rattle.std.specs.Borrow.{Bor}
 use Rattle.clap.specs.Walk.{Text}
+use Rattle.whole_files.specs.Places.{Standing}
 use Rattle.clap.specs.declared.error.kind.ErrorKind.{ErrorKind}
 use Rattle.clap.specs.declared.error.kind.ErrorKind.TheVariants as kind
-use Rattle.decision_core.specs.declared.status.Status.{Status}
-use Rattle.decision_core.specs.declared.status.Status.TheVariants as status
-use Rattle.decision_core.specs.Status.{status_number}
-use Rattle.seek_words.specs.Words.{IsShown, AsksNothing, AskForText}
+use Rattle.knot_ports.specs.declared.status.Status.{Status}
+use Rattle.knot_ports.specs.declared.status.Status.TheVariants as status
+use Rattle.knot_ports.specs.Status.{status_number}
+use Rattle.seek_words.specs.Words.{IsShown, Asks, AsksNothing, AskForText}
 use Rattle.seek_words.specs.declared.asked.Asked.{Asked}
 use Rattle.seek_parts.specs.Parts.{Told, ArePartsOf, all_due}
 use Rattle.seek_parts.proofs.NeverDone.{never_done, text_never_done}
-use Rattle.number_text.specs.declared.blocks.Block.{Block}
+use Rattle.evidence_core.specs.declared.blocks.Block.{Block}
 use Rattle.seek_core.specs.Parts.{joined}
 use Rattle.seek.specs.declared.failure.Failure.{Failure}
 use Rattle.seek.specs.declared.failure.Failure.TheVariants as failure
 use Rattle.seek.specs.Failure.{failure_status}
 use Rattle.seek.specs.Blocks.{AreBlocksOf}
 use Rattle.seek.specs.Inputs.{IsPartsFailure, IsInputsFailure}
-use Rattle.seek.specs.Exit.{Outside, IsUntouched, IsSought, EndsUnread, EndsBy, EndsRefused, EndsCall, IsWrittenTo, IsAnswered}
-use Rattle.seek.proofs.Found.{written_where_done}
+use Rattle.seek.specs.declared.outlets.Outlets.{Outlets}
+use Rattle.seek.specs.Exit.{Outside, outside_of, FilesTold, IsUntouched, IsSought, EndsUnread, EndsBy, IsShownTo, EndsRefused, EndsCall}
+use Rattle.seek.specs.Exit.{IsWrittenTo, IsAnswered}
+use Rattle.seek.proofs.Found.{kept, written_where_done}
 
 -- only Done has the number 0
 pub only_zero : (s : Status) → status_number s ≡ 0 → s ≡ status.Done
@@ -67,25 +70,30 @@ pub without_inputs : (told : Told) (asked : Asked) (old new : Outside) (s : Stat
     → IsInputsFailure told asked f → s ≡ failure_status f → EndsBy told asked old new s
 without_inputs told asked old new s f same (inl bad) is = inr (inl (unread told asked old new s f same bad is))
 without_inputs told asked old new s f same (inr bad) is =
-    inr (inr (inl record { failure = f; is = bad; status_is = is; untouched = same }))
+    inr (inr record { failure = f; is = bad; status_is = is; untouched = same })
+
+-- a call that is done and does what is asked has answered it
+answered_by : (told : Told) (words : List Text) (asked : Asked) (old new : Outside) (s : Status) → Asks words asked → EndsBy told asked old new s
+    → s ≡ status.Done → IsAnswered told words old new
+answered_by told words asked old new s asks (inl by) done = record {
+  asked = asked;
+  asks = asks;
+  parts = by.parts;
+  are = by.are;
+  written = written asked.out _ by.ends.blocks old new s by.ends.sought done;
+}
+answered_by told words asked old new s asks (inr (inl by)) done = absurd (never_done by.fault (sym by.status_is ∙ done))
+answered_by told words asked old new s asks (inr (inr by)) done = absurd (failed by.failure (sym by.status_is ∙ done))
 
 -- a call that is done has answered its words, or they ask for the help or the version
-pub answered : (told : Told) (words : List Text) (old new : Outside) (s : Status) → EndsCall told words old new s → s ≡ status.Done
-    → AskForText words ⊎ IsAnswered told words old new
-answered told words old new s (inr (inl shown)) done = inl shown.asks
-answered told words old new s (inr (inr refused)) done = elim refused.status_is [ inl is ↦ cc | inr is ↦ cc ]
-answered told words old new s (inl asked) done = inr (
+pub answered : (files : FilesTold) (words : List Text) (old new : Outside) (s : Status) → EndsCall files words old new s → s ≡ status.Done
+    → AskForText words ⊎ IsAnswered files.bytes words old new
+answered files words old new s (inr (inl shown)) done = inl shown.asks
+answered files words old new s (inr (inr refused)) done = elim refused.status_is [ inl is ↦ cc | inr is ↦ cc ]
+answered files words old new s (inl asked) done = inr (
     elim asked.ends [
-      | inl by ↦ record {
-        asked = asked.asked;
-        asks = asked.asks;
-        parts = by.parts;
-        are = by.are;
-        written = written asked.asked.out _ by.ends.blocks old new s by.ends.sought done;
-      }
-      | inr (inl by) ↦ absurd (never_done by.fault (sym by.status_is ∙ done))
-      | inr (inr (inl by)) ↦ absurd (failed by.failure (sym by.status_is ∙ done))
-      | inr (inr (inr by)) ↦ cc
+      | inl by ↦ answered_by files.bytes words asked.asked old new s asked.asks by.ends done
+      | inr by ↦ cc
     ])
 
 -- words that `clap` or the seeker refuses
@@ -97,13 +105,24 @@ refused words old new s k same (inr (inl shown)) other usage is = absurd (other 
 refused words old new s k same (inr (inr none)) other usage is = record { status_is = inl is; nothing = λ at. none; untouched = same }
 
 -- the same, and words that ask for the help or the version
-pub words_refused : (told : Told) (words : List Text) (old new : Outside) (s : Status) (k : ErrorKind) → IsUntouched old new
+pub words_refused : (files : FilesTold) (words : List Text) (old new : Outside) (s : Status) (k : ErrorKind)
     → (IsShown k → AskForText words) → (k ≡ kind.OutOfMemory) ⊎ (IsShown k ⊎ AsksNothing words)
-    → (IsShown k × ((s ≡ status.Done) ⊎ (s ≡ status.WriteFault))) ⊎ (((IsShown k → ⊥) × (s ≡ status.Usage)) ⊎ (s ≡ status.OutOfMemory))
-    → (s ≡ status.Usage → k ≡ kind.OutOfMemory → ⊥) → EndsCall told words old new s
-words_refused told words old new s k same shown none (inl (is, ends)) usage =
-    inr (inl record { asks = shown is; status_is = ends; untouched = same })
-words_refused told words old new s k same shown none (inr (inl (other, ends))) usage =
+    → (IsShown k × IsShownTo old new s) ⊎ ((((IsShown k → ⊥) × (s ≡ status.Usage)) ⊎ (s ≡ status.OutOfMemory)) × IsUntouched old new)
+    → (s ≡ status.Usage → k ≡ kind.OutOfMemory → ⊥) → EndsCall files words old new s
+words_refused files words old new s k shown none (inl (is, ends)) usage = inr (inl record { asks = shown is; shown = ends })
+words_refused files words old new s k shown none (inr (inl (other, ends), same)) usage =
     inr (inr (refused words old new s k same none other usage ends))
-words_refused told words old new s k same shown none (inr (inr memory)) usage =
+words_refused files words old new s k shown none (inr (inr memory, same)) usage =
     inr (inr record { status_is = inr memory; nothing = λ is. cc; untouched = same })
+
+-- outlets that stay are untouched
+pub untouched : {P W : Type 0} (standing : P → Option Standing) (contents : W → Option (List ℕ)) (old new : Outlets P W) → new ≡ old
+    → IsUntouched (outside_of standing contents old) (outside_of standing contents new)
+untouched standing contents old new same =
+    subst (λ o. IsUntouched (outside_of standing contents old) (outside_of standing contents o)) (sym same) (record { output = kept _; files = refl })
+
+-- words of which a text was shown, or nothing was changed
+pub settled_words : {P W A B : Type 0} (standing : P → Option Standing) (contents : W → Option (List ℕ)) (old new : Outlets P W)
+    → A ⊎ (B × (new ≡ old)) → A ⊎ (B × IsUntouched (outside_of standing contents old) (outside_of standing contents new))
+settled_words standing contents old new (inl shown) = inl shown
+settled_words standing contents old new (inr (ends, same)) = inr (ends, untouched standing contents old new same)

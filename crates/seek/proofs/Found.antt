@@ -4,10 +4,10 @@ use Rattle.std.proofs.lemmas.Bool.{cases_lt}
 use Rattle.std.specs.Borrow.{Bor}
 use Rattle.std.proofs.KnownBytes.{Keeps-refl}
 use Rattle.whole_files.specs.Places.{Standing, PutsAt}
-use Rattle.number_text.specs.declared.blocks.Block.{Block}
-use Rattle.decision_core.specs.declared.limits.TheConstants.{MAX_INPUT}
-use Rattle.decision_core.specs.declared.status.Status.{Status}
-use Rattle.decision_core.specs.declared.status.Status.TheVariants as status
+use Rattle.evidence_core.specs.declared.blocks.Block.{Block}
+use Rattle.knot_ports.specs.declared.limits.TheConstants.{MAX_INPUT}
+use Rattle.knot_ports.specs.declared.status.Status.{Status}
+use Rattle.knot_ports.specs.declared.status.Status.TheVariants as status
 use Rattle.seek_core.specs.declared.ending.Ending.{Ending}
 use Rattle.seek_core.specs.declared.ending.Ending.TheVariants as end
 use Rattle.seek_core.specs.Answers.{Ends, WritesDecision, ending_status}

@@ -1,3 +1,4 @@
 mod BlocksGiven
 mod Found
 mod Ended
+mod Came

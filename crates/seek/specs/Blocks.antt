@@ -1,11 +1,11 @@
 -- The blocks by which diagrams are to be told apart, by the files that the words name for them.
-use Rattle.std.specs.Prelude.{◌≡◌, ◌++◌, ℕ, List, Result, Ok, IfSome, Contains, flat_map}
+use Rattle.std.specs.Prelude.{◌≡◌, ◌++◌, ℕ, List, ◌∷◌, Result, Ok, IfSome, flat_map}
 use Rattle.std.specs.Borrow.{Bor}
 use Rattle.std.specs.List.{AllZip}
 use Rattle.text_items.specs.declared.fault.TextFault.{TextFault}
 use Rattle.text_items.specs.Reading.{Fails}
-use Rattle.number_text.specs.declared.blocks.Block.{Block}
-use Rattle.number_text.specs.Blocks.{blocks_of}
+use Rattle.evidence_core.specs.declared.blocks.Block.{Block}
+use Rattle.block_text.specs.Blocks.{blocks_of}
 use Rattle.seek_parts.specs.Parts.{Told}
 use Rattle.seek_parts.specs.Fault.{IsUnread}
 use Rattle.seek.specs.declared.failure.Failure.{Failure}
@@ -45,8 +45,12 @@ HasNoBlocks told path (ReadAndWritten name) = ⊥
 HasNoBlocks told path (Write name error) = ⊥
 HasNoBlocks told path OutOfMemory = ⊥
 
--- one of the files of blocks can't be had
+-- the first of the files of blocks that can't be had: those before it can
 pub record IsBlocksFailure (told : Told) (paths : List (Bor (List ℕ))) (failure : Failure) : Type 0 where
+  pub front : List (Bor (List ℕ))
   pub path : Bor (List ℕ)
-  pub among : Contains paths path
+  pub back : List (Bor (List ℕ))
+  pub split : paths ≡ front ++ path ∷ back
+  pub blocks : List Block
+  pub had : AreBlocksOf told front blocks
   pub is : HasNoBlocks told path failure

@@ -1,24 +1,31 @@
 -- How a call ends, and what its exit status says of the words, of the parts of the input, and of what was written.
-use Rattle.std.specs.Prelude.{◌≡◌, ◌⊎◌, ℕ, List, Option, Some, None, IsSome}
+use Rattle.std.specs.Prelude.{◌≡◌, ◌⊎◌, ℕ, List, Option, Some, None, Result, Ok, Err, String, Vec}
+use Rattle.std.specs.declared.alloc.Global.{Global}
 use Rattle.std.specs.Borrow.{Bor}
-use Rattle.std.specs.Io.KnownBytes.{Keeps}
+use Rattle.std.specs.Io.KnownBytes.{Keeps, Appends}
 use Rattle.std.specs.Process.{exit_status}
 use Rattle.std.specs.declared.process.ExitCode.{ExitCode}
 use Rattle.clap.specs.Walk.{Text}
 use Rattle.whole_files.specs.Places.{Standing}
-use Rattle.decision_core.specs.declared.status.Status.{Status}
-use Rattle.decision_core.specs.declared.status.Status.TheVariants as status
-use Rattle.decision_core.specs.Status.{status_number}
+use Rattle.knot_ports.specs.declared.status.Status.{Status}
+use Rattle.knot_ports.specs.declared.status.Status.TheVariants as status
+use Rattle.knot_ports.specs.Status.{status_number}
+use Rattle.knot_ports.specs.Faults.{Rose}
+use Rattle.knot_ports.specs.Sink.{AppendsFront}
 use Rattle.seek_core.specs.Answers.{WritesDecision}
 use Rattle.seek_core.specs.Parts.{joined}
 use Rattle.seek_words.specs.declared.asked.Asked.{Asked}
+use Rattle.knot_words.specs.Numbers.{texts_of}
 use Rattle.seek_words.specs.Words.{Asks, AsksNothing, AskForText}
 use Rattle.seek_parts.specs.declared.fault.PartFault.{PartFault}
 use Rattle.seek_parts.specs.Parts.{Told, ArePartsOf, all_due}
+use Rattle.seek_parts.specs.Clash.{FilesAt, Clashes, AreApart}
 use Rattle.seek_parts.specs.Fault.{IsFaultOf, fault_status}
-use Rattle.number_text.specs.declared.blocks.Block.{Block}
+use Rattle.evidence_core.specs.declared.blocks.Block.{Block}
 use Rattle.seek.specs.declared.failure.Failure.{Failure}
 use Rattle.seek.specs.declared.outlets.Outlets.{Outlets}
+use Rattle.given_words.specs.declared.given.NoWords.{NoWords}
+use Rattle.given_words.specs.Given.{status_without_words}
 use Rattle.seek.specs.Failure.{failure_status}
 use Rattle.seek.specs.Blocks.{AreBlocksOf, IsBlocksFailure}
 use Rattle.seek.specs.Search.{Held, port_held, IsSoughtToSink, PutsDecision, IsSoughtToFile}
@@ -34,6 +41,15 @@ outside_of standing contents outlets = record {
   output = port_held contents outlets.output;
   files = standing outlets.places;
 }
+
+-- what is told of files: the bytes at each path, and which file stands there
+pub record FilesTold : Type 0 where
+  pub bytes : Told
+  pub at : FilesAt
+
+-- what the lent files come to, by what tells of each
+abbrev pub told_of : {F : Type 0} → (F → Told) → (F → FilesAt) → F → FilesTold
+told_of bytes_of at_of files = record { bytes = bytes_of files; at = at_of files }
 
 -- a sink holds what it held, as far as that is told, and counted no fault
 pub record IsKept (old new : Held) : Type 0 where
@@ -77,30 +93,46 @@ pub record EndsUnread (told : Told) (asked : Asked) (old new : Outside) (s : Sta
   pub status_is : s ≡ fault_status fault
   pub untouched : IsUntouched old new
 
--- it is said that a file would be read and written: no clause says which paths are one file, only that the words name one to write
-pub record EndsClashing (asked : Asked) (old new : Outside) (s : Status) : Type 0 where
-  pub out : IsSome asked.out
+-- what is read is had or not, and a verdict on it was sought where it is
+abbrev pub EndsBy : Told → Asked → Outside → Outside → Status → Type 0
+EndsBy told asked old new s =
+    EndsSought told asked old new s ⊎ (EndsUnread told asked old new s ⊎ EndsWithoutBlocks told asked old new s)
+
+-- the file that would be written is read too, as far as that is told
+pub record EndsClashing (at : FilesAt) (asked : Asked) (old new : Outside) (s : Status) : Type 0 where
+  pub clash : Clashes at asked
   pub status_is : s ≡ status.Usage
   pub untouched : IsUntouched old new
 
-abbrev pub EndsBy : Told → Asked → Outside → Outside → Status → Type 0
-EndsBy told asked old new s =
-    EndsSought told asked old new s
-    ⊎ (EndsUnread told asked old new s ⊎ (EndsWithoutBlocks told asked old new s ⊎ EndsClashing asked old new s))
+-- it is another one than those that are read
+pub record EndsApart (files : FilesTold) (asked : Asked) (old new : Outside) (s : Status) : Type 0 where
+  pub apart : AreApart files.at asked
+  pub ends : EndsBy files.bytes asked old new s
+
+abbrev pub EndsDoing : FilesTold → Asked → Outside → Outside → Status → Type 0
+EndsDoing files asked old new s = EndsApart files asked old new s ⊎ EndsClashing files.at asked old new s
 
 -- ---- all words
 
 -- the words ask for this, and the call ends as one that does it
-pub record EndsAsked (told : Told) (words : List Text) (old new : Outside) (s : Status) : Type 0 where
+pub record EndsAsked (files : FilesTold) (words : List Text) (old new : Outside) (s : Status) : Type 0 where
   pub asked : Asked
   pub asks : Asks words asked
-  pub ends : EndsBy told asked old new s
+  pub ends : EndsDoing files asked old new s
+
+-- a text was written to the output, whole, or a front of it where the status is that of a writer that failed; no file was put
+pub record IsShownTo (old new : Outside) (s : Status) : Type 0 where
+  pub status_is : (s ≡ status.Done) ⊎ (s ≡ status.WriteFault)
+  pub text : List ℕ
+  pub whole : s ≡ status.Done → Appends old.output.bytes new.output.bytes text
+  pub front : s ≡ status.WriteFault → AppendsFront old.output.bytes new.output.bytes text
+  pub fault : s ≡ status.WriteFault → Rose old.output.faults new.output.faults
+  pub files : new.files ≡ old.files
 
 -- the words ask for the help or the version
 pub record EndsShown (words : List Text) (old new : Outside) (s : Status) : Type 0 where
   pub asks : AskForText words
-  pub status_is : (s ≡ status.Done) ⊎ (s ≡ status.WriteFault)
-  pub untouched : IsUntouched old new
+  pub shown : IsShownTo old new s
 
 -- the words ask for nothing that can be done, or memory was wanting for them
 pub record EndsRefused (words : List Text) (old new : Outside) (s : Status) : Type 0 where
@@ -108,14 +140,14 @@ pub record EndsRefused (words : List Text) (old new : Outside) (s : Status) : Ty
   pub nothing : s ≡ status.Usage → AsksNothing words
   pub untouched : IsUntouched old new
 
-abbrev pub EndsCall : Told → List Text → Outside → Outside → Status → Type 0
-EndsCall told words old new s = EndsAsked told words old new s ⊎ (EndsShown words old new s ⊎ EndsRefused words old new s)
+abbrev pub EndsCall : FilesTold → List Text → Outside → Outside → Status → Type 0
+EndsCall files words old new s = EndsAsked files words old new s ⊎ (EndsShown words old new s ⊎ EndsRefused words old new s)
 
 -- the exit status is the number of a status by which such a call ends
-pub record IsExitOf (told : Told) (words : List Text) (old new : Outside) (exit : ExitCode) : Type 0 where
+pub record IsExitOf (files : FilesTold) (words : List Text) (old new : Outside) (exit : ExitCode) : Type 0 where
   pub ended : Status
   pub number : exit_status exit ≡ status_number ended
-  pub ends : EndsCall told words old new ended
+  pub ends : EndsCall files words old new ended
 
 -- ---- the exit status 0
 
@@ -131,3 +163,15 @@ pub record IsAnswered (told : Told) (words : List Text) (old new : Outside) : Ty
   pub parts : List (List ℕ)
   pub are : ArePartsOf told (all_due asked) parts
   pub written : IsWrittenTo asked.out (joined parts) old new
+
+-- ---- the program
+
+-- the words that came, as texts
+abbrev pub came : Result (Vec (String Global) Global) NoWords → Result (List Text) NoWords
+came (Ok words) = Ok (texts_of words.items)
+came (Err why) = Err why
+
+-- the words came and the program ended as a call of them, or none did
+abbrev pub EndsProgram : FilesTold → Result (List Text) NoWords → Outside → Outside → ExitCode → Type 0
+EndsProgram files (Ok words) old new exit = IsExitOf files words old new exit
+EndsProgram files (Err why) old new exit = (exit_status exit ≡ status_without_words why) × IsUntouched old new

@@ -1,6 +1,6 @@
 -- The status of each failure.
-use Rattle.decision_core.specs.declared.status.Status.{Status}
-use Rattle.decision_core.specs.declared.status.Status.TheVariants as status
+use Rattle.knot_ports.specs.declared.status.Status.{Status}
+use Rattle.knot_ports.specs.declared.status.Status.TheVariants as status
 use Rattle.seek_parts.specs.Fault.{text_status, fault_status}
 use Rattle.seek.specs.declared.failure.Failure.{Failure}
 use Rattle.seek.specs.declared.failure.Failure.TheVariants.{Part, Blocks, ReadAndWritten, Write, OutOfMemory}

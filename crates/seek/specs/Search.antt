@@ -2,12 +2,12 @@
 use Rattle.std.specs.Prelude.{◌≡◌, ◌≢◌, ◌⊎◌, ◌<◌, ◌≤◌, ℕ, List, [], Option, Some, None, length}
 use Rattle.knot_ports.specs.Faults.{Rose}
 use Rattle.knot_ports.specs.Standard.{Counted}
-use Rattle.decision_core.specs.declared.limits.TheConstants.{MAX_INPUT}
+use Rattle.knot_ports.specs.declared.limits.TheConstants.{MAX_INPUT}
 use Rattle.whole_files.specs.Places.{Standing, PutsAt}
-use Rattle.decision_core.specs.declared.status.Status.{Status}
-use Rattle.decision_core.specs.declared.status.Status.TheVariants as status
+use Rattle.knot_ports.specs.declared.status.Status.{Status}
+use Rattle.knot_ports.specs.declared.status.Status.TheVariants as status
 use Rattle.seek_core.specs.declared.ending.Ending.{Ending}
-use Rattle.number_text.specs.declared.blocks.Block.{Block}
+use Rattle.evidence_core.specs.declared.blocks.Block.{Block}
 use Rattle.seek_core.specs.declared.answer.Tried.{Tried}
 use Rattle.seek_core.specs.declared.ending.Ending.TheVariants.{NotFound, WriteFault}
 use Rattle.seek_core.specs.Answers.{Ends, WritesDecision, BlocksTriedInVain, IsTooLong, ending_status}

@@ -3,7 +3,7 @@ ghost use Rattle.std.specs.Prelude.{◌≡◌, Ok, IfOk, IfErr};
 ghost use Rattle.seek_core.specs.Given.{more_blocks};
 ghost use Rattle.seek.specs.Blocks.{AreBlocksOf, AddsBlocksOf, HasNoBlocks, IsBlocksFault, IsBlocksFailure};
 
-use crate::failure::Failure;
+use crate::failure::{Failure, file_name};
 use seek_core::Blocks;
 use seek_parts::Texts;
 use seek_words::Asked;
@@ -55,13 +55,5 @@ fn with_text<'a>(
     match blocks.with_text(alloc, bytes) {
         Ok(more) => Ok(more),
         Err(fault) => Err(Failure::Blocks { name, fault }),
-    }
-}
-
-/// What a file is called in messages.
-fn file_name<'a>(path: &'a str) -> &'a str {
-    match path {
-        "-" => "standard input",
-        _ => path,
     }
 }

@@ -4,106 +4,159 @@ ghost use Rattle.std.specs.Prelude.{◌≡◌, ◌≢◌, ◌⊎◌};
 ghost use Rattle.std.specs.Process.{exit_status};
 ghost use Rattle.clap.specs.Values.{kind_of};
 ghost use Rattle.clap.specs.declared.error.kind.ErrorKind.TheVariants as kind;
-ghost use Rattle.decision_core.specs.declared.status.Status.TheVariants as status;
-ghost use Rattle.seek_core.specs.Parts.{joined};
-ghost use Rattle.seek_words.specs.Words.{texts_of, IsShown, AskForText};
-ghost use Rattle.seek.specs.Exit.{outside_of, IsSought, EndsBy, EndsCall, IsExitOf, IsAnswered};
+ghost use Rattle.knot_ports.specs.declared.status.Status.TheVariants as status;
+ghost use Rattle.knot_words.specs.Numbers.{texts_of};
+ghost use Rattle.seek_words.specs.Words.{IsShown, AskForText};
+ghost use Rattle.seek.specs.Exit.{outside_of, told_of, EndsBy, EndsDoing, IsShownTo, EndsCall, IsExitOf, IsAnswered};
 
-use crate::clash::read_and_written;
-use crate::failure::{Failure, OUTPUT};
-use crate::inputs::{Inputs, read_inputs};
-use crate::outlets::Outlets;
+use crate::failure::{Failure, OUTPUT, file_name};
+use crate::inputs::read_inputs;
+use crate::outlets::{Outlets, Terminals};
 use crate::report::{tell, tell_reading};
 use crate::search::Search;
 use clap::error::ErrorKind;
 use decision_core::Status;
-use seek_parts::Texts;
+use knot_ports::give_all;
+use seek_parts::{Texts, read_and_written};
 use seek_words::{Asked, option_bounds, read_words};
-use std::io;
+use std::alloc::Global;
 use std::io::Write;
 use std::process::ExitCode;
 use std::thread::Threads;
+use std::time::Clock;
 use whole_files::Places;
 
 /// Does what the words ask for, tells what is wrong, and answers the exit status of a status with which such a call ends. It is 0 only where
-/// a decision answers the words, or they ask for the help or the version. Workers run in `threads`: `main` gives its one runtime twice.
-pub(crate) fn call<R: Threads + Sync, F: Texts, P: Places, W: Write + Drop>(
-    rt: &HostRuntime,
-    threads: &R,
+/// a decision answers the words, or they ask for the help or the version. It is lent memory, threads, standard error and the clock, and no
+/// stream or file but those that are named.
+pub(crate) fn call<R: Threads + Sync + Eprint + Clock, F: Texts, P: Places, W: Write + Drop>(
+    rt: &R,
+    alloc: Global,
+    terminals: Terminals,
     words: &[String],
     files: &F,
     outlets: &mut Outlets<P, W>,
 ) -> ExitCode
-    ensures exit { IsExitOf (F.told files.now) (texts_of words.now)
+    ensures exit { IsExitOf (told_of F.told F.named files.now) (texts_of words.now)
         (outside_of P.standing W.contents outlets.old) (outside_of P.standing W.contents outlets.new) result }
     ensures done { exit_status result ≡ 0 → AskForText (texts_of words.now) ⊎ IsAnswered (F.told files.now) (texts_of words.now)
         (outside_of P.standing W.contents outlets.old) (outside_of P.standing W.contents outlets.new) }
 {
-    answer(rt, threads, words, files, outlets).exit_code()
+    answer(rt, alloc, terminals, words, files, outlets).exit_code()
 }
 
 /// The same: the status. Words that are refused are answered by `clap`, as is a request for help.
-fn answer<R: Threads + Sync, F: Texts, P: Places, W: Write + Drop>(
-    rt: &HostRuntime,
-    threads: &R,
+fn answer<R: Threads + Sync + Eprint + Clock, F: Texts, P: Places, W: Write + Drop>(
+    rt: &R,
+    alloc: Global,
+    terminals: Terminals,
     words: &[String],
     files: &F,
     outlets: &mut Outlets<P, W>,
 ) -> Status
-    ensures { EndsCall (F.told files.now) (texts_of words.now)
+    ensures { EndsCall (told_of F.told F.named files.now) (texts_of words.now)
         (outside_of P.standing W.contents outlets.old) (outside_of P.standing W.contents outlets.new) result }
 {
-    match read_words(rt.alloc(), words) {
-        Ok(asked) => seek(rt, threads, &asked, files, outlets),
-        Err(error) => answer_words(rt, &error),
+    match read_words(alloc, words) {
+        Ok(asked) => seek(rt, alloc, terminals, &asked, files, outlets),
+        Err(error) => answer_words(rt, alloc, &error, outlets),
     }
 }
 
-/// Prints the text of `clap`: what is wrong with the words, the help, or the version. The status is that of refused words, but of the
-/// last two.
-fn answer_words(rt: &HostRuntime, error: &clap::Error) -> Status
-    ensures told { (IsShown (kind_of error.now) × ((result ≡ status.Done) ⊎ (result ≡ status.WriteFault)))
-        ⊎ (((IsShown (kind_of error.now) → ⊥) × (result ≡ status.Usage)) ⊎ (result ≡ status.OutOfMemory)) }
+/// Writes the help or the version to the output. Of words that are refused it tells what is wrong.
+fn answer_words<R: Eprint, P: Places, W: Write + Drop>(
+    rt: &R,
+    alloc: Global,
+    error: &clap::Error,
+    outlets: &mut Outlets<P, W>,
+) -> Status
+    ensures shown { (IsShown (kind_of error.now) × IsShownTo (outside_of P.standing W.contents outlets.old) (outside_of P.standing W.contents outlets.new) result)
+        ⊎ ((((IsShown (kind_of error.now) → ⊥) × (result ≡ status.Usage)) ⊎ (result ≡ status.OutOfMemory)) × (outlets.new ≡ outlets.old)) }
     ensures usage { result ≡ status.Usage → kind_of error.now ≢ kind.OutOfMemory }
 {
-    let printed = error.print(rt);
     match error.kind() {
-        ErrorKind::DisplayHelp | ErrorKind::DisplayVersion => printed_status(rt, printed),
-        ErrorKind::OutOfMemory => Status::OutOfMemory,
+        ErrorKind::DisplayHelp | ErrorKind::DisplayVersion => show(rt, alloc, error, outlets),
+        ErrorKind::OutOfMemory => tell(rt, &Failure::OutOfMemory),
         _ => {
-            tell_bounds(rt, error);
+            let _told = eprint!(rt; "{error}");
+            tell_bounds(rt, alloc, error);
             Status::Usage
         }
     }
 }
 
 /// Tells the bounds of an option's number, where that is what is wrong with the words.
-fn tell_bounds(rt: &HostRuntime, error: &clap::Error) {
-    if let Ok(Some(bounds)) = option_bounds(rt.alloc(), error) {
+fn tell_bounds<R: Eprint>(rt: &R, alloc: Global, error: &clap::Error) {
+    if let Ok(Some(bounds)) = option_bounds(alloc, error) {
         let _told = eprintln!(rt; "seek: {bounds}");
     }
 }
 
-/// The status of a text that was to be printed.
-fn printed_status(rt: &HostRuntime, printed: io::Result<()>) -> Status
-    ensures { (result ≡ status.Done) ⊎ (result ≡ status.WriteFault) }
+/// Writes a text of `clap` to the output: the status.
+fn show<R: Eprint, P: Places, W: Write + Drop>(
+    rt: &R,
+    alloc: Global,
+    text: &clap::Error,
+    outlets: &mut Outlets<P, W>,
+) -> Status
+    ensures { IsShownTo (outside_of P.standing W.contents outlets.old) (outside_of P.standing W.contents outlets.new) result
+        ⊎ ((result ≡ status.OutOfMemory) × (outlets.new ≡ outlets.old)) }
 {
-    match printed {
-        Ok(()) => Status::Done,
-        Err(error) => tell(
-            rt,
-            &Failure::Write {
-                name: OUTPUT,
-                error: Some(error),
-            },
-        ),
+    match format!(in alloc; "{text}") {
+        Ok(text) => show_text(rt, text.as_bytes(), outlets),
+        Err(_) => tell(rt, &Failure::OutOfMemory),
     }
 }
 
-/// Refuses a file that would be read and written. Else reads the parts and the blocks of what is asked, and seeks a verdict on them.
-fn seek<R: Threads + Sync, F: Texts, P: Places, W: Write + Drop>(
-    rt: &HostRuntime,
-    threads: &R,
+/// Writes a text to the output: the status.
+fn show_text<R: Eprint, P: Places, W: Write + Drop>(
+    rt: &R,
+    text: &[u8],
+    outlets: &mut Outlets<P, W>,
+) -> Status
+    ensures { IsShownTo (outside_of P.standing W.contents outlets.old) (outside_of P.standing W.contents outlets.new) result }
+{
+    match give_all(&mut outlets.output, text) {
+        Ok(()) => Status::Done,
+        Err(_) => {
+            let error = outlets.output.take_error();
+            tell(
+                rt,
+                &Failure::Write {
+                    name: OUTPUT,
+                    error,
+                },
+            )
+        }
+    }
+}
+
+/// Refuses a file that would be read and written, and else does what is asked.
+fn seek<R: Threads + Sync + Eprint + Clock, F: Texts, P: Places, W: Write + Drop>(
+    rt: &R,
+    alloc: Global,
+    terminals: Terminals,
+    asked: &Asked,
+    files: &F,
+    outlets: &mut Outlets<P, W>,
+) -> Status
+    ensures { EndsDoing (told_of F.told F.named files.now) asked.now
+        (outside_of P.standing W.contents outlets.old) (outside_of P.standing W.contents outlets.new) result }
+{
+    match read_and_written(files, asked) {
+        Some(path) => {
+            let name = file_name(path);
+            tell(rt, &Failure::ReadAndWritten { name })
+        }
+        None => seek_apart(rt, alloc, terminals, asked, files, outlets),
+    }
+}
+
+/// Reads the parts and the blocks of what is asked, and seeks a verdict on them.
+fn seek_apart<R: Threads + Sync + Eprint + Clock, F: Texts, P: Places, W: Write + Drop>(
+    rt: &R,
+    alloc: Global,
+    terminals: Terminals,
     asked: &Asked,
     files: &F,
     outlets: &mut Outlets<P, W>,
@@ -111,32 +164,18 @@ fn seek<R: Threads + Sync, F: Texts, P: Places, W: Write + Drop>(
     ensures { EndsBy (F.told files.now) asked.now
         (outside_of P.standing W.contents outlets.old) (outside_of P.standing W.contents outlets.new) result }
 {
-    if let Some(name) = read_and_written(rt, asked) {
-        return tell(rt, &Failure::ReadAndWritten { name });
-    }
-    tell_reading(rt, asked);
-    match read_inputs(rt.alloc(), files, asked) {
-        Ok(inputs) => seek_on(rt, threads, &inputs, asked, outlets),
+    tell_reading(rt, terminals.input, asked);
+    match read_inputs(alloc, files, asked) {
+        Ok(inputs) => {
+            let search = Search {
+                rt,
+                alloc,
+                is_terminal: terminals.messages,
+                inputs: &inputs,
+                asked,
+            };
+            search.seek_inputs(outlets)
+        }
         Err(failure) => tell(rt, &failure),
     }
-}
-
-/// Seeks a verdict on what was read, and writes it to the file that the words name, else to standard output.
-fn seek_on<R: Threads + Sync, P: Places, W: Write + Drop>(
-    rt: &HostRuntime,
-    threads: &R,
-    inputs: &Inputs,
-    asked: &Asked,
-    outlets: &mut Outlets<P, W>,
-) -> Status
-    ensures { IsSought asked.now.out (joined inputs.now.parts.texts) inputs.now.blocks
-        (outside_of P.standing W.contents outlets.old) (outside_of P.standing W.contents outlets.new) result }
-{
-    let search = Search {
-        rt,
-        threads,
-        inputs,
-        asked,
-    };
-    search.seek_inputs(outlets)
 }

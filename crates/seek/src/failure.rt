@@ -1,6 +1,6 @@
 //! What goes wrong, in words.
 ghost use Rattle.std.specs.Prelude.{◌≡◌, ◌≢◌};
-ghost use Rattle.decision_core.specs.declared.status.Status.TheVariants as status;
+ghost use Rattle.knot_ports.specs.declared.status.Status.TheVariants as status;
 ghost use Rattle.seek.specs.Failure.{failure_status};
 
 use decision_core::Status;
@@ -10,6 +10,15 @@ use text_items::TextFault;
 
 /// What standard output is called in messages.
 pub(crate) const OUTPUT: &str = "standard output";
+
+/// What a file is called in messages.
+pub(crate) fn file_name<'a>(path: &'a str) -> &'a str {
+    match path {
+        "-" => "standard input",
+        "" => "a file without a name",
+        _ => path,
+    }
+}
 
 /// What went wrong. A name is that of a file, or what standard output is called.
 #[derive(Debug, Drop)]

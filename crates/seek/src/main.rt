@@ -1,66 +1,45 @@
-//! The program: the words of the system, standard output, and a call of them.
-//! All that it answers is `call`'s. The words come from the system, and where it gives none main ends by itself.
+//! The program: a call of `program` over the words, files and streams of the system, on a stack of stated size.
 #![tactic(auto)]
 
 mod blocks;
 mod call;
-mod clash;
 mod failure;
 mod inputs;
 mod outlets;
+mod program;
 mod progress;
 mod report;
 mod search;
 
-use crate::call::call;
-use crate::failure::Failure;
-use crate::outlets::Outlets;
-use crate::report::tell;
+use crate::outlets::{Outlets, Terminals};
+use crate::program::program;
+use given_words::{NoWords, system_words};
 use knot_ports::StdSink;
 use seek_parts::SystemTexts;
-use std::io;
+use stated_stack::on_stack;
+use std::io::IsTerminal;
 use std::process::ExitCode;
 use whole_files::DiskPlaces;
 
-/// Where the system refuses the words for another cause than memory.
-const NO_WORDS: u8 = 10;
+/// How many bytes the stack of a call has: several times what the deepest one takes.
+const STACK: usize = 4_194_304;
 
 fn main(rt: HostRuntime) -> ExitCode {
-    let words = match system_words(&rt) {
-        Ok(words) => words,
-        Err(code) => return code,
-    };
-    let files = SystemTexts::new(&rt);
-    let mut outlets = Outlets {
-        places: DiskPlaces::new(&rt),
-        output: StdSink::new(rt.stdout()),
-    };
-    call(&rt, &rt, words.as_slice(), &files, &mut outlets)
-}
-
-/// The words of the system. Where it gives none, why is told, and the error is the exit status.
-fn system_words(rt: &HostRuntime) -> Result<Vec<String>, ExitCode> {
-    let args = match std::env::args(rt) {
-        Ok(args) => args,
-        Err(error) => return Err(without_words(rt, &error)),
-    };
-    let words: Vec<String> = match args.collect(rt.alloc()) {
-        Ok(words) => words,
-        Err(_) => return Err(no_memory(rt)),
-    };
-    Ok(words)
-}
-
-/// The system gives no words.
-fn without_words(rt: &HostRuntime, error: &io::Error) -> ExitCode {
-    if error.kind() == io::ErrorKind::OutOfMemory {
-        return no_memory(rt);
-    }
-    let _told = eprintln!(rt; "seek: the words can't be read: {error}");
-    ExitCode::from(NO_WORDS)
-}
-
-/// There is no memory for the words.
-fn no_memory(rt: &HostRuntime) -> ExitCode {
-    tell(rt, &Failure::OutOfMemory).exit_code()
+    on_stack(&rt, rt.alloc(), STACK, move || -> ExitCode {
+        program(
+            &rt,
+            rt.alloc(),
+            Terminals {
+                input: rt.stdin().is_terminal(),
+                messages: rt.stderr().is_terminal(),
+            },
+            system_words(&rt),
+            &SystemTexts::new(&rt),
+            &mut Outlets {
+                places: DiskPlaces::new(&rt),
+                output: StdSink::new(rt.stdout()),
+            },
+        )
+    })
+    .unwrap_or(NoWords::Memory.exit_code())
 }

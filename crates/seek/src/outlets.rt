@@ -8,3 +8,12 @@ pub(crate) struct Outlets<P, W> {
     pub(crate) places: P,
     pub(crate) output: StdSink<W>,
 }
+
+/// Which streams are a terminal.
+#[derive(Clone, Copy, Debug)]
+pub(crate) struct Terminals {
+    /// Standard input.
+    pub(crate) input: bool,
+    /// Standard error.
+    pub(crate) messages: bool,
+}

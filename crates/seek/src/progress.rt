@@ -3,8 +3,7 @@
 use meeting_walks::{Progress, Watch};
 use seek_words::Talk;
 use std::fmt;
-use std::io::IsTerminal;
-use std::time::{Duration, Instant};
+use std::time::{Clock, Duration, Instant};
 
 /// So many milliseconds lie between two lines at least.
 const PAUSE: u64 = 500;
@@ -22,8 +21,8 @@ enum Way {
 
 /// Tells how far a search is, at most twice a second.
 #[derive(Drop)]
-pub(crate) struct Teller<'a> {
-    rt: &'a HostRuntime,
+pub(crate) struct Teller<'a, R> {
+    rt: &'a R,
     way: Way,
     /// When it was told last.
     last: Option<Instant>,
@@ -33,10 +32,10 @@ pub(crate) struct Teller<'a> {
     steps: u64,
 }
 
-impl<'a> Teller<'a> {
+impl<'a, R: Eprint + Clock> Teller<'a, R> {
     /// Tells where standard error is a terminal, or where it is asked for; on a terminal first when half a second has passed.
-    pub(crate) fn new(rt: &'a HostRuntime, talk: Talk) -> Teller<'a> {
-        let way = way_of(talk, rt.stderr().is_terminal());
+    pub(crate) fn new(rt: &'a R, talk: Talk, is_terminal: bool) -> Teller<'a, R> {
+        let way = way_of(talk, is_terminal);
         Teller {
             rt,
             way,
@@ -92,7 +91,7 @@ impl<'a> Teller<'a> {
 }
 
 /// When it counts as told last at the beginning: on a terminal then, and else never.
-fn begun(rt: &HostRuntime, way: Way) -> Option<Instant> {
+fn begun<R: Clock>(rt: &R, way: Way) -> Option<Instant> {
     match way {
         Way::OneLine => Instant::now(rt).ok(),
         Way::Silent | Way::Lines => None,
@@ -109,7 +108,7 @@ fn way_of(talk: Talk, is_terminal: bool) -> Way {
     }
 }
 
-impl<'a> Watch for Teller<'a> {
+impl<'a, R: Eprint + Clock> Watch for Teller<'a, R> {
     fn note(&mut self, progress: Progress) {
         self.steps = progress.steps;
         if self.way != Way::Silent && self.is_due() {

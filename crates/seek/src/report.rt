@@ -1,6 +1,6 @@
 //! What is told on standard error.
 ghost use Rattle.std.specs.Prelude.{◌≡◌, ◌≢◌};
-ghost use Rattle.decision_core.specs.declared.status.Status.TheVariants as status;
+ghost use Rattle.knot_ports.specs.declared.status.Status.TheVariants as status;
 ghost use Rattle.seek.specs.Failure.{failure_status};
 
 use crate::failure::Failure;
@@ -9,22 +9,22 @@ use seek_core::{Tried, join_parts, place};
 use seek_faults::{BraidReason, Reason, reason_at};
 use seek_parts::{PartFault, Parts};
 use seek_words::{Asked, Talk};
+use std::alloc::Global;
 use std::fmt;
-use std::io::IsTerminal;
 use verdict_core::{Listed, QuandleName};
 
 /// What an input without parts is called in messages.
 const INPUT: &str = "the problem";
 
 /// Tells that standard input is read, where it is a terminal and the words don't ask for silence.
-pub(crate) fn tell_reading(rt: &HostRuntime, asked: &Asked) {
-    if asked.talk != Talk::Quiet && asked.reads_input() && rt.stdin().is_terminal() {
+pub(crate) fn tell_reading<R: Eprint>(rt: &R, is_terminal: bool, asked: &Asked) {
+    if asked.talk != Talk::Quiet && asked.reads_input() && is_terminal {
         let _told = eprintln!(rt; "seek: standard input is read, up to its end (Ctrl-D)");
     }
 }
 
 /// Tells what was tried in vain, but where the words ask for silence: the status. The first worker has made so many steps.
-pub(crate) fn tell_tried(rt: &HostRuntime, asked: &Asked, tried: &Tried, made: u64) -> Status
+pub(crate) fn tell_tried<R: Eprint>(rt: &R, asked: &Asked, tried: &Tried, made: u64) -> Status
     ensures { result ≡ status.Unknown }
 {
     if asked.talk != Talk::Quiet {
@@ -36,7 +36,7 @@ pub(crate) fn tell_tried(rt: &HostRuntime, asked: &Asked, tried: &Tried, made: u
 }
 
 /// Tells that the input is too long: the status.
-pub(crate) fn tell_long(rt: &HostRuntime, parts: &Parts) -> Status
+pub(crate) fn tell_long<R: Eprint>(rt: &R, parts: &Parts) -> Status
     ensures { result ≡ status.Limit }
 {
     let name = parts.last_name().unwrap_or(INPUT);
@@ -44,7 +44,7 @@ pub(crate) fn tell_long(rt: &HostRuntime, parts: &Parts) -> Status
 }
 
 /// Tells what went wrong: the status.
-pub(crate) fn tell(rt: &HostRuntime, failure: &Failure) -> Status
+pub(crate) fn tell<R: Eprint>(rt: &R, failure: &Failure) -> Status
     ensures is { result ≡ failure_status failure.now }
     ensures failed { result ≢ status.Done }
 {
@@ -53,11 +53,17 @@ pub(crate) fn tell(rt: &HostRuntime, failure: &Failure) -> Status
 }
 
 /// Tells why a line is bad: the status. Where memory is wanting for the reason, the line is told without one.
-pub(crate) fn tell_line(rt: &HostRuntime, parts: &Parts, at: usize, kind: Status) -> Status
+pub(crate) fn tell_line<R: Eprint>(
+    rt: &R,
+    alloc: Global,
+    parts: &Parts,
+    at: usize,
+    kind: Status,
+) -> Status
     ensures { result ≡ kind }
 {
     let (name, line) = place_of(parts, at);
-    match join_parts(rt.alloc(), parts.texts()) {
+    match join_parts(alloc, parts.texts()) {
         Ok(problem) => tell_reason(rt, name, line, reason_at(problem.as_slice(), at)),
         Err(_) => {
             let _told = eprintln!(rt;
@@ -69,7 +75,7 @@ pub(crate) fn tell_line(rt: &HostRuntime, parts: &Parts, at: usize, kind: Status
 }
 
 /// Tells for which reason a line is bad, and which form a braid among the words has, if it is one.
-fn tell_reason(rt: &HostRuntime, name: &str, line: usize, reason: Reason) {
+fn tell_reason<R: Eprint>(rt: &R, name: &str, line: usize, reason: Reason) {
     let form = if name.ends_with("--braid") && is_of_form(reason) {
         BRAID_FORM
     } else {

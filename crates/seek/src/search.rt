@@ -1,6 +1,6 @@
 //! A verdict on what was read is sought and written: to a writer that is lent, or to a file at a path, whole or not at all.
 ghost use Rattle.std.specs.Prelude.{◌≡◌, ◌≢◌, ◌⊎◌, IfOk, IfErr};
-ghost use Rattle.decision_core.specs.declared.status.Status.TheVariants as status;
+ghost use Rattle.knot_ports.specs.declared.status.Status.TheVariants as status;
 ghost use Rattle.seek_core.specs.declared.ending.Ending.TheVariants as end;
 ghost use Rattle.seek_core.specs.Answers.{ending_status};
 ghost use Rattle.seek_core.specs.Parts.{joined};
@@ -9,7 +9,7 @@ ghost use Rattle.seek.specs.Failure.{failure_status};
 ghost use Rattle.seek.specs.Search.{held_of, port_held, unseen, EndsSearch, IsSoughtToSink, IsDecisionText, IsSoughtToFile};
 ghost use Rattle.seek.specs.Exit.{outside_of, IsSought};
 
-use crate::failure::{Failure, OUTPUT};
+use crate::failure::{Failure, OUTPUT, file_name};
 use crate::inputs::Inputs;
 use crate::outlets::Outlets;
 use crate::progress::Teller;
@@ -18,16 +18,19 @@ use decision_core::Status;
 use knot_ports::{Sink, StdSink};
 use seek_core::{Bounds, Ending, run};
 use seek_words::Asked;
+use std::alloc::Global;
 use std::io;
 use std::io::Write;
 use std::thread::Threads;
+use std::time::Clock;
 use whole_files::{Places, TextSink};
 
-/// What was read and what is asked, for a search with workers in threads that `threads` starts.
+/// What was read and what is asked, for a search whose workers and messages `rt` has. Standard error may be a terminal.
 #[derive(Drop)]
 pub(crate) struct Search<'a, R> {
-    pub(crate) rt: &'a HostRuntime,
-    pub(crate) threads: &'a R,
+    pub(crate) rt: &'a R,
+    pub(crate) alloc: Global,
+    pub(crate) is_terminal: bool,
     pub(crate) inputs: &'a Inputs<'a>,
     pub(crate) asked: &'a Asked<'a>,
 }
@@ -39,7 +42,7 @@ struct Ended {
     made: u64,
 }
 
-impl<'a, R: Threads + Sync> Search<'a, R> {
+impl<'a, R: Threads + Sync + Eprint + Clock> Search<'a, R> {
     /// Seeks a verdict on what was read, and writes it to the file that the words name, else to standard output.
     pub(crate) fn seek_inputs<P: Places, W: Write + Drop>(
         &self,
@@ -87,7 +90,7 @@ impl<'a, R: Threads + Sync> Search<'a, R> {
         ensures none { IfErr result (λ s. s ≢ status.Done) }
         ensures sought { IfErr result (λ s. IsSoughtToSink (joined self.now.inputs.now.parts.texts) self.now.inputs.now.blocks unseen unseen s) }
     {
-        let mut text = TextSink::new(self.rt.alloc());
+        let mut text = TextSink::new(self.alloc);
         let ended = self.run_told(&mut text);
         match &ended.ending {
             Ending::Done => Ok(text),
@@ -101,12 +104,12 @@ impl<'a, R: Threads + Sync> Search<'a, R> {
         ensures { EndsSearch (joined self.now.inputs.now.parts.texts) self.now.inputs.now.blocks
             (held_of K.held K.faults sink.old) (held_of K.held K.faults sink.new) result.ending }
     {
-        let alloc = self.rt.alloc();
-        let mut watch = Teller::new(self.rt, self.asked.talk);
+        let (rt, alloc) = (self.rt, self.alloc);
+        let mut watch = Teller::new(rt, self.asked.talk, self.is_terminal);
         let bounds = bounds_of(self.asked);
         let texts = self.inputs.parts.texts();
         let blocks = &self.inputs.blocks;
-        let ending = run(self.threads, alloc, texts, blocks, bounds, sink, &mut watch);
+        let ending = run(rt, alloc, texts, blocks, bounds, sink, &mut watch);
         watch.end();
         Ended {
             ending,
@@ -124,7 +127,7 @@ impl<'a, R: Threads + Sync> Search<'a, R> {
             Ending::Done => Status::Done,
             Ending::NotFound(tried) => tell_tried(rt, self.asked, tried, ended.made),
             Ending::Malformed { line } | Ending::Limit { line } => {
-                tell_line(rt, parts, *line, ended.ending.status())
+                tell_line(rt, self.alloc, parts, *line, ended.ending.status())
             }
             Ending::TooLong => tell_long(rt, parts),
             Ending::WriteFault => tell(rt, failure),
@@ -134,7 +137,7 @@ impl<'a, R: Threads + Sync> Search<'a, R> {
 }
 
 /// Puts a text in a file at a path, or tells that it can't be written: the status.
-fn put_text<P: Places>(rt: &HostRuntime, places: &mut P, path: &str, text: &[u8]) -> Status
+fn put_text<R: Eprint, P: Places>(rt: &R, places: &mut P, path: &str, text: &[u8]) -> Status
     ensures whole { result ≡ status.Done → PutsAt (P.standing places.old) (P.standing places.new) path.now text.now }
     ensures none { result ≢ status.Done → P.standing places.new ≡ P.standing places.old }
     ensures told { (result ≡ status.Done) ⊎ ((result ≡ status.WriteFault) ⊎ (result ≡ status.OutOfMemory)) }
@@ -146,7 +149,7 @@ fn put_text<P: Places>(rt: &HostRuntime, places: &mut P, path: &str, text: &[u8]
 }
 
 /// Tells that a file can't be written: the status.
-fn tell_unwritten(rt: &HostRuntime, path: &str, error: io::Error) -> Status
+fn tell_unwritten<R: Eprint>(rt: &R, path: &str, error: io::Error) -> Status
     ensures { (result ≡ status.WriteFault) ⊎ (result ≡ status.OutOfMemory) }
 {
     if error.kind() == io::ErrorKind::OutOfMemory {
@@ -155,7 +158,7 @@ fn tell_unwritten(rt: &HostRuntime, path: &str, error: io::Error) -> Status
     tell(
         rt,
         &Failure::Write {
-            name: path,
+            name: file_name(path),
             error: Some(error),
         },
     )

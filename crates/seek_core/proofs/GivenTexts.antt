@@ -12,13 +12,13 @@ use Rattle.text_lines.specs.Lines.{text_of}
 use Rattle.text_items.specs.declared.quandles.TheConstants.{MAX_QUANDLES}
 use Rattle.text_items.specs.Reading.{◌>>=◌, text_end}
 use Rattle.knot_text.proofs.Steady.{bind_ok, ok_is}
-use Rattle.number_text.specs.declared.blocks.Block.{Block}
-use Rattle.number_text.specs.declared.evidence.Evidence.{Evidence}
-use Rattle.number_text.specs.declared.evidence.Evidence.TheVariants.{Linking}
-use Rattle.number_text.specs.Blocks.{blocks, blocks_in, blocks_of}
+use Rattle.evidence_core.specs.declared.blocks.Block.{Block}
+use Rattle.evidence_core.specs.declared.evidence.Evidence.{Evidence}
+use Rattle.evidence_core.specs.declared.evidence.Evidence.TheVariants.{Linking}
+use Rattle.block_text.specs.Blocks.{blocks, blocks_in, blocks_of}
 use Rattle.quandle_core.specs.declared.operations.TheConstants.{MAX_LARGE_ORDER}
-use Rattle.number_check.specs.Holds.{linked_of}
-use Rattle.number_check.specs.Cause.{are_same}
+use Rattle.linking_check.specs.Links.{linked_of}
+use Rattle.linking_check.specs.Links.{are_same}
 use Rattle.number_certificates.specs.Printed.{HasBlockText}
 use Rattle.number_decision.specs.Evidence.{IsByWrittenBlock}
 use Rattle.number_decision.proofs.BlocksSay.{blocks_text}

@@ -2,8 +2,8 @@
 use Rattle.std.proofs.Common.{◌≡◌, ◌∙◌, refl, sym, ap, subst, arith, ℕ, ◌+◌, Bool, true, false, List, [], ◌∷◌, ◌++◌, length, codes, fold, length-append}
 use Rattle.std.proofs.lemmas.List.{append_assoc, append-nil}
 use Rattle.text_lines.specs.Lines.{NumberedLine, Text, lines_of, line_count, are_whole_lines, text_from, text_of}
-use Rattle.text_lines.proofs.LastFeed.{feed_added, feed_ends}
-use Rattle.text_lines.proofs.Parted.{lines_parted, text_lines_parted}
+use Rattle.knot_text.proofs.LastFeed.{feed_added, feed_ends}
+use Rattle.knot_text.proofs.Parted.{lines_parted, text_lines_parted}
 use Rattle.decision_core.specs.Decision.{put_behind}
 use Rattle.seek_core.specs.Parts.{joined, lines_in_turn}
 

@@ -2,8 +2,8 @@
 use Rattle.std.proofs.Common.{◌≡◌, ◌∙◌, refl, sym, ap, ℕ, ◌+◌, Bool, true, false, List, [], ◌∷◌, ◌++◌, codes, fold, flat_map}
 use Rattle.std.proofs.lemmas.List.{map-append, append_assoc, append-nil}
 use Rattle.text_lines.specs.Lines.{NumberedLine, lines_of, line_count, are_whole_lines, trimmed, is_skipped, kept_lines, text_from, text_of}
-use Rattle.text_lines.proofs.LastFeed.{feed_added, feed_ends}
-use Rattle.text_lines.proofs.Parted.{text_lines_parted}
+use Rattle.knot_text.proofs.LastFeed.{feed_added, feed_ends}
+use Rattle.knot_text.proofs.Parted.{text_lines_parted}
 use Rattle.knot_text.specs.WrittenThere.{tokens_by_line, said_by}
 use Rattle.decision_core.specs.Decision.{put_behind}
 use Rattle.seek_core.specs.Parts.{joined}

@@ -3,21 +3,21 @@ use Rattle.std.proofs.Common.{rules, ◌≡◌, ◌∙◌, refl, ap, sym, subst,
 use Rattle.std.proofs.lemmas.List.Elements.{All-append, All-filter, recursion_from_All}
 use Rattle.std.specs.Option.{option_or}
 use Rattle.grid_core.specs.Diagram.{Diagram, IsGrid}
-use Rattle.verdict_core.specs.Names.{NamedQuandle}
+use Rattle.named_quandles.specs.Names.{NamedQuandle}
 use Rattle.verdict_core.specs.Diagrams.{grid_of, columns}
 use Rattle.verdict_core.specs.Evidence.{Holds, IsTidyVerdict}
 use Rattle.verdict_core.specs.declared.problem.ProblemText.{ProblemText}
 use Rattle.verdict_core.specs.declared.verdict.Verdict.{Verdict}
 use Rattle.knot_text.specs.Printed.{HasQuandleText}
-use Rattle.knot_text.specs.Shapes.{problem_of}
+use Rattle.verdict_text.specs.Problems.{problem_of}
 use Rattle.pair_verdict.specs.Separates.{separates, first_separating}
 use Rattle.pair_verdict.proofs.FirstFound.{find_passes, holds_by}
 use Rattle.decision_core.specs.Decision.{IsByWrittenQuandle}
 use Rattle.decision_core.proofs.PrintedVerdicts.{found}
-use Rattle.number_text.specs.declared.blocks.Block.{Block}
-use Rattle.number_text.specs.declared.evidence.Evidence.{Evidence}
-use Rattle.number_certificates.specs.declared.said.Said.{Said}
-use Rattle.number_certificates.specs.declared.said.Said.TheVariants as said
+use Rattle.evidence_core.specs.declared.blocks.Block.{Block}
+use Rattle.evidence_core.specs.declared.evidence.Evidence.{Evidence}
+use Rattle.certificate_text.specs.declared.said.Said.{Said}
+use Rattle.certificate_text.specs.declared.said.Said.TheVariants as said
 use Rattle.number_certificates.specs.Printed.{HasBlockText}
 use Rattle.number_search.specs.declared.seed_pair.SeedPair.{SeedPair}
 use Rattle.number_search.specs.Told.{told_by_linking, told_by_blocks, told_apart}

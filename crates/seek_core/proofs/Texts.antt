@@ -4,14 +4,14 @@ use Rattle.verdict_core.specs.declared.problem.ProblemText.{ProblemText}
 use Rattle.verdict_core.specs.declared.verdict.Verdict.{Verdict}
 use Rattle.verdict_core.specs.Diagrams.{grid_of}
 use Rattle.verdict_core.specs.Evidence as verdict
-use Rattle.knot_text.specs.declared.verdicts.Version.TheVariants.{Tidy}
+use Rattle.verdict_text.specs.declared.verdicts.Version.TheVariants.{Tidy}
 use Rattle.knot_text.specs.Printed.{version_text}
-use Rattle.knot_text.specs.Shapes.{problem_of}
+use Rattle.verdict_text.specs.Problems.{problem_of}
 use Rattle.decision_core.specs.Decision.{IsDecision, IsByWrittenQuandle}
-use Rattle.number_text.specs.declared.evidence.Evidence.{Evidence}
+use Rattle.evidence_core.specs.declared.evidence.Evidence.{Evidence}
 use Rattle.number_check.specs.Holds as numbers
-use Rattle.number_certificates.specs.declared.said.Said.{Said}
-use Rattle.number_certificates.specs.declared.said.Said.TheVariants as said
+use Rattle.certificate_text.specs.declared.said.Said.{Said}
+use Rattle.certificate_text.specs.declared.said.Said.TheVariants as said
 use Rattle.number_certificates.specs.Printed.{third_text, HasEvidenceText}
 use Rattle.number_decision.specs.Evidence.{IsEvidenceOn}
 use Rattle.seek_core.specs.Found.{IsFindingOf}

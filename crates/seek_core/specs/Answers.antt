@@ -3,20 +3,20 @@ use Rattle.std.specs.Prelude.{◌≡◌, ◌<◌, ◌⊎◌, ℕ, List, Option, 
 use Rattle.std.specs.Io.KnownBytes.{Keeps, Appends}
 use Rattle.knot_ports.specs.Sink.{AppendsFront}
 use Rattle.text_items.specs.declared.fault.TextFault.TheVariants as bad
-use Rattle.knot_text.specs.declared.verdicts.Version.TheVariants.{Tidy}
+use Rattle.verdict_text.specs.declared.verdicts.Version.TheVariants.{Tidy}
 use Rattle.knot_text.specs.Printed.{version_text}
-use Rattle.knot_text.specs.Shapes.{problem_of}
-use Rattle.decision_core.specs.declared.status.Status.{Status}
-use Rattle.decision_core.specs.declared.status.Status.TheVariants as status
-use Rattle.decision_core.specs.declared.limits.TheConstants.{MAX_INPUT}
+use Rattle.verdict_text.specs.Problems.{problem_of}
+use Rattle.knot_ports.specs.declared.status.Status.{Status}
+use Rattle.knot_ports.specs.declared.status.Status.TheVariants as status
+use Rattle.knot_ports.specs.declared.limits.TheConstants.{MAX_INPUT}
 use Rattle.decision_core.specs.Decision.{IsDecision}
 use Rattle.verdict_core.specs.declared.problem.ProblemText.{ProblemText}
 use Rattle.verdict_core.specs.Diagrams.{grid_of, columns}
 use Rattle.verdict_core.specs.Evidence.{IsTidyVerdict}
 use Rattle.pair_verdict.specs.Separates.{first_separating}
-use Rattle.number_text.specs.declared.blocks.Block.{Block}
-use Rattle.number_certificates.specs.declared.said.Said.{Said}
-use Rattle.number_certificates.specs.declared.said.Said.TheVariants as said
+use Rattle.evidence_core.specs.declared.blocks.Block.{Block}
+use Rattle.certificate_text.specs.declared.said.Said.{Said}
+use Rattle.certificate_text.specs.declared.said.Said.TheVariants as said
 use Rattle.number_certificates.specs.Printed.{third_text}
 use Rattle.number_decision.specs.Evidence.{IsEvidenceOn}
 use Rattle.number_search.specs.declared.seed_pair.SeedPair.{SeedPair}

@@ -10,7 +10,7 @@ pub use Rattle.grid_moves.specs.Joining
 pub use Rattle.knot_ports.specs.Faults
 pub use Rattle.knot_ports.specs.Sink
 pub use Rattle.verdict_core.specs.Diagrams
-pub use Rattle.verdict_core.specs.Names
+pub use Rattle.named_quandles.specs.Names
 pub use Rattle.verdict_core.specs.Evidence
 pub use Rattle.knot_text.specs.Printed
 pub use Rattle.knot_text.specs.Shapes

@@ -3,7 +3,7 @@ use Rattle.std.specs.Prelude.{Bool, true, false, List, ◌++◌, nat_lt}
 use Rattle.std.specs.Bool.{beq}
 use Rattle.std.specs.List.{filter}
 use Rattle.quandle_core.specs.declared.quandle.TheConstants.{MAX_ORDER}
-use Rattle.number_text.specs.declared.blocks.Block.{Block}
+use Rattle.evidence_core.specs.declared.blocks.Block.{Block}
 
 -- more colours than MAX_ORDER
 abbrev pub is_larger : Block → Bool

@@ -2,18 +2,19 @@
 ghost use Rattle.std.specs.Prelude.{◌≡◌, ℕ, List, Ok, IfOk};
 ghost use Rattle.std.specs.List.{All};
 ghost use Rattle.knot_text.specs.Printed.{HasQuandleText};
-ghost use Rattle.knot_text.specs.Shapes.{problem_of};
+ghost use Rattle.verdict_text.specs.Problems.{problem_of};
 ghost use Rattle.number_certificates.specs.Printed.{third_text};
 ghost use Rattle.seek_core.specs.Answers.{IsTrueAnswer, IsTidySaid, said_text};
 
 use crate::blocks::Blocks;
 use crate::bounds::Bounds;
 use crate::finding::{Search, find};
+use check_job::Said;
 use decision_core::laws::a_verdict_that_holds_is_a_decision;
 use knot_text::{print_verdict, read_problem};
 use meeting_walks::Watch;
 use memory_core::{Items, OutOfMemory};
-use number_certificates::{Said, print_evidence};
+use number_certificates::print_evidence;
 use number_decision::laws::evidence_that_holds_is_evidence_on_its_problem;
 use number_text::Evidence;
 use std::alloc::Global;

@@ -5,8 +5,8 @@ ghost use Rattle.number_certificates.specs.Printed.{HasBlockText};
 ghost use Rattle.text_items.specs.Reading.{Gives};
 ghost use Rattle.seek_core.specs.Given.{more_blocks};
 
+use block_text::{Block, read_blocks};
 use memory_core::Items;
-use number_text::{Block, read_blocks};
 use std::alloc::{AllocError, Global};
 use std::marker::Model;
 use text_items::TextFault;
@@ -20,7 +20,7 @@ pub struct Blocks {
 impl Model for Blocks {
     ghost use Rattle.std.specs.Prelude.{List};
     ghost use Rattle.std.specs.List.{All};
-    ghost use Rattle.number_text.specs.declared.blocks.Block.{Block};
+    ghost use Rattle.evidence_core.specs.declared.blocks.Block.{Block};
     ghost use Rattle.number_certificates.specs.Printed.{HasBlockText};
 
     ghost Value = { List Block };

@@ -1,11 +1,11 @@
 //! The top call: the answer to an input, written.
 ghost use Rattle.std.specs.Prelude.{◌≡◌, ◌<◌, ◌≤◌, ℕ, List, length};
-ghost use Rattle.number_text.specs.declared.blocks.Block.{Block};
+ghost use Rattle.evidence_core.specs.declared.blocks.Block.{Block};
 ghost use Rattle.seek_core.specs.declared.answer.Tried.{Tried};
 ghost use Rattle.knot_ports.specs.Faults.{Rose};
-ghost use Rattle.decision_core.specs.declared.status.Status.TheVariants as status;
+ghost use Rattle.knot_ports.specs.declared.status.Status.TheVariants as status;
 ghost use Rattle.seek_core.specs.declared.ending.Ending.TheVariants as ending;
-ghost use Rattle.decision_core.specs.declared.limits.TheConstants.{MAX_INPUT};
+ghost use Rattle.knot_ports.specs.declared.limits.TheConstants.{MAX_INPUT};
 ghost use Rattle.seek_core.specs.Answers.{Ends, WritesDecision, BlocksTriedInVain, IsTooLong, IsTrueAnswer, ending_status};
 ghost use Rattle.seek_core.specs.Parts.{joined};
 

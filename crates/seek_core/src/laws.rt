@@ -7,15 +7,15 @@ ghost use Rattle.quandle_core.specs.Tables.{trivial, dihedral, alexander, tetrah
 ghost use Rattle.colour_list.specs.Fits.{fits};
 ghost use Rattle.verdict_core.specs.declared.problem.ProblemText.{ProblemText};
 ghost use Rattle.verdict_core.specs.Diagrams.{grid_of};
-ghost use Rattle.verdict_core.specs.Names.{NamedQuandle, Names};
+ghost use Rattle.named_quandles.specs.Names.{NamedQuandle, Names};
 ghost use Rattle.pair_verdict.specs.Separates.{separates, first_separating};
 ghost use Rattle.text_lines.specs.Lines.{text_of};
 ghost use Rattle.knot_text.specs.Printed.{HasQuandleText};
-ghost use Rattle.knot_text.specs.Shapes.{problem_of};
+ghost use Rattle.verdict_text.specs.Problems.{problem_of};
 ghost use Rattle.knot_text.specs.WrittenThere.{said_by};
 ghost use Rattle.linking_core.specs.Component.{components};
 ghost use Rattle.linking_core.specs.Linking.{linking};
-ghost use Rattle.number_text.specs.declared.blocks.Block.{Block};
+ghost use Rattle.evidence_core.specs.declared.blocks.Block.{Block};
 ghost use Rattle.number_check.specs.Holds.{numbers_by};
 ghost use Rattle.number_search.specs.declared.seed_pair.SeedPair.{SeedPair};
 ghost use Rattle.number_search.specs.Told.{ArePlansOf, fits_both};

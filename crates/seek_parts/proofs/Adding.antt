@@ -1,8 +1,8 @@
 -- Parts that are put behind others, and files of quandles among what is due.
-use Rattle.std.proofs.Common.{◌≡◌, ◌++◌, ◌+◌, ◌<◌, ℕ, List, [], ◌∷◌, Contains, length, get_or, take, subst, sym, append_assoc, arith}
+use Rattle.std.proofs.Common.{◌≡◌, ◌++◌, ◌+◌, ◌<◌, ◌∙◌, ℕ, List, [], ◌∷◌, length, get_or, take, drop, refl, subst, sym, ap}
+use Rattle.std.proofs.Common.{append_assoc}
 use Rattle.std.specs.Borrow.{Bor}
-use Rattle.std.proofs.lemmas.List.{map_more, get_or-map, length-map}
-use Rattle.std.proofs.lemmas.List.Elements.{Contains-append_right, Contains-get_or}
+use Rattle.std.proofs.lemmas.List.{map_more, map-append, take-append-drop}
 use Rattle.seek_parts.specs.declared.fault.PartFault.{PartFault}
 use Rattle.seek_parts.specs.Fault.{IsWanting, IsFaultOf}
 use Rattle.seek_parts.specs.Parts.{Told, Due, IsPartOf, AddsPartOf, ArePartsOf, quandles_due, quandle_due}
@@ -30,19 +30,60 @@ quandle_added told dues paths seen i d old new same lt are adds =
     let next = added told (dues ++ quandles_due (take i paths)) (quandle_due (get_or paths i d)) old new are path in
     rw (map_more quandle_due paths i d within, ← append_assoc) next
 
--- a file of quandles is among what is due
-path_due : (dues : List Due) (paths : List (Bor (List ℕ))) (i : ℕ) (d : Bor (List ℕ)) → i < length paths
-    → Contains (dues ++ quandles_due paths) (quandle_due (get_or paths i d))
-path_due dues paths i d lt =
-    let within : i < length (quandles_due paths) = omega (arith, length-map paths quandle_due) in
-    let stands = Contains-get_or (quandles_due paths) i (quandle_due d) within in
-    Contains-append_right dues (quandles_due paths) (quandle_due (get_or paths i d))
-    (subst (Contains (quandles_due paths)) (get_or-map quandle_due paths i d (quandle_due d) lt) stands)
+-- ---- the first that can't be had
 
-pub path_fault : (told : Told) (dues : List Due) (paths seen : List (Bor (List ℕ))) (i : ℕ) (d : Bor (List ℕ)) (f : PartFault) → seen ≡ paths
-    → i < length seen → IsWanting told (quandle_due (get_or seen i d)) f → IsFaultOf told (dues ++ quandles_due paths) f
-path_fault told dues paths seen i d f same lt wanting = record {
-  due = quandle_due (get_or seen i d);
-  among = subst (λ (ps : List (Bor (List ℕ))). Contains (dues ++ quandles_due ps) (quandle_due (get_or seen i d))) same (path_due dues seen i d lt);
+pub alone : (told : Told) (due : Due) (back : List Due) (f : PartFault) → IsWanting told due f → IsFaultOf told (due ∷ back) f
+alone told due back f wanting =
+    record { front = []; due = due; back = back; split = refl; texts = []; had = tt; wanting = wanting }
+
+-- the second of two, where the first one was put behind nothing
+pub second_fault : (told : Told) (first second : Due) (old new : List (List ℕ)) (f : PartFault) → AddsPartOf told first old new
+    → IsWanting told second f → IsFaultOf told (first ∷ second ∷ []) f
+second_fault told first second old new f adds wanting = record {
+  front = first ∷ [];
+  due = second;
+  back = [];
+  split = refl;
+  texts = adds.bytes ∷ [];
+  had = (adds.is, tt);
   wanting = wanting;
+}
+
+-- one of the diagrams, before files of quandles
+pub diagram_fault : (told : Told) (dues more : List Due) (f : PartFault) → IsFaultOf told dues f → IsFaultOf told (dues ++ more) f
+diagram_fault told dues more f fault = record {
+  front = fault.front;
+  due = fault.due;
+  back = fault.back ++ more;
+  split = ap (λ (all : List Due). all ++ more) fault.split ∙ append_assoc fault.front (fault.due ∷ fault.back) more;
+  texts = fault.texts;
+  had = fault.had;
+  wanting = fault.wanting;
+}
+
+-- what stands before a path, and what behind it
+parted : (dues : List Due) (paths : List (Bor (List ℕ))) (i : ℕ) (d : Bor (List ℕ)) → i < length paths
+    → dues ++ quandles_due paths ≡ (dues ++ quandles_due (take i paths)) ++ quandle_due (get_or paths i d) ∷ quandles_due (drop (i + 1) paths)
+parted dues paths i d lt =
+    let split = sym (take-append-drop (i + 1) paths) in
+    let mapped = map-append quandle_due (take (i + 1) paths) (drop (i + 1) paths) in
+    let next = map_more quandle_due paths i d lt in
+    ap (λ (ps : List (Bor (List ℕ))). dues ++ quandles_due ps) split
+    ∙ ap (λ (all : List Due). dues ++ all) (mapped ∙ ap (λ (front : List Due). front ++ quandles_due (drop (i + 1) paths)) next)
+    ∙ ap (λ (all : List Due). dues ++ all)
+    (append_assoc (quandles_due (take i paths)) (quandle_due (get_or paths i d) ∷ []) (quandles_due (drop (i + 1) paths)))
+    ∙ sym (append_assoc dues (quandles_due (take i paths)) (quandle_due (get_or paths i d) ∷ quandles_due (drop (i + 1) paths)))
+
+-- a file of quandles, of those that a loop sees
+pub path_fault : (told : Told) (dues : List Due) (paths seen : List (Bor (List ℕ))) (i : ℕ) (d : Bor (List ℕ)) (old : List (List ℕ)) (f : PartFault)
+    → seen ≡ paths → i < length seen → ArePartsOf told (dues ++ quandles_due (take i paths)) old
+    → IsWanting told (quandle_due (get_or seen i d)) f → IsFaultOf told (dues ++ quandles_due paths) f
+path_fault told dues paths seen i d old f same lt are wanting = record {
+  front = dues ++ quandles_due (take i paths);
+  due = quandle_due (get_or paths i d);
+  back = quandles_due (drop (i + 1) paths);
+  split = parted dues paths i d (subst (λ (ps : List (Bor (List ℕ))). i < length ps) same lt);
+  texts = old;
+  had = are;
+  wanting = subst (λ (ps : List (Bor (List ℕ))). IsWanting told (quandle_due (get_or ps i d)) f) same wanting;
 }

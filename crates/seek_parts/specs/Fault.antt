@@ -1,5 +1,5 @@
 -- Why the parts of an input can't be had, and the status of a call that ends so.
-use Rattle.std.specs.Prelude.{◌≡◌, ◌⊎◌, ◌<◌, ℕ, true, List, Option, Ok, Err, IfSome, Contains, length}
+use Rattle.std.specs.Prelude.{◌≡◌, ◌⊎◌, ◌<◌, ◌++◌, ℕ, true, List, ◌∷◌, Option, Ok, Err, IfSome, length}
 use Rattle.text_lines.specs.Lines.{text_of}
 use Rattle.text_items.specs.declared.fault.TextFault.{TextFault}
 use Rattle.text_items.specs.declared.fault.TextFault.TheVariants as bad
@@ -9,16 +9,16 @@ use Rattle.code_text.specs.declared.refusal.TextRefusal.TheVariants as refusal
 use Rattle.code_text.specs.declared.whole.CodeText.{CodeText}
 use Rattle.code_text.specs.TextGrid.{IsRefusal}
 use Rattle.code_text.specs.Whole.{code_text_of}
-use Rattle.decision_core.specs.declared.limits.TheConstants.{MAX_INPUT}
-use Rattle.decision_core.specs.declared.status.Status.{Status}
-use Rattle.decision_core.specs.declared.status.Status.TheVariants as status
+use Rattle.knot_ports.specs.declared.limits.TheConstants.{MAX_INPUT}
+use Rattle.knot_ports.specs.declared.status.Status.{Status}
+use Rattle.knot_ports.specs.declared.status.Status.TheVariants as status
 use Rattle.seek_faults.specs.Alone.{one_diagram}
 use Rattle.seek_words.specs.declared.given.Given.{Given}
 use Rattle.seek_words.specs.declared.given.Given.TheVariants.{File, Braid}
 use Rattle.seek_words.specs.declared.given.Given.TheVariants as way
 use Rattle.seek_parts.specs.declared.fault.PartFault.{PartFault}
 use Rattle.seek_parts.specs.declared.fault.PartFault.TheVariants.{Read, Long, NotOne, Code, NoDiagram, OutOfMemory}
-use Rattle.seek_parts.specs.Parts.{Told, Due, IsTextOf}
+use Rattle.seek_parts.specs.Parts.{Told, Due, IsTextOf, ArePartsOf}
 
 -- ---- statuses
 
@@ -82,8 +82,12 @@ IsNotOne told given OutOfMemory = ⊥
 abbrev pub IsWanting : Told → Due → PartFault → Type 0
 IsWanting told due fault = HasNoText told due.given fault ⊎ (((due.is_one ≡ true) × IsNotOne told due.given fault) ⊎ (fault ≡ OutOfMemory))
 
--- one of the parts that are due can't be had
+-- the first of the parts that are due which can't be had: those before it can
 pub record IsFaultOf (told : Told) (dues : List Due) (fault : PartFault) : Type 0 where
+  pub front : List Due
   pub due : Due
-  pub among : Contains dues due
+  pub back : List Due
+  pub split : dues ≡ front ++ due ∷ back
+  pub texts : List (List ℕ)
+  pub had : ArePartsOf told front texts
   pub wanting : IsWanting told due fault

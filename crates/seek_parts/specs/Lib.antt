@@ -1,4 +1,5 @@
 pub mod Parts
+pub mod Clash
 pub mod Fault
 pub use Rattle.text_lines.specs.Lines
 pub use Rattle.text_items.specs.Reading

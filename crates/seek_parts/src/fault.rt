@@ -1,6 +1,6 @@
 //! Why the parts of an input can't be had, in words.
 ghost use Rattle.std.specs.Prelude.{◌≡◌, ◌≢◌};
-ghost use Rattle.decision_core.specs.declared.status.Status.TheVariants as status;
+ghost use Rattle.knot_ports.specs.declared.status.Status.TheVariants as status;
 ghost use Rattle.seek_parts.specs.Fault.{text_status, refusal_status, fault_status};
 
 use code_rows::RowsFault;

@@ -101,13 +101,42 @@ impl<'a> Parts<'a> {
         ensures fault { IfErr result (λ f. IsFaultOf (F.told files.now) (diagrams_due diagrams.entry) f) }
     {
         match diagrams {
-            Diagrams::Problem(given) => self.add(alloc, files, given, false, name_of(given)),
-            Diagrams::Pair(first, second) => {
-                let (first_name, second_name) = names_of(first, second);
-                self.add(alloc, files, first, true, first_name)?;
-                self.add(alloc, files, second, true, second_name)
-            }
+            Diagrams::Problem(given) => self.read_problem(alloc, files, given),
+            Diagrams::Pair(first, second) => self.read_pair(alloc, files, first, second),
         }
+    }
+
+    /// Reads a problem. There are no parts before.
+    fn read_problem<F: Texts>(
+        &mut self,
+        alloc: Global,
+        files: &F,
+        given: Given<'a>,
+    ) -> Result<(), PartFault<'a>>
+        requires { self.old.texts ≡ [] }
+        ensures parts { OnOk result (ArePartsOf (F.told files.now) (diagrams_due (Diagrams.Problem given.entry)) self.new.texts) }
+        ensures fault { IfErr result (λ f. IsFaultOf (F.told files.now) (diagrams_due (Diagrams.Problem given.entry)) f) }
+    {
+        self.add(alloc, files, given, false, name_of(given))?;
+        Ok(())
+    }
+
+    /// Reads two diagrams. There are no parts before.
+    fn read_pair<F: Texts>(
+        &mut self,
+        alloc: Global,
+        files: &F,
+        first: Given<'a>,
+        second: Given<'a>,
+    ) -> Result<(), PartFault<'a>>
+        requires { self.old.texts ≡ [] }
+        ensures parts { OnOk result (ArePartsOf (F.told files.now) (diagrams_due (Diagrams.Pair first.entry second.entry)) self.new.texts) }
+        ensures fault { IfErr result (λ f. IsFaultOf (F.told files.now) (diagrams_due (Diagrams.Pair first.entry second.entry)) f) }
+    {
+        let (first_name, second_name) = names_of(first, second);
+        self.add(alloc, files, first, true, first_name)?;
+        self.add(alloc, files, second, true, second_name)?;
+        Ok(())
     }
 
     /// Reads one part more, which is to be one diagram if it `is_one` of two.

@@ -1,6 +1,7 @@
 //! Where the texts of files are read.
 ghost use Rattle.std.specs.Prelude.{◌≡◌, ◌<◌, ◌≤◌, ℕ, List, Option, None, length, vec_len, IfOk, IfErr, IfSome};
-ghost use Rattle.decision_core.specs.declared.limits.TheConstants.{MAX_INPUT};
+ghost use Rattle.knot_ports.specs.declared.limits.TheConstants.{MAX_INPUT};
+ghost use Rattle.seek_parts.specs.Clash.{FilesAt};
 ghost use Rattle.seek_parts.specs.Fault.{IsUnread};
 
 use crate::fault::PartFault;
@@ -9,6 +10,7 @@ use knot_ports::{ReadEnd, StdSource, read_all};
 use std::alloc::Global;
 use std::fs;
 use std::io::Read;
+use std::os::unix::fs::MetadataExt;
 
 /// Gives the texts of files by their paths.
 pub trait Texts {
@@ -26,6 +28,14 @@ pub trait Texts {
         ensures text { IfOk result (λ v. IfSome (told self.now path.entry.now) (λ bytes. v.items ≡ bytes)) }
         ensures within { IfOk result (λ v. vec_len v ≤ MAX_INPUT) }
         ensures fault { IfErr result (λ f. IsUnread (told self.now path.entry.now) f) };
+
+    /// The file that stands at a path, or `None` where that isn't told.
+    ghost named: { Self → FilesAt };
+
+    /// The file that stands at a path, by its device and its number there. None where none does that has bytes of its own: nothing stands
+    /// there, or a device or a pipe does, or the system doesn't say.
+    fn file_at(&self, path: &str) -> Option<(u64, u64)>
+        ensures { IfSome (named self.now path.now) (λ file. result ≡ file) };
 }
 
 /// The system's files, of which it tells a contract nothing; `-` is standard input.
@@ -44,6 +54,15 @@ impl<'r> SystemTexts<'r> {
 impl<'r> Texts for SystemTexts<'r> {
     ghost told = { λ s path. None };
 
+    ghost named = { λ s path. None };
+
+    fn file_at(&self, path: &str) -> Option<(u64, u64)> {
+        match fs::metadata(self.rt, system_path(path)) {
+            Ok(found) if found.is_file() => Some((found.dev(), found.ino())),
+            Ok(_) | Err(_) => None,
+        }
+    }
+
     fn text<'a>(
         &self,
         alloc: Global,
@@ -60,6 +79,14 @@ impl<'r> Texts for SystemTexts<'r> {
                 error: Some(error),
             }),
         }
+    }
+}
+
+/// A path as the system knows it: what standard input is read from has one too.
+fn system_path(path: &str) -> &str {
+    match path {
+        "-" => "/dev/stdin",
+        _ => path,
     }
 }
 

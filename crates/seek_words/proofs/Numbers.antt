@@ -8,7 +8,8 @@ use Rattle.clap.specs.Walk.{Text, rows_of}
 use Rattle.clap.specs.declared.parser.matches.ArgMatches.{ArgMatches}
 use Rattle.clap.proofs.WalkLemmas.{one_text-rows}
 use Rattle.seek_words.specs.Matched.{FindsNumber, FindsNumbers, AreNumbersOf}
-use Rattle.seek_words.specs.Words.{number_of, IsNumberBy, AreNumbersBy}
+use Rattle.knot_words.specs.Numbers.{number_of}
+use Rattle.seek_words.specs.Words.{IsNumberBy, AreNumbersBy}
 use Rattle.seek_words.specs.declared.asked.Numbers.{Numbers}
 
 -- what reading a text as a number of k bits gives

@@ -7,7 +7,8 @@ use Rattle.clap.specs.Simple.{matches_of}
 use Rattle.clap.specs.Walk.{Text, first_of, one_of, all_of}
 use Rattle.clap.specs.declared.error.kind.ErrorKind.TheVariants as kind
 use Rattle.clap.proofs.OnLiterals.{clap_on_literals}
-use Rattle.seek_words.specs.Words.{seek_app, number_of, AsksNothing}
+use Rattle.knot_words.specs.Numbers.{number_of}
+use Rattle.seek_words.specs.Words.{seek_app, AsksNothing}
 
 abbrev line : List Text
 line = codes "seek" ∷ codes "--seed" ∷ codes "7" ∷ codes "a" ∷ codes "--quiet" ∷ codes "--steps=90" ∷ codes "--quandles" ∷ codes "q" ∷ codes "b" ∷ []

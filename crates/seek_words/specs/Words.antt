@@ -1,9 +1,8 @@
 -- What the words of a command line ask of the seeker, by `clap`'s meaning of one simple command: two lists, the files among them, and options.
-use Rattle.std.specs.Prelude.{◌≡◌, ◌≢◌, ◌⊎◌, ◌++◌, ◌+◌, ◌<◌, ◌≤◌, ◌^◌, ◌-◌, ℕ, Bool, true, false, List, [], ◌∷◌, Option, Some, if◌then◌else◌}
-use Rattle.std.specs.Prelude.{codes, pos, map, count_by, option_map, unwrap_or, string_bytes, String}
+use Rattle.std.specs.Prelude.{◌≡◌, ◌≢◌, ◌⊎◌, ◌++◌, ◌+◌, ◌<◌, ◌≤◌, ◌^◌, ◌-◌, ℕ, Bool, true, false, List, [], ◌∷◌, Option, Some, None, if◌then◌else◌}
+use Rattle.std.specs.Prelude.{codes, pos, map, count_by, option_map, unwrap_or}
 use Rattle.std.specs.Str.{bytes_eq}
-use Rattle.std.specs.Str.Parse.{IsNumeral, digits_value, without_leading_plus}
-use Rattle.std.specs.declared.alloc.Global.{Global}
+use Rattle.std.specs.Str.Parse.{IsNumeral, without_leading_plus}
 use Rattle.clap.specs.Walk.{Row, Rule, Text, first_of, one_of, all_of}
 use Rattle.clap.specs.Simple.{App, new_app, new_rule, on_top, with_rule, matches_of}
 use Rattle.clap.specs.Faults.{fault_of}
@@ -11,8 +10,8 @@ use Rattle.clap.specs.Kinds.{IsAmong}
 use Rattle.clap.specs.declared.error.kind.ErrorKind.{ErrorKind}
 use Rattle.clap.specs.declared.error.kind.ErrorKind.TheVariants.{DisplayHelp, DisplayVersion}
 use Rattle.clap.specs.declared.builder.action.ArgAction.TheVariants.{Set, SetTrue, Append}
-use Rattle.clap.specs.declared.builder.value_parser.ValueParser.{ValueParser}
 use Rattle.clap.specs.declared.builder.value_parser.ValueParser.TheVariants as parser
+use Rattle.knot_words.specs.Numbers.{number_of, number_rule, seed_rule, workers_rule}
 use Rattle.seek_words.specs.declared.asked.Asked.{Asked}
 use Rattle.seek_words.specs.declared.given.Given.{Given}
 use Rattle.seek_words.specs.declared.given.Given.TheVariants.{File, Braid, Code}
@@ -38,15 +37,9 @@ list_rule name = record (new_rule name) { long = Some name; action = Some Append
 abbrev pub text_rule : Text → Rule
 text_rule name = record (new_rule name) { long = Some name; action = Some Set; value_names = 1 }
 
--- an option with a whole number: its parser, and its default where it is not given
-abbrev pub number_rule : Text → ValueParser → Text → Rule
-number_rule name how default = record (new_rule name) {
-  long = Some name;
-  action = Some Set;
-  value_names = 1;
-  parser = Some how;
-  defaults = default ∷ [];
-}
+-- an option whose value has a name in the help
+abbrev pub with_value_name : Rule → Rule
+with_value_name rule = record rule { value_names = 1 }
 
 -- an option without a value
 abbrev pub flag_rule : Text → Rule
@@ -61,33 +54,21 @@ with_inputs a =
     with_rule (with_rule (with_rule (with_rule (with_rule (with_rule (with_rule a files_rule) (list_rule (codes "braid"))) (list_rule (codes "pd")))
     (list_rule (codes "quandles"))) (list_rule (codes "weights"))) (flag_rule (codes "no-weights"))) (text_rule (codes "out"))
 
-abbrev pub seed_rule : Rule
-seed_rule = number_rule (codes "seed") (parser.Unsigned 0 (2 ^ 64 - 1)) (codes "1")
-
 abbrev pub steps_rule : Rule
 steps_rule = number_rule (codes "steps") (parser.Unsigned 0 (2 ^ 64 - 1)) (codes "8000000")
 
 abbrev pub room_rule : Rule
 room_rule = number_rule (codes "room") (parser.Signed (pos 0) (pos 4294967295)) (codes "524288")
 
-abbrev pub workers_rule : Rule
-workers_rule = number_rule (codes "workers") (parser.Signed (pos 1) (pos 64)) (codes "1")
-
 abbrev pub with_bounds : App → App
-with_bounds a = with_rule (with_rule (with_rule (with_rule a seed_rule) steps_rule) room_rule) workers_rule
+with_bounds a =
+    with_rule (with_rule (with_rule (with_rule a (with_value_name seed_rule)) (with_value_name steps_rule)) (with_value_name room_rule))
+    (with_value_name workers_rule)
 
 abbrev pub seek_app : App
 seek_app = with_rule (with_rule (with_bounds (with_inputs (versioned (new_app (codes "seek"))))) (flag_rule (codes "progress"))) (flag_rule (codes "quiet"))
 
 -- ---- what words ask for
-
--- the words as texts; the first is the program's name
-abbrev pub texts_of : List (String Global) → List Text
-texts_of words = map (λ w. string_bytes w) words
-
--- the number that a text of digits spells, with a plus before them or without
-abbrev pub number_of : Text → ℕ
-number_of text = digits_value 10 (without_leading_plus text)
 
 -- a diagram as words give it: the name of the argument, and its text
 pub record Named : Type 0 where
@@ -146,12 +127,17 @@ pub record AreNumbersBy (rows : List Row) (seed steps room workers : ℕ) : Type
   pub of_room : IsNumberBy 32 (one_of (codes "room") rows) room
   pub of_workers : IsNumberBy 32 (one_of (codes "workers") rows) workers
 
+-- the file that is written, by what the words give of `--out`: `-` is standard output, as no file is
+abbrev pub file_written : Option Text → Option Text
+file_written None = None
+file_written (Some path) = if bytes_eq path (codes "-") then None else Some path
+
 -- these matches ask for this: what the words give of each option, and else its default
 pub record AsksBy (rows : List Row) (asked : Asked) : Type 0 where
   pub diagrams : AreNamedBy (all_named rows) asked.diagrams
   pub quandles : map (λ s. s.now) asked.quandles.items ≡ unwrap_or (all_of (codes "quandles") rows) []
   pub weights : AreWeightsBy (one_of (codes "no-weights") rows) (unwrap_or (all_of (codes "weights") rows) []) (map (λ s. s.now) asked.weights.items)
-  pub out : option_map (λ s. s.now) asked.out ≡ first_of (codes "out") rows
+  pub out : option_map (λ s. s.now) asked.out ≡ file_written (first_of (codes "out") rows)
   pub numbers : AreNumbersBy rows asked.seed asked.steps asked.room asked.workers
   pub talk : IsTalkBy (one_of (codes "quiet") rows) (one_of (codes "progress") rows) asked.talk
 

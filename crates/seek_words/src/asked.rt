@@ -1,12 +1,13 @@
 //! What the words ask for.
-ghost use Rattle.std.specs.Prelude.{◌≡◌, ◌≢◌, ◌≤◌, ◌⊎◌, [], map, unwrap_or, Some, true, false, IfOk, IfErr, OnOk, codes};
+ghost use Rattle.std.specs.Prelude.{◌≡◌, ◌≢◌, ◌≤◌, ◌⊎◌, [], map, option_map, unwrap_or, Some, true, false, IfOk, IfErr, OnOk, codes};
 ghost use Rattle.clap.specs.Matches.{found_of, one_text};
 ghost use Rattle.clap.specs.Simple.{matches_of};
 ghost use Rattle.clap.specs.Values.{kind_of};
 ghost use Rattle.clap.specs.Walk.{rows_of, all_of};
 ghost use Rattle.clap.specs.declared.error.kind.ErrorKind.TheVariants as kind;
 ghost use Rattle.seek_words.specs.Matched.{AreNumbersOf, FindsNumber, FindsNumbers};
-ghost use Rattle.seek_words.specs.Words.{texts_of, seek_app, all_named, AreNamedBy, AreWeightsBy, IsTalkBy, AreTaken, AsksBy, Asks, IsShown, AskForText};
+ghost use Rattle.knot_words.specs.Numbers.{texts_of};
+ghost use Rattle.seek_words.specs.Words.{seek_app, all_named, AreNamedBy, AreWeightsBy, IsTalkBy, AreTaken, AsksBy, Asks, IsShown, AskForText, file_written};
 ghost use Rattle.seek_words.specs.Words.{AreRefused, AsksNothingBy, AsksNothing, inputs_read};
 
 use crate::command::{
@@ -48,7 +49,7 @@ pub struct Asked<'a> {
     pub quandles: Vec<&'a str>,
     /// The files of quandles with cocycles.
     pub weights: Vec<&'a str>,
-    /// The file that is written; standard output without one.
+    /// The file that is written; standard output without one, which `-` stands for too.
     pub out: Option<&'a str>,
     pub seed: u64,
     pub steps: u64,
@@ -127,13 +128,23 @@ fn asked_with<'a>(
         diagrams,
         quandles,
         weights,
-        out: matches.get_str(OUT),
+        out: file_of(matches.get_str(OUT)),
         seed: numbers.seed,
         steps: numbers.steps,
         room: numbers.room,
         workers: numbers.workers,
         talk: talk_of(matches),
     })
+}
+
+/// The file of this name, if there is one; None where that is standard output.
+fn file_of<'a>(given: Option<&'a str>) -> Option<&'a str>
+    ensures { option_map (λ s. s.now) result ≡ file_written (option_map (λ s. s.now) given.entry) }
+{
+    match given {
+        Some(path) if path == "-" => None,
+        _ => given,
+    }
 }
 
 /// The files of quandles with cocycles: none where none are wanted.

@@ -2,7 +2,8 @@
 ghost use Rattle.std.specs.Prelude.{◌≡◌, false, IfOk, codes};
 ghost use Rattle.clap.specs.Simple.{app_of, new_app};
 ghost use Rattle.clap.specs.Walk.{rule_of};
-ghost use Rattle.seek_words.specs.Words.{files_rule, list_rule, text_rule, number_rule, flag_rule, seed_rule, steps_rule, room_rule, workers_rule};
+ghost use Rattle.knot_words.specs.Numbers.{number_rule, seed_rule, workers_rule};
+ghost use Rattle.seek_words.specs.Words.{files_rule, list_rule, text_rule, with_value_name, flag_rule, steps_rule, room_rule};
 ghost use Rattle.seek_words.specs.Words.{versioned, with_inputs, with_bounds, seek_app};
 
 use clap::builder::ValueParser;
@@ -88,7 +89,7 @@ fn number_arg<'a>(
     default: &'a str,
     help: &'a str,
 ) -> Arg<'a>
-    ensures rule { rule_of result ≡ number_rule name.entry.now parser.entry default.entry.now }
+    ensures rule { rule_of result ≡ with_value_name (number_rule name.entry.now parser.entry default.entry.now) }
     ensures local { result.global ≡ false }
 {
     Arg::new(alloc, name)
@@ -187,12 +188,12 @@ fn out_arg<'a>(alloc: Global) -> Arg<'a>
         .long(OUT)
         .action(ArgAction::Set)
         .value_name("FILE")
-        .help("Write the verdict to a file: whole, or not at all")
+        .help("Write the verdict to a file: whole, or not at all; `-` is standard output")
 }
 
 /// The seed.
 fn seed_arg<'a>(alloc: Global) -> Arg<'a>
-    ensures rule { rule_of result ≡ seed_rule }
+    ensures rule { rule_of result ≡ with_value_name seed_rule }
     ensures local { result.global ≡ false }
 {
     let help = "The seed of the random walks, from 0 on";
@@ -201,7 +202,7 @@ fn seed_arg<'a>(alloc: Global) -> Arg<'a>
 
 /// How many steps.
 fn steps_arg<'a>(alloc: Global) -> Arg<'a>
-    ensures rule { rule_of result ≡ steps_rule }
+    ensures rule { rule_of result ≡ with_value_name steps_rule }
     ensures local { result.global ≡ false }
 {
     let help = "How many steps the walks of a worker may make, from 0 on";
@@ -210,7 +211,7 @@ fn steps_arg<'a>(alloc: Global) -> Arg<'a>
 
 /// How many forms.
 fn room_arg<'a>(alloc: Global) -> Arg<'a>
-    ensures rule { rule_of result ≡ room_rule }
+    ensures rule { rule_of result ≡ with_value_name room_rule }
     ensures local { result.global ≡ false }
 {
     let help = "How many forms a worker may remember, from 0 on";
@@ -219,7 +220,7 @@ fn room_arg<'a>(alloc: Global) -> Arg<'a>
 
 /// How many workers.
 fn workers_arg<'a>(alloc: Global) -> Arg<'a>
-    ensures rule { rule_of result ≡ workers_rule }
+    ensures rule { rule_of result ≡ with_value_name workers_rule }
     ensures local { result.global ≡ false }
 {
     let help = "How many workers seek, 1 to 64, each with a seed of its own; the fewest steps win";

@@ -2,7 +2,7 @@
 use Rattle.std.proofs.Common.{◌≡◌, ◌∙◌, ◌+◌, ◌*◌, ◌/◌, ◌%◌, ℕ, sym, ap, arith}
 use Rattle.std.proofs.lemmas.Nat.{div-add-mod'}
 use Rattle.std.proofs.Math.Nat.{add-mul-mod_self_left}
-use Rattle.shadow_weights.proofs.Mod.{Same}
+use Rattle.shadow_cocycles.proofs.Mod.{Same}
 
 -- a number and its remainder
 pub same_rest : (k n : ℕ) → Same k (n % k) n

@@ -1,6 +1,6 @@
 -- What the reflections do to the factor x - y of the formula, and the law of a shadow cocycle from that of the quotients. The modulus is m + 1, so m is -1.
 use Rattle.std.proofs.Common.{◌≡◌, ◌≤◌, ◌+◌, ◌-◌, ◌*◌, ◌%◌, ℕ, suc, refl, arith}
-use Rattle.shadow_weights.proofs.Mod.{Same, same_of, same_plus, same_then}
+use Rattle.shadow_cocycles.proofs.Mod.{Same, same_of, same_plus, same_then}
 use Rattle.shadow_formula.proofs.Congruent.{same_rest, same_times}
 use Rattle.shadow_formula.proofs.Computed.{reflected}
 

@@ -8,8 +8,8 @@ use Rattle.quandle_core.specs.Quandle.{Table, over}
 use Rattle.quandle_core.specs.Tables.{dihedral}
 use Rattle.quandle_core.proofs.Entries.{entry}
 use Rattle.quandle_core.proofs.Linear.{dihedral_is}
-use Rattle.shadow_weights.specs.Cocycle.{ShadowCochain, IsShadowCocycle, value, one_side, other_side}
-use Rattle.shadow_weights.proofs.Mod.{same_of}
+use Rattle.shadow_cocycles.specs.Cocycle.{ShadowCochain, IsShadowCocycle, value, one_side, other_side}
+use Rattle.shadow_cocycles.proofs.Mod.{same_of}
 use Rattle.shadow_formula.specs.Mochizuki.{is_prime, quotient, formula, mochizuki}
 use Rattle.shadow_formula.proofs.Congruent.{rest_equal, same_from_rest}
 use Rattle.shadow_formula.proofs.Computed.{reflected, Computes, computed, balance_at, vanish_at}

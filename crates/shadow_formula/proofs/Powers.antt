@@ -4,7 +4,7 @@ use Rattle.std.proofs.lemmas.Nat.{div-add-mod', div-mul-add, mod-mul-add, mod_be
 use Rattle.quandle_core.specs.Tables.{table_of}
 use Rattle.std.proofs.Math.Nat.{mul-pos}
 use Rattle.std.proofs.lemmas.List.FromFn.{get_or-map-range_with_len}
-use Rattle.shadow_weights.proofs.Mod.{Same, same_of, same_plus, same_then}
+use Rattle.shadow_cocycles.proofs.Mod.{Same, same_of, same_plus, same_then}
 use Rattle.shadow_formula.specs.Mochizuki.{dividend, quotient}
 use Rattle.shadow_formula.proofs.Congruent.{same_rest, rest_equal, same_times}
 

@@ -3,7 +3,7 @@ use Rattle.std.specs.Prelude.{ℕ, ◌+◌, ◌-◌, ◌*◌, ◌/◌, ◌%◌, 
 use Rattle.std.specs.List.{list_all, range_with_len}
 use Rattle.quandle_core.specs.Quandle.{Table, over}
 use Rattle.quandle_core.specs.Tables.{dihedral}
-use Rattle.shadow_weights.specs.Cocycle.{ShadowCochain}
+use Rattle.shadow_cocycles.specs.Cocycle.{ShadowCochain}
 
 -- n is at least 2, and no number from 2 to n - 1 divides it
 abbrev pub is_prime : ℕ → Bool

@@ -7,7 +7,7 @@ ghost use Rattle.shadow_formula.specs.Mochizuki.{is_prime, dividend, quotient, f
 use crate::laws::mochizuki_is_a_shadow_cocycle;
 use arrayvec::ArrayVec;
 use quandle_core::{MAX_TABLE, Quandle};
-use shadow_weights::{ShadowCocycle, of_table};
+use shadow_cocycles::{ShadowCocycle, of_table};
 use std::alloc::{AllocFailed, Global};
 
 /// Mochizuki's shadow cocycle of the dihedral quandle of prime order p, with values mod p (Mochizuki 2003):

@@ -3,7 +3,7 @@ ghost use Rattle.std.specs.Prelude.{◌≡◌, ◌<◌, ◌≤◌, ◌%◌, ◌�
 ghost use Rattle.quandle_core.specs.Quandle.{Table, IsQuandle};
 ghost use Rattle.quandle_core.specs.Tables.{dihedral};
 ghost use Rattle.quandle_core.specs.declared.quandle.TheConstants.{MAX_ORDER};
-ghost use Rattle.shadow_weights.specs.Cocycle.{IsShadowCocycle};
+ghost use Rattle.shadow_cocycles.specs.Cocycle.{IsShadowCocycle};
 ghost use Rattle.shadow_formula.specs.Mochizuki.{is_prime, dividend, mochizuki, is_dihedral};
 
 /// Mochizuki's formula gives a shadow cocycle of the dihedral quandle of each prime order. Its division leaves nothing.

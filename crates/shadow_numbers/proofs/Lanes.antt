@@ -17,7 +17,7 @@ use Rattle.colour_rows.specs.Walk.{under, passed_rightward}
 use Rattle.colour_rows.proofs.Ranges.{range_longer}
 use Rattle.colour_rows.proofs.Equations.{pass_of, pass_map}
 use Rattle.shadow_weights.specs.declared.walker.Walker.{Walker}
-use Rattle.shadow_weights.specs.Cocycle.{ShadowCochain}
+use Rattle.shadow_cocycles.specs.Cocycle.{ShadowCochain}
 use Rattle.shadow_weights.specs.WalkSum as walk_sum
 use Rattle.shadow_weights.specs.WalkSum.{stepped, row_weight, weight_by_rows}
 use Rattle.shadow_weights.proofs.RowCounts.{add_mod}

@@ -16,7 +16,7 @@ use Rattle.colour_list.specs.Listing.{colourings}
 use Rattle.colour_list.specs.Level.{spread, IsLevelAt}
 use Rattle.colour_list.proofs.Counts.{count-cons, count-map, count_agree_on}
 use Rattle.colour_list.proofs.Choices.{listed_most}
-use Rattle.shadow_weights.specs.Cocycle.{ShadowCochain, IsShadowCocycle}
+use Rattle.shadow_cocycles.specs.Cocycle.{ShadowCochain, IsShadowCocycle}
 use Rattle.shadow_weights.specs.Weight.{shadow_weight}
 use Rattle.shadow_weights.specs.WalkSum.{weight_by_rows}
 use Rattle.shadow_weights.specs.Weights.{shadows_of, shadow_weights}

@@ -8,7 +8,7 @@ use Rattle.colour_rows.specs.declared.equation.Pass.{Pass}
 use Rattle.colour_rows.specs.Equation.{equation}
 use Rattle.colour_rows.specs.Walk.{passed_rightward}
 use Rattle.shadow_weights.specs.declared.walker.Walker.{Walker}
-use Rattle.shadow_weights.specs.Cocycle.{ShadowCochain}
+use Rattle.shadow_cocycles.specs.Cocycle.{ShadowCochain}
 use Rattle.shadow_weights.specs.WalkSum.{stepped}
 use Rattle.shadow_numbers.specs.declared.lane.Lane.{Lane}
 

@@ -2,7 +2,7 @@
 use Rattle.std.specs.Prelude.{ℕ, ◌+◌, ◌==◌, Bool, List, map, take, count_by, slice_index}
 use Rattle.std.specs.List.{range_with_len, sum_by}
 use Rattle.grid_core.specs.Diagram.{Diagram, size}
-use Rattle.shadow_weights.specs.Cocycle.{ShadowCochain}
+use Rattle.shadow_cocycles.specs.Cocycle.{ShadowCochain}
 use Rattle.shadow_weights.specs.WalkSum.{weight_by_rows}
 
 -- the weight of a list, cut to the columns of the diagram, with an outer region of this colour is v

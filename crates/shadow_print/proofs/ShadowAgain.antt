@@ -11,16 +11,16 @@ use Rattle.std.proofs.lemmas.List.{length-map}
 use Rattle.std.proofs.lemmas.List.FromFn.{length-range_with_len}
 use Rattle.quandle_core.specs.declared.quandle.TheConstants.{MAX_ORDER}
 use Rattle.quandle_core.specs.Quandle.{Table, over}
-use Rattle.shadow_weights.specs.Cocycle.{ShadowCochain, IsShadowCocycle}
-use Rattle.shadow_weights.specs.Fault.{first_fault}
-use Rattle.shadow_weights.proofs.Accepted.{none_from_cocycle}
+use Rattle.shadow_cocycles.specs.Cocycle.{ShadowCochain, IsShadowCocycle}
+use Rattle.shadow_cocycles.specs.Fault.{first_fault}
+use Rattle.shadow_cocycles.proofs.Accepted.{none_from_cocycle}
 use Rattle.text_lines.specs.Lines.{Text, text_from}
 use Rattle.text_lines.specs.Spelled.{numbered, is_line}
-use Rattle.text_lines.proofs.NumberTexts.{decimal_read}
-use Rattle.text_lines.proofs.Written.{lines_read}
+use Rattle.knot_text.proofs.NumberTexts.{decimal_read}
+use Rattle.knot_text.proofs.Written.{lines_read}
 use Rattle.text_items.specs.declared.fault.TextFault.{TextFault}
 use Rattle.text_items.specs.declared.fault.TextFault.TheVariants.{Malformed}
-use Rattle.text_items.specs.declared.cocycles.TheConstants.{MAX_MODULUS}
+use Rattle.text_items.specs.declared.modulus.TheConstants.{MAX_MODULUS}
 use Rattle.text_items.specs.Reading.{next_line, next_token, line_end}
 use Rattle.text_items.specs.Numbers.{numbers_below}
 use Rattle.text_items.specs.Quandles.{table_row, table_rows}
@@ -31,9 +31,9 @@ use Rattle.knot_text.proofs.StepsAgain.{line_of, lines_before, word_again, most_
 use Rattle.knot_text.proofs.SpelledNumbers.{at_one}
 use Rattle.knot_text.proofs.Words.{decimal_word, numbers_line}
 use Rattle.shadow_formula.specs.Mochizuki.{has_formula, mochizuki}
-use Rattle.shadow_text.specs.declared.shadows.Spelling.{Spelling}
-use Rattle.shadow_text.specs.declared.shadows.Spelling.TheVariants as spelling
-use Rattle.shadow_text.specs.declared.shadows.SpelledShadow.{SpelledShadow}
+use Rattle.evidence_core.specs.declared.shadows.Spelling.{Spelling}
+use Rattle.evidence_core.specs.declared.shadows.Spelling.TheVariants as spelling
+use Rattle.evidence_core.specs.declared.shadows.SpelledShadow.{SpelledShadow}
 use Rattle.shadow_text.specs.declared.shadows.Head.TheVariants as head
 use Rattle.shadow_text.specs.Shadows.{spelled, cochain, head_at, cochain_item, shadow_item}
 use Rattle.shadow_print.specs.Printed.{rows_of, value_lines, lines_of, shadow_lines, shadow_text, Spells, HasShadowText}

@@ -6,13 +6,13 @@ use Rattle.std.proofs.lemmas.Bool.{and_parts}
 use Rattle.quandle_core.specs.declared.quandle.TheConstants.{MAX_ORDER}
 use Rattle.quandle_core.specs.Quandle.{Table, IsQuandle}
 use Rattle.quandle_core.specs.Tables.{dihedral}
-use Rattle.shadow_weights.specs.Fault.{first_fault}
-use Rattle.shadow_weights.specs.declared.fault.ShadowFault.{ShadowFault}
-use Rattle.shadow_weights.proofs.Accepted.{cocycle_from_none}
+use Rattle.shadow_cocycles.specs.Fault.{first_fault}
+use Rattle.shadow_cocycles.specs.declared.fault.ShadowFault.{ShadowFault}
+use Rattle.shadow_cocycles.proofs.Accepted.{cocycle_from_none}
 use Rattle.text_lines.specs.Lines.{NumberedLine, Text}
 use Rattle.text_lines.specs.Numbers.{number_of}
 use Rattle.text_items.specs.declared.fault.TextFault.{TextFault}
-use Rattle.text_items.specs.declared.cocycles.TheConstants.{MAX_MODULUS}
+use Rattle.text_items.specs.declared.modulus.TheConstants.{MAX_MODULUS}
 use Rattle.text_items.specs.Reading.{next_line, next_token, line_end, word, or_malformed}
 use Rattle.text_items.specs.Numbers.{numbers_below}
 use Rattle.text_items.specs.Quandles.{table_rows}
@@ -21,8 +21,8 @@ use Rattle.knot_text.proofs.LineSays.{at_most_says}
 use Rattle.shadow_formula.specs.Mochizuki.{is_prime, is_dihedral, has_formula, mochizuki}
 use Rattle.shadow_formula.proofs.FormulaLaw.{mochizuki_is}
 use Rattle.shadow_formula.proofs.Reflections.{dihedral_known}
-use Rattle.shadow_text.specs.declared.shadows.Spelling.TheVariants as spelling
-use Rattle.shadow_text.specs.declared.shadows.SpelledShadow.{SpelledShadow}
+use Rattle.evidence_core.specs.declared.shadows.Spelling.TheVariants as spelling
+use Rattle.evidence_core.specs.declared.shadows.SpelledShadow.{SpelledShadow}
 use Rattle.shadow_text.specs.declared.shadows.Head.{Head}
 use Rattle.shadow_text.specs.declared.shadows.Head.TheVariants as head
 use Rattle.shadow_text.specs.Shadows.{formula_of, modulus_of, head_of, head_at, spelled, cochain, cochain_item, shadow_of, shadow_item}

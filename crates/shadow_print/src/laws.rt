@@ -3,7 +3,7 @@ ghost use Rattle.std.specs.Prelude.{◌≡◌, ◌+◌, ◌++◌, ℕ, List, len
 ghost use Rattle.text_lines.specs.Lines.{Text, text_from};
 ghost use Rattle.quandle_core.specs.Quandle.{Table, IsQuandle};
 ghost use Rattle.knot_text.specs.FirstBadLine.{IsStable};
-ghost use Rattle.shadow_text.specs.declared.shadows.SpelledShadow.{SpelledShadow};
+ghost use Rattle.evidence_core.specs.declared.shadows.SpelledShadow.{SpelledShadow};
 ghost use Rattle.shadow_text.specs.Shadows.{shadow_item};
 ghost use Rattle.shadow_print.specs.Printed.{shadow_lines, shadow_text, HasShadowText};
 

@@ -2,7 +2,7 @@
 ghost use Rattle.std.specs.Prelude.{◌≡◌, ◌<◌, ◌*◌, ◌++◌, ◌/◌, ◌%◌, map, OnOk};
 ghost use Rattle.std.specs.List.{range_with_len};
 ghost use Rattle.text_lines.specs.Spelled.{lines_text};
-ghost use Rattle.shadow_weights.specs.Cocycle.{value};
+ghost use Rattle.shadow_cocycles.specs.Cocycle.{value};
 ghost use Rattle.shadow_print.specs.Printed.{value_lines, shadow_text};
 
 use arrayvec::ArrayVec;

@@ -3,19 +3,19 @@ use Rattle.std.specs.Prelude.{ℕ, ◌*◌, ◌-◌, List, ◌++◌, codes, Resu
 use Rattle.std.specs.Str.{bytes_eq}
 use Rattle.quandle_core.specs.declared.quandle.TheConstants.{MAX_ORDER}
 use Rattle.quandle_core.specs.Quandle.{Table}
-use Rattle.shadow_weights.specs.Cocycle.{ShadowCochain}
-use Rattle.shadow_weights.specs.Fault.{first_fault}
+use Rattle.shadow_cocycles.specs.Cocycle.{ShadowCochain}
+use Rattle.shadow_cocycles.specs.Fault.{first_fault}
 use Rattle.text_lines.specs.Lines.{NumberedLine, Text}
 use Rattle.text_lines.specs.Numbers.{number_of}
 use Rattle.text_items.specs.declared.fault.TextFault.{TextFault}
 use Rattle.text_items.specs.declared.fault.TextFault.TheVariants.{Malformed}
-use Rattle.text_items.specs.declared.cocycles.TheConstants.{MAX_MODULUS}
+use Rattle.text_items.specs.declared.modulus.TheConstants.{MAX_MODULUS}
 use Rattle.text_items.specs.Reading.{◌>>=◌, next_line, next_token, line_end, word, or_malformed, at_most}
 use Rattle.text_items.specs.Numbers.{numbers_below}
 use Rattle.text_items.specs.Quandles.{table_rows}
-use Rattle.shadow_text.specs.declared.shadows.Spelling.{Spelling}
-use Rattle.shadow_text.specs.declared.shadows.Spelling.TheVariants as spelling
-use Rattle.shadow_text.specs.declared.shadows.SpelledShadow.{SpelledShadow}
+use Rattle.evidence_core.specs.declared.shadows.Spelling.{Spelling}
+use Rattle.evidence_core.specs.declared.shadows.Spelling.TheVariants as spelling
+use Rattle.evidence_core.specs.declared.shadows.SpelledShadow.{SpelledShadow}
 use Rattle.shadow_text.specs.declared.shadows.Head.{Head}
 use Rattle.shadow_text.specs.declared.shadows.Head.TheVariants as head
 use Rattle.shadow_formula.specs.Mochizuki.{has_formula, mochizuki}

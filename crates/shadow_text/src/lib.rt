@@ -3,4 +3,5 @@
 
 mod shadows;
 
-pub use shadows::{SpelledShadow, Spelling, shadow_item};
+pub use evidence_core::{SpelledShadow, Spelling};
+pub use shadows::shadow_item;

@@ -1,84 +1,20 @@
 //! Shadow cocycles.
-ghost use Rattle.std.specs.Prelude.{◌≡◌, ◌<◌, ◌≤◌, ◌*◌, slice_index, true, IfOk};
+ghost use Rattle.std.specs.Prelude.{◌≡◌, ◌≤◌, true, IfOk};
 ghost use Rattle.quandle_core.specs.declared.quandle.TheConstants.{MAX_ORDER};
 ghost use Rattle.text_items.specs.Reading.{Gives, at_most};
 ghost use Rattle.shadow_text.specs.Shadows.{spelled, head_at, head_of, formula_of, modulus_of, cochain_item, shadow_of, shadow_item};
 ghost use Rattle.shadow_formula.specs.Mochizuki.{has_formula, mochizuki};
 
-use large_tables::table_rows;
+use evidence_core::{SpelledShadow, Spelling};
 use quandle_core::{MAX_ORDER, Operations, Quandle};
+use shadow_cocycles::ShadowCocycle;
 use shadow_formula::{has_formula, mochizuki};
-use shadow_weights::{ShadowCocycle, of_table};
 use std::alloc::{AllocFailed, Global};
 use text_items::numbers::numbers_below;
 use text_items::reading::{line_end, next_line, next_token, word};
+use text_items::rows::table_rows;
 use text_items::{MAX_MODULUS, TextFault};
 use text_lines::{Line, Lines};
-
-/// How a shadow cocycle is spelled.
-#[derive(Clone, Copy, Debug, PartialEq, Eq)]
-pub enum Spelling {
-    /// By the name of Mochizuki's formula.
-    Mochizuki,
-    /// By its table.
-    Table,
-}
-
-/// A shadow cocycle, and how it is spelled.
-#[derive(Drop)]
-pub struct SpelledShadow {
-    pub spelling: Spelling,
-    pub cocycle: ShadowCocycle,
-}
-
-impl SpelledShadow {
-    /// The same shadow cocycle again.
-    pub fn copy(&self, alloc: Global) -> Result<SpelledShadow, AllocFailed<u8>>
-        ensures { IfOk result (λ s. s ≡ self.now) }
-    {
-        let cocycle = copy_of(alloc, &self.cocycle)?;
-        Ok(SpelledShadow {
-            spelling: self.spelling,
-            cocycle,
-        })
-    }
-}
-
-/// The same cocycle again: its values have its laws.
-fn copy_of(alloc: Global, cocycle: &ShadowCocycle) -> Result<ShadowCocycle, AllocFailed<u8>>
-    ensures { IfOk result (λ c. c ≡ cocycle.now) }
-{
-    let _modulus = cocycle.modulus();
-    let table = values_of(alloc, cocycle)?;
-    Ok(of_table(cocycle.quandle(), cocycle.modulus(), table))
-}
-
-/// All values of a cocycle, in the order of its table.
-fn values_of(alloc: Global, cocycle: &ShadowCocycle) -> Result<Vec<u8>, AllocFailed<u8>>
-    ensures { IfOk result (λ v. v.items ≡ cocycle.now.entries) }
-{
-    let _modulus = cocycle.modulus();
-    let order = cocycle.quandle().order() as usize;
-    let mut table = Vec::new(alloc);
-    for place in 0..order * order * order {
-        table.push(value_at(cocycle, place))?;
-    }
-    Ok(table)
-}
-
-/// The value at a place of the table.
-fn value_at(cocycle: &ShadowCocycle, place: usize) -> u8
-    requires { place < cocycle.now.quandle.order * cocycle.now.quandle.order * cocycle.now.quandle.order }
-    ensures { result ≡ slice_index cocycle.now.entries place }
-{
-    let _modulus = cocycle.modulus();
-    let order = cocycle.quandle().order() as usize;
-    cocycle.value(
-        (place / order / order) as u8,
-        (place / order % order) as u8,
-        (place % order) as u8,
-    )
-}
 
 /// What the first line of a shadow cocycle says.
 #[derive(Clone, Copy)]

@@ -7,19 +7,19 @@ use Rattle.grid_core.specs.Diagram.{Diagram}
 use Rattle.grid_core.specs.Parts.{ends, covers, is_up}
 use Rattle.quandle_core.specs.Quandle.{Table, IsQuandle}
 use Rattle.colour_rows.specs.Walk.{under, passed_rightward}
-use Rattle.colour_laws.proofs.ColumnLists.{Column, crosses, crossed, IsColoured}
-use Rattle.colour_laws.proofs.ColumnLists as lists
-use Rattle.colour_laws.proofs.Rows.{under_crosses}
-use Rattle.colour_laws.proofs.ColouredColumns.{act, columns}
-use Rattle.colour_laws.proofs.Tables.{act_inside, act_up}
-use Rattle.colour_laws.proofs.ByIndex.{coloured_at, columns_from, columns_next}
-use Rattle.colour_laws.proofs.RowEnds.{AreEnds}
-use Rattle.colour_laws.proofs.Facts.{crossed_below}
-use Rattle.colour_laws.proofs.Walks.{HasColours, colour_below, covers_same, under_same, chain_step}
-use Rattle.shadow_weights.proofs.Mod.{Same}
+use Rattle.carried_colours.proofs.ColumnLists.{Column, crosses, crossed, IsColoured}
+use Rattle.carried_colours.proofs.ColumnLists as lists
+use Rattle.carried_colours.proofs.Rows.{under_crosses}
+use Rattle.carried_colours.proofs.ColouredColumns.{act, columns}
+use Rattle.carried_colours.proofs.Tables.{act_inside, act_up}
+use Rattle.carried_colours.proofs.ByIndex.{coloured_at, columns_from, columns_next}
+use Rattle.carried_colours.proofs.RowEnds.{AreEnds}
+use Rattle.carried_colours.proofs.Facts.{crossed_below}
+use Rattle.carried_colours.proofs.Walks.{HasColours, colour_below, covers_same, under_same, chain_step}
+use Rattle.shadow_cocycles.proofs.Mod.{Same}
 use Rattle.shadow_weights.proofs.RowCounts.{same_mod}
 use Rattle.shadow_weights.specs.declared.walker.Walker.{Walker}
-use Rattle.shadow_weights.specs.Cocycle.{ShadowCochain, IsShadowCocycle}
+use Rattle.shadow_cocycles.specs.Cocycle.{ShadowCochain, IsShadowCocycle}
 use Rattle.shadow_weights.specs.WalkSum.{gain, stepped, region_left, region_start, walked}
 use Rattle.shadow_weights.proofs.ModSums.{plain, by_one, by_two}
 use Rattle.shadow_weights.proofs.RowSums.{gains, beside, sum_on, sum_row}

@@ -15,8 +15,8 @@ use Rattle.quandle_core.specs.Quandle.{Table}
 use Rattle.colour_rows.specs.Colouring.{IsColouring}
 use Rattle.colour_list.specs.Listing.{colourings}
 use Rattle.quandle_core.proofs.Lengths.{IsOneOf}
-use Rattle.colour_laws.proofs.Listings.{listing}
-use Rattle.colour_laws.proofs.ByPlaces.{same_at}
+use Rattle.carried_colours.proofs.Listings.{listing}
+use Rattle.carried_colours.proofs.ByPlaces.{same_at}
 
 -- one more of weight v
 pub one_more : (f g : ℕ → ℕ) (k v : ℕ) → v < k → g v ≡ f v + 1 → ((u : ℕ) → u ≢ v → g u ≡ f u)

@@ -10,20 +10,20 @@ use Rattle.grid_core.specs.Diagram.{Diagram, IsGrid, size}
 use Rattle.grid_core.specs.Parts.{ends, covers, is_up, is_rightward}
 use Rattle.grid_core.specs.Span.{span, lies_within}
 use Rattle.grid_core.proofs.Marks.{no_cell_twice}
-use Rattle.colour_laws.specs.Level.{covers_height}
-use Rattle.colour_laws.proofs.ByIndex.{coloured_at}
+use Rattle.carried_colours.specs.Level.{covers_height}
+use Rattle.carried_colours.proofs.ByIndex.{coloured_at}
 use Rattle.grid_core.specs.Crossing.{unit, cross_product, is_positive}
 use Rattle.quandle_core.specs.Quandle.{Table, IsQuandle, back}
 use Rattle.colour_rows.specs.Walk.{under, passed, passed_rightward, walk_to}
-use Rattle.colour_laws.proofs.RowEnds.{AreEnds, are_ends}
-use Rattle.colour_laws.proofs.Walks.{HasColours, colour_below}
-use Rattle.colour_laws.proofs.RowShifts.{not_not}
+use Rattle.carried_colours.proofs.RowEnds.{AreEnds, are_ends}
+use Rattle.carried_colours.proofs.Walks.{HasColours, colour_below}
+use Rattle.carried_colours.proofs.RowShifts.{not_not}
 use Rattle.shadow_weights.specs.declared.walker.Walker.{Walker}
-use Rattle.shadow_weights.specs.Cocycle.{ShadowCochain, IsShadowCocycle, value}
+use Rattle.shadow_cocycles.specs.Cocycle.{ShadowCochain, IsShadowCocycle, value}
 use Rattle.shadow_weights.specs.Region.{region, height_beside}
 use Rattle.shadow_weights.specs.Weight.{crossing_value, positive_sum, negative_sum, shadow_weight, difference}
 use Rattle.shadow_weights.specs.WalkSum.{gain, walked, row_weight, weight_by_rows, region_left, region_start}
-use Rattle.shadow_weights.proofs.Mod.{Same, same_turned, same_by_two, same_by_three}
+use Rattle.shadow_cocycles.proofs.Mod.{Same, same_turned, same_by_two, same_by_three}
 use Rattle.shadow_weights.proofs.RowCounts.{total, total_same, total_plus, same_mod, same_minus, sum_total, equal_below, mod_below}
 use Rattle.shadow_weights.proofs.Longer.{fold_longer}
 use Rattle.shadow_weights.proofs.ByColumns.{step_at, region_start_below, apart_marks}

@@ -1,4 +1,3 @@
-pub mod Mod
 pub mod Longer
 pub mod Marks
 pub mod Ways
@@ -35,8 +34,4 @@ pub mod CrossingSums
 pub mod Carried
 pub mod Counted
 pub mod Parted
-pub mod WorkedRows
-pub mod Accepted
-mod FirstFaults
 pub mod Tallies
-mod Differing

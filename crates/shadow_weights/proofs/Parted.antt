@@ -15,11 +15,11 @@ use Rattle.grid_core.proofs.Ends.{span_low, span_high}
 use Rattle.quandle_core.specs.Quandle.{Table, IsQuandle, over}
 use Rattle.colour_rows.specs.Walk.{under, passed_rightward, walk_to}
 use Rattle.colour_rows.specs.Colouring.{IsColouring}
-use Rattle.colour_laws.specs.Level.{covers_height}
-use Rattle.colour_laws.proofs.ByIndex.{coloured_at}
-use Rattle.colour_laws.proofs.Facts.{sliding}
-use Rattle.colour_laws.proofs.RowEnds.{AreEnds, are_ends}
-use Rattle.colour_laws.proofs.Walks.{HasColours, colour_below, chain_step}
+use Rattle.carried_colours.specs.Level.{covers_height}
+use Rattle.carried_colours.proofs.ByIndex.{coloured_at}
+use Rattle.carried_colours.proofs.Facts.{sliding}
+use Rattle.carried_colours.proofs.RowEnds.{AreEnds, are_ends}
+use Rattle.carried_colours.proofs.Walks.{HasColours, colour_below, chain_step}
 use Rattle.shadow_weights.specs.Region.{region, height_beside, height_across}
 use Rattle.shadow_weights.proofs.Longer.{fold_longer}
 use Rattle.shadow_weights.proofs.ByColumns.{apart_marks}

@@ -12,11 +12,11 @@ use Rattle.arrayvec.specs.ArrayVec.{ArrayVec}
 use Rattle.colour_list.specs.declared.limits.TheConstants.{MAX_COLOURINGS}
 use Rattle.grid_core.specs.Diagram.{Diagram}
 use Rattle.colour_list.specs.Listing.{colourings, lists_of}
-use Rattle.colour_laws.proofs.ExchangeSteps.{map_same}
+use Rattle.carried_colours.proofs.ExchangeSteps.{map_same}
 use Rattle.shadow_weights.proofs.Longer.{sum_longer}
 use Rattle.shadow_weights.proofs.RowCounts.{sum_total, total_equal}
 use Rattle.shadow_weights.proofs.Countings.{count_push, one_more, count_items}
-use Rattle.shadow_weights.specs.Cocycle.{ShadowCochain}
+use Rattle.shadow_cocycles.specs.Cocycle.{ShadowCochain}
 use Rattle.shadow_weights.specs.Weight.{shadow_weight}
 use Rattle.shadow_weights.specs.Weights.{shadows_of, shadow_weights}
 

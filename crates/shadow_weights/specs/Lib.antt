@@ -1,11 +1,11 @@
-pub mod Cocycle
-pub mod Fault
-pub mod Cases
 pub mod Region
 pub mod Weight
 pub mod WalkSum
 pub mod Weights
-pub mod Mochizuki
+pub use Rattle.shadow_cocycles.specs.Cocycle
+pub use Rattle.shadow_cocycles.specs.Fault
+pub use Rattle.shadow_cocycles.specs.Cases
+pub use Rattle.shadow_cocycles.specs.Mochizuki
 pub use Rattle.grid_core.specs.Diagram
 pub use Rattle.grid_core.specs.Parts
 pub use Rattle.grid_core.specs.Crossing
@@ -18,5 +18,5 @@ pub use Rattle.colour_rows.specs.Equation
 pub use Rattle.colour_rows.specs.Colouring
 pub use Rattle.colour_list.specs.Fits
 pub use Rattle.colour_list.specs.Listing
-pub use Rattle.colour_laws.specs.Carried
-pub use Rattle.colour_laws.specs.Level
+pub use Rattle.carried_colours.specs.Carried
+pub use Rattle.carried_colours.specs.Level

@@ -6,7 +6,7 @@ use Rattle.grid_core.specs.Diagram.{Diagram}
 use Rattle.grid_core.specs.Parts.{is_up, is_rightward}
 use Rattle.quandle_core.specs.Quandle.{Table}
 use Rattle.colour_rows.specs.Walk.{under}
-use Rattle.colour_laws.specs.Level.{covers_height}
+use Rattle.carried_colours.specs.Level.{covers_height}
 
 -- the colour of the region between rows h - 1 and h that lies left of column c and right of the columns before it:
 -- from the outer region, of colour `outer`, through all columns left of c that cover the height

@@ -7,10 +7,10 @@ ghost use Rattle.colour_rows.specs.Walk.{passed_rightward};
 ghost use Rattle.colour_rows.specs.Colouring.{AreColours};
 ghost use Rattle.shadow_weights.specs.WalkSum.{gain, stepped, region_left, region_start, walked, row_weight};
 
-use crate::cocycle::ShadowCocycle;
 use crate::sums::{minus, plus};
 use colour_rows::passed_rightward;
 use grid_core::Grid;
+use shadow_cocycles::ShadowCocycle;
 
 /// Where the walk of a row stands: the colour of the strand, that of the region on its right-hand side, and the weighted sum so far.
 #[derive(Clone, Copy)]

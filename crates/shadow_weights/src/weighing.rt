@@ -12,13 +12,13 @@ ghost use Rattle.shadow_weights.specs.Weight.{shadow_weight};
 ghost use Rattle.shadow_weights.specs.WalkSum.{weight_by_rows};
 ghost use Rattle.shadow_weights.specs.Weights.{shadow_weights};
 
-use crate::cocycle::ShadowCocycle;
 use crate::counts::{count_one, zeros};
 use crate::sums::plus;
 use crate::walker::row_weight;
 use colour_list::{ListFault, list};
 use colour_rows::Colouring;
 use grid_core::Grid;
+use shadow_cocycles::ShadowCocycle;
 use std::alloc::Global;
 
 /// The weight of a colouring by the cocycle's quandle with a colour of the outer region: the sum, mod the modulus, of the sign of each crossing times `θ(w, x, y)`,

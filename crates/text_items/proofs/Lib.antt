@@ -4,7 +4,6 @@ pub mod Cuts
 mod Keeping
 pub mod GridLines
 pub mod BraidLines
-pub mod ColoursLines
 pub mod TableLines
 pub mod TableLaws
 pub mod Lists

@@ -1,13 +1,12 @@
 -- A braid as a text: `braid`, the number of strands, and the letters from the lowest crossing to the highest, in one line.
-use Rattle.std.specs.Prelude.{ℕ, ℤ, pos, neg_ℤ, unsigned_abs, ◌==◌, ◌||◌, Bool, List, [], ◌∷◌, codes, Option, None, Result, Ok, Err}
-use Rattle.std.specs.Prelude.{is_none, nat_lt, if◌then◌else◌}
+use Rattle.std.specs.Prelude.{ℕ, ◌+◌, ◌*◌, ℤ, pos, neg_ℤ, unsigned_abs, ◌==◌, ◌||◌, Bool, List, [], ◌∷◌, codes, Option, None, Result, Ok, Err}
+use Rattle.std.specs.Prelude.{is_none, length, nat_lt, if◌then◌else◌}
 use Rattle.std.specs.Option.{option_map}
 use Rattle.std.specs.List.{list_any}
 use Rattle.grid_core.specs.declared.grid.TheConstants.{MAX_SIZE}
 use Rattle.braid_core.specs.declared.braid.TheConstants.{MAX_STRANDS}
 use Rattle.braid_core.specs.Braid.{Word}
 use Rattle.braid_core.specs.Fault.{first_fault}
-use Rattle.braid_closure.specs.Closure.{closure_size}
 use Rattle.text_lines.specs.Lines.{NumberedLine, Text}
 use Rattle.text_lines.specs.Numbers.{number_of}
 use Rattle.text_items.specs.declared.fault.TextFault.{TextFault}
@@ -30,9 +29,13 @@ letters line = each_token letter_of line.number line.tokens
 abbrev pub is_long_letter : ℤ → Bool
 is_long_letter a = is_long (unsigned_abs a)
 
+-- the columns of the closure of a braid: one for each letter, and two for each strand
+abbrev pub closed_columns : Word → ℕ
+closed_columns b = length b.letters + 2 * b.strands
+
 -- too many strands, a letter of too many digits, or a closure that is larger than a grid
 abbrev pub exceeds : Word → Bool
-exceeds b = nat_lt MAX_STRANDS b.strands || (list_any is_long_letter b.letters || nat_lt MAX_SIZE (closure_size b))
+exceeds b = nat_lt MAX_STRANDS b.strands || (list_any is_long_letter b.letters || nat_lt MAX_SIZE (closed_columns b))
 
 -- the word of line n, which exceeds no limit and is a braid: a strand at least, and each letter from 1 to m-1 or its negative
 abbrev pub braid_of : ℕ → Word → Result Word TextFault

@@ -4,15 +4,9 @@ pub mod Kept
 pub mod Grids
 pub mod Braids
 pub mod KeptLetters
-pub mod Moves
 pub mod Quandles
-pub mod Colours
-pub mod BraidSteps
-pub mod Cocycles
-pub mod Diagrams
+pub mod Modulus
 pub use Rattle.text_lines.specs.Lines
 pub use Rattle.text_lines.specs.Tokens
 pub use Rattle.text_lines.specs.Spelled
-pub use Rattle.verdict_core.specs.Names
-pub use Rattle.cocycle_core.specs.Cocycle
-pub use Rattle.cocycle_core.specs.Fault
+pub use Rattle.named_quandles.specs.Names

@@ -26,7 +26,7 @@ pub struct KeptLetters {
 
 /// The letter that a token writes: a number, or a `-` directly followed by a number; `None` exactly where it has another
 /// form.
-pub(crate) fn letter(token: &[u8]) -> Option<i64>
+pub fn letter(token: &[u8]) -> Option<i64>
     ensures { result ≡ letter_of token.now }
 {
     match token {

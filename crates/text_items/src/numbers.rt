@@ -101,7 +101,7 @@ fn are_below(kept: &Kept, width: u8, order: u8) -> bool
 }
 
 /// Whether each number is below the order.
-pub(crate) fn all_below(numbers: &[u8], order: u8) -> bool
+pub fn all_below(numbers: &[u8], order: u8) -> bool
     ensures { result ≡ list_all (λ v. nat_lt v order) numbers.now }
 {
     numbers.iter().all(|number| *number < order)

@@ -14,10 +14,10 @@ use crate::reading::{MAX_NUMBER, last_number, line_end, next_line, next_token, n
 use arrayvec::ArrayVec;
 use grid_core::Rows;
 use memory_core::Items;
+use named_quandles::{Listed, QuandleName};
 use quandle_core::{MAX_ORDER, MAX_TABLE, Quandle};
 use std::alloc::Global;
 use text_lines::{Line, Lines};
-use verdict_core::{Listed, QuandleName};
 
 /// How many quandle items a text may have. The quandle of a verdict is not counted.
 pub const MAX_QUANDLES: usize = 64;
@@ -113,7 +113,7 @@ fn table_row(order: u8, bound: u8, lines: &mut Lines) -> Result<Rows, TextFault>
 }
 
 /// Appends a line of a table to its entries.
-pub(crate) fn append(entries: &mut ArrayVec<u8, MAX_TABLE>, row: &[u8])
+pub fn append(entries: &mut ArrayVec<u8, MAX_TABLE>, row: &[u8])
     requires { array_vec_len entries.old + length row.now ≤ MAX_TABLE }
     ensures { entries.new.items ≡ entries.old.items ++ row.now }
 {
@@ -121,7 +121,7 @@ pub(crate) fn append(entries: &mut ArrayVec<u8, MAX_TABLE>, row: &[u8])
 }
 
 /// The entries of all lines of a square table but the last, each below the bound.
-pub(crate) fn table_front(
+pub fn table_front(
     order: u8,
     bound: u8,
     lines: &mut Lines,

@@ -116,7 +116,7 @@ pub fn at_most(most: u32, line: &Line, value: u32) -> Result<u32, TextFault>
 }
 
 /// A place of a move.
-pub(crate) fn place(line: &Line, value: u32) -> Result<u8, TextFault>
+pub fn place(line: &Line, value: u32) -> Result<u8, TextFault>
     ensures { Gives (λ n. n) result (at_most MAX_PLACE line.now.number value) }
 {
     let value = at_most(MAX_PLACE, line, value)?;

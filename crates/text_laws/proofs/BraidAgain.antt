@@ -15,8 +15,8 @@ use Rattle.braid_core.proofs.Accepted.{braid_none}
 use Rattle.text_lines.specs.Lines.{Text, text_from}
 use Rattle.text_lines.specs.Numbers.{number_of}
 use Rattle.text_lines.specs.Spelled.{is_word, is_line, numbered}
-use Rattle.text_lines.proofs.NumberTexts.{decimal_read}
-use Rattle.text_lines.proofs.Written.{lines_read}
+use Rattle.knot_text.proofs.NumberTexts.{decimal_read}
+use Rattle.knot_text.proofs.Written.{lines_read}
 use Rattle.text_items.specs.declared.reading.TheConstants.{MAX_NUMBER}
 use Rattle.text_items.specs.Reading.{next_line, each_token}
 use Rattle.text_items.specs.Braids.{letter_of, is_long_letter, exceeds, braid_at, braid_item}

@@ -11,16 +11,17 @@ use Rattle.verdict_core.specs.declared.diagrams.Diagram.TheVariants as diagram
 use Rattle.text_items.specs.declared.fault.TextFault.{TextFault}
 use Rattle.text_items.specs.declared.fault.TextFault.TheVariants.{Malformed}
 use Rattle.text_items.specs.declared.reading.TheConstants.{MAX_NUMBER}
-use Rattle.knot_text.specs.declared.verdicts.TheConstants.{TIDY_VERSION}
-use Rattle.knot_text.specs.declared.verdicts.Version.TheVariants.{Plain, Tidy}
-use Rattle.text_items.specs.declared.cocycles.TheConstants.{MAX_MODULUS}
+use Rattle.verdict_text.specs.declared.verdicts.TheConstants.{TIDY_VERSION}
+use Rattle.verdict_text.specs.declared.verdicts.Version.TheVariants.{Plain, Tidy}
+use Rattle.text_items.specs.declared.modulus.TheConstants.{MAX_MODULUS}
 use Rattle.text_items.specs.Reading.{◌>>=◌, next_line, next_token, line_end, word, number, last_number, last_count, at_most}
 use Rattle.text_items.specs.Grids.{o_at, grid_item}
 use Rattle.text_items.specs.Braids.{braid_at, braid_item}
-use Rattle.text_items.specs.Colours.{colours_item}
-use Rattle.text_items.specs.Diagrams.{diagram_item}
-use Rattle.knot_text.specs.Verdicts.{verdict_of, version_at, tidy_item, plain_item, versioned_item, verdict_item}
-use Rattle.text_items.specs.Cocycles.{modulus_at, cochain, cochain_item, cocycle_item}
+use Rattle.knot_text.specs.Colours.{colours_item}
+use Rattle.diagram_items.specs.Diagrams.{diagram_item}
+use Rattle.verdict_text.specs.Verdicts.{verdict_of, version_at, tidy_item, plain_item, versioned_item, verdict_item}
+use Rattle.diagram_items.specs.Cocycles.{cochain, cochain_item, cocycle_item}
+use Rattle.text_items.specs.Modulus.{modulus_at}
 use Rattle.text_laws.specs.LineKinds.{read_fault, fault_by, kind_fault, FailsByKind, worth, numbers_of, x_kind, o_kind, colours_kind, braid_kind, modulus_kind}
 use Rattle.text_laws.specs.LineKinds.{counted_kind, says_version, certificate_kind}
 use Rattle.text_laws.specs.FirstLines.{count, or_later, on_top, fault_among, lines_fault, rows_fault, BeginsBy, BeginsWith, BeginsElse}

@@ -9,11 +9,11 @@ use Rattle.verdict_core.specs.declared.verdict.Verdict.TheVariants.{Equal, Unkno
 use Rattle.text_items.specs.declared.fault.TextFault.{TextFault}
 use Rattle.text_items.specs.declared.fault.TextFault.TheVariants.{Malformed}
 use Rattle.text_items.specs.declared.reading.TheConstants.{MAX_NUMBER}
-use Rattle.knot_text.specs.declared.verdicts.Version.{Version}
+use Rattle.verdict_text.specs.declared.verdicts.Version.{Version}
 use Rattle.text_items.specs.Reading.{◌>>=◌, in_turn, next_line, next_token, line_end, word, number, last_number, last_count, at_most}
-use Rattle.text_items.specs.Moves.{move_lines, moves_item}
-use Rattle.text_items.specs.BraidSteps.{step_lines, steps_item}
-use Rattle.knot_text.specs.Verdicts.{moves_of, colour_line, list_item, equal_at, budget_at, exhausted_at, unknown_at, unknown_item, verdict_of}
+use Rattle.diagram_items.specs.Moves.{move_lines, moves_item}
+use Rattle.knot_text.specs.BraidSteps.{step_lines, steps_item}
+use Rattle.verdict_text.specs.Verdicts.{moves_of, colour_line, list_item, equal_at, budget_at, exhausted_at, unknown_at, unknown_item, verdict_of}
 use Rattle.text_laws.specs.LineKinds.{read_fault, fault_by, kind_fault, worth, fits, is_above, counted_kind, unknown_kind}
 use Rattle.text_laws.specs.FirstLines.{count, or_later, on_top, BeginsBy, BeginsWith}
 use Rattle.knot_text.proofs.StepsAgain.{line_of}

@@ -25,3 +25,4 @@ mod InTurn
 mod FirstItems
 mod ItemsInTurn
 mod RowsEach
+mod WorkedLines

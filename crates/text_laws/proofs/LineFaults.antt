@@ -12,14 +12,14 @@ use Rattle.colour_rows.specs.Colouring.{are_colours}
 use Rattle.text_lines.specs.declared.numbers.TheConstants.{MAX_DIGITS, OVERLONG}
 use Rattle.text_lines.specs.Lines.{NumberedLine}
 use Rattle.text_lines.specs.Numbers.{is_number, number_of}
-use Rattle.text_lines.proofs.NumberTexts.{number_range}
+use Rattle.knot_text.proofs.NumberTexts.{number_range}
 use Rattle.text_items.specs.declared.fault.TextFault.{TextFault}
 use Rattle.text_items.specs.declared.fault.TextFault.TheVariants.{Malformed, Limit}
 use Rattle.text_items.specs.declared.reading.TheConstants.{MAX_NUMBER}
 use Rattle.text_items.specs.Reading.{◌>>=◌, next_token, word, each_token}
 use Rattle.text_items.specs.Numbers.{is_long, numbers_behind, numbers_below}
 use Rattle.text_items.specs.Grids.{are_rows, x_at, o_at}
-use Rattle.text_items.specs.Colours.{colours_at}
+use Rattle.knot_text.specs.Colours.{colours_at}
 use Rattle.text_laws.specs.LineKinds.{read_fault, fault_by, kind_fault, FailsByKind, is_overlong, worth, is_row, numbers_of, is_row_over}
 use Rattle.text_laws.specs.FirstLines.{or_later}
 use Rattle.text_laws.proofs.Worths.{kept, short_kept}

@@ -5,7 +5,7 @@ use Rattle.std.specs.List.{list_any}
 use Rattle.std.specs.Str.{bytes_eq}
 use Rattle.quandle_core.specs.declared.quandle.TheConstants.{MAX_ORDER}
 use Rattle.quandle_core.specs.Tables.{is_unit}
-use Rattle.verdict_core.specs.Names.{NamedQuandle}
+use Rattle.named_quandles.specs.Names.{NamedQuandle}
 use Rattle.text_lines.specs.Lines.{NumberedLine, Text, starts}
 use Rattle.text_lines.specs.Numbers.{is_number}
 use Rattle.text_items.specs.declared.fault.TextFault.{TextFault}
@@ -15,8 +15,8 @@ use Rattle.text_items.specs.declared.quandles.Written.TheVariants as written
 use Rattle.text_items.specs.Reading.{◌>>=◌, next_line, next_token, line_end, word, number, last_number}
 use Rattle.text_items.specs.Quandles.{with_order, alexander_at, tetrahedral_at, written_at, is_over, quandle_of, quandle_at, quandle_item, table_item}
 use Rattle.verdict_core.specs.declared.verdict.Verdict.TheVariants.{Different}
-use Rattle.knot_text.specs.Verdicts.{list_item, different_at, verdict_of}
-use Rattle.knot_text.specs.declared.verdicts.Version.{Version}
+use Rattle.verdict_text.specs.Verdicts.{list_item, different_at, verdict_of}
+use Rattle.verdict_text.specs.declared.verdicts.Version.{Version}
 use Rattle.text_laws.specs.LineKinds.{read_fault, fault_by, kind_fault, is_overlong, worth, fits}
 use Rattle.text_laws.specs.LineKinds.{is_name_over, says_quandle, name_kind, others, behind_word}
 use Rattle.text_laws.specs.FirstLines.{or_later, on_top, table_fault, BeginsBy, FailsWith, FailsElse}

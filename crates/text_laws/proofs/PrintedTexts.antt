@@ -12,25 +12,26 @@ use Rattle.colour_rows.specs.Colouring.{AreColours}
 use Rattle.grid_moves.specs.declared.step.Move.{Move}
 use Rattle.text_lines.specs.Lines.{text_of}
 use Rattle.text_lines.specs.Spelled.{lines_text, line_text, is_line, numbered}
-use Rattle.text_lines.proofs.Written.{lines_read}
+use Rattle.knot_text.proofs.Written.{lines_read}
 use Rattle.verdict_core.specs.declared.diagrams.Diagram.{Diagram}
 use Rattle.verdict_core.specs.declared.diagrams.Diagram.TheVariants.{Grid, Braid}
 use Rattle.verdict_core.specs.declared.verdict.Verdict.{Verdict}
 use Rattle.verdict_core.specs.declared.verdict.Verdict.TheVariants.{Different}
 use Rattle.verdict_core.specs.declared.problem.ProblemText.{ProblemText}
 use Rattle.knot_text.specs.declared.shapes.ReplayText.{ReplayText}
-use Rattle.verdict_core.specs.Names.{NamedQuandle}
+use Rattle.named_quandles.specs.Names.{NamedQuandle}
 use Rattle.verdict_core.specs.Diagrams.{columns}
-use Rattle.knot_text.specs.Shapes.{problem_of, check_of, replay_of}
+use Rattle.verdict_text.specs.Problems.{problem_of, check_of}
+use Rattle.knot_text.specs.Shapes.{replay_of}
 use Rattle.knot_text.specs.Printed.{grid_lines, grid_text, moves_lines, moves_text, HaveMovesText, quandle_lines, quandle_text, HasQuandleText}
 use Rattle.knot_text.specs.Printed.{list_lines, verdict_lines, version_lines, HasListText, HasVersionText, diagram_lines, HasDiagramText, colours_lines}
 use Rattle.knot_text.specs.Printed.{colours_text}
 use Rattle.knot_text.specs.WrittenThere.{tokens_by_line, said_by, listed_lines, HasProblemText, problem_lines, given_lines, HasGivenText}
 use Rattle.knot_text.specs.WrittenThere.{HasReplayText, replay_lines}
 use Rattle.knot_text.proofs.StepsAgain.{all_short}
-use Rattle.verdict_core.proofs.Named.{names_order}
+use Rattle.named_quandles.proofs.Named.{names_order}
 use Rattle.knot_text.proofs.Words.{both_lines, front_lines, grid_words, moves_words, verdict_words, version_words, numbers_words}
-use Rattle.knot_text.specs.declared.verdicts.Version.{Version}
+use Rattle.verdict_text.specs.declared.verdicts.Version.{Version}
 use Rattle.text_laws.proofs.BraidAgain.{braid_words}
 use Rattle.text_laws.proofs.WrittenAgain.{numbered_tokens}
 use Rattle.text_laws.proofs.ShapesAgain.{diagram_grid, problem_in_written, check_in_written, replay_in_written}

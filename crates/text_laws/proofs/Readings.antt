@@ -11,12 +11,13 @@ use Rattle.knot_text.specs.declared.shapes.ReplayText.{ReplayText}
 use Rattle.knot_text.specs.declared.shapes.ColourText.{ColourText}
 use Rattle.knot_text.specs.declared.shapes.CloseText.{CloseText}
 use Rattle.text_items.specs.Grids.{grid_item}
-use Rattle.text_items.specs.Moves.{moves_item}
-use Rattle.knot_text.specs.Verdicts.{verdict_item}
-use Rattle.knot_text.specs.Shapes.{problem_of, check_of, replay_of, colour_of, close_of, lone_diagram_of}
+use Rattle.diagram_items.specs.Moves.{moves_item}
+use Rattle.verdict_text.specs.Verdicts.{verdict_item}
+use Rattle.verdict_text.specs.Problems.{problem_of, check_of}
+use Rattle.knot_text.specs.Shapes.{replay_of, colour_of, close_of, lone_diagram_of}
 use Rattle.knot_text.specs.Pairs.{pair_of}
 use Rattle.knot_text.specs.Printed.{grid_text, moves_text, HaveMovesText, version_text, HasVersionText}
-use Rattle.knot_text.specs.declared.verdicts.Version.{Version}
+use Rattle.verdict_text.specs.declared.verdicts.Version.{Version}
 use Rattle.knot_text.specs.WrittenThere.{said_by, IsProblemText, IsCheckText, IsColourText, IsCloseText, IsPairText}
 use Rattle.knot_text.proofs.Steady.{ok_is}
 use Rattle.knot_text.proofs.ReadBack.{grid_read, moves_read, verdict_read}

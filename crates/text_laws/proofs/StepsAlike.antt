@@ -6,7 +6,7 @@ use Rattle.braid_moves.specs.declared.step.BraidMove.TheVariants.{Far, Triple, C
 use Rattle.text_lines.specs.Lines.{Text}
 use Rattle.text_items.specs.declared.reading.TheConstants.{MAX_PLACE, MAX_LETTER}
 use Rattle.text_items.specs.Braids.{letter_of}
-use Rattle.text_items.specs.BraidSteps.{last_letter, bounded_letter, insert, grow, shrink, step_at, next_step, steps_item}
+use Rattle.knot_text.specs.BraidSteps.{last_letter, bounded_letter, insert, grow, shrink, step_at, next_step, steps_item}
 use Rattle.knot_text.proofs.StepsAgain.{line_of}
 use Rattle.text_laws.proofs.Alike.{Alike, alike_ok, alike_err, alike_if, Same, SameRest, SameText, SameLeft, same_bind, line_bind, rest_bind}
 use Rattle.text_laws.proofs.Alike.{next_bind}

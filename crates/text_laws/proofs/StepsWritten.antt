@@ -9,12 +9,12 @@ use Rattle.braid_moves.specs.declared.step.BraidMove.{BraidMove}
 use Rattle.braid_moves.specs.declared.step.BraidMove.TheVariants.{Far, Triple, Cancel, Insert, Turn, Grow, Shrink}
 use Rattle.text_lines.specs.Lines.{Text, text_of, text_from}
 use Rattle.text_lines.specs.Spelled.{is_word, is_line, numbered}
-use Rattle.text_lines.proofs.Written.{lines_read}
+use Rattle.knot_text.proofs.Written.{lines_read}
 use Rattle.text_items.specs.declared.reading.TheConstants.{MAX_PLACE, MAX_LETTER}
 use Rattle.knot_text.specs.declared.braid_checks.BraidCheckText.{BraidCheckText}
 use Rattle.text_items.specs.Reading.{next_line, next_token, line_end, in_turn}
 use Rattle.text_items.specs.Braids.{letter_of}
-use Rattle.text_items.specs.BraidSteps.{last_letter, insert, grow, shrink, step_at, next_step, step_lines, steps_item}
+use Rattle.knot_text.specs.BraidSteps.{last_letter, insert, grow, shrink, step_at, next_step, step_lines, steps_item}
 use Rattle.knot_text.specs.BraidChecks.{braidcheck_in, braidcheck_of}
 use Rattle.knot_text.specs.Printed.{letter_token, braid_lines, sign_word, step_tokens, steps_head, steps_lines, steps_text, HasStepText, HaveStepsText}
 use Rattle.knot_text.specs.WrittenThere.{tokens_by_line, said_by, SaysStep, SaySteps, AreStepsLines, StepsInFront, IsBraidCheckText}

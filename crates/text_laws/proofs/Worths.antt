@@ -8,7 +8,7 @@ use Rattle.std.proofs.lemmas.Bool.Decides.{leb_tells}
 use Rattle.std.proofs.lemmas.Fmt.{decimal-digits_value, length-decimal-le}
 use Rattle.std.proofs.lemmas.Str.Parse.{IsNumeralModel}
 use Rattle.text_lines.proofs.Digits.{number_digits}
-use Rattle.text_lines.proofs.NumberTexts.{zero_by}
+use Rattle.knot_text.proofs.NumberTexts.{zero_by}
 use Rattle.text_lines.specs.declared.numbers.TheConstants.{MAX_DIGITS, OVERLONG}
 use Rattle.text_lines.specs.Numbers.{is_number}
 use Rattle.text_items.specs.declared.reading.TheConstants.{MAX_NUMBER}

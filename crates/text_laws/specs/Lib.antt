@@ -4,19 +4,20 @@ pub use Rattle.text_items.specs.Reading
 pub use Rattle.text_items.specs.Numbers
 pub use Rattle.text_items.specs.Grids
 pub use Rattle.text_items.specs.Braids
-pub use Rattle.text_items.specs.Moves
+pub use Rattle.diagram_items.specs.Moves
 pub use Rattle.text_items.specs.Quandles
-pub use Rattle.text_items.specs.Colours
-pub use Rattle.knot_text.specs.Verdicts
+pub use Rattle.knot_text.specs.Colours
+pub use Rattle.verdict_text.specs.Verdicts
 pub use Rattle.knot_text.specs.Shapes
 pub use Rattle.knot_text.specs.Pairs
-pub use Rattle.text_items.specs.BraidSteps
+pub use Rattle.knot_text.specs.BraidSteps
 pub use Rattle.knot_text.specs.BraidChecks
 pub use Rattle.knot_text.specs.Weights
 pub use Rattle.knot_text.specs.Printed
 pub use Rattle.knot_text.specs.WrittenThere
 pub use Rattle.knot_text.specs.FirstBadLine
 pub use Rattle.text_lines.specs.Lines
+pub use Rattle.text_lines.specs.Numbers as NumberTokens
 pub use Rattle.text_lines.specs.Spelled
 pub use Rattle.verdict_core.specs.Diagrams
-pub use Rattle.verdict_core.specs.Names
+pub use Rattle.named_quandles.specs.Names

@@ -16,8 +16,8 @@ use Rattle.text_lines.specs.Lines.{NumberedLine, starts}
 use Rattle.text_lines.specs.Numbers.{is_number}
 use Rattle.text_items.specs.declared.fault.TextFault.{TextFault}
 use Rattle.text_items.specs.declared.fault.TextFault.TheVariants.{Malformed, Limit}
-use Rattle.knot_text.specs.declared.verdicts.TheConstants.{TIDY_VERSION}
-use Rattle.text_items.specs.declared.cocycles.TheConstants.{MAX_MODULUS}
+use Rattle.verdict_text.specs.declared.verdicts.TheConstants.{TIDY_VERSION}
+use Rattle.text_items.specs.declared.modulus.TheConstants.{MAX_MODULUS}
 use Rattle.text_items.specs.Grids.{are_rows}
 
 -- of the tokens of a line: they have the form; they exceed a limit; they say what can be

@@ -1,13 +1,8 @@
-mod FirstLine
-mod FirstPlace
-mod FirstToken
-mod Ends
-mod Steps
+pub mod FirstLine
+pub mod FirstPlace
+pub mod FirstToken
+pub mod Ends
+pub mod Steps
 pub mod Digits
-pub mod Parted
-pub mod LastFeed
-pub mod Written
-pub mod NumberTexts
-mod WorkedRows
 pub mod LineTexts
 pub mod Parts

@@ -3,7 +3,6 @@
 #![tactic(auto)]
 
 mod cutting;
-pub mod laws;
 mod line;
 mod lines;
 mod numbers;

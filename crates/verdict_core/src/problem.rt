@@ -1,8 +1,8 @@
 //! What is asked of two diagrams.
 
 use crate::diagrams::Diagram;
-use crate::names::Listed;
 use memory_core::Items;
+use named_quandles::Listed;
 
 /// Two diagrams, and the quandles by which they are to be compared, in the listed order.
 #[derive(Drop)]

@@ -1,9 +1,9 @@
 //! What is said of two diagrams.
 
-use crate::names::Listed;
 use colour_rows::Colouring;
 use grid_moves::Move;
 use memory_core::Items;
+use named_quandles::Listed;
 
 /// What is said of two diagrams, with the evidence.
 #[derive(Drop)]

@@ -15,7 +15,7 @@ use Rattle.grid_moves.specs.declared.step.MoveFault.{MoveFault}
 use Rattle.grid_moves.specs.MoveFault.{first_fault, shift_fault}
 use Rattle.grid_moves.specs.Step.{Step}
 use Rattle.grid_moves.specs.SizeAfter.{size_after}
-use Rattle.grid_moves.proofs.Sizes.{step_size}
+use Rattle.grid_laws.proofs.Sizes.{step_size}
 use Rattle.next_moves.proofs.Members.{contains_filter, filter_contains, contains_first}
 use Rattle.walk_samples.specs.declared.walk.TheConstants.{LARGEST}
 use Rattle.walk_samples.specs.declared.candidates.Candidate.{Candidate}

@@ -8,8 +8,8 @@ use Rattle.quandle_core.specs.Quandle.{Table}
 use Rattle.quandle_core.specs.Tables.{trivial, dihedral, tetrahedral}
 use Rattle.colour_list.specs.Listing.{colourings}
 use Rattle.text_lines.specs.Spelled.{line_bytes, line_text}
-use Rattle.verdict_core.specs.declared.names.QuandleName.{QuandleName}
-use Rattle.verdict_core.specs.declared.names.QuandleName.TheVariants as name
+use Rattle.named_quandles.specs.declared.names.QuandleName.{QuandleName}
+use Rattle.named_quandles.specs.declared.names.QuandleName.TheVariants as name
 use Rattle.knot_text.specs.Printed.{name_tokens}
 use Rattle.walk_samples.specs.Text.{counts_text, walk_text}
 

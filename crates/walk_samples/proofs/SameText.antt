@@ -11,7 +11,7 @@ use Rattle.quandle_core.specs.Quandle.{Table, IsQuandle}
 use Rattle.quandle_core.specs.Tables.{trivial, dihedral, tetrahedral}
 use Rattle.quandle_core.proofs.Linear.{trivial_is, dihedral_is, tetrahedral_is}
 use Rattle.colour_list.specs.Listing.{colourings}
-use Rattle.colour_laws.proofs.Counted.{equivalent_lengths}
+use Rattle.carried_colours.proofs.Counted.{equivalent_lengths}
 use Rattle.walk_samples.specs.declared.walk.TheConstants.{TURNS, LARGEST}
 use Rattle.grid_core.specs.Trefoils.{right_trefoil}
 use Rattle.walk_samples.specs.Walk.{words, generator_of, Walks}

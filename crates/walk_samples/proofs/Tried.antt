@@ -20,9 +20,9 @@ use Rattle.grid_moves.specs.Step.{Step}
 use Rattle.grid_moves.proofs.OneResult.{step_exists, step_legal}
 use Rattle.grid_keys.proofs.LeastTranslates.{map_contains, flat_map_contains, range_contains}
 use Rattle.grid_core.specs.Corners.{corners}
-use Rattle.grid_core.proofs.CornerList.{corner_listed}
+use Rattle.grid_laws.proofs.CornerList.{corner_listed}
 use Rattle.grid_moves.specs.SizeAfter.{size_after}
-use Rattle.grid_moves.proofs.Sizes.{step_size}
+use Rattle.grid_laws.proofs.Sizes.{step_size}
 use Rattle.next_moves.proofs.Members.{contains_filter, filter_contains}
 use Rattle.walk_samples.specs.declared.walk.TheConstants.{LARGEST}
 use Rattle.grid_moves.specs.Kinds.{is_slide}

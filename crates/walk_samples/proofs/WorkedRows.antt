@@ -3,7 +3,7 @@ use Rattle.std.proofs.Common.{◌≡◌, ◌∷◌, [], refl, length, take}
 use Rattle.grid_core.specs.Diagram.{Diagram}
 use Rattle.grid_core.specs.declared.mark.Kind.TheVariants.{Cross, Ring}
 use Rattle.grid_core.specs.declared.mark.Corner.TheVariants.{LowLeft, LowRight, HighLeft, HighRight}
-use Rattle.grid_core.proofs.WorkedRows.{unknot}
+use Rattle.grid_laws.proofs.WorkedDiagrams.{unknot}
 use Rattle.grid_moves.specs.declared.step.Move.TheVariants.{ShiftColumns, ShiftRows, Stabilise, Destabilise}
 use Rattle.walk_samples.specs.Candidates.{candidates}
 use Rattle.grid_core.specs.Trefoils.{right_trefoil}

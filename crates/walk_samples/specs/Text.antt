@@ -5,7 +5,7 @@ use Rattle.grid_core.specs.Diagram.{Diagram}
 use Rattle.grid_moves.specs.declared.step.Move.{Move}
 use Rattle.colour_list.specs.Listing.{colourings}
 use Rattle.text_lines.specs.Spelled.{line_bytes, line_text, lines_text}
-use Rattle.verdict_core.specs.Names.{NamedQuandle}
+use Rattle.named_quandles.specs.Names.{NamedQuandle}
 use Rattle.text_items.specs.Quandles.{built_in}
 use Rattle.knot_text.specs.Printed.{name_tokens}
 use Rattle.verdict_core.specs.declared.verdict.Verdict.TheVariants.{Equal}

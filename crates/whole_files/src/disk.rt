@@ -1,5 +1,6 @@
 //! The places of the system, on disk.
 ghost use Rattle.std.specs.Prelude.{◌≡◌, ◌≤◌, None, true, false, is_some, length, take, string_bytes, IfOk, IfSome, OnOk, OnErr};
+ghost use Rattle.std.specs.Fs.{IsFile};
 ghost use Rattle.std.specs.Io.KnownBytes.{Keeps, Appends};
 ghost use Rattle.whole_files.specs.Place.{emptied};
 ghost use Rattle.whole_files.specs.Places.{PutsAt};
@@ -8,17 +9,24 @@ use crate::place::Place;
 use crate::places::Places;
 use crate::put::{put_whole, try_place};
 use knot_ports::{StdSink, give_all};
-use std::alloc::AllocError;
-use std::fs::{File, OpenOptions};
+use std::alloc::{AllocError, Global};
+use std::fs::{File, FileType, OpenOptions, Permissions};
 use std::io::Write;
+use std::os::unix::fs::PermissionsExt;
 use std::{fs, io, process};
 
-/// A path, and a new file beside it, as `NAME.PROCESS.part`. It tells a contract nothing of the bytes on disk.
+/// How many bytes of a file's name leave room for more behind it: a name has 255, and a process's number with what stands round it takes 16.
+const MAX_NAME: usize = 239;
+
+/// A path, and a new file beside it, as `NAME.PROCESS.part`, or `.PROCESS.part` where NAME is too long for that. It tells a contract
+/// nothing of the bytes on disk.
 #[derive(Drop)]
 struct DiskPlace<'a> {
     rt: &'a HostRuntime,
     path: &'a str,
     beside: String,
+    /// The mode of the file that stands at the path, if one does: the new one gets it too.
+    mode: Option<u32>,
     file: Option<File>,
     is_stored: bool,
 }
@@ -30,10 +38,30 @@ impl<'a> DiskPlace<'a> {
         Ok(DiskPlace {
             rt,
             path,
-            beside: format!(in rt.alloc(); "{path}.{own}.part")?,
+            beside: beside_of(rt.alloc(), path, own)?,
+            mode: mode_at(rt, path),
             file: None,
             is_stored: false,
         })
+    }
+}
+
+/// The path of the new file beside a path, by the number of the process.
+fn beside_of(alloc: Global, path: &str, own: u32) -> Result<String, AllocError> {
+    match path.rsplit_once('/') {
+        Some((folder, name)) if name.len() > MAX_NAME => {
+            format!(in alloc; "{folder}/.{own}.part")
+        }
+        None if path.len() > MAX_NAME => format!(in alloc; ".{own}.part"),
+        _ => format!(in alloc; "{path}.{own}.part"),
+    }
+}
+
+/// The mode of the file at a path; None where there is none.
+fn mode_at(rt: &HostRuntime, path: &str) -> Option<u32> {
+    match fs::metadata(rt, path) {
+        Ok(found) => Some(found.permissions().mode()),
+        Err(_) => None,
     }
 }
 
@@ -48,6 +76,12 @@ impl<'a> Place for DiskPlace<'a> {
 
     fn create(&mut self) -> io::Result<()> {
         let file = File::create_new(self.rt, self.beside.as_str())?;
+        if let Some(mode) = self.mode {
+            if let Err(error) = file.set_permissions(Permissions::from_mode(mode)) {
+                let _gone = fs::remove_file(self.rt, self.beside.as_str());
+                return Err(error);
+            }
+        }
         self.file = Some(file);
         self.is_stored = false;
         Ok(())
@@ -82,11 +116,13 @@ impl<'a> Place for DiskPlace<'a> {
     }
 }
 
-/// A device or a pipe, opened to be written where it is, and its path.
+/// A device or a pipe, opened to be written where it is, and its path: the system says that what stands there is no file with bytes of its own.
 #[derive(Drop)]
 struct Special {
     path: String,
+    kind: FileType,
     file: File,
+    ghost is_special: { IsFile kind → ⊥ },
 }
 
 /// The paths of the system, of which it tells a contract nothing. A file is put whole, from a new one beside it; a device or a pipe is
@@ -119,6 +155,9 @@ impl<'r> Places for DiskPlaces<'r> {
     ghost standing = { λ p. None };
 
     fn try_path(&mut self, path: &str) -> io::Result<()> {
+        if path.is_empty() {
+            return Err(io::Error::from(io::ErrorKind::NotFound));
+        }
         self.special = open_special(self.rt, path)?;
         if self.special.is_some() {
             return Ok(());
@@ -138,17 +177,21 @@ impl<'r> Places for DiskPlaces<'r> {
     }
 }
 
-/// The device or the pipe at a path, opened to be written where it is; None where a file with bytes of its own stands there, or nothing.
+/// The device or the pipe at a path, opened to be written where it is; None where a file with bytes of its own stands there, or nothing. An
+/// error comes where the system refuses the path, as one with too long a name.
 fn open_special(rt: &HostRuntime, path: &str) -> io::Result<Option<Special>>
     ensures { IfOk result (λ found. IfSome found (λ special. string_bytes special.path ≡ path.now)) }
 {
     match fs::metadata(rt, path) {
         Ok(found) if !found.is_file() => {
+            let kind = found.file_type();
             let file = OpenOptions::new().write(true).open(rt, path)?;
             let path = String::from_str(rt.alloc(), path)?;
-            Ok(Some(Special { path, file }))
+            Ok(Some(Special { path, kind, file }))
         }
-        Ok(_) | Err(_) => Ok(None),
+        Ok(_) => Ok(None),
+        Err(error) if error.kind() == io::ErrorKind::NotFound => Ok(None),
+        Err(error) => Err(error),
     }
 }
 

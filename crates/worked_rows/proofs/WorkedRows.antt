@@ -4,7 +4,7 @@ use Rattle.grid_core.specs.declared.grid.TheConstants.{MAX_SIZE}
 use Rattle.grid_core.specs.declared.mark.Kind.TheVariants.{Cross, Ring}
 use Rattle.grid_core.specs.declared.mark.Corner.TheVariants.{LowLeft, LowRight, HighLeft, HighRight}
 use Rattle.grid_core.specs.Diagram.{Diagram}
-use Rattle.grid_core.proofs.WorkedRows.{unknot}
+use Rattle.grid_laws.proofs.WorkedDiagrams.{unknot}
 use Rattle.grid_moves.specs.declared.step.Move.{Move}
 use Rattle.grid_moves.specs.declared.step.Move.TheVariants.{Stabilise, Destabilise}
 use Rattle.quandle_core.specs.Tables.{trivial, dihedral}

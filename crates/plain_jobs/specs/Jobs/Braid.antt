@@ -9,12 +9,12 @@ use Rattle.braid_core.specs.FixedPoints.{fixed_points}
 use Rattle.grid_braid.specs.Word.{word}
 use Rattle.text_lines.specs.Spelled.{lines_text}
 use Rattle.knot_text.specs.declared.shapes.ColourText.{ColourText}
-use Rattle.verdict_core.specs.Names.{NamedQuandle}
+use Rattle.named_quandles.specs.Names.{NamedQuandle}
 use Rattle.knot_text.specs.Printed.{braid_text, quandle_lines}
 use Rattle.verdict_core.specs.Diagrams.{grid_of}
-use Rattle.plain_jobs.specs.declared.reply.PlainReply.{PlainReply}
+use Rattle.reply_text.specs.declared.reply.PlainReply.{PlainReply}
 use Rattle.plain_jobs.specs.Lines.{listing_lines, wide_lines}
-use Rattle.plain_jobs.specs.Reply.{done}
+use Rattle.reply_text.specs.Reply.{done}
 
 -- all tuples of colours, in lexicographic order, that the action of a diagram's word takes to themselves, or the diagram's number of
 -- bottoms, where there are too many choices of a colour for each

@@ -8,8 +8,8 @@ use Rattle.braid_moves.specs.declared.ruling.BraidRuling.TheVariants.{Accepted, 
 use Rattle.braid_moves.specs.Ruling.{ruling}
 use Rattle.text_lines.specs.Spelled.{line_text}
 use Rattle.knot_text.specs.declared.braid_checks.BraidCheckText.{BraidCheckText}
-use Rattle.plain_jobs.specs.declared.reply.PlainReply.{PlainReply}
-use Rattle.plain_jobs.specs.Reply.{done, rejected}
+use Rattle.reply_text.specs.declared.reply.PlainReply.{PlainReply}
+use Rattle.reply_text.specs.Reply.{done, rejected}
 
 -- why a step is not legal; want of memory is the fault of no ruling, by law, and has no word
 abbrev pub braid_fault_tokens : BraidMoveFault → List (List ℕ)

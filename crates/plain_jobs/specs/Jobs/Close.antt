@@ -10,11 +10,11 @@ use Rattle.braid_core.specs.FixedPoints.{fixed_points}
 use Rattle.braid_closure.specs.Closure.{closure, feet}
 use Rattle.text_lines.specs.Spelled.{line_text, lines_text}
 use Rattle.knot_text.specs.declared.shapes.CloseText.{CloseText}
-use Rattle.verdict_core.specs.Names.{NamedQuandle}
+use Rattle.named_quandles.specs.Names.{NamedQuandle}
 use Rattle.knot_text.specs.Printed.{grid_text, quandle_lines}
-use Rattle.plain_jobs.specs.declared.reply.PlainReply.{PlainReply}
+use Rattle.reply_text.specs.declared.reply.PlainReply.{PlainReply}
 use Rattle.plain_jobs.specs.Lines.{listing_lines, wide_lines}
-use Rattle.plain_jobs.specs.Reply.{done}
+use Rattle.reply_text.specs.Reply.{done}
 
 -- all fixed points of a braid's action, or its number of strands, where there are too many tuples to try
 abbrev pub fixed_lines : Word → Table → List (List (List ℕ))

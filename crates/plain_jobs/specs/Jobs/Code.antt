@@ -5,8 +5,8 @@ use Rattle.crossing_codes.specs.Code.{code}
 use Rattle.crossing_codes.specs.Printed.{pd_text, gauss_text}
 use Rattle.verdict_core.specs.declared.diagrams.Diagram.{Diagram}
 use Rattle.verdict_core.specs.Diagrams.{grid_of}
-use Rattle.plain_jobs.specs.declared.reply.PlainReply.{PlainReply}
-use Rattle.plain_jobs.specs.Reply.{done}
+use Rattle.reply_text.specs.declared.reply.PlainReply.{PlainReply}
+use Rattle.reply_text.specs.Reply.{done}
 
 -- the planar diagram code, and the signed Gauss code of each component that has a crossing
 abbrev pub code_text : Marks → List ℕ

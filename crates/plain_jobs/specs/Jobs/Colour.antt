@@ -8,12 +8,12 @@ use Rattle.colour_list.specs.Fits.{fits}
 use Rattle.colour_list.specs.Listing.{colourings}
 use Rattle.text_lines.specs.Spelled.{lines_text}
 use Rattle.knot_text.specs.declared.shapes.ColourText.{ColourText}
-use Rattle.verdict_core.specs.Names.{NamedQuandle}
+use Rattle.named_quandles.specs.Names.{NamedQuandle}
 use Rattle.knot_text.specs.Printed.{quandle_lines}
 use Rattle.verdict_core.specs.Diagrams.{grid_of}
-use Rattle.plain_jobs.specs.declared.reply.PlainReply.{PlainReply}
+use Rattle.reply_text.specs.declared.reply.PlainReply.{PlainReply}
 use Rattle.plain_jobs.specs.Lines.{listing_lines, wide_lines}
-use Rattle.plain_jobs.specs.Reply.{done}
+use Rattle.reply_text.specs.Reply.{done}
 
 -- all colourings of a diagram, or its number of bottoms, where there are too many choices to try
 abbrev pub colourings_lines : Diagram → Table → List (List (List ℕ))

@@ -11,9 +11,9 @@ use Rattle.code_text.specs.declared.whole.CodeText.{CodeText}
 use Rattle.code_text.specs.declared.refusal.TextRefusal.{TextRefusal}
 use Rattle.code_text.specs.declared.refusal.TextRefusal.TheVariants.{Rows, Gauss, Columns, Lost}
 use Rattle.code_text.specs.TextGrid.{IsAnswer}
-use Rattle.decision_core.specs.declared.status.Status.TheVariants as status
-use Rattle.plain_jobs.specs.declared.reply.PlainReply.{PlainReply}
-use Rattle.plain_jobs.specs.Reply.{plain_reply, done, rejected}
+use Rattle.knot_ports.specs.declared.status.Status.TheVariants as status
+use Rattle.reply_text.specs.declared.reply.PlainReply.{PlainReply}
+use Rattle.reply_text.specs.Reply.{plain_reply, done, rejected}
 
 -- why rows are no code; edges are told by their names
 abbrev pub rows_fault_tokens : RowsFault → List (List ℕ)

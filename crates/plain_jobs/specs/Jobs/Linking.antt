@@ -8,9 +8,9 @@ use Rattle.text_lines.specs.Spelled.{line_text}
 use Rattle.verdict_core.specs.declared.diagrams.Diagram.{Diagram}
 use Rattle.knot_text.specs.Printed.{letter_token}
 use Rattle.verdict_core.specs.Diagrams.{grid_of}
-use Rattle.plain_jobs.specs.declared.reply.PlainReply.{PlainReply}
+use Rattle.reply_text.specs.declared.reply.PlainReply.{PlainReply}
 use Rattle.plain_jobs.specs.Comparison.{compared_line}
-use Rattle.plain_jobs.specs.Reply.{done}
+use Rattle.reply_text.specs.Reply.{done}
 
 -- the linking numbers of all ordered pairs of different components, in ascending order
 abbrev pub numbers_line : Marks → List ℕ

@@ -9,15 +9,15 @@ use Rattle.grid_moves.specs.Joining.{Joins, StopsAt}
 use Rattle.grid_moves.specs.Step.{Step}
 use Rattle.quandle_core.specs.Quandle.{Table}
 use Rattle.colour_rows.specs.Colouring.{is_colouring}
-use Rattle.colour_laws.specs.Carried.{carried}
+use Rattle.carried_colours.specs.Carried.{carried}
 use Rattle.text_lines.specs.Spelled.{line_text}
 use Rattle.knot_text.specs.declared.shapes.ReplayText.{ReplayText}
-use Rattle.verdict_core.specs.Names.{NamedQuandle}
+use Rattle.named_quandles.specs.Names.{NamedQuandle}
 use Rattle.knot_text.specs.Printed.{grid_text}
 use Rattle.verdict_core.specs.Diagrams.{grid_of}
-use Rattle.plain_jobs.specs.declared.reply.PlainReply.{PlainReply}
-use Rattle.plain_jobs.specs.Lines.{step_tokens}
-use Rattle.plain_jobs.specs.Reply.{done, rejected}
+use Rattle.reply_text.specs.declared.reply.PlainReply.{PlainReply}
+use Rattle.reply_text.specs.Lines.{step_tokens}
+use Rattle.reply_text.specs.Reply.{done, rejected}
 
 -- the moves, one after another, lead from d to e and carry these colours of d to those of e
 abbrev pub Carries : Table → Diagram → List ℕ → List Move → Diagram → List ℕ → Type 0

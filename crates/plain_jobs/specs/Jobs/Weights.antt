@@ -11,12 +11,12 @@ use Rattle.colour_weights.specs.Weights.{weights}
 use Rattle.shadow_weights.specs.Weights.{shadow_weights}
 use Rattle.text_lines.specs.Spelled.{line_text}
 use Rattle.verdict_core.specs.Diagrams.{grid_of}
-use Rattle.number_text.specs.declared.weighed.Weighing.{Weighing}
-use Rattle.number_text.specs.declared.weighed.Weighing.TheVariants.{Strands, Regions}
-use Rattle.number_text.specs.declared.weighed.WeighedText.{WeighedText}
-use Rattle.plain_jobs.specs.declared.reply.PlainReply.{PlainReply}
+use Rattle.block_text.specs.declared.weighed.Weighing.{Weighing}
+use Rattle.block_text.specs.declared.weighed.Weighing.TheVariants.{Strands, Regions}
+use Rattle.block_text.specs.declared.weighed.WeighedText.{WeighedText}
+use Rattle.reply_text.specs.declared.reply.PlainReply.{PlainReply}
 use Rattle.plain_jobs.specs.Comparison.{compared_line}
-use Rattle.plain_jobs.specs.Reply.{done}
+use Rattle.reply_text.specs.Reply.{done}
 
 -- for each weight, from 0 on, how many colourings have it, or how many pairs of a colouring and a colour of the outer region
 abbrev pub weights_by : Weighing → Marks → List ℕ

@@ -14,13 +14,11 @@ ghost use Rattle.grid_braid.specs.Feet.{at_feet};
 ghost use Rattle.text_lines.specs.Spelled.{lines_text};
 ghost use Rattle.knot_text.specs.Printed.{braid_text};
 ghost use Rattle.knot_text.specs.Shapes.{colour_of};
-ghost use Rattle.plain_jobs.specs.Reply.{AnswersRead};
+ghost use Rattle.reply_text.specs.Reply.{AnswersRead};
 ghost use Rattle.plain_jobs.specs.Jobs.Braid.{word_fixed_lines, word_fixed_text, word_text, AnswersBraid};
 
 use crate::jobs::colour::push_listing;
-use crate::reply::PlainReply;
-use braid_core::laws::the_fixed_points_are_listed;
-use colour_list::laws::{each_colouring_is_listed_once, the_complete_list_ascends};
+use braid_laws::braids::the_fixed_points_are_listed;
 use colour_list::{ListFault, list};
 use colour_rows::Colouring;
 use decision_core::Status;
@@ -29,6 +27,8 @@ use grid_braid::{feet_of, word_of};
 use grid_core::Grid;
 use knot_text::{ColourText, Listed, push_braid, push_quandle, read_colour};
 use quandle_core::Quandle;
+use quandle_laws::lists::{each_colouring_is_listed_once, the_complete_list_ascends};
+use reply_text::PlainReply;
 use std::alloc::{AllocError, Global};
 use text_lines::push_counted;
 

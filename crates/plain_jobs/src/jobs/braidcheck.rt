@@ -4,17 +4,17 @@ ghost use Rattle.std.specs.List.{flat_map};
 ghost use Rattle.text_lines.specs.Spelled.{spaced};
 ghost use Rattle.knot_text.specs.BraidChecks.{braidcheck_of};
 ghost use Rattle.plain_jobs.specs.EquallyMany.{HaveEquallyMany};
-ghost use Rattle.plain_jobs.specs.Lines.{rejected_line};
-ghost use Rattle.plain_jobs.specs.Reply.{AnswersRead};
+ghost use Rattle.reply_text.specs.Lines.{rejected_line};
+ghost use Rattle.reply_text.specs.Reply.{AnswersRead};
 ghost use Rattle.plain_jobs.specs.Jobs.Braidcheck.{braid_fault_tokens, braid_step_tokens, ruled_reply, AnswersBraidcheck};
 ghost use Rattle.plain_jobs.specs.Truth.{IsBraidCertificate};
 
 use crate::laws::accepted_braids_have_equally_many_colourings;
-use crate::lines::push_spaced;
-use crate::reply::PlainReply;
 use braid_moves::{BraidMoveFault, BraidRuling, check_braids};
 use decision_core::Status;
 use knot_text::{BraidCheckText, read_braidcheck};
+use reply_text::PlainReply;
+use reply_text::lines::push_spaced;
 use std::alloc::{AllocError, Global};
 
 /// The answer to the bytes of two braids and steps between them.

@@ -8,15 +8,15 @@ ghost use Rattle.text_lines.specs.Spelled.{lines_text};
 ghost use Rattle.knot_text.specs.Printed.{grid_text};
 ghost use Rattle.knot_text.specs.Shapes.{close_of};
 ghost use Rattle.plain_jobs.specs.Lines.{listing_lines};
-ghost use Rattle.plain_jobs.specs.Reply.{AnswersRead};
+ghost use Rattle.reply_text.specs.Reply.{AnswersRead};
 ghost use Rattle.plain_jobs.specs.Jobs.Close.{fixed_lines, fixed_text, feet_line, close_text, AnswersClose};
 
-use crate::reply::PlainReply;
 use braid_closure::close;
 use braid_core::{Braid, FixFault, Tuple, fixed_points};
 use decision_core::Status;
 use knot_text::{CloseText, Listed, print_grid, push_quandle, read_close};
 use quandle_core::Quandle;
+use reply_text::PlainReply;
 use std::alloc::{AllocError, Global};
 use text_lines::{push_counted, push_number_line, push_word_line};
 

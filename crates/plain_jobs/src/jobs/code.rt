@@ -1,15 +1,15 @@
 //! The job `code`: the crossing code of a diagram.
 ghost use Rattle.std.specs.Prelude.{◌≡◌, IfOk};
 ghost use Rattle.knot_text.specs.Shapes.{lone_diagram_of};
-ghost use Rattle.plain_jobs.specs.Reply.{AnswersRead};
+ghost use Rattle.reply_text.specs.Reply.{AnswersRead};
 ghost use Rattle.plain_jobs.specs.Jobs.Code.{code_text, AnswersCode};
 
-use crate::reply::PlainReply;
 use crossing_codes::{code_of, gauss_text, pd_text};
 use decision_core::Status;
 use grid_core::Grid;
 use knot_text::{Diagram, read_diagram};
 use memory_core::OutOfMemory;
+use reply_text::PlainReply;
 use std::alloc::{AllocError, Global};
 
 /// The answer to the bytes of a diagram.

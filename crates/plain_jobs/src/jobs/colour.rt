@@ -4,16 +4,16 @@ ghost use Rattle.colour_list.specs.Listing.{lists_of};
 ghost use Rattle.text_lines.specs.Spelled.{lines_text};
 ghost use Rattle.knot_text.specs.Shapes.{colour_of};
 ghost use Rattle.plain_jobs.specs.Lines.{listing_lines};
-ghost use Rattle.plain_jobs.specs.Reply.{AnswersRead};
+ghost use Rattle.reply_text.specs.Reply.{AnswersRead};
 ghost use Rattle.plain_jobs.specs.Jobs.Colour.{colourings_lines, listed_text, colour_text, AnswersColour};
 
-use crate::reply::PlainReply;
 use colour_list::{ListFault, list};
 use colour_rows::Colouring;
 use decision_core::Status;
 use grid_core::Grid;
 use knot_text::{ColourText, Listed, push_list, push_quandle, read_colour};
 use quandle_core::Quandle;
+use reply_text::PlainReply;
 use std::alloc::{AllocError, Global};
 use text_lines::push_counted;
 

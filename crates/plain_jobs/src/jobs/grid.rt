@@ -6,13 +6,13 @@ ghost use Rattle.code_text.specs.Whole.{code_text_of};
 ghost use Rattle.grid_core.specs.Diagram.{Diagram, IsGrid};
 ghost use Rattle.knot_text.specs.Printed.{grid_text};
 ghost use Rattle.plain_jobs.specs.Jobs.Grid.{rows_fault_tokens, columns_reply, refused_reply, AnswersGrid};
-ghost use Rattle.plain_jobs.specs.Reply.{plain_reply, rejected, AnswersRead};
+ghost use Rattle.reply_text.specs.Reply.{plain_reply, rejected, AnswersRead};
 
-use crate::reply::PlainReply;
 use code_rows::RowsFault;
 use code_text::{CodeText, TextRefusal, grid_of_text, read_code};
 use decision_core::Status;
 use knot_text::print_grid;
+use reply_text::PlainReply;
 use std::alloc::{AllocError, Global};
 use text_lines::push_counted;
 

@@ -4,19 +4,19 @@ ghost use Rattle.grid_moves.specs.Joining.{Equivalent};
 ghost use Rattle.verdict_core.specs.Diagrams.{grid_of};
 ghost use Rattle.knot_text.specs.Pairs.{pair_of};
 ghost use Rattle.plain_jobs.specs.Comparison.{EndsDifferent};
-ghost use Rattle.plain_jobs.specs.Reply.{AnswersRead};
+ghost use Rattle.reply_text.specs.Reply.{AnswersRead};
 ghost use Rattle.plain_jobs.specs.Jobs.Linking.{linking_text, AnswersLinking};
 ghost use Rattle.plain_jobs.specs.Truth.{IsTrueLinking};
 
 use crate::comparison::push_comparison;
-use crate::reply::PlainReply;
 use decision_core::Status;
 use grid_core::Grid;
 use knot_text::{Diagram, push_letter_line, read_pair};
-use linking_core::laws::equivalent_diagrams_have_equal_linking_numbers;
 use linking_core::linking;
 use memory_core::OutOfMemory;
+use reply_text::PlainReply;
 use std::alloc::{AllocError, Global};
+use weight_laws::linking::equivalent_diagrams_have_equal_linking_numbers;
 
 /// The answer to the bytes of two diagrams.
 pub(crate) fn answer(alloc: Global, bytes: &[u8]) -> Result<PlainReply, AllocError>

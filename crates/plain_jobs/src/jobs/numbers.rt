@@ -1,13 +1,13 @@
 //! The job `numbers`: how many colourings a diagram has by the listed quandles, and by cocycles how many of each weight.
 ghost use Rattle.std.specs.Prelude.{IfOk};
-ghost use Rattle.number_text.specs.Numbered.{numbers_of};
-ghost use Rattle.plain_jobs.specs.Reply.{AnswersRead};
+ghost use Rattle.block_text.specs.Numbered.{numbers_of};
+ghost use Rattle.reply_text.specs.Reply.{AnswersRead};
 ghost use Rattle.plain_jobs.specs.Jobs.Numbers.{AnswersNumbers};
 
-use crate::reply::PlainReply;
-use colour_numbers::numbers_text;
+use block_text::{NumbersText, read_numbers};
 use decision_core::Status;
-use number_text::{NumbersText, read_numbers};
+use number_certificates::numbers_text;
+use reply_text::PlainReply;
 use std::alloc::{AllocError, Global};
 
 /// The answer to the bytes of a diagram and blocks.

@@ -3,12 +3,10 @@ ghost use Rattle.std.specs.Prelude.{◌≡◌, ◌⊎◌, IfOk, IfErr};
 ghost use Rattle.grid_moves.specs.Joining.{StopsAt};
 ghost use Rattle.colour_rows.specs.Colouring.{IsColouring};
 ghost use Rattle.knot_text.specs.Shapes.{replay_of};
-ghost use Rattle.plain_jobs.specs.Lines.{step_tokens};
-ghost use Rattle.plain_jobs.specs.Reply.{rejected, AnswersRead};
+ghost use Rattle.reply_text.specs.Lines.{step_tokens};
+ghost use Rattle.reply_text.specs.Reply.{rejected, AnswersRead};
 ghost use Rattle.plain_jobs.specs.Jobs.Replay.{Carries, coloured_text, Replays, Stops, Miscoloured, Coloured, AnswersReplay};
 
-use crate::lines::{miscoloured_line, step_line};
-use crate::reply::PlainReply;
 use colour_laws::carry;
 use colour_rows::{Colouring, is_colouring};
 use decision_core::Status;
@@ -16,6 +14,8 @@ use grid_core::Grid;
 use grid_moves::{Move, MoveFault, apply, apply_all};
 use knot_text::{Listed, ReplayText, print_grid, read_replay};
 use quandle_core::Quandle;
+use reply_text::PlainReply;
+use reply_text::lines::{miscoloured_line, step_line};
 use std::alloc::{AllocError, Global};
 use text_lines::push_word_line;
 

@@ -6,27 +6,27 @@ ghost use Rattle.colour_weights.specs.Weights.{weights};
 ghost use Rattle.shadow_weights.specs.Weights.{shadow_weights};
 ghost use Rattle.grid_core.specs.Diagram.{Diagram as Marks};
 ghost use Rattle.verdict_core.specs.Diagrams.{grid_of};
-ghost use Rattle.number_text.specs.Weighed.{weighed_of};
+ghost use Rattle.block_text.specs.Weighed.{weighed_of};
 ghost use Rattle.plain_jobs.specs.Comparison.{EndsDifferent};
-ghost use Rattle.plain_jobs.specs.Reply.{AnswersRead};
+ghost use Rattle.reply_text.specs.Reply.{AnswersRead};
 ghost use Rattle.plain_jobs.specs.Jobs.Weights.{weights_by, table_by, weighed_text, wide_line, weights_text, AnswersWeights};
 ghost use Rattle.plain_jobs.specs.Truth.{IsTrueWeighing};
 
 use crate::comparison::push_comparison;
-use crate::reply::PlainReply;
+use block_text::{WeighedText, Weighing, read_weighed};
 use cocycle_core::Cocycle;
 use colour_list::{ListFault, fits};
-use colour_numbers::push_number_line;
-use colour_weights::laws::equivalent_diagrams_have_equal_weights;
 use colour_weights::weights;
 use decision_core::Status;
 use grid_core::Grid;
-use number_text::{WeighedText, Weighing, read_weighed};
+use number_certificates::push_number_line;
 use quandle_core::Quandle;
-use shadow_weights::laws::equivalent_diagrams_have_equal_shadow_weights;
+use reply_text::PlainReply;
 use shadow_weights::{ShadowCocycle, shadow_weights};
 use std::alloc::{AllocError, Global};
 use text_lines::push_paired;
+use weight_laws::shadows::equivalent_diagrams_have_equal_shadow_weights;
+use weight_laws::weights::equivalent_diagrams_have_equal_weights;
 
 /// The answer to the bytes of two diagrams, a quandle and a cocycle.
 pub(crate) fn answer(alloc: Global, bytes: &[u8]) -> Result<PlainReply, AllocError>

@@ -1,5 +1,6 @@
 //! Evidence is printed as it is read.
-use number_certificates::{Said, print_evidence, read_said};
+use check_job::{Said, read_said};
+use number_certificates::print_evidence;
 use std::alloc::Global;
 use std::process::Abort;
 use std::test::Fail;

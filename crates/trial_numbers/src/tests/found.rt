@@ -1,8 +1,8 @@
 //! Pairs of which no evidence by numbers is found.
+use block_text::{Block, block_item};
 use grid_core::Grid;
 use memory_core::Items;
 use number_search::{SeedPair, tell_apart};
-use number_text::{Block, block_item};
 use quandle_core::MAX_LARGE_ORDER;
 use std::alloc::Global;
 use std::test::Fail;

@@ -3,6 +3,8 @@ ghost use Rattle.std.specs.Prelude.{◌≡◌, Some, option_map};
 
 use knot_ports::give_all;
 use std::alloc::Global;
+use std::fs::Permissions;
+use std::os::unix::fs::PermissionsExt;
 use std::test::Fail;
 use std::{fs, io};
 use whole_files::{DiskPlaces, Place, Places, TextSink, put_whole, try_place};
@@ -137,14 +139,14 @@ const FOLDER: &str = "whole_files_test";
 
 const PATH: &str = "whole_files_test/place";
 
-/// On disk a text is put where nothing stands, and then another where it stands. The folder has no other file then, or it would not be
-/// removed.
+/// On disk a text is put where nothing stands, and then a shorter one where it stands, of which nothing is left. The folder has no other file
+/// then, or it would not be removed.
 #[test]
 fn a_text_is_put_on_disk(rt: HostRuntime) -> Result<(), Fail> {
     let _gone = fs::remove_dir_all(&rt, FOLDER);
     fs::create_dir(&rt, FOLDER)?;
     let mut places = DiskPlaces::new(&rt);
-    for text in [OLD, TEXT] {
+    for text in [TEXT, OLD] {
         places.try_path(PATH)?;
         places.put(PATH, text)?;
         assert_eq!(rt; fs::read(&rt, PATH)?.as_slice(), text);
@@ -153,6 +155,60 @@ fn a_text_is_put_on_disk(rt: HostRuntime) -> Result<(), Fail> {
     fs::remove_dir(&rt, FOLDER)?;
     assert!(rt; places.try_path(PATH).is_err());
     assert!(rt; places.put(PATH, TEXT).is_err());
+    Ok(())
+}
+
+/// The path of a file in a folder, whose name has so many bytes.
+fn long_path(alloc: Global, folder: &str, len: usize) -> Result<String, Fail> {
+    let mut path = format!(in alloc; "{folder}/")?;
+    for _ in 0..len {
+        path.push('n')?;
+    }
+    Ok(path)
+}
+
+const LONG_FOLDER: &str = "whole_files_long";
+
+/// A name has 255 bytes at most. A longer one is refused before there is a text.
+#[test]
+fn a_name_as_long_as_the_system_takes_is_put(rt: HostRuntime) -> Result<(), Fail> {
+    let _gone = fs::remove_dir_all(&rt, LONG_FOLDER);
+    fs::create_dir(&rt, LONG_FOLDER)?;
+    let mut places = DiskPlaces::new(&rt);
+    for len in [239, 240, 245, 255] {
+        let path = long_path(rt.alloc(), LONG_FOLDER, len)?;
+        places.try_path(path.as_str())?;
+        places.put(path.as_str(), TEXT)?;
+        assert_eq!(rt; fs::read(&rt, path.as_str())?.as_slice(), TEXT);
+        fs::remove_file(&rt, path.as_str())?;
+    }
+    let longer = long_path(rt.alloc(), LONG_FOLDER, 256)?;
+    assert!(rt; places.try_path(longer.as_str()).is_err());
+    fs::remove_dir(&rt, LONG_FOLDER)?;
+    Ok(())
+}
+
+#[test]
+fn a_file_without_a_name_is_refused(rt: HostRuntime) -> Result<(), Fail> {
+    assert!(rt; DiskPlaces::new(&rt).try_path("").is_err());
+    Ok(())
+}
+
+const MODE_PATH: &str = "whole_files_mode";
+
+#[test]
+fn a_file_that_is_replaced_keeps_its_mode(rt: HostRuntime) -> Result<(), Fail> {
+    let mut places = DiskPlaces::new(&rt);
+    for mode in [0o600, 0o751] {
+        fs::write(&rt, MODE_PATH, OLD)?;
+        fs::set_permissions(&rt, MODE_PATH, Permissions::from_mode(mode))?;
+        places.try_path(MODE_PATH)?;
+        places.put(MODE_PATH, TEXT)?;
+        let found = fs::metadata(&rt, MODE_PATH)?.permissions().mode();
+        assert_eq!(rt; found & 0o777, mode);
+        assert_eq!(rt; fs::read(&rt, MODE_PATH)?.as_slice(), TEXT);
+    }
+    fs::remove_file(&rt, MODE_PATH)?;
     Ok(())
 }
 

@@ -3,7 +3,7 @@ ghost use Rattle.std.specs.Prelude.{◌≡◌, Some, codes, if◌then◌else◌}
 ghost use Rattle.std.specs.Str.{bytes_eq};
 
 use decision_core::MAX_INPUT;
-use seek_parts::{PartFault, Parts, Texts};
+use seek_parts::{PartFault, Parts, Texts, read_and_written};
 use seek_words::{Asked, Diagrams, Given, Talk};
 use std::alloc::Global;
 use std::test::Fail;
@@ -26,6 +26,17 @@ impl<'t> TwoTexts<'t> {
 
 impl<'t> Texts for TwoTexts<'t> {
     ghost told = { λ t path. Some (if bytes_eq path (codes "a") then t.first.now else t.second.now) };
+
+    ghost named = { λ t path. Some (Some (if bytes_eq path (codes "a") then (1, 1) else (1, 2))) };
+
+    /// The file "a" is another one than all others, which are one file.
+    fn file_at(&self, path: &str) -> Option<(u64, u64)> {
+        if path == "a" {
+            Some((1, 1))
+        } else {
+            Some((1, 2))
+        }
+    }
 
     fn text<'a>(
         &self,
@@ -104,5 +115,37 @@ fn a_code_is_drawn(rt: HostRuntime) -> Result<(), Fail> {
     };
     let drawn = parts.texts()[0].as_slice();
     assert!(rt; drawn == b"x 0 1\no 1 0\n".as_slice() || drawn == b"x 1 0\no 0 1\n".as_slice());
+    Ok(())
+}
+
+/// The path that is told to be read and written, of a call with a file for the first diagram and one that is written. The second diagram is
+/// a braid, and the file "a" has quandles.
+fn clash_of<'t>(
+    alloc: Global,
+    first: Given<'t>,
+    out: Option<&'t str>,
+) -> Result<Option<&'t str>, Fail> {
+    let files = TwoTexts {
+        first: HOPF,
+        second: COMMENTED,
+    };
+    let mut asked = asked_for(alloc, Diagrams::Pair(first, Given::Braid("c")))?;
+    asked.out = out;
+    Ok(read_and_written(&files, &asked))
+}
+
+#[test]
+fn a_file_that_is_read_and_written_is_found(rt: HostRuntime) -> Result<(), Fail> {
+    let rows: [(Given, Option<&str>, Option<&str>); 6] = [
+        (Given::File("b"), Some("b"), Some("b")),
+        (Given::Code("b"), Some("c"), Some("b")),
+        (Given::File("-"), Some("b"), Some("-")),
+        (Given::File("b"), Some("a"), Some("a")),
+        (Given::Braid("1"), Some("b"), None),
+        (Given::File("b"), None, None),
+    ];
+    for (first, out, expected) in rows {
+        assert_eq!(rt; clash_of(rt.alloc(), first, out)?, expected);
+    }
     Ok(())
 }

@@ -109,6 +109,20 @@ fn each_option_is_read(rt: HostRuntime) -> Result<(), Fail> {
 }
 
 #[test]
+fn a_dash_is_standard_output(rt: HostRuntime) -> Result<(), Fail> {
+    let rows = [("-", None), ("./-", Some("./-")), ("--", Some("--"))];
+    for (word, expected) in rows {
+        let path = format!(in rt.alloc(); "--out={word}")?;
+        let list = words(rt.alloc(), &[path.as_str(), "a"])?;
+        let Ok(asked) = read_words(rt.alloc(), list.as_slice()) else {
+            return Err(Fail::from("refused"));
+        };
+        assert_eq!(rt; asked.out, expected);
+    }
+    Ok(())
+}
+
+#[test]
 fn no_weights_are_tried_where_none_are_wanted(rt: HostRuntime) -> Result<(), Fail> {
     let line = ["--weights", "w", "--no-weights", "a"];
     let list = words(rt.alloc(), &line)?;

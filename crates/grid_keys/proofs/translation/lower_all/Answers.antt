@@ -3,7 +3,7 @@ use Rattle.std.specs.Prelude.{slice_index}
 use Rattle.std.proofs.lemmas.List.{get_or_default}
 use Rattle.std.proofs.lemmas.List.Edits.{map_over_more}
 use Rattle.grid_moves.specs.Shift.{shifted}
-use Rattle.grid_moves.proofs.InPlace.{still_there}
+use Rattle.grid_laws.proofs.InPlace.{still_there}
 use Rattle.grid_keys.proofs.translation.lower_all.Goals as goal
 
 pub number_after_shift-requires-clause-inside : goal.number_after_shift-requires-clause-inside

@@ -1,11 +1,16 @@
 use Rattle.std.proofs.Common.{Ok}
 use Rattle.knot_text.specs.Shapes.{lone_diagram_of}
 use Rattle.plain_jobs.specs.Job.{plain_task}
-use Rattle.knot_jobs.specs.declared.words.Job.TheVariants.{Simplify, Sample, Plain}
-use Rattle.knot_jobs.specs.Jobs.Simplify.{AnswersSimplify}
-use Rattle.knot_jobs.specs.Jobs.Sample.{AnswersSample}
+use Rattle.knot_words.specs.declared.job.Job.TheVariants.{Simplify, Sample, Plain}
+use Rattle.search_jobs.specs.Simplify.{AnswersSimplify}
+use Rattle.search_jobs.specs.Sample.{AnswersSample}
+use Rattle.knot_jobs.proofs.AcceptedBehind.{decided_truth}
 use Rattle.knot_jobs.proofs.Plainly.{read_plainly, answers_as}
 use Rattle.knot_jobs.proofs.answer.answer_alone.Goals as goal
+
+pub returns-in-Decide-clause-claim : goal.returns-in-Decide-clause-claim
+returns-in-Decide-clause-claim c =
+    decided_truth c.args.asked.now.job c.args.bytes.now c.answer_alone.result c.in-Decide.is c.answer_alone.ensures.claim
 
 pub returns-in_ok-answer-in-Simplify-clause-answer : goal.returns-in_ok-answer-in-Simplify-clause-answer
 returns-in_ok-answer-in-Simplify-clause-answer c =

@@ -1,6 +1,5 @@
 use Rattle.std.proofs.Common.{rules, refl}
-use Rattle.knot_jobs.specs.Jobs.Decide.{as_many_as_asked}
-use Rattle.knot_jobs.specs.Call.{call_of}
+use Rattle.knot_jobs.specs.Call.{as_many_as_asked, call_of}
 use Rattle.knot_jobs.proofs.Endings.{refused_goes, reply_goes}
 use Rattle.knot_jobs.proofs.call.run.Goals as goal
 

@@ -1,6 +1,5 @@
 use Rattle.std.proofs.Common.{rules}
-use Rattle.knot_jobs.specs.Jobs.Decide.{only_one}
-use Rattle.knot_jobs.specs.Call.{call_of}
+use Rattle.knot_jobs.specs.Call.{only_one, call_of}
 use Rattle.knot_jobs.proofs.Endings.{refused_goes, reply_goes}
 use Rattle.knot_jobs.proofs.call.run_alone.Goals as goal
 

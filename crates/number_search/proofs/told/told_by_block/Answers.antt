@@ -1,6 +1,6 @@
 use Rattle.std.proofs.Common.{rules, ◌∷◌, [], sym, subst}
-use Rattle.number_text.specs.declared.blocks.Block.{Block}
-use Rattle.number_text.specs.declared.evidence.Evidence.TheVariants.{Numbers}
+use Rattle.evidence_core.specs.declared.blocks.Block.{Block}
+use Rattle.evidence_core.specs.declared.evidence.Evidence.TheVariants.{Numbers}
 use Rattle.quandle_core.specs.Quandle.{IsQuandle}
 use Rattle.colour_numbers.specs.Numbers.{IsCocycleOrNone}
 use Rattle.number_check.proofs.Rulings.{numbers_apart}

@@ -1,7 +1,7 @@
 use Rattle.std.proofs.Common.{Option, subst}
 use Rattle.quandle_core.specs.Quandle.{Table}
 use Rattle.text_items.specs.Reading.{Gives}
-use Rattle.number_text.specs.declared.blocks.LargeWeighing.{LargeWeighing}
+use Rattle.evidence_core.specs.declared.blocks.LargeWeighing.{LargeWeighing}
 use Rattle.number_text.specs.Blocks.{cocycle_or_none}
 use Rattle.number_text.proofs.blocks.perhaps_cocycle.Goals as goal
 

@@ -13,5 +13,5 @@ loop-path-preserved g c =
 pub returns-in_err-blocks-clause-failure : goal.returns-in_err-blocks-clause-failure
 returns-in_err-blocks-clause-failure g c =
     let failed : IsBlocksFailure (g.F.Texts.told c.args.files.now) c.args.asked.now.weights.items c.in_err-blocks.field-0.0 =
-    file_failed _ _ _ _ _ _ c.deref-path-items.ensures.value c.loop-path-test.true c.in_err-blocks.ensures.failure in
+    file_failed _ _ _ _ _ _ _ c.deref-path-items.ensures.value c.loop-path-test.true c.loop-path.invariant c.in_err-blocks.ensures.failure in
     search (rules, failed)

@@ -1,6 +1,5 @@
-use Rattle.std.proofs.Common.{inl, refl}
-use Rattle.seek.proofs.Ended.{words_refused}
-use Rattle.seek.proofs.Found.{kept}
+use Rattle.std.proofs.Common.{inl}
+use Rattle.seek.proofs.Ended.{words_refused, settled_words}
 use Rattle.seek.proofs.call.answer.Goals as goal
 
 pub returns-in-Ok : goal.returns-in-Ok
@@ -12,5 +11,5 @@ returns-in-Ok g c = inl record {
 
 pub returns-in-Err : goal.returns-in-Err
 returns-in-Err g c = words_refused _ _ _ _ _ _
-    (record { output = kept _; files = refl })
-    c.in-Err.ensures.shown c.in-Err.ensures.refused c.answer_words.ensures.told c.answer_words.ensures.usage
+    c.in-Err.ensures.shown c.in-Err.ensures.refused (settled_words g.P.Places.standing g.W.Write.contents _ _ c.answer_words.ensures.shown)
+    c.answer_words.ensures.usage

@@ -1,11 +1,13 @@
-use Rattle.std.proofs.Common.{refl}
-use Rattle.seek.proofs.Ended.{with_inputs, without_inputs}
+use Rattle.std.proofs.Common.{inl, inr, refl}
 use Rattle.seek.proofs.Found.{kept}
 use Rattle.seek.proofs.call.seek.Goals as goal
 
-pub returns-in-Err : goal.returns-in-Err
-returns-in-Err g c = without_inputs _ _ _ _ _ c.in-Err.failure
-    (record { output = kept _; files = refl }) c.in-Err.ensures.failure c.tell-in-Err.ensures.is
+pub returns-in-Some : goal.returns-in-Some
+returns-in-Some g c = inr record {
+  clash = c.in-Some.ensures.clashes;
+  status_is = c.tell.ensures.is;
+  untouched = record { output = kept _; files = refl };
+}
 
-pub returns-in-Ok : goal.returns-in-Ok
-returns-in-Ok g c = with_inputs _ _ _ _ _ _ _ c.in-Ok.ensures.parts c.in-Ok.ensures.blocks c.seek_on.ensures
+pub returns-in-None : goal.returns-in-None
+returns-in-None g c = inl record { apart = c.in-None.ensures.apart; ends = c.seek_apart.ensures }

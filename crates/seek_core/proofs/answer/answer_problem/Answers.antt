@@ -1,5 +1,5 @@
 use Rattle.std.proofs.Common.{rules, ◌∙◌, List, ℕ, Option, IfSome, sym, subst}
-use Rattle.number_certificates.specs.declared.said.Said.{Said}
+use Rattle.certificate_text.specs.declared.said.Said.{Said}
 use Rattle.seek_core.specs.declared.answer.Tried.{Tried}
 use Rattle.seek_core.specs.Found.{IsFindingOf}
 use Rattle.seek_core.specs.Answers.{Decides}

@@ -1,8 +1,8 @@
 use Rattle.std.proofs.Common.{List, subst}
 use Rattle.grid_core.specs.Diagram.{IsGrid}
 use Rattle.verdict_core.specs.Diagrams.{grid_of}
-use Rattle.verdict_core.specs.Names.{NamedQuandle}
-use Rattle.number_text.specs.declared.blocks.Block.{Block}
+use Rattle.named_quandles.specs.Names.{NamedQuandle}
+use Rattle.evidence_core.specs.declared.blocks.Block.{Block}
 use Rattle.seek_core.specs.declared.finding.Search.{Search}
 use Rattle.seek_core.specs.Found.{IsFoundOn, IsSearchOn}
 use Rattle.seek_core.specs.Pairs.{SeededPair}

@@ -1,5 +1,5 @@
 use Rattle.std.proofs.Common.{◌∙◌, subst, sym, arith}
-use Rattle.shadow_weights.specs.Cocycle.{IsShadowCocycle}
+use Rattle.shadow_cocycles.specs.Cocycle.{IsShadowCocycle}
 use Rattle.shadow_formula.proofs.FormulaLaw.{least, same_cochain}
 use Rattle.shadow_formula.proofs.formula.mochizuki.Goals as goal
 

@@ -1,7 +1,7 @@
 use Rattle.std.proofs.Common.{◌∙◌, ap}
 use Rattle.std.proofs.lemmas.Bool.{and_parts}
-use Rattle.shadow_weights.specs.Cocycle.{ShadowCochain}
-use Rattle.shadow_text.specs.declared.shadows.Spelling.TheVariants as spelling
+use Rattle.shadow_cocycles.specs.Cocycle.{ShadowCochain}
+use Rattle.evidence_core.specs.declared.shadows.Spelling.TheVariants as spelling
 use Rattle.shadow_formula.specs.Mochizuki.{is_prime, is_dihedral, mochizuki}
 use Rattle.shadow_text.specs.Shadows.{spelled}
 use Rattle.shadow_text.proofs.shadows.by_formula.Goals as goal

@@ -2,7 +2,7 @@ use Rattle.std.proofs.Common.{◌∙◌, ap, subst}
 use Rattle.quandle_core.specs.Quandle.{Table}
 use Rattle.text_items.specs.Reading.{Gives}
 use Rattle.shadow_formula.specs.Mochizuki.{has_formula}
-use Rattle.shadow_text.specs.declared.shadows.SpelledShadow.{SpelledShadow}
+use Rattle.evidence_core.specs.declared.shadows.SpelledShadow.{SpelledShadow}
 use Rattle.shadow_text.specs.Shadows.{shadow_of}
 use Rattle.shadow_text.proofs.shadows.shadow_of.Goals as goal
 

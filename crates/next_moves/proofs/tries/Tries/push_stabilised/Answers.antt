@@ -4,7 +4,7 @@ use Rattle.grid_moves.specs.declared.step.Move.{Move}
 use Rattle.grid_moves.specs.declared.step.Move.TheVariants.{Stabilise}
 use Rattle.grid_moves.specs.Step.{Step}
 use Rattle.grid_moves.specs.Widening.{widened}
-use Rattle.grid_moves.proofs.Sizes.{step_size}
+use Rattle.grid_laws.proofs.Sizes.{step_size}
 use Rattle.grid_keys.specs.Translation.{translate}
 use Rattle.grid_keys.proofs.Joined.{translate_none}
 use Rattle.next_moves.specs.Tries.{unshifted}

@@ -1,6 +1,6 @@
 use Rattle.std.proofs.Common.{◌∙◌, List, ℕ, ap, ap₂}
 use Rattle.grid_core.specs.Diagram.{Diagram as Marks}
-use Rattle.plain_jobs.specs.Reply.{done}
+use Rattle.reply_text.specs.Reply.{done}
 use Rattle.plain_jobs.specs.Jobs.Weights.{weights_text}
 use Rattle.plain_jobs.proofs.jobs.weights.answer_input.Goals as goal
 

@@ -1,0 +1,16 @@
+pub mod Letters
+pub mod Pairs
+pub mod Respected
+pub mod Listed
+pub mod WorkedBraids
+pub mod Cut
+pub mod Walked
+pub mod Covered
+pub mod Crossed
+pub mod Strands
+pub mod Followed
+pub mod Turned
+pub mod Feet
+pub mod Colourings
+pub mod LetterCrossings
+pub mod WorkedClosures

@@ -1,0 +1,11 @@
+pub use Rattle.braid_closure.specs.Closure
+pub use Rattle.braid_closure.specs.Columns
+pub use Rattle.braid_core.specs.Action
+pub use Rattle.braid_core.specs.Braid
+pub use Rattle.braid_core.specs.Fault
+pub use Rattle.braid_core.specs.FixedPoints
+pub use Rattle.colour_rows.specs.Colouring
+pub use Rattle.grid_core.specs.Crossing
+pub use Rattle.grid_core.specs.Diagram
+pub use Rattle.quandle_core.specs.Bijection
+pub use Rattle.quandle_core.specs.Quandle

@@ -1,0 +1,15 @@
+pub mod Carried
+pub mod Chain
+pub mod Level
+pub use Rattle.grid_core.specs.Diagram
+pub use Rattle.grid_core.specs.Parts
+pub use Rattle.grid_moves.specs.Shift
+pub use Rattle.grid_moves.specs.Step
+pub use Rattle.grid_moves.specs.MoveFault
+pub use Rattle.grid_moves.specs.Joining
+pub use Rattle.quandle_core.specs.Quandle
+pub use Rattle.quandle_core.specs.Bijection
+pub use Rattle.colour_rows.specs.Equation
+pub use Rattle.colour_rows.specs.Walk
+pub use Rattle.colour_rows.specs.Colouring
+pub use Rattle.colour_list.specs.Listing

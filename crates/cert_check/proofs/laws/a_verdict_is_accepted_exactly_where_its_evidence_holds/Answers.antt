@@ -1,5 +1,0 @@
-use Rattle.cert_check.proofs.Rulings.{accepted_where_held}
-use Rattle.cert_check.proofs.laws.a_verdict_is_accepted_exactly_where_its_evidence_holds.Goals as goal
-
-pub returns : goal.returns
-returns c = accepted_where_held

@@ -1,0 +1,16 @@
+pub mod Answer
+pub mod Truth
+pub mod Ports
+pub mod Ending
+pub mod Delivered
+pub use Rattle.certificate_text.specs.Said
+pub use Rattle.reply_text.specs.Lines
+pub use Rattle.reply_text.specs.Reply
+pub use Rattle.knot_ports.specs.Change
+pub use Rattle.grid_moves.specs.Joining
+pub use Rattle.verdict_core.specs.Diagrams
+pub use Rattle.verdict_text.specs.Problems
+pub use Rattle.number_text.specs.Evidence
+pub use Rattle.number_check.specs.Holds
+pub use Rattle.number_check.specs.Ruling as NumberRuling
+pub use Rattle.cert_check.specs.Ruling

@@ -1,0 +1,16 @@
+//! The job `check`: what is said of two diagrams is read, ruled on, and answered.
+//! Accepted bytes are true of their diagrams, and all others are refused by their first bad line or their first cause.
+#![tactic(auto)]
+
+mod call;
+mod checking;
+mod evidence;
+mod ports;
+
+pub use call::run;
+pub use certificate_text::{Said, read_said};
+pub use checking::answer;
+pub use evidence::check_evidence;
+pub use knot_ports::Status;
+pub use ports::{read_input, write_text};
+pub use reply_text::PlainReply;

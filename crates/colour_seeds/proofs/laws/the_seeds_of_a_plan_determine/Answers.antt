@@ -1,5 +1,0 @@
-use Rattle.colour_seeds.proofs.Seeds.{plan_determines}
-use Rattle.colour_seeds.proofs.laws.the_seeds_of_a_plan_determine.Goals as goal
-
-pub returns : goal.returns
-returns c = plan_determines

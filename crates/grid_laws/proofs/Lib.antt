@@ -1,0 +1,10 @@
+pub mod CornerList
+pub mod ListedSpans
+pub mod BottomMarks
+pub mod WorkedDiagrams
+pub mod InPlace
+pub mod ThreeLines
+pub mod Sizes
+pub mod OneStabilisation
+pub mod WorkedMoves
+pub mod WorkedMoveRows

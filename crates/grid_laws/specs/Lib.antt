@@ -1,0 +1,15 @@
+pub use Rattle.grid_core.specs.Corners
+pub use Rattle.grid_core.specs.Crossing
+pub use Rattle.grid_core.specs.Diagram
+pub use Rattle.grid_core.specs.Fault
+pub use Rattle.grid_core.specs.Parts
+pub use Rattle.grid_core.specs.Span
+pub use Rattle.grid_moves.specs.Different
+pub use Rattle.grid_moves.specs.Exchange
+pub use Rattle.grid_moves.specs.Exchanged
+pub use Rattle.grid_moves.specs.Inverse
+pub use Rattle.grid_moves.specs.Joining
+pub use Rattle.grid_moves.specs.MoveFault
+pub use Rattle.grid_moves.specs.Slide
+pub use Rattle.grid_moves.specs.Step
+pub use Rattle.grid_moves.specs.Undoing

@@ -1,5 +1,0 @@
-use Rattle.grid_moves.proofs.Undone.{stabilise_back}
-use Rattle.grid_moves.proofs.laws.a_stabilisation_is_undone.Goals as goal
-
-pub returns : goal.returns
-returns c = stabilise_back

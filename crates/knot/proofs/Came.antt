@@ -1,0 +1,25 @@
+-- How a program ends with the words that came, or with none.
+use Rattle.std.proofs.Common.{◌≡◌, ℕ, List, Result, Ok, Err, String, Vec, sym, subst}
+use Rattle.std.specs.Process.{exit_status}
+use Rattle.std.specs.declared.alloc.Global.{Global}
+use Rattle.std.specs.declared.process.ExitCode.{ExitCode}
+use Rattle.knot_ports.specs.Change.{Change, IsUntouched}
+use Rattle.given_words.specs.declared.given.NoWords.{NoWords}
+use Rattle.given_words.specs.Given.{status_without_words}
+use Rattle.knot_jobs.specs.Call.{call_of}
+use Rattle.knot_words.specs.Numbers.{texts_of}
+use Rattle.knot.specs.Exit.{IsExitOf, came, EndsProgram}
+
+pub with_words : (given : Result (Vec (String Global) Global) NoWords) (words : Vec (String Global) Global) (seen : List (String Global))
+    (searching : ℕ → ℕ) (source sink : Change) (exit : ExitCode) → given ≡ Ok words → seen ≡ words.items
+    → IsExitOf (call_of (texts_of seen) searching source sink) exit → EndsProgram (came given) searching source sink exit
+with_words given words seen searching source sink exit is same ends =
+    subst (λ (g : Result (Vec (String Global) Global) NoWords). EndsProgram (came g) searching source sink exit) (sym is)
+    (subst (λ (list : List (String Global)). IsExitOf (call_of (texts_of list) searching source sink) exit) same ends)
+
+pub without_words : (given : Result (Vec (String Global) Global) NoWords) (why : NoWords) (searching : ℕ → ℕ) (source sink : Change) (exit : ExitCode)
+    → given ≡ Err why → exit_status exit ≡ status_without_words why → IsUntouched source → IsUntouched sink
+    → EndsProgram (came given) searching source sink exit
+without_words given why searching source sink exit is number source_same sink_same =
+    subst (λ (g : Result (Vec (String Global) Global) NoWords). EndsProgram (came g) searching source sink exit) (sym is)
+    (number, (source_same, sink_same))

@@ -1,0 +1,38 @@
+-- How the process ends: the exit status, and what it says of the words, the input and the output.
+use Rattle.std.specs.Prelude.{◌≡◌, ◌<◌, ◌≤◌, ◌⊎◌, ℕ, List, length, codes, Result, Ok, Err, String, Vec}
+use Rattle.std.specs.Process.{exit_status}
+use Rattle.std.specs.declared.alloc.Global.{Global}
+use Rattle.std.specs.declared.process.ExitCode.{ExitCode}
+use Rattle.knot_ports.specs.Change.{Change, IsUntouched}
+use Rattle.knot_ports.specs.declared.status.Status.{Status}
+use Rattle.knot_ports.specs.declared.status.Status.TheVariants.{Usage}
+use Rattle.knot_ports.specs.Status.{status_number}
+use Rattle.check_job.specs.Ending.{Ends}
+use Rattle.check_job.specs.Ports.{IsWritten}
+use Rattle.given_words.specs.declared.given.NoWords.{NoWords}
+use Rattle.given_words.specs.Given.{status_without_words}
+
+-- the exit status is the number of a status with which the call ended as is due
+pub record IsExitOf (source sink : Change) (exit : ExitCode) : Type 0 where
+  pub status : Status
+  pub number : exit_status exit ≡ status_number status
+  pub ends : Ends source sink status
+
+abbrev pub usage_line : List ℕ
+usage_line = codes "usage: knot_check < INPUT\n"
+
+-- the usage line was written, and the exit status is the number of Usage; or the sink failed, a front of the line was written, and it is the
+-- number of WriteFault
+pub record WritesUsage (sink : Change) (exit : ExitCode) : Type 0 where
+  pub status : Status
+  pub number : exit_status exit ≡ status_number status
+  pub written : IsWritten sink usage_line Usage status
+
+-- no word follows the program's name, and the program ended as a call of the input; or one does, nothing was read, and the usage line was
+-- written; or no words came, and nothing was read or written
+abbrev pub EndsProgram : Result (Vec (String Global) Global) NoWords → Change → Change → ExitCode → Type 0
+EndsProgram (Ok words) source sink exit =
+    ((length words.items ≤ 1) × IsExitOf source sink exit)
+    ⊎ ((1 < length words.items) × (IsUntouched source × WritesUsage sink exit))
+EndsProgram (Err why) source sink exit =
+    (exit_status exit ≡ status_without_words why) × (IsUntouched source × IsUntouched sink)

@@ -1,0 +1,19 @@
+//! The checker: rules on the evidence that stands on standard input, and writes the ruling to standard output, as `knot check`.
+#![tactic(auto)]
+
+mod call;
+mod program;
+
+use crate::program::program;
+use given_words::system_words;
+use knot_ports::{StdSink, StdSource};
+use std::process::ExitCode;
+
+fn main(rt: HostRuntime) -> ExitCode {
+    program(
+        rt.alloc(),
+        system_words(&rt),
+        &mut StdSource::new(rt.alloc(), rt.stdin(), 0),
+        &mut StdSink::new(rt.stdout()),
+    )
+}

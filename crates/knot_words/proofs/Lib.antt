@@ -1,0 +1,4 @@
+mod OptionReads
+mod KnotReads
+mod WorkedWords
+pub mod AskedOnce

@@ -1,6 +1,0 @@
-use Rattle.std.proofs.Common.{◌≡◌, take, map}
-use Rattle.text_items.specs.Kept.{low}
-use Rattle.large_tables.proofs.rows.narrowed.Given as goal
-
-abbrev pub invariant-loop-value : goal.invariant-loop-value
-invariant-loop-value l = l.bytes.items ≡ map low (take l.value-index l.list)

@@ -1,0 +1,2 @@
+pub mod FirstUnequal
+pub mod LinksOfGrids

@@ -1,0 +1,5 @@
+pub mod Unequal
+pub mod Links
+pub use Rattle.linking_core.specs.Linking
+pub use Rattle.linking_core.specs.Component
+pub use Rattle.grid_moves.specs.Joining

@@ -1,8 +1,0 @@
-use Rattle.linking_core.proofs.Lines.{columns_cancel, between_cancel}
-use Rattle.linking_core.proofs.laws.intersections_with_a_vertical_line_cancel.Goals as goal
-
-pub returns-clause-at_columns : goal.returns-clause-at_columns
-returns-clause-at_columns c = columns_cancel
-
-pub returns-clause-between_columns : goal.returns-clause-between_columns
-returns-clause-between_columns c = between_cancel

@@ -1,0 +1,24 @@
+use Rattle.std.proofs.Common.{◌≡◌, ◌∙◌, ℕ, List, ap, subst, sym}
+use Rattle.quandle_core.specs.Quandle.{Table}
+use Rattle.shadow_cocycles.specs.Cocycle.{ShadowCochain, IsShadowCocycle}
+use Rattle.shadow_text.specs.Shadows.{cochain}
+use Rattle.number_search.proofs.copied.copy_of.Goals as goal
+
+-- the same parts
+same_parts : (t : ShadowCochain) (quandle : Table) (modulus : ℕ) (entries : List ℕ) → quandle ≡ t.quandle → modulus ≡ t.modulus → entries ≡ t.entries
+    → cochain quandle modulus entries ≡ t
+same_parts t quandle modulus entries one two three =
+    ap (λ (q : Table). cochain q modulus entries) one
+    ∙ (ap (λ (k : ℕ). cochain t.quandle k entries) two ∙ ap (λ (es : List ℕ). cochain t.quandle t.modulus es) three)
+
+pub of_table-requires : goal.of_table-requires
+of_table-requires c =
+    subst IsShadowCocycle
+    (sym (same_parts c.args.cocycle.now c.quandle.result.now c.modulus.result c.in_ok-table.table.items c.quandle.ensures c.modulus.ensures.modulus
+    c.in_ok-table.ensures)) c.modulus-modulus.ensures.cocycle
+
+pub returns : goal.returns
+returns c =
+    c.of_table.ensures
+    ∙ same_parts c.args.cocycle.now c.quandle.result.now c.modulus.result c.in_ok-table.table.items c.quandle.ensures c.modulus.ensures.modulus
+    c.in_ok-table.ensures

@@ -1,5 +1,0 @@
-use Rattle.quandle_core.proofs.Linear.{trivial_is}
-use Rattle.quandle_core.proofs.laws.trivial_is_a_quandle.Goals as goal
-
-pub returns : goal.returns
-returns c = trivial_is

@@ -1,0 +1,3 @@
+pub mod Lines
+pub mod Reply
+pub use Rattle.text_lines.specs.Spelled

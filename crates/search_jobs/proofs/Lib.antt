@@ -1,0 +1,3 @@
+mod Decisions
+mod PrintedVerdicts
+mod ReadProblems

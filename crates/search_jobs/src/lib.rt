@@ -1,0 +1,11 @@
+//! The jobs of `knot` that search or take an option: `decide`, `simplify` and `sample`.
+//! What each replies rests on the bytes of its input, its options, and the search behind it.
+#![tactic(auto)]
+
+pub mod decide;
+pub mod laws;
+mod reply;
+pub mod sample;
+pub mod simplify;
+
+pub use reply::Reply;

@@ -1,0 +1,1 @@
+pub use Rattle.colour_seeds.specs.Plan

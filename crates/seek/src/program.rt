@@ -1,0 +1,34 @@
+//! All that `main` does: a call of the words that came, or a sentence where none did.
+ghost use Rattle.seek.specs.Exit.{outside_of, told_of, came, EndsProgram};
+
+use crate::call::call;
+use crate::outlets::{Outlets, Terminals};
+use given_words::NoWords;
+use seek_parts::Texts;
+use std::alloc::Global;
+use std::io::Write;
+use std::process::ExitCode;
+use std::thread::Threads;
+use std::time::Clock;
+use whole_files::Places;
+
+/// Does what the words ask for, by `call`. Where none came it tells why, and ends with 7 or 10.
+pub(crate) fn program<R: Threads + Sync + Eprint + Clock, F: Texts, P: Places, W: Write + Drop>(
+    rt: &R,
+    alloc: Global,
+    terminals: Terminals,
+    words: Result<Vec<String>, NoWords>,
+    files: &F,
+    outlets: &mut Outlets<P, W>,
+) -> ExitCode
+    ensures { EndsProgram (told_of F.told F.named files.now) (came words)
+        (outside_of P.standing W.contents outlets.old) (outside_of P.standing W.contents outlets.new) result }
+{
+    match words {
+        Ok(words) => call(rt, alloc, terminals, words.as_slice(), files, outlets),
+        Err(why) => {
+            let _told = eprintln!(rt; "seek: {why}");
+            why.exit_code()
+        }
+    }
+}

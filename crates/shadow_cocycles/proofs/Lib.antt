@@ -1,0 +1,2 @@
+pub mod Mod
+pub mod Accepted

@@ -1,0 +1,4 @@
+pub mod WorkedRulings
+pub mod OneRuling
+pub mod SeedWays
+pub mod SomeRuling

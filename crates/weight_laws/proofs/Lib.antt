@@ -1,0 +1,9 @@
+pub mod WorkedLinking
+pub mod Lines
+pub mod Order
+pub mod WorkedShadows
+pub mod ShadowFaults
+pub mod Differing
+pub mod WorkedWeights
+pub mod Determined
+pub mod WorkedSeeds
