@@ -1,34 +1,49 @@
 #!/usr/bin/env python3
 """Proves and builds the programs, crates side by side as far as their order allows.
 
-usage: tools/build.py [--jobs N] [knot] [seek]
+usage: tools/build.py [--jobs N] [--input FILE] [knot] [seek] [knot_check]
 
-Without a name it builds both. The launchers ./knot and ./seek call it where a program is missing or older than a source. The old
-program stays in its place until the new one is there. One build works in a tree at a time, and a second one waits. What was
-proved is kept: a build that was stopped goes on where it stopped. The prover's lines go to crates/knot/out/build/NAME.log, and
-standard error has one line a crate.
+Without a name it builds knot and seek. knot_check is the separate checker: the job check of knot alone, on half of its crates. The
+launchers ./knot and ./seek call it where a program is missing or older than a source. The old program stays in its place until the
+new one is there. One build works in a tree at a time, and a second one waits. What was proved is kept: a build that was stopped goes
+on where it stopped. The prover's lines go to crates/knot/out/build/NAME.log, and standard error has one line a crate.
+
+With --input FILE knot_check is also run on that file unproved, by `rt try`, while the proof goes on, and standard error has one line
+of what it says. There is no such trial on fewer than three processors, nor where less than a minute of proof is left. knot and seek
+have none: a trial of theirs costs two to five times as much, and what they answer is more than a line.
 
 Each crate is built by `rt lib`, or `rt run` for a program, in a copy of the tree below crates/knot/out/build, since rt lets two
 commands work side by side only where they share no crate. What is made goes back to the crate's own folder out/.
 """
 import argparse
+import contextlib
 import fcntl
 import os
+import re
 import shutil
 import signal
 import subprocess
 import sys
+import tempfile
 import time
 
 HERE = os.path.dirname(os.path.realpath(__file__))
 ROOT = os.path.dirname(HERE)
-PROGRAMS = ("knot", "seek")
+PROGRAMS = ("knot", "seek", "knot_check")
 KIT = "rattle-kit-13f"
-# Of a whole build of both programs, as measured: bytes on the disk, and of memory for one crate at most.
+CHECKER = "knot_check"
+# Of a whole build, as measured: bytes on the disk, and of memory for one crate at most; and of those of the checker.
 DISK = 11_500_000_000
 MEMORY = 4_200_000_000
+MEMORY_CHECKER = 2_000_000_000
 # So much memory is to be free for each crate that is built beside others.
 MEMORY_EACH = 3_500_000_000
+# A trial is begun on so many processors, where the proof is expected to take so many seconds.
+TRIAL_PROCESSORS, TRIAL_SECONDS = 3, 60
+# The statuses with which the checker has read its input and ruled on it, or said which line is wrong.
+RULED = (0, 3, 4, 8)
+# How many letters of a trial's answer are told.
+TOLD = 200
 # How many lines of a log are shown where something failed.
 SHOWN = 15
 # What lies in a crate's folder out/ that a build takes along and brings back.
@@ -94,11 +109,11 @@ def costs(tree):
 
 
 def by_lines(tree, name):
-    """Ten seconds a crate, five a hundred lines of code, and one a hundred lines of definitions and proofs."""
-    seconds = 10.0
+    """Eighteen seconds a crate, nine a hundred lines of code, and two a hundred lines of definitions and proofs."""
+    seconds = 18.0
     for path in tree.sources(name):
         with open(path, "rb") as file:
-            seconds += sum(1 for _ in file) * (0.05 if path.endswith(".rt") else 0.01)
+            seconds += sum(1 for _ in file) * (0.09 if path.endswith(".rt") else 0.02)
     return seconds
 
 
@@ -141,13 +156,16 @@ class Plan:
         for name in reversed(self.names):
             above = [chains[other] for other in self.names if name in self.tree.below[other]]
             chains[name] = left.get(name, 0.0) + max(above, default=0.0)
-        alone = 1 + 0.5 * (self.processors - 1)
+        # (on four processors the checker's longest chain, of 540 seconds, took 497 by the clock)
+        alone = 1 + 0.03 * (self.processors - 1)
         return max(sum(left.values()) / self.processors, max(chains.values(), default=0.0) / alone)
 
 
 def called(programs):
     """What is built, as it is told."""
-    return "the program" if len(programs) == 1 else "each of the two programs"
+    if programs == [CHECKER]:
+        return "the separate checker"
+    return "the program" if len(programs) == 1 else f"each of the {('two', 'three')[len(programs) - 2]} programs"
 
 
 def in_words(seconds):
@@ -257,14 +275,61 @@ class Run:
             self.process.terminate()
 
 
+class Trial:
+    """A run of the checker's sources before their proof, beside the build. What it answers is told, and counts for nothing."""
+
+    def __init__(self, folder, input_file, say):
+        self.say = say
+        # (files, since nobody reads a pipe while crates are built)
+        self.answer, self.told = tempfile.TemporaryFile(), tempfile.TemporaryFile()
+        # (an interrupt at the terminal reaches this process alone, which ends rt once)
+        with open(input_file, "rb") as source:
+            self.process = subprocess.Popen(["rt", "try"], cwd=folder, stdin=source, stdout=self.answer, stderr=self.told, start_new_session=True)
+
+    def tell(self):
+        """Says what it answered, once, when it has ended."""
+        if self.process and self.process.poll() is not None:
+            ended = re.search(rb"(?m)^run=ended status=(\d+) ", read_again(self.told))
+            lines = read_again(self.answer).decode(errors="replace").splitlines()
+            if ended and int(ended[1]) in RULED and lines:
+                self.say(f"a trial run, before the proof, says: {lines[0][:TOLD]}")
+            else:
+                self.say("a trial run, before the proof, gave no answer; the proof goes on")
+            self.stop()
+
+    def stop(self):
+        """Ends rt, which ends what it began."""
+        if self.process:
+            if self.process.poll() is None:
+                self.process.terminate()
+            self.process.wait()
+            self.answer.close()
+            self.told.close()
+        self.process = None
+
+
+class NoTrial:
+    """Stands in the place of a trial where there is none."""
+
+    def tell(self):
+        pass
+
+    def stop(self):
+        pass
+
+
+def read_again(file):
+    file.seek(0)
+    return file.read()
+
+
 class Build:
     """The build of some programs."""
 
-    def __init__(self, tree, programs, jobs, held, say):
-        self.tree, self.programs, self.held, self.say = tree, programs, held, say
+    def __init__(self, tree, plan, programs, held, say, trial):
+        self.tree, self.plan, self.programs, self.held, self.say, self.trial = tree, plan, programs, held, say, trial
         self.place = build_folder(tree.root)
         self.since = time.time()
-        self.plan = Plan(tree, tree.needed(programs), jobs)
         self.begun = time.monotonic()
 
     def rooms(self):
@@ -277,12 +342,13 @@ class Build:
     def announce(self):
         """Says what comes, and what may be wanting."""
         left, count = self.plan.left, self.plan.total
-        whole = sum(self.tree.seconds[name] for name in self.plan.names)
+        memory = MEMORY_CHECKER if self.programs == [CHECKER] else MEMORY
+        whole = sum(self.tree.seconds[name] for name in self.tree.needed([it for it in PROGRAMS if it in self.tree.named]))
         disk = DISK * sum(left.values()) / whole
         crates = "one crate" if count == 1 else f"{count} crates"
         processors = "one processor" if self.plan.processors == 1 else f"{self.plan.processors} processors"
         self.say(f"{called(self.programs)} must be proved and built first: {crates}, {in_words(self.plan.whole)} on {processors}, "
-                 f"up to {MEMORY // 10**9} GB of memory a crate, {disk / 10**9:.1f} GB of disk")
+                 f"up to {memory // 10**9} GB of memory a crate, {disk / 10**9:.1f} GB of disk")
         self.say(f"the prover's lines are in {relative(self.place)}/NAME.log; stopped by Ctrl-C, it goes on from there at the next call")
         kit = kit_name()
         if kit != KIT:
@@ -291,7 +357,7 @@ class Build:
         if free < disk:
             self.say(f"warning: {free / 10**9:.1f} GB of disk are free in {self.tree.root}")
         free = free_memory()
-        if free is not None and free < MEMORY:
+        if free is not None and free < memory:
             self.say(f"warning: {free / 10**9:.1f} GB of memory are free")
 
     def work(self):
@@ -306,6 +372,7 @@ class Build:
                     jobs = plan.jobs(min(len(ready) + 1, len(free)), busy)
                     running[name] = Run(free.pop(), name, jobs, os.path.join(self.place, f"{name}.log"), self.held)
                 time.sleep(0.05)
+                self.trial.tell()
                 for run in [run for run in running.values() if run.ended() is not None]:
                     self.end(run, running)
                     free.append(run.room)
@@ -416,7 +483,7 @@ def stamp_of(root, name):
     return found.st_ino, found.st_mtime_ns
 
 
-def locked(root, say):
+def locked(root, say, trial):
     """Waits until no other build works in this tree: the lock, which ends with the process and with those that it began."""
     place = build_folder(root)
     try:
@@ -424,42 +491,64 @@ def locked(root, say):
         held = os.open(os.path.join(place, "lock"), os.O_RDWR | os.O_CREAT, 0o666)
     except OSError as error:
         raise Failed(f"{relative(place)} can't be written: {error.strerror}") from error
-    try:
-        fcntl.flock(held, fcntl.LOCK_EX | fcntl.LOCK_NB)
-    except BlockingIOError:
-        say(f"another call is building in {root}; waiting for it")
-        fcntl.flock(held, fcntl.LOCK_EX)
-    except OSError:
-        # (some file systems have no locks)
-        pass
-    return held
+    is_told = False
+    while True:
+        try:
+            fcntl.flock(held, fcntl.LOCK_EX | fcntl.LOCK_NB)
+            return held
+        except BlockingIOError:
+            if not is_told:
+                say(f"another call is building in {root}; waiting for it")
+            is_told = True
+            time.sleep(0.1)
+            trial.tell()
+        except OSError:
+            # (some file systems have no locks)
+            return held
 
 
 def options_given():
     parser = argparse.ArgumentParser(description=__doc__, formatter_class=argparse.RawDescriptionHelpFormatter)
     parser.add_argument("--jobs", type=int, default=processors(), metavar="N", help="how many processors to use; all, or RT_JOBS, without it")
-    parser.add_argument("programs", nargs="*", metavar="NAME", help="knot or seek")
+    parser.add_argument("--input", metavar="FILE", help="an input on which knot_check is run unproved while the proof goes on")
+    parser.add_argument("programs", nargs="*", metavar="NAME", help="knot, seek or knot_check")
     options = parser.parse_args()
     for name in options.programs:
         if name not in PROGRAMS:
-            parser.error(f"{name} is neither knot nor seek")
+            parser.error(f"{name} is none of {', '.join(PROGRAMS)}")
     if options.jobs < 1:
         parser.error("--jobs is a number above 0")
-    options.programs = [name for name in PROGRAMS if name in (options.programs or PROGRAMS)]
+    options.programs = [name for name in PROGRAMS if name in (options.programs or PROGRAMS[:2])]
     return options
 
 
-def build(root, programs, jobs, say):
+def trial_of(tree, plan, programs, input_file, say):
+    """A trial of the checker on an input, where one is asked for and the build is long enough."""
+    if input_file and programs == [CHECKER] and plan.processors >= TRIAL_PROCESSORS and plan.whole > TRIAL_SECONDS:
+        with contextlib.suppress(OSError):
+            return Trial(tree.folder(CHECKER), input_file, say)
+    return NoTrial()
+
+
+def build(root, programs, jobs, say, input_file=None):
     """Builds programs, unless another call did while this one waited."""
-    before = {name: stamp_of(root, name) for name in programs}
-    held = locked(root, say)
-    if all(before[name] != stamp_of(root, name) for name in programs):
-        return
     if not shutil.which("rt"):
         raise Failed("rt, which proves and builds, is not on PATH")
+    before = {name: stamp_of(root, name) for name in programs}
     tree = Tree(root)
+    trial = trial_of(tree, Plan(tree, tree.needed(programs), jobs), programs, input_file, say)
+    try:
+        held = locked(root, say, trial)
+        if any(before[name] == stamp_of(root, name) for name in programs):
+            build_all(tree, programs, jobs, held, say, trial)
+    finally:
+        trial.stop()
+
+
+def build_all(tree, programs, jobs, held, say, trial):
+    """Builds programs, by one process in a tree at a time."""
     reclaim(tree)
-    made = Build(tree, programs, jobs, held, say)
+    made = Build(tree, Plan(tree, tree.needed(programs), jobs), programs, held, say, trial)
     made.announce()
     try:
         made.work()
@@ -476,7 +565,7 @@ def stopped(number, _frame):
 
 def main():
     options = options_given()
-    caller = options.programs[0] if len(options.programs) == 1 else "build"
+    caller = options.programs[0].replace("knot_check", "knot") if len(options.programs) == 1 else "build"
 
     def say(sentence):
         print(f"{caller}: {sentence}", file=sys.stderr, flush=True)
@@ -484,7 +573,7 @@ def main():
     signal.signal(signal.SIGTERM, stopped)
     signal.signal(signal.SIGHUP, stopped)
     try:
-        build(ROOT, options.programs, options.jobs, say)
+        build(ROOT, options.programs, options.jobs, say, options.input)
     except Failed as why:
         say(str(why))
         return 1

@@ -1,11 +1,12 @@
 #!/usr/bin/env python3
-"""Makes the manual pages knot.1, seek.1 and knot-formats.5 from the documents of this tree.
+"""Makes the manual pages knot.1, knot-check.1, seek.1 and knot-formats.5 from the documents of this tree.
 
-    tools/man.py FOLDER         writes the three pages into the folder
+    tools/man.py FOLDER         writes the four pages into the folder
     tools/man.py --print PAGE   writes one page to standard output
 
 knot.1 has the tables of README.md, the options of docs/FORMATS.md and what `./knot --help` says; seek.1 what `seek --help` says, as
-examples/seek/help.out has it, and the guide's section on `seek`; knot-formats.5 is docs/FORMATS.md. Read one by `man ./knot.1`.
+examples/seek/help.out has it, and the guide's section on `seek`; knot-check.1 what the guide says of the separate checker;
+knot-formats.5 is docs/FORMATS.md. Read one by `man ./knot.1`.
 """
 import argparse
 import os
@@ -185,6 +186,20 @@ def knot_page():
     return text + ".SH SEE ALSO\n.BR seek (1),\n.BR knot\\-formats (5)\n"
 
 
+def checker_page():
+    about = section(document("docs", "GUIDE.md"), "The separate checker").strip().split("\n\n")[0].replace("`knot_check`", "`knot-check`")
+    statuses = table_of(document("README.md"), "status")
+    text = head("knot-check", 1, "knot and seek")
+    text += ".SH NAME\nknot\\-check \\- rules on evidence that two knots or links are the same, or differ\n.SH SYNOPSIS\n\\fBknot\\-check\\fR < INPUT\n"
+    text += ".SH DESCRIPTION\n" + roff(about) + ".SH EXIT STATUS\n" + roff(statuses_of_checker(statuses))
+    return text + ".SH SEE ALSO\n.BR knot\\-formats (5)\n"
+
+
+def statuses_of_checker(statuses):
+    """The rows of a table of statuses with which the separate checker ends."""
+    return "".join(line for line in statuses.splitlines(keepends=True) if not re.match(r"\| (1|10|127) ", line))
+
+
 def seek_page():
     shown = document("examples", "seek", "help.out")
     usage = re.search(r"(?m)^Usage: seek (.*)$", shown)[1]
@@ -233,7 +248,7 @@ def page(made):
     return without_empty_paragraphs(made())
 
 
-PAGES = {"knot.1": knot_page, "seek.1": seek_page, "knot-formats.5": formats_page}
+PAGES = {"knot.1": knot_page, "knot-check.1": checker_page, "seek.1": seek_page, "knot-formats.5": formats_page}
 
 
 def main():
