@@ -1,0 +1,221 @@
+#!/usr/bin/env python3
+"""Whether `tools/identify.py` names disguised knots rightly, finds planted errors in a published table, and how long it takes.
+
+    python3 bench/identify.py                   500 disguised diagrams, 100 published identifications with ten errors, and seconds
+    python3 bench/identify.py --disguised 60    so many; 0 leaves the part out
+    python3 bench/identify.py --published 30 --errors 3
+    python3 bench/identify.py --timed 20        so many diagrams of 12 crossings one by one
+    python3 bench/identify.py --most 10         knots of at most so many crossings
+    python3 bench/identify.py --folder FOLDER   keeps tables, answers and certificates there; called again, it goes on
+    python3 bench/identify.py --seed 2          other knots and other disguises
+    python3 bench/identify.py -- --processes 2  words behind -- go to identify.py
+
+A disguised diagram is, by turns, the end of a walk of 3,000 moves in up to eight columns more than the table's grid; a braid word of it some
+relations and Markov moves away, where one fits; and its planar diagram code, with other numbers in another order. Each is mirrored or run
+through backwards by a throw of dice, and has a name that says nothing. Where a published identification is wrong, the diagram is that of
+another knot of as many crossings, or that of the mirror image. The programs are those of KNOT and SEEK, or those that are built. The exit
+status is 1 where a name is wrong, more than 2 % are open, a certificate isn't accepted, or other rows than the planted ones come back.
+"""
+import argparse
+import collections
+import csv
+import os
+import random
+import statistics
+import subprocess
+import sys
+import tempfile
+import time
+
+# seek knows where the modules of tools/ are.
+from measure import PROGRAM
+from seek import SEEK, TOP, varied, walked
+
+sys.path.insert(0, os.path.join(TOP, "tools"))
+from lib.smaller import reduced
+from knot_workbench import Certificate, braid_word, identify, use
+from knot_workbench.diagrams import Braid, braid_fault
+from knot_workbench.knot_tables import MIRRORED, TURNS, KnotTable, default_table, name_of, records, text_in
+from knot_workbench.table_entries import nested
+
+COLUMNS_MORE = range(2, 9)
+RELATIONS = 40
+OPEN_SHARE = 0.02
+
+
+# Disguises
+
+def arcs_text(grid):
+    """A grid as a table has it."""
+    return "{" + ",".join(f"{{{x + 1},{o + 1}}}" for x, o in zip(grid.xs, grid.os)) + "}"
+
+
+def word_text(grid, dice):
+    """A braid word of a grid, some moves away; None where none is found that fits."""
+    braid = reduced(braid_word(grid), dice)
+    if braid_fault(braid):
+        return None
+    further = varied(Braid(*braid), dice, RELATIONS)
+    return f"{{{further.strands},{{{','.join(map(str, further.letters))}}}}}"
+
+
+def code_text(rows, turn, dice):
+    """A code after a turn, with other numbers that ascend along the strand, and its crossings in another order."""
+    count = 2 * len(rows)
+    if turn.is_mirrored:
+        rows = [(i, l, k, j) for i, j, k, l in rows]
+    if turn.is_reversed:
+        rows = [tuple(count + 1 - edge for edge in (k, l, i, j)) for i, j, k, l in rows]
+    by = dice.randrange(count)
+    rows = [[(edge + by - 1) % count + 1 for edge in row] for row in rows]
+    dice.shuffle(rows)
+    return str(rows).replace(" ", "")
+
+
+def disguised(place, knot, rows, turn, dice):
+    """The entry of a table for a knot after a turn."""
+    grid = turn.of(knot.grid)
+    text = word_text(grid, dice) if place % 3 == 1 else None
+    if place % 3 == 2:
+        text = code_text(rows, turn, dice)
+    return text or arcs_text(walked(grid, min(grid.size + dice.choice(COLUMNS_MORE), 46), dice))
+
+
+# Tables
+
+def knots_of(known, most):
+    """The knots of at most so many crossings, each with the rows of its code."""
+    codes = {row["name"]: nested(row["pd_notation"].removeprefix("PD")) for _, row in records(known.path, text_in(known.path), ("name", "pd_notation"))}
+    return [(knot, codes[knot.name]) for knot in known.knots.values() if knot.crossings <= most]
+
+
+def write_table(path, rows):
+    """Writes a table of names, hidden names and diagrams, where it isn't there."""
+    if not os.path.exists(path):
+        with open(path, "w", encoding="utf-8", newline="") as out:
+            csv.writer(out, lineterminator="\n").writerows([("name", "is", "diagram"), *rows])
+    with open(path, encoding="utf-8", newline="") as source:
+        return list(csv.DictReader(source))
+
+
+def disguised_rows(known, count, most, seed):
+    """Disguised knots, each with what it is."""
+    dice = random.Random(f"disguised {seed}")
+    for place in range(count):
+        knot, rows = dice.choice(knots_of(known, most))
+        turn = dice.choice(TURNS)
+        yield f"d{place + 1:03}", name_of(((knot.name, turn),)), disguised(place, knot, rows, turn, dice)
+
+
+def published_rows(known, count, errors, most, seed):
+    """Published identifications, the first ones wrong, in a shuffled order; the names of the wrong ones end with a mark that nobody reads."""
+    dice = random.Random(f"published {seed}")
+    every, found = knots_of(known, most), []
+    for place in range(count):
+        knot, rows = dice.choice(every)
+        turn = TURNS[0]
+        said = knot.name
+        if place < errors:
+            if place % 3 == 2 and MIRRORED in knot.different:
+                turn = MIRRORED
+            else:
+                said = dice.choice([other.name for other, _ in every if other.crossings == knot.crossings and other != knot] or ["3_1"])
+        found.append((said, disguised(place, knot, rows, turn, dice), place < errors))
+    dice.shuffle(found)
+    return [(f"p{place:03}", said, entry, is_error) for place, (said, entry, is_error) in enumerate(found, 1)]
+
+
+# Trials
+
+def called(folder, name, words):
+    """Runs identify.py on a table of the folder: its rows, and how long it took."""
+    out, certificates = (os.path.join(folder, f"{name}{ending}") for ending in ("-answers.csv", "-certificates"))
+    call = [sys.executable, os.path.join(TOP, "tools", "identify.py"), os.path.join(folder, f"{name}.csv"), "--diagram", "diagram", "--out", out,
+            "--certificates", certificates, *words]
+    began = time.perf_counter()
+    status = subprocess.run(call, check=False).returncode
+    seconds = time.perf_counter() - began
+    if status not in (0, 1):
+        sys.exit(f"identify.py ended with status {status}")
+    with open(out, encoding="utf-8", newline="") as source:
+        rows = list(csv.DictReader(source))
+    accepted = sum(Certificate.load(os.path.join(certificates, row["certificate"])).check() for row in rows if row["certificate"])
+    return rows, accepted, seconds
+
+
+def is_right(known, hidden, answer):
+    """Whether an answer is what was hidden, as far as it is known which turns of a knot differ."""
+    (one, turn), = known.parts_of(hidden)
+    parts = known.parts_of(answer)
+    if not parts or len(parts) != 1 or parts[0][0] != one:
+        return False
+    between = turn.then(parts[0][1])
+    return between == TURNS[0] or between not in known.knots[one].different
+
+
+def try_disguised(known, folder, asked):
+    """Names disguised diagrams: whether that went as it should."""
+    hidden = write_table(os.path.join(folder, "disguised.csv"), disguised_rows(known, asked.disguised, asked.most, asked.seed))
+    rows, accepted, seconds = called(folder, "disguised", asked.words)
+    counts = collections.Counter()
+    for row, truth in zip(rows, hidden):
+        kind = row["answer"] if row["answer"] in ("open", "refused", "failed") else "right" if is_right(known, truth["is"], row["answer"]) else "wrong"
+        counts[kind] += 1
+        if kind != "right":
+            print(f"{row['name']}, {truth['is']}: {row['answer']} {row['said']}")
+    said = ", ".join(f"{count} {kind}" for kind, count in counts.items())
+    print(f"{len(rows)} disguised diagrams: {said}; {accepted} certificates accepted; {seconds:.0f} s", flush=True)
+    return len(rows) == len(hidden) and counts["right"] == accepted == len(rows) - counts["open"] and counts["open"] <= OPEN_SHARE * len(rows)
+
+
+def try_published(known, folder, asked):
+    """Looks for planted errors: whether exactly these were found."""
+    made = published_rows(known, asked.published, asked.errors, asked.most, asked.seed)
+    write_table(os.path.join(folder, "published.csv"), [row[:3] for row in made])
+    rows, accepted, seconds = called(folder, "published", ["--expect", "is", *asked.words])
+    planted, back = {row[0] for row in made if row[3]}, {row["name"] for row in rows if row["ruling"] != "right"}
+    for row in rows:
+        if row["ruling"] != "right" or row["name"] in planted:
+            print(f"{row['name']}, {'planted' if row['name'] in planted else 'not planted'}: {row['expected']}: {row['ruling']} {row['said']}")
+    print(f"{len(rows)} published identifications with {len(planted)} errors: {len(planted & back)} of these came back, and {len(back - planted)} others; "
+          f"{accepted} certificates accepted; {seconds:.0f} s")
+    return len(rows) == len(made) and planted == back
+
+
+def try_times(known, asked):
+    """Times diagrams of twelve crossings, or of the most there are, by their codes: whether half of them took at most a second."""
+    dice = random.Random(f"timed {asked.seed}")
+    most = max(knot.crossings for knot, _ in knots_of(known, asked.most))
+    seconds = []
+    for place in range(asked.timed):
+        knot, _ = dice.choice([one for one in knots_of(known, asked.most) if one[0].crossings == most])
+        grid = walked(knot.grid, min(knot.grid.size + 4, 46), dice) if place % 2 else knot.grid
+        began = time.perf_counter()
+        identify(grid, known)
+        seconds.append(time.perf_counter() - began)
+    print(f"{len(seconds)} diagrams of {most} crossings one by one: median {statistics.median(seconds):.2f} s, longest {max(seconds):.2f} s")
+    return statistics.median(seconds) <= 1
+
+
+def main():
+    words = argparse.ArgumentParser(description=__doc__, formatter_class=argparse.RawDescriptionHelpFormatter)
+    for name, default in (("disguised", 500), ("published", 100), ("errors", 10), ("timed", 40), ("most", 12), ("seed", 1)):
+        words.add_argument(f"--{name}", type=int, default=default)
+    words.add_argument("--table", default=default_table())
+    words.add_argument("--folder")
+    words.add_argument("words", nargs="*", help="words of identify.py")
+    asked = words.parse_args()
+    os.environ.update(KNOT=os.environ.get("KNOT") or PROGRAM, SEEK=os.environ.get("SEEK") or SEEK)
+    asked.words = ["--table", asked.table, *asked.words]
+    known = KnotTable(asked.table)
+    with tempfile.TemporaryDirectory() as scratch:
+        folder = asked.folder or scratch
+        os.makedirs(folder, exist_ok=True)
+        wells = [try_disguised(known, folder, asked)] if asked.disguised else []
+        wells += [try_published(known, folder, asked)] if asked.published else []
+        wells += [try_times(known, asked)] if asked.timed else []
+    sys.exit(0 if all(wells) else 1)
+
+
+if __name__ == "__main__":
+    main()

@@ -1,0 +1,134 @@
+"""Which knot of a table a diagram is, with a certificate.
+
+The diagram is made smaller, and its numbers of colourings name a few candidates in the table. Walks of `seek` join the diagram to the diagram
+of one, mirrored or reversed as need be. Nothing is believed of what is found before `knot check` accepted the certificate.
+"""
+import threading
+from typing import Dict, List, NamedTuple, Optional, Sequence, Tuple, Union
+
+from .certificates import Certificate, Equal, Evidence
+from .diagrams import Diagram, Grid, Move, grid_of
+from .jobs import certificate_of, simplify
+from .knot_rows import row_of
+from .knot_tables import KnotTable, Parts, name_of
+from .moves import tidied
+from .programs import answered
+
+UNKNOT = Grid((0, 1), (1, 0))
+
+# The budgets of `simplify`, the first for every diagram, the second where no short walk joined one.
+FIRST_BUDGET, LATER_BUDGET = 1_000, 20_000
+
+# The rounds of walks: a seed, and the steps of each candidate's walk.
+ROUNDS = ((1, 100_000), (2, 1_000_000), (3, 8_000_000))
+
+
+class Identified(NamedTuple):
+    """What a diagram is.
+
+    `components`   how many it has; of a link of several no more is known
+    `parts`        the knot of the table, or the parts of a sum, each a name and a turn; () for the unknot; None where it is none or open
+    `certificate`  moves that lead to the table's diagram, accepted by the checker; None where there are no parts
+    `candidates`   where no walk joined the diagram to one: those that no number tells it from. Without any, its numbers differ from those of
+                   each knot of the table, and of each sum of them of at most twelve crossings
+    """
+
+    components: int
+    parts: Optional[Parts]
+    certificate: Optional[Certificate]
+    candidates: Tuple[Parts, ...]
+
+    @property
+    def name(self) -> Optional[str]:
+        """As `10_132 mirrored`, `3_1 # 4_1` or `unknot`; None where it has none."""
+        return None if self.parts is None else name_of(self.parts) or "unknot"
+
+    @property
+    def answer(self) -> str:
+        """The name, `none of the table`, `open`, or as `link of 2 components`."""
+        if self.components > 1:
+            return f"link of {self.components} components"
+        return self.name or ("open" if self.candidates else "none of the table")
+
+
+_tables: Dict[Optional[str], KnotTable] = {}
+_lock = threading.Lock()
+
+
+def table_of(table: Union[KnotTable, str, None]) -> KnotTable:
+    """A table itself, or by its path, or the one to twelve crossings; each is read once."""
+    if isinstance(table, KnotTable):
+        return table
+    with _lock:
+        if table not in _tables:
+            _tables[table] = KnotTable(table)
+        return _tables[table]
+
+
+def components_of(grid: Grid) -> int:
+    """How many components a grid diagram has."""
+    ahead, count = set(range(len(grid.xs))), 0
+    column_of = {row: column for column, row in enumerate(grid.xs)}
+    while ahead:
+        column, count = ahead.pop(), count + 1
+        while column_of[grid.os[column]] in ahead:
+            column = column_of[grid.os[column]]
+            ahead.remove(column)
+    return count
+
+
+def identify(diagram: Diagram, table: Union[KnotTable, str, None] = None, *, first: Optional[Parts] = None,
+             rounds: Sequence[Tuple[int, int]] = ROUNDS) -> Identified:
+    """Which knot of a table a grid or a braid is: by default of the prime knots to twelve crossings, or a sum of such of at most twelve crossings.
+
+    `first` is tried before other candidates. `rounds` are the seeds and steps of walks, the shortest first. Raises TableError where the table
+    can't be used; NoProgram, OverLimit, Failed as other calls; and Rejected where the checker doesn't accept what was found."""
+    grid = grid_of(diagram)
+    components = components_of(grid)
+    if components > 1:
+        return Identified(components, None, None, ())
+    known = table_of(table)
+    small, moves, is_spent = smaller(grid, FIRST_BUDGET)
+    if small.size == 2:
+        across = [] if small == UNKNOT else [("shift", "columns", 1)]
+        return named(diagram, (), UNKNOT, moves + across)
+    candidates = in_order(known.candidates(row_of(small, known.listed)), first)
+    for place, (seed, steps) in enumerate(rounds):
+        if candidates and place == 1 and is_spent:
+            small, more, _ = smaller(small, LATER_BUDGET)
+            moves = moves + more
+        for parts in list(candidates):
+            target = known.grid(parts)
+            verdict = sought(small, target, seed, steps)
+            if isinstance(verdict, Equal):
+                return named(diagram, parts, target, [*moves, *verdict.moves])
+            if verdict is not None:
+                candidates.remove(parts)
+    return Identified(1, None, None, tuple(candidates))
+
+
+def in_order(candidates: List[Parts], first: Optional[Parts]) -> List[Parts]:
+    """Candidates, with this one in front where it is among them."""
+    return sorted(candidates, key=lambda parts: parts != first)
+
+
+def smaller(grid: Grid, budget: int) -> Tuple[Grid, List[Move], bool]:
+    """What `knot simplify` makes of a grid, the moves that lead there, and whether a larger budget may find more."""
+    found = simplify(grid, budget=budget)
+    return found.grid, list(found.moves), not found.is_irreducible
+
+
+def sought(first: Grid, second: Grid, seed: int, steps: int) -> Optional[Evidence]:
+    """What `seek` finds of two grids by its own quandles and walks: a verdict, or None."""
+    if first == second:
+        return Equal(())
+    words = ["--quiet", "--no-weights", f"--seed={seed}", f"--steps={steps}", "-"]
+    ran = answered("seek", words, first.text + second.text, also=(1,))
+    return None if ran.status == 1 else certificate_of("seek", first, second, (), ran.text).verdict
+
+
+def named(diagram: Diagram, parts: Parts, target: Grid, moves: List[Move]) -> Identified:
+    """What is known by moves from a diagram to that of the table. Raises Rejected where the checker doesn't accept them."""
+    certificate = Certificate(diagram, target, Equal(tuple(tidied(grid_of(diagram), moves))))
+    certificate.check()
+    return Identified(1, parts, certificate, ())

@@ -1,0 +1,411 @@
+"""Tests of tools/identify.py, of tools/knot_table.py and of tables/: with a slow stand-in for both programs, which joins diagrams by shifts
+alone, and with the programs themselves where they are built."""
+import collections
+import csv
+import os
+import re
+import subprocess
+import sys
+import unittest
+from concurrent.futures import ThreadPoolExecutor
+
+import common
+import knot_invariants
+from knot_workbench import Braid, Grid, KnotTable, Turn, identify
+from knot_workbench.diagrams import grid_of, grid_text
+from knot_workbench.knot_rows import blocks_of, may_be_one, of_sum, opposite, row_in, row_of, text_of
+from knot_workbench.knot_tables import read_knots
+from knot_workbench.sums import sum_of_grids
+from knot_workbench.table_entries import nested
+
+STAND_IN = os.path.join(common.ROOT, "tests", "tools", "small_knot.py")
+BUILT = common.built_program()
+BUILT_SEEK = os.environ.get("SEEK") or os.path.join(common.ROOT, "crates", "seek", "out", "seek")
+TABLES = os.path.join(common.ROOT, "tables")
+TO_10, TO_12 = (os.path.join(TABLES, f"prime-knots-to-{most}.csv") for most in (10, 12))
+
+# The left trefoil and the figure eight, as Rolfsen draws them, and 5_1; the rows of their Xs and Os from 1.
+TABLE = """\
+name,dt_name,crossings,arc_notation
+3_1,3a_1,3,"{{2,5},{3,1},{4,2},{5,3},{1,4}}"
+4_1,4a_1,4,"{{6,2},{4,1},{5,3},{2,4},{3,6},{1,5}}"
+5_1,5a_2,5,"{{2,7},{3,1},{4,2},{5,3},{6,4},{7,5},{1,6}}"
+"""
+LEFT = Grid((1, 2, 3, 4, 0), (4, 0, 1, 2, 3))
+EIGHT = Grid((5, 3, 4, 1, 2, 0), (1, 0, 2, 3, 5, 4))
+# A cocycle that tells the two trefoils apart isn't to be had for so few colours, but a shadow cocycle is.
+LIST = "quandle dihedral 3\nquandle tetrahedral\nquandle dihedral 3\nshadow mochizuki\nquandle dihedral 5\n"
+
+# A table and its rows, made by the first test that needs them.
+MADE = []
+
+
+class IdentifyTest(unittest.TestCase):
+    def setUp(self):
+        self.folder = common.scratch(self)
+        self.log = os.path.join(self.folder, "log")
+        self.seek = os.path.join(self.folder, "seek")
+        os.symlink(STAND_IN, self.seek)
+        self.list = self.put("list.txt", LIST)
+        self.table = self.put("knots.csv", TABLE)
+        if not MADE:
+            status, _, said = self.call("knot_table.py", "numbers", self.table, "--list", self.list, "--write")
+            assert status == 0, said
+            MADE.append(self.read("knots.numbers.txt"))
+        self.put("knots.numbers.txt", MADE[0])
+
+    def put(self, name, text):
+        path = os.path.join(self.folder, name)
+        os.makedirs(os.path.dirname(path), exist_ok=True)
+        with open(path, "w", encoding="utf-8", newline="") as out:
+            out.write(text)
+        return path
+
+    def read(self, name):
+        with open(os.path.join(self.folder, name), encoding="utf-8") as source:
+            return source.read()
+
+    def call(self, script, *words, text="", **programs):
+        """Calls a script with the stand-ins as its programs, or with others."""
+        environment = {**os.environ, "KNOT": STAND_IN, "SEEK": self.seek, "LOG": self.log, **programs}
+        done = subprocess.run([sys.executable, "-B", os.path.join(common.TOOLS, script), *words], env=environment, input=text, capture_output=True, text=True,
+                              check=False)
+        return done.returncode, done.stdout, done.stderr
+
+    def identify(self, *words, text=""):
+        return self.call("identify.py", "--table", self.table, "--list", self.list, *words, text=text)
+
+    def rows(self, path):
+        with open(path, encoding="utf-8", newline="") as source:
+            return list(csv.DictReader(source))
+
+
+class OneDiagram(IdentifyTest):
+    def test_a_diagram_of_the_table_has_its_name(self):
+        self.assertEqual(self.identify("-", text=grid_text(EIGHT)), (0, "4_1\n", ""))
+
+    def test_the_right_trefoil_is_the_left_one_mirrored(self):
+        self.assertEqual(self.identify("-", text=grid_text(LEFT)), (0, "3_1\n", ""))
+        self.assertEqual(self.identify("-", text=grid_text(LEFT.mirror())), (0, "3_1 mirrored\n", ""))
+
+    def test_the_unknot(self):
+        self.assertEqual(self.identify("--braid", "1"), (0, "unknot\n", ""))
+
+    def test_a_knot_that_no_entry_has_the_numbers_of_is_none_of_the_table(self):
+        # 5_2 has three colourings by dihedral 3 and five by dihedral 5, as the unknot, but none of the others has so few by all quandles.
+        self.assertEqual(self.identify("--braid", "3 -1 2 -1 2 2 2")[1], "none of the table\n")
+
+    def test_a_link_is_told_and_not_looked_up(self):
+        self.assertEqual(self.identify("--braid", "2 1 1"), (1, "link of 2 components\n", ""))
+        self.assertFalse(os.path.exists(self.log))
+
+    def test_candidates_that_no_walk_joins_are_told(self):
+        # The closure has seven columns, which the stand-in doesn't make smaller, and it joins by shifts alone.
+        status, out, said = self.identify("--braid", "3 1 -2 1 -2")
+        self.assertEqual((status, out), (1, "open\n"))
+        self.assertTrue(said.startswith("identify.py: candidates: 4_1"), said)
+
+
+class Certificates(IdentifyTest):
+    def test_a_certificate_leads_to_the_diagram_of_the_table(self):
+        folder = os.path.join(self.folder, "certificates")
+        shifted = Grid(EIGHT.xs[2:] + EIGHT.xs[:2], EIGHT.os[2:] + EIGHT.os[:2])
+        path = self.put("eight.txt", grid_text(shifted))
+        self.assertEqual(self.identify(path, "--certificates", folder)[:2], (0, "4_1\n"))
+        text = self.read("certificates/eight.txt")
+        self.assertTrue(text.startswith(grid_text(shifted) + grid_text(EIGHT)), text)
+        self.assertEqual(common.call([sys.executable, STAND_IN, "check"], text).stdout, "accepted\n")
+
+
+class BadInput(IdentifyTest):
+    def answer(self, text):
+        status, out, said = self.identify("-", text=text)
+        self.assertEqual((status, out), (1, "refused\n"), said)
+        return said.removeprefix("identify.py: ")
+
+    def test_each_has_its_own_line(self):
+        self.assertEqual(self.answer(""), "there is no diagram: the file is empty\n")
+        self.assertEqual(self.answer("x 0 1\no 0 1\n"), "line 2: column 0 has its X and its O in one cell\n")
+        self.assertIn("a Gauss code, which is not read", self.answer("[1,-1,2,-2,3,-3]\n"))
+        self.assertIn("at most 48 are taken", self.answer(f"braid 2 {'1 ' * 45}\n"))
+
+    def test_a_row_without_a_diagram_is_kept_and_says_so(self):
+        table = self.put("given.csv", 'name,braid_notation\nnone,\nlink,"{1,1}"\nshort\nunknot,"{1}"\n')
+        status, _, said = self.identify(table, "--out", os.path.join(self.folder, "out.csv"))
+        self.assertEqual((status, said), (1, ""))
+        rows = self.rows(os.path.join(self.folder, "out.csv"))
+        self.assertEqual([row["name"] for row in rows], ["none", "link", "short", "unknot"])
+        self.assertEqual([row["answer"] for row in rows], ["refused", "link of 2 components", "refused", "unknot"])
+        self.assertEqual(rows[0]["said"], "there is no diagram: the entry is empty")
+        self.assertEqual(rows[2]["said"], "the row has 1 fields, and the header 2")
+
+    def test_a_table_of_knots_that_was_cut_or_changed(self):
+        cases = (("knots.csv", TABLE[:-20], "the table was cut or changed"), ("knots.csv", TABLE.rpartition("5_1")[0], "5_1 is missing, which"),
+                 ("knots.csv", TABLE.replace("{2,4},{3,6},{1,5}", "{2,4},{3,5},{1,6}"), "the diagram of 4_1 isn't the one whose numbers"),
+                 ("knots.csv", TABLE.replace("4_1,4a_1", "3_1,4a_1"), "'3_1' stands there twice"), ("knots.csv", "", "the table is empty"),
+                 ("knots.numbers.txt", MADE[0][:200], "the file was cut or changed"),
+                 ("knots.numbers.txt", MADE[0].replace("9/16", "9/17"), "the file was cut or changed"),
+                 ("list.txt", LIST + "quandle dihedral 7\n", "the rows were counted by another list"))
+        for name, text, expected in cases:
+            kept = self.read(name)
+            self.put(name, text)
+            status, out, said = self.identify("--braid", "1")
+            self.assertEqual((status, out), (2, ""), expected)
+            self.assertIn(expected, said)
+            self.assertEqual(said.count("\n"), 1, said)
+            self.put(name, kept)
+
+    def test_words(self):
+        for words in ((), ("--processes", "0", "x"), ("--steps", "-1", "x")):
+            self.assertEqual(self.identify(*words)[0], 2)
+        self.assertEqual(self.identify(os.path.join(self.folder, "none.csv"))[0], 2)
+        self.assertIn("say which has them by --diagram", self.identify(self.put("given.csv", "name,notes\na,b\n"))[2])
+
+
+class Threads(IdentifyTest):
+    def test_sums_are_made_once_however_many_ask(self):
+        known = KnotTable(self.table, self.list)
+        row = known.row("3_1")
+        with ThreadPoolExecutor(8) as pool:
+            found = list(pool.map(lambda _: known.candidates(row), range(40)))
+        self.assertEqual(found, [found[0]] * 40)
+        # Two to four trefoils and figure eights, and 5_1 with others, to twelve crossings in all; none has the numbers of one trefoil.
+        self.assertEqual({parts[0][0] for parts in found[0]}, {"3_1"})
+
+
+class GoingOn(IdentifyTest):
+    def setUp(self):
+        super().setUp()
+        self.given = self.put("given.csv", 'name,arc_notation\na,"{{2,5},{3,1},{4,2},{5,3},{1,4}}"\nb,"{{1,2},{2,1}}"\nc,\na,"{{1,2},{2,1}}"\n')
+        self.out = os.path.join(self.folder, "out.csv")
+
+    def calls(self):
+        with open(self.log, encoding="utf-8") as log:
+            return sum(line.startswith("simplify") for line in log)
+
+    def test_rows_that_stand_there_stay_and_the_others_are_done(self):
+        words = (self.given, "--out", self.out, "--certificates", os.path.join(self.folder, "certificates"))
+        self.assertEqual(self.identify(*words)[0], 1)
+        whole, first = self.read("out.csv"), self.calls()
+        self.assertEqual([row["answer"] for row in self.rows(self.out)], ["3_1", "unknot", "refused", "unknot"])
+        self.assertEqual([row["certificate"] for row in self.rows(self.out)], ["a.txt", "b.txt", "", "a~2.txt"])
+        # As a kill leaves it: the header, the first row, and half of the second.
+        lines = whole.splitlines(keepends=True)
+        self.put("out.csv", "".join(lines[:2]) + lines[2][:9])
+        self.assertEqual(self.identify(*words)[0], 1)
+        self.assertEqual(self.read("out.csv"), whole)
+        self.assertEqual(self.calls() - first, 2 + 1 - 1)
+        self.assertEqual(self.identify(*words)[0], 1)
+        self.assertEqual(self.read("out.csv"), whole)
+        self.assertEqual(self.calls() - first, 2)
+
+    def test_a_row_that_was_changed_is_done_again(self):
+        self.identify(self.given, "--out", self.out)
+        self.put("given.csv", self.read("given.csv").replace('b,"{{1,2},{2,1}}"', 'b,"{{6,2},{4,1},{5,3},{2,4},{3,6},{1,5}}"'))
+        self.identify(self.given, "--out", self.out)
+        self.assertEqual([row["answer"] for row in self.rows(self.out)], ["3_1", "4_1", "refused", "unknot"])
+
+    def test_a_file_of_another_kind_is_left_as_it_is(self):
+        self.put("out.csv", "something,else\n1,2\n")
+        self.assertEqual(self.identify(self.given, "--out", self.out)[0], 2)
+        self.assertEqual(self.read("out.csv"), "something,else\n1,2\n")
+
+
+class Published(IdentifyTest):
+    def test_each_row_is_ruled_on(self):
+        entries = {"left": "{{2,5},{3,1},{4,2},{5,3},{1,4}}", "right": "{{4,1},{3,5},{2,4},{1,3},{5,2}}", "eight": "{{6,2},{4,1},{5,3},{2,4},{3,6},{1,5}}"}
+        given = (("left", "3_1"), ("left", "K3a1"), ("right", "3_1"), ("right", "m3_1"), ("right", "3_1 mirrored"), ("eight", "3_1"), ("left", "10_166"),
+                 ("eight", ""))
+        path = self.put("given.csv", "name,is,arcs\n" + "".join(f'{place},{said},"{entries[what]}"\n' for place, (what, said) in enumerate(given)))
+        out = os.path.join(self.folder, "out.csv")
+        self.assertEqual(self.identify(path, "--expect", "is", "--out", out)[0], 1)
+        rows = self.rows(out)
+        self.assertEqual([row["ruling"] for row in rows],
+                         ["right", "right", "mirrored", "right", "right", "wrong: it is 4_1", "wrong: it is 3_1", "no name"])
+        self.assertEqual(rows[6]["said"], "no knot of the table is called '10_166'")
+
+    def test_rows_without_a_name_are_ruled_on(self):
+        # The last two closures aren't made smaller by the stand-in, nor joined.
+        given = (("{1,1}", "3_1"), ("{-1,2,-1,2,2,2}", "3_1"), ("", "3_1"), ("{1,-2,1,-2}", "4_1"), ("{1,-2,1,-2}", "3_1"))
+        path = self.put("given.csv", "name,is,braid\n" + "".join(f'{place},{said},"{word}"\n' for place, (word, said) in enumerate(given)))
+        status, out, _ = self.identify(path, "--expect", "is")
+        self.assertEqual(status, 1)
+        rulings = [row["ruling"] for row in csv.DictReader(out.splitlines())]
+        self.assertEqual(rulings[:4], ["wrong: it is a link of 2 components", "wrong: it is none of the table", "refused", "open"])
+        self.assertTrue(rulings[4].startswith("wrong: it may be 4_1 or 4_1 mirrored"), rulings[4])
+
+
+class KnotTableScript(IdentifyTest):
+    def make(self, *words):
+        return self.call("knot_table.py", *words, self.table, "--list", self.list)
+
+    def test_numbers_are_counted_anew_and_compared(self):
+        self.assertEqual(self.make("numbers", "--all"), (0, f"{self.table}: numbers: as they stand there\n", ""))
+        self.put("knots.csv", TABLE.replace("{{2,5},{3,1},{4,2},{5,3},{1,4}}", "{{4,1},{3,5},{2,4},{1,3},{5,2}}"))
+        status, out, said = self.make("numbers")
+        self.assertEqual((status, out), (1, f"{self.table}: numbers: 1 lines differ\n"))
+        self.assertIn("3_1: the numbers are others", said)
+        self.assertEqual(self.read("knots.numbers.txt"), MADE[0])
+
+    def test_symmetries_that_numbers_rule_out(self):
+        self.assertEqual(self.make("symmetry", "--numbers-alone", "--write")[0], 0)
+        rows = {row["name"]: row for row in self.rows(os.path.join(self.folder, "knots.symmetry.csv"))}
+        self.assertEqual(rows["3_1"]["mirror"], "different by dihedral 3 with a cocycle mod 3")
+        self.assertEqual((rows["3_1"]["reverse"], rows["3_1"]["mirror_reverse"]), ("open", "different by dihedral 3 with a cocycle mod 3"))
+        self.assertEqual(set(rows["4_1"].values()), {"4_1", "open"})
+        # What is known leaves out turns that need no walk.
+        known = KnotTable(self.table, self.list).knots
+        self.assertEqual(known["3_1"].different, (Turn(True), Turn(True, True)))
+        self.assertEqual(len(known["4_1"].turns()), 4)
+
+    def test_turns_that_make_one_knot_are_tried_once(self):
+        self.put("knots.symmetry.csv", "name,mirror,reverse,mirror_reverse\n3_1,different by x,equal,different by x\n4_1,equal,equal,equal\n"
+                 "5_1,open,open,equal\n")
+        known = KnotTable(self.table, self.list)
+        self.assertEqual([[turn.words for turn in knot.turns()] for knot in known.knots.values()], [["", " mirrored"], [""], ["", " mirrored"]])
+        self.assertEqual(known.parts_of("3_1 reversed"), (("3_1", Turn()),))
+        self.assertEqual(known.parts_of("5_1 reversed"), (("5_1", Turn(True)),))
+
+
+class Rows(unittest.TestCase):
+    def setUp(self):
+        self.text = common.read("quandles", "weights", "list.txt")
+        self.blocks = blocks_of(self.text)
+
+    def test_blocks_are_those_of_the_list(self):
+        self.assertEqual(len(self.blocks), len(re.findall("^quandle", self.text, re.M)))
+        self.assertEqual([(block.order, block.weights, block.is_shadow) for block in self.blocks if block.order in (4, 12, 31)],
+                         [(4, 0, False), (12, 5, False), (31, 31, True)])
+
+    def test_a_line_of_a_row_is_read_as_it_was_written(self):
+        blocks = blocks_of("quandle dihedral 3\nquandle tetrahedral\nquandle dihedral 3\nshadow mochizuki\nquandle dihedral 5\n")
+        for row in (((9,), (16,), (9, 0, 18), (5,)), ((3,), None, (9, 0, 0), (25,)), ((3,), (4,), (9, 18, 0), None)):
+            self.assertEqual(row_in(text_of(row, blocks), blocks), row)
+        self.assertEqual(text_of(((9,), None, (9, 18, 0), (5,)), blocks), "9/?/9 18/")
+
+    @unittest.skipUnless(BUILT, "knot isn't built")
+    def test_a_sum_has_the_numbers_that_are_made_of_its_parts(self):
+        trefoil, eight, torus = Braid(2, (1, 1, 1)), Braid(3, (1, -2, 1, -2)), Braid(3, (1, 2) * 4)
+        sums = ((trefoil, trefoil, Braid(3, (1, 1, 1, 2, 2, 2))), (trefoil, trefoil.mirror(), Braid(3, (1, 1, 1, -2, -2, -2))),
+                (trefoil, eight, Braid(4, (1, 1, 1, 2, -3, 2, -3))), (torus, eight, None))
+        for first, second, word in sums:
+            made = of_sum(row_of(first, self.text), row_of(second, self.text), self.blocks)
+            drawn = sum_of_grids(grid_of(first), grid_of(second))
+            self.assertTrue(may_be_one(made, row_of(drawn, self.text)))
+            if word:
+                self.assertTrue(may_be_one(made, row_of(word, self.text)))
+
+    @unittest.skipUnless(BUILT, "knot isn't built")
+    def test_the_reversed_mirror_image_has_the_negative_weights(self):
+        # 8_17 isn't its own reverse.
+        for braid in (Braid(2, (1, 1, 1)), Braid(3, (1, 1, -2, 1, -2, 1, -2, -2))):
+            self.assertTrue(may_be_one(opposite(row_of(braid, self.text), self.blocks), row_of(braid.mirror().reverse(), self.text)))
+
+
+class Sums(unittest.TestCase):
+    def test_the_jones_polynomial_of_a_sum_is_the_product(self):
+        from test_turn import jones
+        for first in (LEFT, LEFT.mirror(), EIGHT):
+            for second in (LEFT, EIGHT.reverse()):
+                whole = sum_of_grids(first, second)
+                self.assertEqual(whole.size, first.size + second.size - 1)
+                self.assertEqual(jones(whole), knot_invariants.poly_times(jones(first), jones(second)))
+
+
+@unittest.skipUnless(os.path.isfile(TO_12), "the table isn't there")
+class Tables(unittest.TestCase):
+    def test_there_are_as_many_prime_knots_as_are_known(self):
+        counts = collections.Counter(knot.crossings for knot in read_knots(TO_12).values())
+        self.assertEqual([counts[crossings] for crossings in range(3, 13)], [1, 1, 2, 3, 7, 21, 49, 165, 552, 2176])
+        self.assertEqual(list(read_knots(TO_10).values()), [knot for knot in read_knots(TO_12).values() if knot.crossings <= 10])
+
+    def test_codes_and_grids_are_knots_of_so_many_crossings(self):
+        with open(TO_12, encoding="utf-8", newline="") as source:
+            for row in csv.DictReader(source):
+                rows = nested(row["pd_notation"].removeprefix("PD"))
+                self.assertEqual(len(rows), int(row["crossings"]), row["name"])
+                self.assertEqual(sorted(edge for one in rows for edge in one), sorted([*range(1, 2 * len(rows) + 1)] * 2), row["name"])
+
+    def test_names_are_those_of_the_words_to_eight_crossings(self):
+        # By the Jones polynomial, which all of these differ by, up to mirror images.
+        with open(TO_10, encoding="utf-8", newline="") as source:
+            codes = {row["name"]: nested(row["pd_notation"].removeprefix("PD")) for row in csv.DictReader(source)}
+        with open(os.path.join(common.LISTS, "knots-to-8.csv"), encoding="utf-8", newline="") as source:
+            for row in csv.DictReader(source):
+                letters = tuple(map(int, re.findall(r"-?\d+", row["braid"])))
+                due = knot_invariants.jones_polynomial(max(map(abs, letters)) + 1, letters)
+                self.assertIn(jones_of_code(codes[row["name"]]), (due, {-power: count for power, count in due.items()}), row["name"])
+
+    def test_the_words_of_the_table_to_ten_mean_the_mirror_images_that_are_drawn(self):
+        with open(TO_10, encoding="utf-8", newline="") as source:
+            for row in csv.DictReader(source):
+                if row["braid_notation"] and int(row["crossings"]) < 9:
+                    strands, letters = nested(row["braid_notation"])
+                    code = nested(row["pd_notation"].removeprefix("PD"))
+                    self.assertEqual(jones_of_code(code), knot_invariants.jones_polynomial(strands, letters), row["name"])
+
+    def test_files_belong_together(self):
+        for path in (TO_10, TO_12):
+            self.assertEqual(len(KnotTable(path).rows), len(read_knots(path)))
+
+    def test_names_in_their_spellings(self):
+        known = KnotTable(TO_12)
+        for said, name in (("10_132", "10_132"), ("11n34", "11n34"), ("K11n34", "11n34"), ("11n_34", "11n34"), ("k10n31", "10_161")):
+            self.assertEqual(known.parts_of(said), ((name, Turn()),))
+        self.assertEqual(known.parts_of("3_1 mirrored # 7_5"), ((("3_1", Turn(True))), ("7_5", Turn())))
+        self.assertEqual((known.parts_of("unknot"), known.parts_of("10_166"), known.parts_of("3_2")), ((), None, None))
+
+
+@unittest.skipUnless(os.path.isfile(TO_12[:-4] + ".symmetry.csv"), "the symmetries aren't there")
+class Symmetries(unittest.TestCase):
+    def test_as_many_are_their_own_mirror_images_as_are_known(self):
+        knots = read_knots(TO_12).values()
+        counts = collections.Counter(knot.crossings for knot in knots if {Turn(True), Turn(True, True)} & set(knot.same))
+        self.assertLessEqual(set(counts), {4, 6, 8, 10, 12})
+        for crossings, count in ((4, 1), (6, 1), (8, 5), (10, 13), (12, 58)):
+            self.assertLessEqual(counts[crossings], count)
+
+
+def jones_of_code(rows):
+    """The Jones polynomial of a code of one component whose edges ascend along it. A crossing is positive where the strand over leaves on the
+    second edge."""
+    count = 2 * len(rows)
+    return knot_invariants.jones_of_rows(rows, [1 if (j - l) % count == 1 else -1 for _, j, _, l in rows])
+
+
+@unittest.skipUnless(BUILT and os.access(BUILT_SEEK, os.X_OK), "the programs aren't built")
+class WithThePrograms(IdentifyTest):
+    def identify(self, *words, text=""):
+        return self.call("identify.py", "--table", self.table, "--list", self.list, *words, text=text, KNOT=BUILT, SEEK=BUILT_SEEK)
+
+    def test_codes_in_their_spellings(self):
+        for text in ("PD[X[4,2,5,1], X[8,6,1,5], X[6,3,7,4], X[2,7,3,8]]", "[[4,2,5,1],[8,6,1,5],[6,3,7,4],[2,7,3,8]]",
+                     "# the figure eight\ncrossings 4\nX[4,2,5,1]\nX[8,6,1,5]\nX[6,3,7,4]\nX[2,7,3,8]\nloops 0\n", "DT: [4,6,8,2]", "{3,{1,-2,1,-2}}"):
+            self.assertEqual(self.identify("-", text=text)[:2], (0, "4_1\n"), text)
+
+    def test_the_trefoil_by_its_dt_code(self):
+        self.assertEqual(self.identify("--dt", "4 6 2"), (0, "3_1\n", "identify.py: a DT code doesn't tell it from its mirror image\n"))
+
+    def test_sums_in_their_mirror_images(self):
+        for word, name in (("3 1 1 1 2 2 2", "3_1 mirrored # 3_1 mirrored"), ("3 -1 -1 -1 2 2 2", "3_1 # 3_1 mirrored"), ("4 -1 -1 -1 2 -3 2 -3", "3_1 # 4_1")):
+            self.assertEqual(self.identify("--braid", word), (0, name + "\n", ""))
+
+    def test_what_a_code_lacks_is_told(self):
+        self.assertEqual(self.identify("-", text="PD[X[1,2,3,4]]\n"), (1, "refused\n", "identify.py: the edge 1 doesn't stand exactly twice\n"))
+
+    def test_a_code_that_is_too_large_is_refused_with_its_size(self):
+        # The torus knot of two strands and 61 crossings, whose smallest grid has 63 columns.
+        rows = [[(edge - 1) % 122 + 1 for edge in (k, k + 62, k + 1, k + 61)] for k in range(1, 123, 2)]
+        self.assertEqual(self.identify("-", text=str(rows)), (1, "refused\n", "identify.py: its drawing takes 63 columns, and a grid has at most 48\n"))
+
+    def test_the_module_answers_a_certificate_that_the_checker_accepts(self):
+        found = identify(Braid(3, (1, 1, 1, 2, -1, 2)), KnotTable(self.table, self.list))
+        self.assertEqual((found.name, found.answer, found.certificate), (None, "none of the table", None))
+        found = identify(Braid(2, (-1,) * 5), KnotTable(self.table, self.list))
+        self.assertEqual(found.name, "5_1")
+        self.assertTrue(found.certificate.check())
+        self.assertEqual(found.certificate.second, KnotTable(self.table, self.list).grid(found.parts))
+
+
+if __name__ == "__main__":
+    unittest.main()

@@ -1,0 +1,271 @@
+#!/usr/bin/env python3
+"""Makes what belongs to a table of knots anew, and compares it with what stands there.
+
+    tools/knot_table.py grids TABLE..        draws the grid of each code by `knot grid` and makes it smaller by `knot simplify`
+    tools/knot_table.py numbers TABLE..      counts the rows of numbers by `knot numbers`
+    tools/knot_table.py names TABLE..        joins the braid word of each knot to its grid by `seek`, and has `knot check` rule on it
+    tools/knot_table.py symmetry TABLE..     joins each knot to its mirror image, its reverse and the reverse of its mirror image, or tells it apart
+
+Each line that differs is named on standard error, and the exit status is 1. --write puts what was made in the place of what stands there:
+the grids into the table, the numbers into TABLE without .csv and with .numbers.txt, the symmetries into .symmetry.csv. The numbers of a grid
+that has its line stay, and so do symmetries that are known: --all makes these anew too. --list FILE
+names another list of quandles than quandles/weights/list.txt. --certificates FOLDER keeps those of `names` and
+`symmetry`; else symmetries that the rows of numbers rule out are taken as ruled out by them.
+"""
+import argparse
+import csv
+import io
+import os
+import sys
+from concurrent.futures import ThreadPoolExecutor
+
+from lib import calls
+from lib.census_plan import blocks_of as plan_blocks
+from lib.connected import is_connected
+from lib.identify_programs import add_program_words, use_programs
+from lib.whole_files import write_whole
+from knot_workbench import Fault, seek
+from knot_workbench.code_grids import Grids
+from knot_workbench.diagrams import Lines, diagram_text, grid_of, read_diagram, read_quandle
+from knot_workbench.identifying import smaller
+from knot_workbench.knot_rows import blocks_of, row_of, text_of
+from knot_workbench.knot_tables import SYMMETRIES, KnotTable, beside, default_list, digest, read_knots, records, rows_text, text_in
+from knot_workbench.table_entries import Conventions, diagram_of
+
+BUDGET = 20_000
+# The steps of walks that join a knot to itself after a turn: before larger quandles are tried, and behind them.
+SHORT, LONG = 300_000, 8_000_000
+
+
+def arcs_text(grid):
+    """A grid as an arc presentation: for each column the rows of its X and its O, from 1."""
+    return "{" + ",".join(f"{{{x + 1},{o + 1}}}" for x, o in zip(grid.xs, grid.os)) + "}"
+
+
+class Work:
+    """Makes many things at once, tells how far it is, and counts what differs."""
+
+    def __init__(self, processes):
+        self.processes, self.differing = processes, 0
+
+    def each(self, items, make):
+        """What is made of each item, in their order."""
+        with ThreadPoolExecutor(self.processes) as pool:
+            for place, found in enumerate(pool.map(make, items), 1):
+                if place % 100 == 0:
+                    calls.note(f"{place} of {len(items)}")
+                yield found
+
+    def differs(self, said):
+        """Names a line that differs."""
+        self.differing += 1
+        calls.note(said)
+
+
+# Grids
+
+def grid_of_code(code):
+    """A small grid of a planar diagram code."""
+    grid = grid_of(read_diagram(Lines(diagram_of(code, None, Conventions("columns", False, False, "PD", Grids())).text)))
+    return smaller(grid, BUDGET)[0]
+
+
+def grids(path, asked, work):
+    """Draws each code anew, and compares the sizes of the grids: other programs may find other grids, and a smaller one alone is news."""
+    text = text_in(path)
+    rows = [row for _, row in records(path, text, ("name", "pd_notation", "arc_notation"))]
+    knots = read_knots(path)
+    for row, grid in zip(rows, work.each(rows, lambda row: grid_of_code(row["pd_notation"]))):
+        if arcs_text(grid) != row["arc_notation"]:
+            old = knots[row["name"]].grid
+            work.differs(f"{path}: {row['name']}: the grid that is drawn has {grid.size} columns, and that of the table {old.size}"
+                         + ("" if grid.size != old.size else ", and isn't the same"))
+            row["arc_notation"] = arcs_text(grid)
+    if asked.write and work.differing:
+        write_whole(path, table_text(list(rows[0]), rows).encode())
+
+
+def table_text(columns, rows):
+    """The text of a table."""
+    out = io.StringIO(newline="")
+    writer = csv.DictWriter(out, columns, lineterminator="\n")
+    writer.writeheader()
+    writer.writerows(rows)
+    return out.getvalue()
+
+
+# Numbers
+
+def check_list(text, path):
+    """Refuses a list in which a quandle isn't connected: then the numbers of a sum aren't known by those of its parts."""
+    for block in plan_blocks(text)[1]:
+        found = read_quandle(Lines(block.quandle))
+        if not is_connected(found.over):
+            raise Fault(f"{path}: {block.quandle.splitlines()[0]} isn't connected")
+
+
+def numbers(path, asked, work):
+    """Counts each row anew, and compares."""
+    listed, target = text_in(asked.list), beside(path, ".numbers.txt")
+    check_list(listed, asked.list)
+    blocks, knots = blocks_of(listed), list(read_knots(path).values())
+    old = old_numbers(target, listed)
+    wanted = [knot for knot in knots if asked.all or digest(diagram_text(knot.grid)) not in old]
+
+    def counted(knot):
+        return [text_of(row_of(grid, listed), blocks) for grid in (knot.grid, knot.grid.mirror())]
+
+    rows = {knot.name: texts for knot, texts in zip(wanted, work.each(wanted, counted))}
+    found = [(knot, *(rows.get(knot.name) or old[digest(diagram_text(knot.grid))])) for knot in knots]
+    for knot, *texts in found:
+        if old.get(digest(diagram_text(knot.grid))) != texts:
+            work.differs(f"{target}: {knot.name}: the numbers are others than those that stand there")
+    text = rows_text(listed, found)
+    if not work.differing and text != text_or_none(target):
+        work.differs(f"{target}: it is another file than that which is due")
+    if asked.write and work.differing:
+        write_whole(target, text.encode())
+
+
+def old_numbers(path, listed):
+    """The two rows that stand in a file, by the digests of diagrams; none where it was counted by another list."""
+    text = text_or_none(path) or ""
+    if not text.startswith(f"list {digest(listed)}\n"):
+        return {}
+    lines = [line.split(",") for line in text.splitlines()]
+    return {fields[1]: fields[2:] for fields in lines if len(fields) == 4}
+
+
+def text_or_none(path):
+    """The text of a file, or None where there is none."""
+    return text_in(path) if os.path.exists(path) else None
+
+
+# Names and symmetries
+
+def evidence_of(first, second, asked):
+    """What `seek` finds of two diagrams by the list, by larger quandles and by walks: a certificate that the checker accepted, or None."""
+    for steps, files in ((SHORT, ()), (0, larger_quandles()), (LONG, ())):
+        found = seek(first, second, weights=[asked.list, *files], steps=steps)
+        if found is not None:
+            found.check()
+            return found
+    return None
+
+
+def larger_quandles():
+    """The files of quandles of more than 32 colours."""
+    folder = os.path.join(os.path.dirname(os.path.dirname(default_list())), "larger")
+    return sorted(os.path.join(folder, name) for name in os.listdir(folder) if name.endswith(".txt"))
+
+
+def kept(asked, name, certificate):
+    """Keeps a certificate in the folder that was asked for."""
+    if asked.certificates and certificate is not None:
+        os.makedirs(asked.certificates, exist_ok=True)
+        certificate.save(os.path.join(asked.certificates, f"{name}.txt"))
+
+
+def names(path, asked, work):
+    """Joins the word of each knot to its grid."""
+    knots = read_knots(path)
+    rows = [row for _, row in records(path, text_in(path), ("name", "braid_notation")) if row["braid_notation"]]
+
+    def joined(row):
+        word = read_diagram(Lines(diagram_of(row["braid_notation"], None, Conventions("columns", False, False, "braid", None)).text))
+        found = evidence_of(word, knots[row["name"]].grid, asked)
+        kept(asked, row["name"], found)
+        return found
+
+    for row, found in zip(rows, work.each(rows, joined)):
+        if found is None or not found.is_equal:
+            work.differs(f"{path}: {row['name']}: the braid word is " + ("not joined to the grid" if found is None else f"another knot: {found}"))
+
+
+def symmetry_text(found):
+    """What stands in a table of a certificate: `equal`, `different` and by what, or `open`."""
+    if found is None:
+        return "open"
+    if found.is_equal:
+        return "equal"
+    by = found.verdict.quandle.name
+    cocycle = getattr(found.verdict, "cocycle", None)
+    return f"different by {by}" + (f" with a cocycle mod {cocycle.modulus}" if cocycle else "")
+
+
+def symmetry(path, asked, work):
+    """Joins each knot to itself after each turn, or tells it apart; what two turns show of the third is taken as shown."""
+    target = beside(path, ".symmetry.csv")
+    known = KnotTable(path, asked.list)
+    labels = labels_of(known.listed)
+    columns = ["name", *(column for column, _ in SYMMETRIES)]
+    old = {} if asked.all or not os.path.exists(target) else {row["name"]: row for _, row in records(target, text_in(target), columns)}
+
+    def shown(knot):
+        row = dict(old.get(knot.name) or {"name": knot.name})
+        for column, turn in (SYMMETRIES[1], SYMMETRIES[0], SYMMETRIES[2]):
+            if row.get(column, "open") == "open":
+                row[column] = symmetry_by(row, column) or (not asked.certificates and by_numbers(known, knot.name, turn, labels)) or sought(knot, column, turn)
+        return row
+
+    def sought(knot, column, turn):
+        if asked.numbers_alone:
+            return "open"
+        found = evidence_of(knot.grid, turn.of(knot.grid), asked)
+        kept(asked, f"{knot.name}-{column}", found)
+        return symmetry_text(found)
+
+    rows = list(work.each(list(known.knots.values()), shown))
+    for row in rows:
+        if row != old.get(row["name"]):
+            work.differs(f"{target}: {row['name']}: {', '.join(f'{column} {row[column]}' for column in columns[1:])}")
+    if asked.write and work.differing:
+        write_whole(target, table_text(columns, rows).encode())
+
+
+def labels_of(listed):
+    """What each block of a list is called."""
+    return [block.quandle.partition("\n")[0].removeprefix("quandle ") + (f" with a cocycle mod {read.weights}" if read.weights else "")
+            for block, read in zip(plan_blocks(listed)[1], blocks_of(listed))]
+
+
+def by_numbers(known, name, turn, labels):
+    """By which block of the list the rows of a knot and of the same after a turn differ, or None."""
+    for label, one, other in zip(labels, known.row(name), known.row(name, turn)):
+        if one is not None and other is not None and one != other:
+            return f"different by {label}"
+    return None
+
+
+def symmetry_by(row, column):
+    """What two symmetries show of the third: of two that are equal, it is too; of one that is equal and one that is different, it is different."""
+    others = [row.get(other, "open") for other, _ in SYMMETRIES if other != column]
+    if sorted(other.partition(" ")[0] for other in others) == ["different", "equal"]:
+        return next(other for other in others if other != "equal")
+    return "equal" if others == ["equal", "equal"] else None
+
+
+def main():
+    parser = calls.WordsParser(description=__doc__, formatter_class=argparse.RawDescriptionHelpFormatter)
+    parser.add_argument("what", choices=("grids", "numbers", "names", "symmetry"), help="what is made anew")
+    parser.add_argument("tables", nargs="+", metavar="TABLE", help="a table as docs/FORMATS.md has it")
+    parser.add_argument("--write", action="store_true", help="put what was made in the place of what stands there")
+    parser.add_argument("--all", action="store_true", help="make numbers and symmetries anew that stand there already")
+    parser.add_argument("--certificates", metavar="FOLDER", help="keep the certificates of names and symmetries here")
+    parser.add_argument("--numbers-alone", action="store_true", help="symmetries by the rows of numbers alone, and no walks")
+    parser.add_argument("--list", metavar="FILE", help="the list of quandles by which is counted")
+    add_program_words(parser)
+    asked = parser.parse_args()
+    asked.list = asked.list or default_list()
+    use_programs(asked.knot, asked.seek)
+    differing = 0
+    for path in asked.tables:
+        work = Work(asked.processes)
+        {"grids": grids, "numbers": numbers, "names": names, "symmetry": symmetry}[asked.what](path, asked, work)
+        differing += work.differing
+        calls.say(f"{path}: {asked.what}: " + (f"{work.differing} lines differ" if work.differing else "as they stand there"))
+    sys.exit(1 if differing and not asked.write else 0)
+
+
+if __name__ == "__main__":
+    calls.run("knot_table.py", main)

@@ -1,0 +1,28 @@
+"""The programs that the scripts on tables of knots call."""
+import os
+
+from lib.batch_programs import Programs, Runner
+from lib.batch_stages import BatchError
+from knot_workbench import use
+from knot_workbench.faults import NoProgram
+
+TOP = os.path.dirname(os.path.dirname(os.path.dirname(os.path.realpath(__file__))))
+
+
+def use_programs(knot=None, seek=None):
+    """Has the module call these programs, those of KNOT and SEEK, or what the launchers of the tree have built, which is done first where it
+    is due. NoProgram where one can't be run."""
+    given = {name: path or os.environ.get(name.upper()) or os.path.join(TOP, name) for name, path in (("knot", knot), ("seek", seek))}
+    programs = Programs(Runner(), given["knot"], given["seek"], None)
+    try:
+        programs.prepare(["knot", "seek"])
+    except BatchError as error:
+        raise NoProgram(str(error)) from None
+    use(knot=programs.path("knot"), seek=programs.path("seek"))
+
+
+def add_program_words(words):
+    """Adds the options that name the programs, and how many are run at once."""
+    words.add_argument("--knot", metavar="PROGRAM", help="the program knot (default: KNOT, or ./knot of this tree)")
+    words.add_argument("--seek", metavar="PROGRAM", help="the program seek (default: SEEK, or ./seek of this tree)")
+    words.add_argument("--processes", type=int, default=os.cpu_count() or 1, metavar="N", help="how many at once (default: as many as there are processors)")
