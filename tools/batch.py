@@ -11,6 +11,10 @@ if sys.version_info < (3, 9):
 # The script may be called by a symbolic link.
 sys.path.insert(0, os.path.dirname(os.path.realpath(__file__)))
 
+from lib.crashes import crashed
+
+sys.excepthook = crashed
+
 from lib.batch_call import main
 from lib.calls import ended
 

@@ -17,10 +17,12 @@ may stand in the call and has no effect: so tools/batch.py can call this program
 import argparse
 import os
 import subprocess
+import sys
 import tempfile
 
 from lib import calls
 from lib.census_plan import blocks_of
+from lib.crashes import CRASHED, crashed
 
 TOP = os.path.dirname(os.path.dirname(os.path.realpath(__file__)))
 
@@ -98,4 +100,6 @@ def main():
 
 
 if __name__ == "__main__":
-    calls.run("colour_numbers.py", main)
+    # With 1 it would say, as a search does, that it found nothing.
+    sys.excepthook = crashed
+    calls.run("colour_numbers.py", main, failed=CRASHED)

@@ -1,24 +1,32 @@
 #!/bin/sh
 # An array job for the queue Slurm: sbatch examples/census/array-job.sh DIAGRAMS CENSUS
-# Each of the 16 tasks runs its part of each round, and ends where a round waits for the other parts. So send it several times, one behind
-# the other; a task that has nothing left to do ends at once:
-#   for turn in 1 2 3 4 5 6 7 8 9 10 11 12; do sbatch --dependency=singleton examples/census/array-job.sh DIAGRAMS CENSUS; done
+# Each task runs its part of each round, and waits half an hour for the other parts. So where all tasks run at once, one job sorts the whole
+# folder: ask for no more tasks than do, by sbatch --array=1-N. Where they don't, each job ends some rounds more; send it again, one job after
+# the other, until the logs have no line `call again`:
+#   sbatch --dependency=singleton examples/census/array-job.sh DIAGRAMS CENSUS
 # Submit it at the top of the tree, with both programs built. At the end call tools/census.py sort DIAGRAMS CENSUS once.
 #SBATCH --job-name=census
 #SBATCH --array=1-16
 #SBATCH --cpus-per-task=4
+#SBATCH --mem-per-cpu=500M
 #SBATCH --time=08:00:00
 #SBATCH --output=census-%A-%a.log
+#SBATCH --open-mode=append
 set -u
 
-if [ $# -ne 2 ]; then
-    echo 'usage: sbatch examples/census/array-job.sh DIAGRAMS CENSUS' >&2
+# The number of parts is that of the array's tasks. Where only some of them are sent again, or another queue has no such number, it is the
+# third word. Other queues have other names for that of the task: in PBS it is PBS_ARRAY_INDEX, in Grid Engine SGE_TASK_ID.
+task=${SLURM_ARRAY_TASK_ID:-} parts=${3:-${SLURM_ARRAY_TASK_COUNT:-}}
+if [ $# -lt 2 ] || [ $# -gt 3 ] || [ -z "$task" ] || [ -z "$parts" ]; then
+    echo 'usage: sbatch [--array=1-N] examples/census/array-job.sh DIAGRAMS CENSUS [PARTS]' >&2
     exit 2
 fi
-# The same numbers as in the lines above. Other queues have other names for that of the task: in PBS it is PBS_ARRAY_INDEX, in
-# Grid Engine SGE_TASK_ID.
-tools/census.py sort --processes "${SLURM_CPUS_PER_TASK:-4}" --part "$SLURM_ARRAY_TASK_ID/16" "$1" "$2"
+if [ $# -eq 2 ] && [ "${SLURM_ARRAY_TASK_MIN:-1}/${SLURM_ARRAY_TASK_MAX:-$parts}" != "1/$parts" ]; then
+    echo "array-job.sh: the array has no tasks 1 to N: say how many parts there are, as the third word" >&2
+    exit 2
+fi
+tools/census.py sort --processes "${SLURM_CPUS_PER_TASK:-4}" --part "$task/$parts" "$1" "$2"
 status=$?
-# A round that waits, or a pair that is undecided, is no failure of the task.
-[ "$status" -eq 1 ] && status=0
+# A round that waits is no failure of the task; anything else is.
+[ "$status" -eq 4 ] && status=0
 exit "$status"

@@ -14,6 +14,7 @@ Searches      seek, decide, which answer a Certificate; or None, or an Unknown
 One diagram   colour, numbers, code, simplify, braid_word, replay
 Two diagrams  linking, weights
 Certificates  Certificate, check
+Which knot    identify, by a KnotTable
 Errors        each one is a Fault; the module faults has them all
 
 It needs Python 3.9 or later and nothing else.
@@ -24,17 +25,18 @@ from .codes import Code, read_code
 from .diagrams import Braid, Diagram, Grid, Move, Quandle, built_in_list, move_text
 from .faults import (BadAnswer, BadCode, BadDiagram, BadText, Failed, Fault, Illegal, Malformed, NoJob, NoProgram, OverLimit, Rejected, TimedOut,
                      Wide)
-from .jobs import (Colourings, Compared, Numbers, Replayed, Simplified, braid_word, cocycle, code, colour, decide, from_code, from_pd, linking, numbers, quandle,
-                   replay, seek, simplify, weights)
+from .identifying import Identified, identify
+from .jobs import (Colourings, Compared, Numbers, Replayed, Simplified, braid_word, cocycle, code, colour, decide, from_code, from_pd, linking, numbers,
+                   quandle, replay, seek, simplify, weights)
+from .knot_tables import KnotTable, Turn
 from .programs import path_of, use
 from .sources import from_regina, from_sage, from_snappy, from_table
 from .table_entries import EntryError
 from .table_rows import TableError
 
-__all__ = ("BadAnswer", "BadCode", "BadDiagram", "BadText", "Braid", "Certificate", "Cocycle", "Code", "Colourings", "Compared", "Counted", "Diagram",
-           "Different", "DifferentLinking", "DifferentNumbers",
-           "EntryError", "Equal", "Failed", "Fault", "Grid", "Illegal", "Linked", "Malformed", "Move", "NoJob", "NoProgram", "Numbers", "OverLimit", "Quandle",
-           "Rejected", "Replayed",
-           "ShadowCocycle", "Simplified", "TableError", "TimedOut", "Unknown", "Wide", "braid_word", "built_in_list", "check", "cocycle", "code",
-           "colour", "decide", "from_code", "from_pd", "from_regina", "from_sage", "from_snappy", "from_table", "linking", "move_text", "numbers", "path_of",
-           "quandle", "read_code", "replay", "seek", "simplify", "use", "weights")
+__all__ = ("BadAnswer", "BadCode", "BadDiagram", "BadText", "Braid", "Certificate", "Cocycle", "Code", "Colourings", "Compared", "Counted",
+           "Diagram", "Different", "DifferentLinking", "DifferentNumbers", "EntryError", "Equal", "Failed", "Fault", "Grid", "Identified", "Illegal",
+           "KnotTable", "Linked", "Malformed", "Move", "NoJob", "NoProgram", "Numbers", "OverLimit", "Quandle", "Rejected", "Replayed",
+           "ShadowCocycle", "Simplified", "TableError", "TimedOut", "Turn", "Unknown", "Wide", "braid_word", "built_in_list", "check", "cocycle",
+           "code", "colour", "decide", "from_code", "from_pd", "from_regina", "from_sage", "from_snappy", "from_table", "identify", "linking",
+           "move_text", "numbers", "path_of", "quandle", "read_code", "replay", "seek", "simplify", "use", "weights")

@@ -210,8 +210,9 @@ def line_text(word: str, numbers: Rows) -> str:
     return " ".join([word, *map(str, numbers)]) + "\n"
 
 
-def read_verdict(lines: Lines, first: Grid, second: Grid) -> Tuple[Verdict, int]:
-    """The verdict that stands last, and its version. Raises BadText."""
+def read_verdict(lines: Lines, first: Optional[Grid] = None, second: Optional[Grid] = None) -> Tuple[Verdict, int]:
+    """The verdict that stands last, and its version. Where the diagrams aren't known, lists of colours have lines of any length, all of the
+    same. Raises BadText."""
     version = 1
     if lines.peek() == "certificate":
         line, tokens = lines.take("the line 'certificate'")
@@ -225,7 +226,7 @@ def read_verdict(lines: Lines, first: Grid, second: Grid) -> Tuple[Verdict, int]
         verdict = Equal(tuple(read_moves(lines)))
     elif lines.peek() == "different":
         quandle = read_quandle(lines, "different")
-        verdict = Different(quandle, *(read_list(lines, len(grid.xs), quandle.order) for grid in (first, second)))
+        verdict = Different(quandle, *(read_list(lines, len(grid.xs) if grid else None, quandle.order) for grid in (first, second)))
     else:
         verdict = read_unknown(lines)
     lines.done()
@@ -285,9 +286,11 @@ def read_colours(lines: Lines, size: int, order: int) -> Rows:
     return colours
 
 
-def read_list(lines: Lines, size: int, order: int) -> Tuple[Rows, ...]:
-    """The item `list`: so many lines of colours."""
+def read_list(lines: Lines, size: Optional[int], order: int) -> Tuple[Rows, ...]:
+    """The item `list`: so many lines of colours, where no size is given each as long as the first."""
     line, tokens = lines.take("the line 'list'")
     if tokens[0] != "list" or len(tokens) != 2:
         raise BadText("a line 'list' with a number is due", line)
+    if size is None:
+        size = len(lines.lines[lines.place][1]) if lines.peek() is not None else 0
     return tuple(read_colours(lines, size, order) for _ in range(number_of(tokens[1], line)))

@@ -3,15 +3,15 @@
 Each call raises NoProgram where there is no built program; Malformed, OverLimit or Rejected where the program answers so; NoJob where it
 refuses the words; Failed where it gives no answer; and BadAnswer where its answer has another form than docs/FORMATS.md says.
 """
-from contextlib import contextmanager
-from typing import Any, Iterable, Iterator, List, NamedTuple, Optional, Sequence, Tuple, Union
+from typing import Any, Iterable, List, NamedTuple, Optional, Sequence, Tuple, Union
 
+from .answers import Answer, Compared, Simplified, TooWide, reading
 from .certificates import Certificate, Unknown, numbers_behind, read_list, read_verdict
 from .cocycles import Cocycle, ShadowCocycle, cocycle_fault
 from .codes import Code, read_code, rows_text
-from .diagrams import (Braid, Diagram, Grid, Lines, Move, Quandle, Rows, diagram_text, grid_of, move_text, number_of, quandle_fault,
-                       quandle_of, read_grid, read_moves, read_quandle)
-from .faults import BadAnswer, BadCode, BadText, Fault, Wide
+from .diagrams import (Braid, Diagram, Grid, Lines, Move, Quandle, Rows, diagram_text, grid_of, move_text, quandle_fault, quandle_of,
+                       read_grid, read_quandle)
+from .faults import BadText, Fault, Wide
 from .programs import answered, weights_in_tree
 
 # A quandle, its name as in a line `quandle`, or the rows of its table.
@@ -51,18 +51,14 @@ def cocycle(of: QuandleLike, modulus: int, values: Sequence[Sequence[int]]) -> C
     return Cocycle(modulus, tuple(map(tuple, values)))
 
 
-@contextmanager
-def reading(job: str) -> Iterator[None]:
-    """Makes a BadAnswer of what is wrong with a program's answer."""
-    try:
-        yield
-    except (BadText, BadCode) as fault:
-        raise BadAnswer(f"{job} wrote a text of another form than was due: {fault}") from None
-
-
 def options_of(**numbers: Optional[int]) -> List[str]:
     """The words of the options that are given."""
     return [f"--{name}={value}" for name, value in numbers.items() if value is not None]
+
+
+def value_by(job: str, text: str, words: Sequence[str] = ()) -> Any:
+    """The value of what a job of knot writes of a text."""
+    return Answer(job, 0, answered("knot", [job, *words], text).text).value()
 
 
 def lines_of(job: str, text: str, words: Sequence[str] = ()) -> Lines:
@@ -175,36 +171,14 @@ def code(diagram: Diagram) -> Code:
         return read_code(answered("knot", ["code"], diagram_text(diagram)).text)
 
 
-class Simplified(NamedTuple):
-    """A diagram to which shifts, exchanges and destabilisations lead. Where `is_irreducible`, nothing that shifts and exchanges reach from
-    `grid` has a destabilisation; else the budget was spent."""
-
-    grid: Grid
-    moves: Tuple[Move, ...]
-    is_irreducible: bool
-
-
 def simplify(diagram: Diagram, *, budget: Optional[int] = None) -> Simplified:
     """Makes a diagram smaller by moves that never make it larger, by `knot simplify`."""
-    lines = lines_of("simplify", diagram_text(diagram), options_of(budget=budget))
-    with reading("knot simplify"):
-        grid, moves = read_grid(lines), read_moves(lines)
-        line, tokens = lines.take("the line 'irreducible' or 'spent'")
-        if tokens != ["irreducible"] and tokens[0] != "spent":
-            raise BadText("the line 'irreducible' or 'spent' is due", line)
-        lines.done()
-    return Simplified(grid, tuple(moves), tokens == ["irreducible"])
+    return value_by("simplify", diagram_text(diagram), options_of(budget=budget))
 
 
 def braid_word(diagram: Diagram) -> Braid:
     """A braid word of a diagram, by `knot braid`; it may exceed the limits that a braid has where a diagram is due."""
-    lines = lines_of("braid", diagram_text(diagram) + "quandle trivial 1\n")
-    with reading("knot braid"):
-        line, tokens = lines.take("the line 'braid'")
-        letters = [number_of(token, line, signed=True) for token in tokens[1:]]
-        if tokens[0] != "braid" or not letters:
-            raise BadText("the line 'braid' is due", line)
-    return Braid(letters[0], letters[1:])
+    return value_by("braid", diagram_text(diagram) + "quandle trivial 1\n")
 
 
 class Replayed(NamedTuple):
@@ -230,39 +204,18 @@ def replay(diagram: Diagram, moves: Sequence[Move], by: Optional[QuandleLike] = 
 
 # ---- two diagrams
 
-class Compared(NamedTuple):
-    """Lists of whole numbers of two diagrams. Where they `differ`, no list of moves joins the two."""
-
-    first: Rows
-    second: Rows
-    differ: bool
-
-
 def linking(first: Diagram, second: Diagram) -> Compared:
     """The linking numbers over all ordered pairs of different components, ascending, by `knot linking`."""
-    return compared(lines_of("linking", problem_text(first, second)), "numbers", "knot linking")
+    return value_by("linking", problem_text(first, second))
 
 
 def weights(first: Diagram, second: Diagram, by: QuandleLike, with_cocycle: Union[Cocycle, ShadowCocycle]) -> Compared:
     """How many colourings have each weight from 0 to k − 1, by `knot weights`, with a cocycle mod k of the quandle. Raises Wide where the
     quandle is too large for one of the diagrams, and Malformed where it has no such cocycle."""
-    lines = lines_of("weights", problem_text(first, second, [quandle(by)]) + with_cocycle.text)
-    if lines.peek() == "wide":
-        with reading("knot weights"):
-            which, bottoms = numbers_behind(lines, "wide", 2)
-        raise Wide(which, bottoms)
-    return compared(lines, "weights", "knot weights")
-
-
-def compared(lines: Lines, word: str, job: str) -> Compared:
-    """Two lines of numbers, and `different` or `alike`."""
-    with reading(job):
-        first, second = numbers_behind(lines, word), numbers_behind(lines, word)
-        line, tokens = lines.take("the line 'different' or 'alike'")
-        if tokens not in (["different"], ["alike"]):
-            raise BadText("the line 'different' or 'alike' is due", line)
-        lines.done()
-    return Compared(first, second, tokens == ["different"])
+    found = value_by("weights", problem_text(first, second, [quandle(by)]) + with_cocycle.text)
+    if isinstance(found, TooWide):
+        raise Wide(found.which, found.bottoms)
+    return found
 
 
 # ---- codes of other programs

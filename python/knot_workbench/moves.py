@@ -140,11 +140,12 @@ def stabilisation_at(grid: Grid, column: int, row: int) -> Move:
 
 
 def back(grid, moves):
-    """The moves that lead back from where legal moves from a grid lead to."""
+    """The moves that lead back from where moves from a grid lead to. Raises Illegal where one of them isn't legal."""
     found = []
     for move in moves:
+        there = made(grid, move)
         found.append(undone(grid, move))
-        grid = made(grid, move)
+        grid = there
     return found[::-1]
 
 

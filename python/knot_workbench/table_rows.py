@@ -78,6 +78,16 @@ def code_of_title(title):
     return next((code for code, known in TITLES_OF_CODES if known.search(words)), None)
 
 
+def column_of_diagrams(path, header):
+    """The title of the only column that has diagrams by its title. Raises TableError where there is none, or more than one."""
+    found = [title.strip() for title in header if TITLE_OF_DIAGRAMS.search(title) or code_of_title(title) in ("PD", "DT")]
+    if len(found) == 1:
+        return found[0]
+    if found:
+        raise TableError(f"{path}: {len(found)} columns have diagrams by their titles, '" + "', '".join(found) + "': say which by --diagram")
+    raise TableError(f"{path}: no column has diagrams by its title: say which has them by --diagram")
+
+
 class Table:
     """The rows of a table, each with its line, by the columns that the options name."""
 
@@ -92,9 +102,9 @@ class Table:
         else:
             rows = rows[1:]
         self.rows = rows[options.skip_rows:]
-        self.width = len(header)
+        self.header, self.width = header, len(header)
         self.name = column_of(path, header, options.name)
-        self.diagram = column_of(path, header, options.diagram)
+        self.diagram = column_of(path, header, options.diagram or column_of_diagrams(path, header))
         self.second = column_of(path, header, options.second) if options.second else None
         self.strands = column_of(path, header, options.strands) if options.strands else None
         self.reads = {column: options.as_kind or self.reads_of(header[column]) for column in (self.diagram, self.second) if column is not None}

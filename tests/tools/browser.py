@@ -34,7 +34,7 @@ class Browser:
     def __exit__(self, *_):
         self.session = None
         self.call("Browser.close")
-        self.process.wait(timeout=30)
+        self.process.wait(timeout=300)
         os.close(self.calls)
         self.answers.close()
         shutil.rmtree(self.profile, ignore_errors=True)
@@ -58,7 +58,7 @@ class Browser:
     def open(self, path):
         """Goes to a file, and waits until it is there."""
         self.call("Page.navigate", url=f"file://{path}")
-        end = time.monotonic() + 30
+        end = time.monotonic() + 300
         while self.value("document.readyState + location.protocol") != "completefile:" and time.monotonic() < end:
             time.sleep(0.05)
 

@@ -1,5 +1,6 @@
 """Where things are, for the tests of the scripts."""
 import os
+import signal
 import subprocess
 import sys
 import tempfile
@@ -8,6 +9,9 @@ ROOT = os.path.dirname(os.path.dirname(os.path.dirname(os.path.abspath(__file__)
 TOOLS = os.path.join(ROOT, "tools")
 LISTS = os.path.join(ROOT, "quandles")
 KNOTS = os.path.join(LISTS, "knots-to-8.csv")
+
+# How long a test waits for what takes some seconds, on a machine that has much else to do.
+LONG = 900
 
 # The programs, lib with what they share, the module, and the independent reader of the formats.
 sys.path[:0] = [TOOLS, os.path.join(ROOT, "python"), os.path.join(ROOT, "tests")]
@@ -25,6 +29,12 @@ def call(words, text="", **more):
     if "stdin" in streams:
         del streams["input"]
     return subprocess.run(words, text=True, check=False, **streams)
+
+
+def default_signals():
+    """For a child that signals are sent to: it may be started where they are ignored, as by nohup or behind a shell's `&`."""
+    for number in (signal.SIGINT, signal.SIGTERM, signal.SIGHUP):
+        signal.signal(number, signal.SIG_DFL)
 
 
 def scratch(case):

@@ -217,10 +217,25 @@ class SpreadTest(CensusTest):
         self.put_trefoils()
         ended = []
         while len(ended) < 24 and not (ended and ended[-1][1]):
-            ended.append(self.sort("--part", f"{len(ended) % 2 + 1}/2"))
-        self.assertEqual(ended[0][:2], (1, ""))
+            ended.append(self.sort("--wait", "0", "--part", f"{len(ended) % 2 + 1}/2"))
+        self.assertEqual(ended[0][:2], (4, ""))
         self.assertIn("part 1/2: round simplify: 3 of 6 inputs have no answer yet; call again when all parts have ended\n", ended[0][2])
         self.assertEqual(ended[-1][:2], (0, "6 diagrams: 4 classes, 0 pairs of classes undecided; 12 of 12 certificates accepted\n"))
+
+    def test_parts_at_once_wait_for_each_other_and_one_turn_is_enough(self):
+        self.put_sorted()
+        names = ("classes.csv", "apart.csv", "undecided.csv")
+        alone = [self.rows(name) for name in names]
+        shutil.rmtree(self.census)
+        words = ["sort", "--plan", self.plan, "--processes", "1", "--wait", "20"]
+        parts = [subprocess.Popen(self.words(*words, "--part", f"{part}/3", self.diagrams, self.census), env=self.environment(), stdout=subprocess.PIPE,
+                                  stderr=subprocess.PIPE, text=True) for part in (1, 2, 3)]
+        for part in parts:
+            out, errors = part.communicate(timeout=common.LONG)
+            self.assertEqual((part.returncode, out), (0, "6 diagrams: 4 classes, 0 pairs of classes undecided; 12 of 12 certificates accepted\n"), errors)
+        self.assertEqual([self.rows(name) for name in names], alone)
+        # Each certificate was checked by one part alone; four of the twelve are inputs that linking or weights rule on.
+        self.assertEqual(self.calls_made().count("check"), 8)
 
     @unittest.skipUnless(shutil.which("parallel"), "GNU parallel is not installed")
     def test_with_gnu_parallel_the_same_is_found(self):
@@ -232,9 +247,12 @@ class SpreadTest(CensusTest):
     def test_stopped_at_any_point_it_goes_on(self):
         self.put_trefoils()
         words = self.words("sort", "--plan", self.plan, "--processes", "2", self.diagrams, self.census)
-        for calls in (4, 12, 20):
-            with subprocess.Popen(words, env=self.environment(), stdout=subprocess.PIPE, stderr=subprocess.PIPE, text=True) as process:
-                while process.poll() is None and (not os.path.exists(self.log) or len(self.logged()) < calls):
+        for _ in range(3):
+            # Some calls after the three by which the programs are tried, so that it hears signals by then.
+            calls = len(self.logged()) + 7
+            with subprocess.Popen(words, env=self.environment(), stdout=subprocess.PIPE, stderr=subprocess.PIPE, text=True,
+                                  preexec_fn=common.default_signals) as process:
+                while process.poll() is None and len(self.logged()) < calls:
                     time.sleep(0.02)
                 process.send_signal(signal.SIGTERM)
                 out, errors = process.communicate()
@@ -245,6 +263,8 @@ class SpreadTest(CensusTest):
         self.assertEqual(self.sort()[:2], (0, "6 diagrams: 4 classes, 0 pairs of classes undecided; 12 of 12 certificates accepted\n"))
 
     def logged(self):
+        if not os.path.exists(self.log):
+            return []
         with open(self.log, encoding="utf-8") as file:
             return file.read().splitlines()
 
@@ -348,6 +368,24 @@ class BuiltTest(CensusTest):
         self.assertEqual({row["name"]: row["class"] for row in self.rows()},
                          {"a": "a", "b": "a", "c": "c", "d": "c", "e": "e", "f": "f", "g": "g", "h": "g", "i": "g", "j": "j"})
         self.assertEqual({row["check"] for row in self.rows()}, {"", "accepted"})
+
+    def test_an_array_job_of_the_examples_sorts_them_as_one_call_does(self):
+        diagrams = os.path.join(common.ROOT, "examples", "census", "diagrams")
+        alone = self.census
+        status, out, errors = self.call("sort", diagrams, alone)
+        self.assertEqual(status, 0, errors)
+        self.census = os.path.join(self.folder, "array")
+        tasks = []
+        for task in ("1", "2", "3"):
+            slurm = {"SLURM_ARRAY_TASK_ID": task, "SLURM_ARRAY_TASK_COUNT": "3", "SLURM_ARRAY_TASK_MIN": "1", "SLURM_ARRAY_TASK_MAX": "3", "SLURM_CPUS_PER_TASK": "1"}
+            tasks.append(subprocess.Popen(["sh", os.path.join("examples", "census", "array-job.sh"), diagrams, self.census], env=self.environment(**slurm),
+                                          stdin=subprocess.DEVNULL, stdout=subprocess.PIPE, stderr=subprocess.PIPE, text=True, cwd=common.ROOT))
+        for task in tasks:
+            said, errors = task.communicate(timeout=common.LONG)
+            self.assertEqual((task.returncode, said), (0, out), errors)
+        for name in ("classes.csv", "apart.csv", "undecided.csv"):
+            with open(os.path.join(alone, name), encoding="utf-8") as one, open(os.path.join(self.census, name), encoding="utf-8") as other:
+                self.assertEqual(other.read(), one.read())
 
     def plan_of_built(self):
         plan = PLAN.format(weights=os.path.join(common.LISTS, "weights", "T5.txt"))

@@ -1,14 +1,21 @@
 """Tests of what tools/census.py is made of: turned moves, smaller diagrams, classes and their certificates, and plans."""
 import os
 import random
+import subprocess
+import sys
+import types
 import unittest
+from unittest import mock
 
 import common
 import grid_facts
 import reader
+from knot_workbench.answers import Nothing
+from lib import census_rounds
 from lib.batch_stages import BatchError
 from lib.census_classes import Classes, Contradiction, Kind, Member, composed, turned, turns_of
 from lib.census_plan import blocks_of, read_plan
+from lib.census_rounds import Failed, Rounds
 from lib.census_steps import file_name
 from lib.diagrams import Braid, Grid, bottoms, braid_fault, closure, grid_text, mirror_image, reverse
 from lib.moves import back, made
@@ -18,6 +25,24 @@ from test_join import walk
 
 TREFOIL = Grid((4, 3, 2, 1, 0), (2, 1, 0, 4, 3))
 KINDS = ("shift", "exchange", "slide", "stabilise", "destabilise")
+
+
+class Fails(unittest.TestCase):
+    def test_a_script_that_fails_gives_no_answer(self):
+        """With 1 it would say, as a search does, that it found nothing, and that would be kept."""
+        for job, text in (("lower", "x 1 2 0\no 0 1 2\n"), ("reduce", "braid 2 1 1 1\n")):
+            with open("/dev/full", "w", encoding="utf-8") as full:
+                done = subprocess.run([sys.executable, "-B", census_rounds.SMALLER, job], input=text, stdout=full, stderr=subprocess.PIPE, text=True,
+                                      check=False)
+            self.assertEqual(done.returncode, 70, done.stderr)
+
+    def test_an_answer_that_a_job_cannot_give_is_named(self):
+        rounds = Rounds("census", None, None)
+        answer = types.SimpleNamespace(tried=[types.SimpleNamespace(status=1)])
+        with mock.patch.object(census_rounds, "as_answer", lambda job, answer: types.SimpleNamespace(value=Nothing)):
+            self.assertEqual(rounds.value("quick", "a", "seek", answer), Nothing())
+            with self.assertRaisesRegex(Failed, "lower answered with status 1, which it has not"):
+                rounds.value("lower", "a", "lower", answer)
 
 
 class Moves(unittest.TestCase):

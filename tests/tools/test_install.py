@@ -28,7 +28,7 @@ class ManualPages(unittest.TestCase):
     def pages(self):
         folder = common.scratch(self)
         self.assertEqual(common.run("man.py", folder), (0, "", ""))
-        self.assertEqual(sorted(os.listdir(folder)), ["knot-formats.5", "knot.1", "seek.1"])
+        self.assertEqual(sorted(os.listdir(folder)), ["knot-check.1", "knot-formats.5", "knot.1", "seek.1"])
         return folder
 
     def test_knot_has_each_job_option_and_status(self):
@@ -48,6 +48,11 @@ class ManualPages(unittest.TestCase):
         for option in options_of_seek():
             self.assertIn("--".replace("-", "\\-") + option[2:].replace("-", "\\-"), text)
         self.assertNotIn("./seek", text)
+
+    def test_the_checker_has_its_statuses_alone(self):
+        text = common.run("man.py", "--print", "knot-check.1")[1]
+        self.assertEqual(re.findall(r"(?m)^\.TP\n(\d+)$", text), ["0", "2", "3", "4", "5", "6", "7", "8"])
+        self.assertNotIn("crates/", text)
 
     def test_the_formats_have_each_heading_and_each_line_of_code(self):
         source, text = common.read("docs", "FORMATS.md"), common.run("man.py", "--print", "knot-formats.5")[1]
@@ -145,7 +150,7 @@ class Installed(unittest.TestCase):
         self.assertIn(f"put {self.prefix}/bin into PATH\n", out)
         for path in ("bin/knot", "bin/seek", "lib/knot-workbench/knot", "lib/knot-workbench/seek", "share/man/man1/knot.1", "share/man/man1/seek.1", "share/man/man5/knot-formats.5",
                      "share/bash-completion/completions/knot", "share/zsh/site-functions/_seek", "share/fish/vendor_completions.d/knot.fish",
-                     "share/knot-workbench/quandles/list-64.txt", "share/knot-workbench/quandles/weights/T5.txt",
+                     "share/knot-workbench/quandles/list-64.txt", "share/knot-workbench/tables/prime-knots-to-12.csv", "share/knot-workbench/quandles/weights/T5.txt",
                      "share/knot-workbench/quandles/weights/list.txt", "share/knot-workbench/installed.txt"):
             self.assertIn(path, files)
         self.assertEqual(self.called("--uninstall"), (0, f"{len(files) - 1} files removed from {self.prefix}\n", ""))
@@ -199,6 +204,30 @@ class Installed(unittest.TestCase):
         self.called()
         self.called("--uninstall")
         self.assertEqual(self.installed(), ["bin/other"])
+
+    def test_the_checker_alone(self):
+        with open(self.program, "w", encoding="utf-8") as out:
+            out.write('#!/bin/sh\necho "$# words"\ncat\n')
+        status, out, said = self.called("--checker", KNOT="", SEEK="", KNOT_CHECK=self.program)
+        self.assertEqual((status, said), (0, ""))
+        self.assertIn(f"3 files installed below {self.prefix}\n", out)
+        self.assertEqual(self.installed(), ["bin/knot-check", "share/knot-workbench/installed.txt", "share/man/man1/knot-check.1", "share/man/man5/knot-formats.5"])
+        self.assertEqual(common.call([self.path("bin", "knot-check")], text="evidence\n").stdout, "0 words\nevidence\n")
+        self.assertEqual(self.called("--uninstall"), (0, f"3 files removed from {self.prefix}\n", ""))
+        self.assertFalse(os.path.exists(self.prefix))
+        status, out, said = self.called("--checker", KNOT_CHECK="/no/such/program")
+        self.assertEqual((status, out), (1, ""))
+        self.assertIn("build it with tools/build.py knot_check", said)
+
+    def test_all_takes_the_place_of_the_checker_and_not_the_other_way(self):
+        self.assertEqual(self.called("--checker", KNOT_CHECK=self.program)[0], 0)
+        self.assertEqual(self.called()[0], 0)
+        self.assertNotIn("bin/knot-check", self.installed())
+        before = self.installed()
+        status, out, said = self.called("--checker", KNOT_CHECK=self.program)
+        self.assertEqual((status, out), (1, ""))
+        self.assertIn("all is installed below", said)
+        self.assertEqual(self.installed(), before)
 
     def test_a_changed_file_is_left_and_told(self):
         self.called()

@@ -3,19 +3,17 @@ import collections
 import json
 import re
 
+from knot_workbench.answers import ANSWERED, LIMIT, MALFORMED, REJECTED, UNKNOWN, Answer
 from lib.batch_stages import digest, spare_of, stage_key
 
-# Exit statuses of knot; seek has the same.
-ANSWERED, UNKNOWN, NO_JOB, MALFORMED, LIMIT, REJECTED = 0, 1, 2, 3, 4, 8
 FINAL = (ANSWERED, REJECTED)
 REFUSED = (MALFORMED, LIMIT)
-WRITES_ANSWER = (ANSWERED, UNKNOWN, MALFORMED, LIMIT, REJECTED)
 
 # One try of a problem. says: the first line that the program wrote, or a verdict in short. told: what it said on standard error.
 # added_too_much: a limit was passed behind the last line of the problem, by what the stage had added.
 Tried = collections.namedtuple("Tried", "stage text key status seconds says told added_too_much", defaults=("", False))
 # What is kept of a problem: every try in order, and what the last one wrote.
-Answer = collections.namedtuple("Answer", "tried body")
+Kept = collections.namedtuple("Kept", "tried body")
 
 HEAD = re.compile(rb"# problem sha256 ([0-9a-f]{64}) by (.*)\n((?:# tried \{.*\}\n)+)# text sha256 ([0-9a-f]{64})\n")
 OVER_AT = re.compile(r"limit line ([0-9]+)")
@@ -48,31 +46,17 @@ def read_answer(path, problem, job):
         tried = [Tried(**json.loads(line[len(b"# tried "):])) for line in head[3].splitlines()]
     except (ValueError, TypeError):
         return None
-    return Answer([*tried[:-1], tried[-1]._replace(says=says(body))], body)
-
-
-def without_head_line(body):
-    """An answer without the line that tells the version of a verdict."""
-    head, _, rest = body.partition(b"\n")
-    return rest if head in (b"certificate 2", b"certificate 3") else body
+    return Kept([*tried[:-1], tried[-1]._replace(says=says(body))], body)
 
 
 def says(body):
-    """An answer in short: its first line behind its head line. Of a quandle by a table the table stands behind it, and where the verdict
-    is the last line, as in `linking` and `weights`, that comes first. Of evidence by numbers the quandle, or by its order a table, and the
-    numbers of both diagrams."""
-    lines = without_head_line(body).decode("utf-8", "replace").splitlines()
-    if not lines:
-        return ""
-    if lines[0].startswith(("different numbers", "different linking")):
-        numbers = [line.partition(" ")[2] for line in lines if line.partition(" ")[0] == "numbers"]
-        return f"{lines[0]}{' by weight' if any(line.startswith(('weight ', 'shadow ')) for line in lines) else ''}: {' / '.join(numbers)}"
-    if lines[-1] in ("different", "alike") and len(lines) > 1:
-        return lines[-1] + " " + " / ".join(line.rstrip() for line in lines[:-1])
-    words = lines[0].split()
-    if words[:2] == ["different", "table"] and len(words) == 3 and words[2].isdecimal():
-        return lines[0] + ": " + " / ".join(lines[1:1 + int(words[2])])
-    return lines[0]
+    """An answer in short, as the module tells it."""
+    return Answer("", ANSWERED, body.decode("utf-8", "replace")).short
+
+
+def as_answer(job, kept):
+    """What is kept of a problem as the last answer of a job, which the module reads."""
+    return Answer(job, kept.tried[-1].status, kept.body.decode("utf-8", "replace"))
 
 
 def ended_line(problem):

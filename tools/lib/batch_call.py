@@ -4,11 +4,13 @@ import os
 import re
 import subprocess
 
+from lib.batch_parallel import Hosts
 from lib.batch_programs import Programs, Runner, Stopped, on_signals
 from lib.batch_runs import Batch, tell
-from lib.batch_stages import BatchError, Stage, read_stages
+from lib.batch_stages import BatchError, Stage, is_handed_over, read_stages, taken_over
 from lib.batch_summary import names_in, natural, report
 from lib.calls import WordsParser, reason_of
+from lib.whole_files import FULL_TEXT, is_full
 
 TOP = os.path.dirname(os.path.dirname(os.path.dirname(os.path.realpath(__file__))))
 SCRIPT = os.path.join(TOP, "tools", "batch.py")
@@ -35,10 +37,11 @@ examples:
 
 exit status:
   0  every problem has an answer, and every certificate was accepted
-  1  as 0, but that some ended as unknown
+  1  as 0, but that some ended as unknown; with --part that is 0 too
   2  the words are no call, a folder or a file of stages can't be read, or a program doesn't run; nothing was done
   3  a problem has no answer, can't be read or was refused, a certificate was not accepted, or a file or standard output
      can't be written; each is named on standard error
+  70  the script itself failed, with a traceback on standard error
   128 + N  stopped by signal N; called again, it goes on
 """
 
@@ -66,7 +69,9 @@ def parser():
     words.add_argument("--hosts", metavar="FILE", help="GNU parallel's file of ssh logins; the hosts must see the same folders")
     words.add_argument("--part", metavar="K/N", help="only part K of N, as in an array job; no summary, nothing is checked")
     words.add_argument("--again", action="store_true", help="forget the answers that are there")
-    words.add_argument("--stage", metavar="NAME", help="run one problem in this stage, whatever is kept, and no more")
+    words.add_argument("--stage", metavar="NAME", help="run one problem in this stage, whatever is kept, and no more; or a whole stage, in the "
+                                                       "word by which GNU parallel gets it")
+    words.add_argument("--trial", action="store_true", help="with --stage, only try whether a folder's problems can be run in this stage here")
     return words
 
 
@@ -84,7 +89,7 @@ def settled(options):
     options.processes = options.processes or os.cpu_count() or 1
     options.answers = os.path.abspath(options.answers)
     options.problems = os.path.abspath(options.problems)
-    options.hosts = os.path.abspath(options.hosts) if options.hosts else None
+    options.hosts = Hosts(os.path.abspath(options.hosts)) if options.hosts else None
     if options.stages is None and options.job == "decide":
         options.stages = STAGES
     options.stages = os.path.abspath(options.stages) if options.stages else None
@@ -143,34 +148,59 @@ def has_parallel():
     return shown.startswith(b"GNU parallel")
 
 
-def one_stage(options, stages, programs):
-    """The call that GNU parallel makes for each problem."""
-    folder, base = os.path.split(options.problems)
-    name, ending = os.path.splitext(base)
-    stage = next((stage for stage in stages if stage.name == options.stage), None)
+def stage_of(options, programs):
+    """The stage of a call for one problem, with its programs: the whole one as GNU parallel hands it over, or the one of this name."""
+    if is_handed_over(options.stage):
+        return taken_over(options.stage)
+    stage = next((stage for stage in stages_of(options) if stage.name == options.stage), None)
     if stage is None:
         raise BatchError(f"no stage is called '{options.stage}'")
+    programs.prepare(["seek" if stage.job == "seek" else "knot"])
+    return programs.completed(stage)
+
+
+def one_stage(options, programs):
+    """The call that GNU parallel makes for each problem."""
+    stage = stage_of(options, programs)
+    if options.trial:
+        return trial(options, programs, stage)
+    folder, base = os.path.split(options.problems)
+    name, ending = os.path.splitext(base)
     if ending != ".txt":
         raise BatchError(f"{options.problems}: a problem is a file NAME.txt")
     options.problems = folder
-    batch = Batch(options, stages, programs)
+    batch = Batch(options, [stage], programs)
     os.makedirs(os.path.join(options.answers, "answers"), exist_ok=True)
-    return 0 if batch.guarded(lambda name: batch.try_stage(name, stage), name) else 3
+    return 0 if batch.guarded(lambda name: batch.try_stage(name, batch.stages[0]), name) else 3
+
+
+def trial(options, programs, stage):
+    """The call that each host gets before its first problem: whether folders and program are there."""
+    answers = os.path.join(options.answers, "answers")
+    for path, right, said in ((options.problems, os.R_OK, "no folder that can be read"), (answers, os.W_OK, "no folder that can be written")):
+        if not (os.path.isdir(path) and os.access(path, right)):
+            raise BatchError(f"{path}: {said}")
+    programs.probe(programs.call(stage), f"stage {stage.name}")
+    return 0
 
 
 def prepare(options, stages, programs):
-    """Has the programs built where that is due, and tries the words of each stage."""
+    """Has the programs built where that is due, and tries the words of each stage: the stages as they are run."""
+    options.parallel = options.runs != "python" and has_parallel()
+    if options.runs == "python" and options.hosts:
+        raise BatchError("--hosts needs GNU parallel, and --with python takes none")
+    if not options.parallel and (options.runs == "parallel" or options.hosts):
+        raise BatchError("GNU parallel is not installed here")
     uses = {"seek" if stage.job == "seek" else "knot" for stage in stages}
     if options.job != "check":
         uses.add("check")
     programs.prepare(sorted(uses))
+    stages = [programs.completed(stage) for stage in stages]
     for stage in stages:
-        programs.probe(programs.call(stage.job, stage.words), f"stage {stage.name}")
+        programs.probe(programs.call(stage), f"stage {stage.name}")
     if options.job != "check":
         programs.probe([programs.path("check"), "check"], "the checker")
-    options.parallel = options.runs != "python" and has_parallel()
-    if not options.parallel and (options.runs == "parallel" or options.hosts):
-        raise BatchError("GNU parallel is not installed here")
+    return stages
 
 
 def many(options, stages, programs):
@@ -178,9 +208,9 @@ def many(options, stages, programs):
     names, unreadable = problem_names(options.problems)
     names = part_of(names, options.part)
     if not names:
-        raise BatchError(f"part {options.part} is empty")
-    prepare(options, stages, programs)
-    batch = Batch(options, stages, programs)
+        tell(f"part {options.part} is empty: there is nothing to do")
+        return 0
+    batch = Batch(options, prepare(options, stages, programs), programs)
     try:
         batch.make_folders()
     except OSError as error:
@@ -199,17 +229,18 @@ def main(words):
     options = parser().parse_args(words)
     if options.processes is not None and options.processes < 1:
         parser().error("--processes takes 1 or more")
+    if options.trial and not options.stage:
+        parser().error("--trial goes with --stage")
     on_signals()
     try:
         settled(options)
-        stages = stages_of(options)
         programs = Programs(Runner(), options.program, options.seeker, options.checker)
-        return one_stage(options, stages, programs) if options.stage else many(options, stages, programs)
+        return one_stage(options, programs) if options.stage else many(options, stages_of(options), programs)
     except BatchError as error:
         tell(str(error))
         return 2
     except OSError as error:
-        tell(reason_of(error))
+        tell(reason_of(error) + (f": {FULL_TEXT}" if is_full(error) else ""))
         return 3
     except Stopped as stopped:
         tell(f"stopped by signal {stopped.number}; called again, it goes on")

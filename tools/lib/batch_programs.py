@@ -1,4 +1,5 @@
 """The programs that a batch calls: where they are, how they are called, and what runs is ended when the batch is stopped."""
+import concurrent.futures
 import os
 import shutil
 import signal
@@ -7,8 +8,9 @@ import tempfile
 import threading
 import time
 
-from lib.batch_answers import ANSWERED, MALFORMED, NO_JOB, in_one_line, kept_of
-from lib.batch_stages import BatchError
+from knot_workbench.answers import ANSWERED, MALFORMED, NO_JOB, REJECTED
+from lib.batch_answers import in_one_line, kept_of
+from lib.batch_stages import BatchError, call_words, listed_file
 
 WHY_NONE = {2: "it refuses the words", 5: "reading failed", 6: "writing failed", 7: "there was no memory", 10: "it was given no words",
             127: "it could not be built"}
@@ -16,6 +18,13 @@ WHY_NONE = {2: "it refuses the words", 5: "reading failed", 6: "writing failed",
 # A problem that each program answers at once, with nothing on standard error: two unknots, and for check a verdict behind them.
 UNKNOTS = b"x 0 1\no 1 0\nx 0 1\no 1 0\n"
 EQUAL = b"equal 0\n"
+
+# The quandles with cocycles of a tree or of an installation, from its folder.
+LIST = os.path.join("quandles", "weights", "list.txt")
+
+# After how many seconds the main thread stops waiting for others and begins again. Python notices a signal that comes just before such a wait
+# only at its end, and on a busy machine "just before" is long.
+LOOK_UP = 1
 
 
 class Stopped(BaseException):
@@ -113,6 +122,25 @@ def on_signals():
         signal.signal(one, stop)
 
 
+def result_of(future):
+    """The result of a future, once it is there; a signal is noticed meanwhile."""
+    while not future.done():
+        concurrent.futures.wait([future], timeout=LOOK_UP)
+    return future.result()
+
+
+def as_they_end(futures):
+    """The futures, each when it has ended; a signal is noticed meanwhile."""
+    left = set(futures)
+    while left:
+        try:
+            for future in concurrent.futures.as_completed(left, timeout=LOOK_UP):
+                left.discard(future)
+                yield future
+        except concurrent.futures.TimeoutError:
+            pass
+
+
 def why_none(status, told=""):
     """Why a call gave no answer: how it ended, and what it said."""
     if status < 0:
@@ -138,10 +166,18 @@ def behind_launcher(program):
     return None
 
 
-def weights_beside(direct):
-    """The words by which the launcher gives seek the list of its tree, if there is one."""
-    listed = os.path.join(os.path.dirname(direct), "..", "..", "..", "quandles", "weights", "list.txt")
-    return ["--weights", os.path.realpath(listed)] if os.path.isfile(listed) else []
+def list_of(program):
+    """The file of quandles with cocycles by which a seek counts where its words name none: that of its tree, be it called by the launcher or
+    built there, or that of the prefix it is installed in. None for any other program."""
+    for path in (os.path.abspath(program), os.path.realpath(program)):
+        folder, name = os.path.split(path)
+        above = os.path.dirname(folder)
+        tree = os.path.dirname(os.path.dirname(above)) if folder.endswith(os.path.join("crates", "seek", "out")) else folder
+        for place, mark in ((tree, os.path.join(tree, "crates.txt")), (os.path.join(above, "share", "knot-workbench"), os.path.join(above, "lib", "knot-workbench", "seek"))):
+            listed = os.path.join(place, LIST)
+            if name == "seek" and os.path.isfile(mark) and os.path.isfile(listed):
+                return listed
+    return None
 
 
 class Programs:
@@ -154,19 +190,26 @@ class Programs:
     def __init__(self, runner, program, seeker, checker):
         self.runner = runner
         self.paths = {"knot": program, "seek": seeker, "check": checker}
-        # What a launcher gives seek, where the words name no file of quandles with cocycles.
-        self.weights = []
 
     def path(self, use):
         """The program of this use, one of `knot`, `seek` and `check`."""
         return self.paths[use]
 
-    def call(self, job, words):
-        """The call of a job: `seek`, a job of knot, or "" for a program that takes no name of a job."""
-        if job == "seek":
-            named = any(word.partition("=")[0] == "--weights" for word in words)
-            return [self.paths["seek"], *([] if named else self.weights), *words]
-        return [self.paths["knot"], *([job] if job else []), *words]
+    def call(self, stage):
+        """The call of a stage: of `seek`, of a job of knot, or of a program that takes no name of a job."""
+        return [self.path_for(stage), *([stage.job] if stage.job not in ("seek", "") else []), *call_words(stage)]
+
+    def path_for(self, stage):
+        """The program that a stage asks."""
+        return self.paths["seek" if stage.job == "seek" else "knot"]
+
+    def completed(self, stage):
+        """The stage as it is run: where seek would count by a list that no word names, a word names it, and so it is part of the stage."""
+        options = {word.partition("=")[0] for word in stage.words}
+        path = list_of(self.path_for(stage)) if stage.job in ("seek", "") and not options & {"--weights", "--no-weights"} else None
+        if path is None:
+            return stage
+        return stage._replace(words=(f"--weights={LIST}", *stage.words), lists=(listed_file(LIST, path, "")._replace(data=None), *stage.lists))
 
     def prepare(self, uses):
         """Looks for the programs of these uses, and has a launcher build its program where that is due."""
@@ -187,8 +230,6 @@ class Programs:
         if status != ANSWERED:
             hint = "; --no-seek leaves out the stages that ask it" if not words else ""
             raise BatchError(f"{path} does not run here: on two unknots it ends with {why_none(status)}{hint}")
-        if os.path.basename(direct) == "seek":
-            self.weights = weights_beside(direct)
         return direct if os.access(direct, os.X_OK) else path
 
     def ran(self, call, given, is_shown=False):
@@ -204,5 +245,6 @@ class Programs:
         if ran.status == NO_JOB:
             said = f": {in_one_line(ran.told)}" if ran.told else ""
             raise BatchError(f"{what}: the program refuses the words '{' '.join(call[1:])}'{said}")
-        if ran.status != MALFORMED:
+        # Of the job grid no crossings are a code, which is rejected.
+        if ran.status not in (MALFORMED, REJECTED):
             raise BatchError(f"{call[0]} does not run here: on no input it ends with {why_none(ran.status, ran.told)}, and not with {MALFORMED}")

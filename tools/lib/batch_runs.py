@@ -1,18 +1,14 @@
 """A folder of problems, and what is run and kept of each."""
 import concurrent.futures
 import os
-import signal
-import subprocess
-import sys
-import tempfile
-import time
 
-from lib.batch_answers import (ANSWERED, LIMIT, MALFORMED, REJECTED, WRITES_ANSWER, Answer, Tried, adds_too_much, answer_bytes, ended_line,
-                           next_stage, read_answer, says, without_head_line)
-from lib.batch_programs import Runner, why_none
+from knot_workbench.answers import ANSWERED, LIMIT, MALFORMED, REJECTED, WITH_ANSWER
+from lib.batch_answers import Kept, Tried, adds_too_much, answer_bytes, ended_line, next_stage, read_answer, says, as_answer
+from lib.batch_parallel import Spread
+from lib.batch_programs import Runner, as_they_end, why_none
 from lib.batch_stages import digest, stage_key, stage_text
 from lib.calls import note, reason_of
-from lib.whole_files import sweep_parts, write_whole
+from lib.whole_files import is_full, sweep_parts, write_whole
 
 # What is kept of a problem, one file in each.
 FOLDERS = ("answers", "certificates", "rulings")
@@ -72,7 +68,11 @@ class Batch:
     def answer(self, name):
         """The problem, and the answer that is kept for it."""
         problem = self.problem(name)
-        return problem, read_answer(self.path("answers", name), problem, self.job)
+        return problem, self.kept(name, problem)
+
+    def kept(self, name, problem):
+        """The answer that is kept for a problem of these bytes, or None."""
+        return read_answer(self.path("answers", name), problem, self.job)
 
     def next_stage(self, name):
         """The stage in which this problem is to be tried next, or None."""
@@ -84,12 +84,12 @@ class Batch:
         """Runs one problem in one stage and keeps what the program wrote. False where it gave no answer; then nothing changes."""
         problem, answer = self.answer(name)
         given = problem
-        for _, added in stage.added:
-            given = ended_line(given) + added
-        ran = self.runner.run(self.programs.call(stage.job, stage.words), given)
+        for added in stage.added:
+            given = ended_line(given) + added.data
+        ran = self.runner.run(self.programs.call(stage), given)
         if ran.status is None:
             return False
-        if ran.status not in WRITES_ANSWER:
+        if ran.status not in WITH_ANSWER:
             tell(f"{self.problem_path(name)}: stage {stage.name}: no answer, {why_none(ran.status, ran.told)}")
             return False
         if self.problem(name) != problem:
@@ -97,16 +97,17 @@ class Batch:
             return False
         tried = Tried(stage.name, stage_text(stage), stage_key(stage), ran.status, round(ran.seconds, 3), says(ran.body), ran.told,
                       adds_too_much(problem, stage, ran.status, ran.body))
-        answer = Answer([*(answer.tried if answer else []), tried], ran.body)
+        answer = Kept([*(answer.tried if answer else []), tried], ran.body)
         write_named(self.path("answers", name), answer_bytes(problem, self.job, answer))
         return True
 
     def certificate(self, name):
         """The problem with its verdict behind it, or None where there is no evidence."""
-        problem, answer = self.answer(name)
-        if self.job not in WITH_VERDICT or answer is None or answer.tried[-1].status != ANSWERED:
-            return None
-        if without_head_line(answer.body).split(b" ", 1)[0] not in (b"equal", b"different"):
+        return self.certificate_of(*self.answer(name))
+
+    def certificate_of(self, problem, answer):
+        """As `certificate`, by the bytes of the problem and the answer that is kept."""
+        if self.job not in WITH_VERDICT or answer is None or not as_answer(self.job, answer).has_evidence:
             return None
         return ended_line(problem) + answer.body
 
@@ -133,10 +134,13 @@ class Batch:
     # --- many problems
 
     def guarded(self, act, name):
-        """Calls act for this name. Where a file can't be read or written, the file is named, and the result is False."""
+        """Calls act for this name. Where a file can't be read or written, the file is named, and the result is False; but where no room is
+        left for any file, the error is raised."""
         try:
             return act(name)
         except OSError as error:
+            if is_full(error):
+                raise
             tell(f"{self.problem_path(name)}: {reason_of(error)}")
             return False
 
@@ -145,7 +149,7 @@ class Batch:
         with concurrent.futures.ThreadPoolExecutor(processes) as pool:
             futures = [pool.submit(self.guarded, act, name) for name in names]
             try:
-                for done, future in enumerate(concurrent.futures.as_completed(futures), 1):
+                for done, future in enumerate(as_they_end(futures), 1):
                     future.result()
                     if self.progress:
                         self.progress(done)
@@ -166,54 +170,9 @@ class Batch:
                 continue
             tell(f"stage {stage.name}: {len(waiting)} problems")
             if options.parallel:
-                self.run_parallel(waiting, stage, options)
+                Spread(self, stage, options, tell).run(waiting)
             else:
                 self.each(waiting, lambda name: self.try_stage(name, stage), options.processes)
-
-    def run_parallel(self, names, stage, options):
-        """The same by GNU parallel: one process of the script for a problem."""
-        log = os.path.join(self.answers, "jobs.log")
-        call = ["parallel", "-q", "-0", "--no-run-if-empty", "--joblog", "+" + log]
-        if options.hosts:
-            call += ["--sshloginfile", options.hosts, options.script]
-        else:
-            call += ["--jobs", str(options.processes), sys.executable, options.script]
-        call += ["--stage=" + stage.name, "--job=" + self.job, "--program=" + self.programs.path("knot"),
-                 "--seeker=" + self.programs.path("seek")]
-        if options.stages:
-            call += ["--stages=" + options.stages]
-        call += ["--", "{}", self.answers]
-        given = b"".join(os.fsencode(self.problem_path(name)) + b"\0" for name in names)
-        with tempfile.TemporaryFile() as source:
-            source.write(given)
-            source.seek(0)
-            before = (read_bytes(log) or b"").count(b"\n")
-            process = subprocess.Popen(call, stdin=source, start_new_session=True)
-            try:
-                while self.progress and process.poll() is None:
-                    time.sleep(0.5)
-                    # A log that is new has a line of titles first.
-                    self.progress(min(len(names), max(0, (read_bytes(log) or b"").count(b"\n") - (before or 1))))
-                process.wait()
-            except BaseException:
-                end_parallel(process)
-                raise
-        # Its status counts the calls that failed; what has no answer is looked for in the folder.
-        if process.returncode == 255 or process.returncode < 0:
-            tell(f"GNU parallel ended with status {process.returncode}")
-
-
-def end_parallel(process):
-    """GNU parallel begins nothing after one SIGTERM and ends what runs after a second."""
-    for _ in range(2):
-        if process.poll() is None:
-            process.terminate()
-            time.sleep(0.2)
-    try:
-        process.wait(timeout=10)
-    except subprocess.TimeoutExpired:
-        os.killpg(process.pid, signal.SIGKILL)
-        process.wait()
 
 
 def write_named(path, data):

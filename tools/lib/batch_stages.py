@@ -1,6 +1,7 @@
 """The stages of a batch: what each asks, with which words, and what it puts behind a problem."""
 import collections
 import hashlib
+import json
 import os
 import re
 
@@ -16,8 +17,15 @@ class BatchError(Exception):
 
 
 # job: the job of knot, `seek` for the program of this name, or "" for a program that takes no name of a job.
-# added: pairs of a path and its bytes.
-Stage = collections.namedtuple("Stage", "name job words added")
+# words: the options, where a file of quandles that seek reads stands as `--weights=LABEL`. lists: these files, each once.
+# added: the files that stand behind each problem.
+Stage = collections.namedtuple("Stage", "name job words added lists", defaults=((), ()))
+
+# A file of quandles that a stage uses: what it is called, its whole path, its SHA-256 and, where it stands behind the problem, its bytes.
+Listed = collections.namedtuple("Listed", "label path sha data", defaults=(None,))
+
+# The options of seek that name a file of quandles.
+LIST_OPTIONS = ("--weights", "--quandles")
 
 
 def digest(data):
@@ -25,14 +33,65 @@ def digest(data):
     return hashlib.sha256(data).hexdigest()
 
 
+def words_by(stage, field):
+    """The words of a stage, where each file of quandles that they name stands as this field of it."""
+    by_label = {one.label: getattr(one, field) for one in stage.lists}
+    parts = [(word, *word.partition("=")[::2]) for word in stage.words]
+    return [f"{option}={by_label[label]}" if option in LIST_OPTIONS and label in by_label else word for word, option, label in parts]
+
+
+def call_words(stage):
+    """The words with which the program is called."""
+    return words_by(stage, "path")
+
+
 def stage_key(stage):
-    """What an answer was tried with: `seek` where it was asked, the words, and what was added."""
-    return [*(["seek"] if stage.job == "seek" else []), *stage.words, *("+" + digest(data) for _, data in stage.added)]
+    """What an answer was tried with: `seek` where it was asked, the words, and the SHA-256 of each file of quandles in place of its name."""
+    return [*(["seek"] if stage.job == "seek" else []), *words_by(stage, "sha"), *("+" + one.sha for one in stage.added)]
 
 
 def stage_text(stage):
-    """The stage as its line has it, without its name."""
-    return " ".join([*(["seek"] if stage.job == "seek" else []), *stage.words, *("+" + path for path, _ in stage.added)])
+    """The stage as its line has it, without its name, and with the list that its program counts by where the line names none."""
+    return " ".join([*(["seek"] if stage.job == "seek" else []), *stage.words, *("+" + one.label for one in stage.added)])
+
+
+def handed_over(stage):
+    """The stage in one word, by which a call for one problem runs it elsewhere: GNU parallel would replace braces."""
+    kept = [stage.name, stage.job, stage.words, *([one[:3] for one in files] for files in (stage.added, stage.lists))]
+    return json.dumps(kept).replace("{", "\\u007b").replace("}", "\\u007d")
+
+
+def is_handed_over(word):
+    """Whether a word is a whole stage, and not only the name of one."""
+    return word.startswith("[")
+
+
+def taken_over(word):
+    """The stage of such a word. Raises BatchError where one of its files isn't what it was."""
+    try:
+        name, job, words, added, lists = json.loads(word)
+        added, lists = ([Listed(*one) for one in files] for files in (added, lists))
+    except (ValueError, TypeError):
+        raise BatchError(f"'{word}' is no stage") from None
+    return Stage(name, job, tuple(words), tuple(same_file(one) for one in added), tuple(same_file(one)._replace(data=None) for one in lists))
+
+
+def same_file(listed):
+    """A file of quandles with its bytes, which are those that its SHA-256 tells."""
+    found = listed_file(listed.label, listed.path, "")
+    if found.sha != listed.sha:
+        raise BatchError(f"{listed.path}: it is not what it was when the call began")
+    return found
+
+
+def listed_file(label, path, where):
+    """A file of quandles, by what it is called and its path; `where` stands before what is wrong with it."""
+    try:
+        with open(path, "rb") as file:
+            data = file.read()
+    except OSError as error:
+        raise BatchError(f"{where}{path}: {error.strerror}") from None
+    return Listed(label, os.path.abspath(path), digest(data), data)
 
 
 def spare_of(stage):
@@ -56,8 +115,10 @@ def read_stages(path, job):
             if job not in (*ASKS, ""):
                 raise BatchError(f"{path}:{line}: '{words[0]}' has no place in a batch of the job {job}")
             asked, words = words[0], words[1:]
-        added = tuple(added_file(path, line, word[1:]) for word in words if word.startswith("+"))
-        stages.append(Stage(row[0], asked, tuple(word for word in words if not word.startswith("+")), added))
+        where, folder = f"{path}:{line}: ", os.path.dirname(path)
+        added = tuple(listed_file(word[1:], os.path.join(folder, word[1:]), where) for word in words if word.startswith("+"))
+        words = tuple(word for word in words if not word.startswith("+"))
+        stages.append(with_lists(Stage(row[0], asked, words, added), where))
     if not stages:
         raise BatchError(f"{path}: no stage")
     return stages
@@ -73,11 +134,18 @@ def rows_of(path):
     return [(line, row) for line, row in rows if row and not row[0].startswith("#")]
 
 
-def added_file(path, line, name):
-    """The name and the bytes of a file that a stage puts behind each problem; it is looked for beside the file of stages."""
-    full = os.path.join(os.path.dirname(path), name)
-    try:
-        with open(full, "rb") as file:
-            return name, file.read()
-    except OSError as error:
-        raise BatchError(f"{path}:{line}: {full}: {error.strerror}") from None
+def with_lists(stage, where):
+    """The stage with the files of quandles that its own words name, which are looked for from here as seek itself would."""
+    if stage.job not in ("seek", ""):
+        return stage
+    words = []
+    for word in stage.words:
+        if words and words[-1] in LIST_OPTIONS:
+            words[-1] += "=" + word
+        else:
+            words.append(word)
+    labels = [word.partition("=")[2] for word in words if word.partition("=")[0] in LIST_OPTIONS]
+    # A program that takes no name of a job may give these words another meaning.
+    labels = [label for label in dict.fromkeys(labels) if label and (stage.job == "seek" or os.path.isfile(label))]
+    lists = tuple(listed_file(label, label, where)._replace(data=None) for label in labels)
+    return stage._replace(words=tuple(words), lists=lists)

@@ -5,14 +5,13 @@ import io
 import os
 import re
 
-from lib.batch_answers import REFUSED, UNKNOWN, deciding, in_one_line
+from knot_workbench.answers import VERDICTS, Answer
+from lib.batch_answers import deciding, in_one_line
 from lib.batch_runs import FOLDERS, ruling_of, tell, write_named
 from lib.calls import reason_of, say
 
 # name: that of the problem's file. first, second: what the problem's comments call its diagrams.
 Row = collections.namedtuple("Row", "name first second verdict evidence stage seconds check")
-
-VERDICTS = ("equal", "different", "unknown", "accepted", "rejected", "alike", "wide")
 
 NAME_LINE = re.compile(r"^# (name|first|second): (.*?)\r?$", re.M)
 
@@ -37,15 +36,14 @@ def diagram_names(problem):
 
 def in_short(tried):
     """Verdict and evidence of a try."""
-    if tried.status in REFUSED:
+    kind = Answer("", tried.status, tried.says).kind
+    _, _, rest = tried.says.partition(" ")
+    if kind in ("malformed", "limit"):
         return "refused", tried.says or in_one_line(tried.told)
-    first, _, rest = tried.says.partition(" ")
-    if tried.status == UNKNOWN:
+    if kind == "nothing":
         # seek writes nothing then, and says on standard error what was tried; its sentence is kept with the answer.
-        return "unknown", rest if first == "unknown" else tried.says or in_one_line(tried.told).partition(":")[0]
-    if first in VERDICTS:
-        return first, rest
-    return "answered", ""
+        return "unknown", tried.says or in_one_line(tried.told).partition(":")[0]
+    return (kind, rest) if kind in VERDICTS else ("answered", "")
 
 
 def unread(name, reason):
@@ -111,7 +109,8 @@ def report(batch, names, unreadable, with_summary):
     if not with_summary:
         # Certificates are made and checked when the parts are put together.
         rows = [row._replace(check="") for row in rows]
-    status = 1 if any(row.verdict == "unknown" for row in rows) else 0
+    # A part that has run all it has is done, whatever was found; the call that puts the parts together tells.
+    status = 1 if with_summary and any(row.verdict == "unknown" for row in rows) else 0
     for row in rows:
         for fault in faults_of(batch, row):
             tell(f"{batch.problem_path(row.name)}: {fault}")

@@ -154,8 +154,8 @@ def end(name, said, status=STATUS):
     raise SystemExit(status)
 
 
-def run(name, main):
-    """Calls the program's `main`, which may end by SystemExit."""
+def run(name, main, failed=STATUS):
+    """Calls the program's `main`, which may end by SystemExit; `failed` is the status where the input, a file or a stream is at fault."""
     if sys.version_info < OLDEST:
         note(f"{name}: Python {version(OLDEST)} or newer is needed, and this is Python {version(sys.version_info)}")
         raise SystemExit(STATUS)
@@ -167,11 +167,11 @@ def run(name, main):
             # A call of --help ends by SystemExit, and its text waits to be written as the rest.
             sys.stdout.flush()
     except Fault as fault:
-        end(name, str(fault))
+        end(name, str(fault), failed)
     except BrokenPipeError:
         end(name, None, UNREAD)
     except OSError as fault:
-        end(name, f"{fault.filename or 'standard output'}: {fault.strerror}")
+        end(name, f"{fault.filename or 'standard output'}: {fault.strerror}", failed)
     except KeyboardInterrupt:
         end(name, "interrupted", INTERRUPTED)
 

@@ -6,14 +6,18 @@ import os
 from lib import batch_call
 from lib.batch_programs import Programs, Runner, Stopped, on_signals
 from lib.batch_runs import tell, write_named
-from lib.batch_stages import BatchError
+from lib.batch_stages import BatchError, Stage
 from lib.census_classes import Classes, turns_of
 from lib.census_page import page_text
 from lib.census_plan import read_plan
 from lib.census_results import Results
-from lib.census_rounds import Rounds, Unfinished, put_if_new
+from lib.census_rounds import Failed, Rounds, Unfinished, put_if_new
 from lib.census_steps import Steps, read_members
-from lib.calls import WordsParser, reason_of, say
+from lib.calls import Fault, StreamError, WordsParser, reason_of, say
+from lib.whole_files import FULL_TEXT, is_full
+
+# How many minutes a part waits for the others, and the status where that wasn't enough.
+WAIT, WAITING = 30, 4
 
 PLAN = os.path.join(batch_call.TOP, "tools", "census.txt")
 
@@ -40,9 +44,11 @@ examples:
 
 exit status:
   0  each two classes are told apart, and every certificate was accepted
-  1  as 0, but that some pairs of classes are undecided; with --part, that a round waits for other parts
+  1  as 0, but that some pairs of classes are undecided; with --part that is 0 too
   2  the words are no call, or a folder, the plan or a program can't be used; nothing was done
   3  a diagram can't be read, an input has no answer, or a certificate was not accepted; each is named on standard error
+  4  with --part: a round waits for other parts; called again, it goes on
+  70  the script itself failed, with a traceback on standard error
   128 + N  stopped by signal N; called again, it goes on
 """
 
@@ -59,6 +65,8 @@ def parser():
     sort.add_argument("--plan", metavar="FILE", help="the steps (default: census.txt beside this script)")
     sort.add_argument("--no-apart", action="store_true", help="ask for no evidence that classes differ; `apart` does it later")
     sort.add_argument("--part", metavar="K/N", help="only part K of N of each round, as in an array job")
+    sort.add_argument("--wait", type=int, metavar="MINUTES", default=WAIT,
+                      help=f"with --part, how long to wait for what other parts have in hand (default: {WAIT})")
     apart = acts.add_parser("apart", help="write the evidence that two diagrams differ, or ask for that of all classes", allow_abbrev=False)
     apart.add_argument("census", metavar="CENSUS", help="a folder that `sort` has made")
     apart.add_argument("names", metavar="NAME", nargs="*", help="two diagrams; the evidence goes to standard output")
@@ -74,12 +82,15 @@ def batch_options(options):
     """The options of batch.py that hold for every round."""
     if options.processes is not None and options.processes < 1:
         parser().error("--processes takes 1 or more")
+    if getattr(options, "wait", 0) < 0:
+        parser().error("--wait takes 0 or more")
     words = ["--with", "parallel" if options.hosts else options.runs]
     for name in ("processes", "hosts", "part"):
         if getattr(options, name, None):
             words += [f"--{name}", str(getattr(options, name))]
     found = batch_call.settled(batch_call.parser().parse_args([*words, "-", options.census]))
     batch_call.part_of([], found.part)
+    found.wait = 60 * getattr(options, "wait", 0)
     found.parallel = found.runs != "python" and batch_call.has_parallel()
     if not found.parallel and found.runs == "parallel":
         raise BatchError("GNU parallel is not installed here")
@@ -92,7 +103,7 @@ def programs_of(options, plan):
     programs.prepare(["check", "knot", "seek"])
     for step in plan:
         if step.kind in ("decide", "seek"):
-            programs.probe(programs.call(step.kind, step.words), f"step {step.name}")
+            programs.probe(programs.call(programs.completed(Stage(step.name, step.kind, step.words, ()))), f"step {step.name}")
     # tools/colour_numbers.py asks this one.
     os.environ["KNOT"] = programs.path("knot")
     return programs
@@ -166,21 +177,21 @@ def sort(options):
         results.tell_open() if options.no_apart else results.tell_apart()
     except Unfinished as waiting:
         tell(f"part {options.part}: {waiting}; call again when all parts have ended")
-        return 1
+        return WAITING
     results.write()
     write_named(os.path.join(options.census, "classes.html"), page_text(results).encode("utf-8", "surrogateescape"))
-    return ended(census, results)
+    return ended(census, results, options.part)
 
 
-def ended(census, results):
-    """Says what came of it: the exit status."""
+def ended(census, results, part=None):
+    """Says what came of it: the exit status. A part that has nothing left to do is done, whatever came of the whole."""
     faults = [*census.faults, *census.rounds.faults]
     faults += [f"{row[0]}: the certificate is not accepted: {row[-1]}" for row in results.rows if row[-1] not in ("", "accepted")]
     faults += [f"{row[0]} and {row[1]}: the evidence is not accepted: {row[-1]}" for row in results.apart if row[-1] not in ("accepted", "different")]
     for fault in faults:
         tell(fault)
     say(results.count_line())
-    return 3 if faults or set(results.checks) - {"accepted"} else 1 if results.undecided else 0
+    return 3 if faults or set(results.checks) - {"accepted"} else 1 if results.undecided and not part else 0
 
 
 def apart(options):
@@ -239,8 +250,13 @@ def main(words):
     except BatchError as error:
         tell(str(error))
         return 2
+    except StreamError:
+        raise
+    except (Failed, Fault) as failed:
+        tell(str(failed))
+        return 3
     except OSError as error:
-        tell(reason_of(error))
+        tell(reason_of(error) + (f": {FULL_TEXT}" if is_full(error) else ""))
         return 3
     except Stopped as stopped:
         tell(f"stopped by signal {stopped.number}; called again, it goes on")

@@ -1,14 +1,12 @@
 """The steps of a census: what is asked of which classes, and what the answers make of them."""
 import collections
-import random
 
-from lib.batch_answers import ANSWERED, without_head_line
+from knot_workbench.answers import Compared, Nothing
+from knot_workbench.certificates import Different, DifferentLinking, DifferentNumbers, Equal
 from lib.batch_stages import digest
 from lib.census_classes import composed, member_of, said_of, size_of, suffix_of, tried_key, turned
 from lib.census_plan import block_label, block_of, order_of
-from lib.diagrams import (MAX_COLOURINGS, BadText, Braid, Lines, bottoms, braid_fault, diagram_text, grid_of, grid_text, read_diagram,
-                          read_moves)
-from lib.smaller import lowered, reduced
+from lib.diagrams import MAX_COLOURINGS, MAX_ORDER, BadText, Braid, Lines, bottoms, braid_fault, diagram_text, grid_of, grid_text, read_diagram
 
 # By what the linking numbers are known. The keys of quandles and cocycles are digests.
 LINKING = "linking"
@@ -36,42 +34,41 @@ def read_members(texts, rounds):
     for name, text in texts.items():
         try:
             lines = Lines(text)
-            diagrams[name] = read_diagram(lines)
+            diagram = read_diagram(lines)
             lines.done()
+            diagrams[name] = diagram
         except BadText as fault:
             faults[name] = str(fault)
     answers = rounds.run("simplify", "simplify", {name: grid_text(grid_of(diagram)) for name, diagram in diagrams.items()})
-    found = {name: simplified(answers[name].body) for name in diagrams if name in answers}
-    found.update(by_words(diagrams, {name: small for name, (small, _, is_spent) in found.items() if is_spent}, found, rounds))
+    found = {name: rounds.value("simplify", name, "simplify", answers[name]) for name in diagrams if name in answers}
+    smalls = {name: (one.grid, list(one.moves)) for name, one in found.items()}
+    smalls.update(by_words(diagrams, {name: one for name, one in found.items() if not one.is_irreducible}, rounds))
+    lower = rounds.run("lower", "lower", {name: grid_text(small) for name, (small, _) in smalls.items()})
     members = []
-    for name, (small, moves, _) in found.items():
-        lower, small = lowered(small, random.Random(grid_text(small)))
-        members.append(member_of(name, diagrams[name], small, moves + lower))
+    for name, (small, moves) in smalls.items():
+        if name in lower:
+            low = rounds.value("lower", name, "lower", lower[name])
+            members.append(member_of(name, diagrams[name], low.grid, [*moves, *low.moves]))
     return members, faults
 
 
-def simplified(body):
-    """The grid that `simplify` wrote, the moves that lead there, and whether more might be found."""
-    lines = Lines(body.decode())
-    small = read_diagram(lines)
-    moves = read_moves(lines)
-    return small, moves, lines.take("the last line")[1][0] == "spent"
-
-
-def by_words(diagrams, spent, found, rounds):
+def by_words(diagrams, spent, rounds):
     """Smaller diagrams, and moves to them, of those that `simplify` left large: a braid word is reduced, and `seek` joins its closure."""
-    grids = {name: grid_text(small) + "quandle trivial 1\n" for name, small in spent.items() if not isinstance(diagrams[name], Braid)}
+    grids = {name: grid_text(one.grid) + "quandle trivial 1\n" for name, one in spent.items() if not isinstance(diagrams[name], Braid)}
     words = {name: diagrams[name] for name in spent if name not in grids}
-    for name, answer in rounds.run("words", "braid", grids).items():
-        strands, *letters = map(int, answer.body.decode().partition("\n")[0].split()[1:])
-        words[name] = Braid(strands, tuple(letters))
-    short = {name: reduced(word, random.Random(diagram_text(word))) for name, word in words.items()}
+    words.update(values_of(rounds, "words", "braid", grids))
+    short = values_of(rounds, "reduced", "reduce", {name: diagram_text(word) for name, word in words.items()})
     closures = {name: diagram_text(word) for name, word in short.items() if braid_fault(word) is None}
-    aims = {name: simplified(answer.body)[0] for name, answer in rounds.run("closures", "simplify", closures).items()}
-    aims = {name: aim for name, aim in aims.items() if size_of(aim) < size_of(spent[name])}
-    answers = rounds.run("shorter", "seek", {name: grid_text(spent[name]) + grid_text(aim) for name, aim in aims.items()}, SHORTER)
-    joined = {name: answer for name, answer in answers.items() if without_head_line(answer.body).startswith(b"equal ")}
-    return {name: (aims[name], found[name][1] + read_moves(Lines(without_head_line(answer.body).decode())), True) for name, answer in joined.items()}
+    aims = {name: one.grid for name, one in values_of(rounds, "closures", "simplify", closures).items()}
+    aims = {name: aim for name, aim in aims.items() if size_of(aim) < size_of(spent[name].grid)}
+    pairs = {name: grid_text(spent[name].grid) + grid_text(aim) for name, aim in aims.items()}
+    joined = {name: found for name, found in values_of(rounds, "shorter", "seek", pairs, SHORTER).items() if isinstance(found, Equal)}
+    return {name: (aims[name], [*spent[name].moves, *found.moves]) for name, found in joined.items()}
+
+
+def values_of(rounds, name, job, inputs, words=()):
+    """The values of a round's answers, by the names of the inputs."""
+    return {key: rounds.value(name, key, job, answer) for key, answer in rounds.run(name, job, inputs, words).items()}
 
 
 # Two members whose small diagrams, each after a turn, were asked about, and by what their classes are known as a pair.
@@ -82,26 +79,28 @@ class Steps:
     """The classes and what was asked of them.
 
     blocks: the quandles and cocycles met so far, by key. tried: by two first members and a turn, what was asked of this pair in vain.
+    told: the pairs that a step told apart, each with the step, the name of the input and its text.
     """
 
     def __init__(self, classes, rounds):
         self.classes, self.rounds = classes, rounds
-        self.blocks, self.tried = {}, {}
+        self.blocks, self.tried, self.told = {}, {}, []
 
     def run(self, step):
         """Runs a step of the plan."""
         if step.kind == "linking":
-            self.ask(step, [LINKING], "linking", lambda text: text + text, linking_of)
+            # A diagram given twice: how many linking numbers there are tells how many components.
+            self.ask(step, [LINKING], "linking", lambda text: text + text, lambda found: [found.first])
         elif step.kind == "numbers":
             self.blocks.update((block.key, block) for block in step.blocks)
             behind = "".join(block.text for block in step.blocks)
-            self.ask(step, [block.key for block in step.blocks], "numbers", lambda text: text + behind, numbers_of)
+            self.ask(step, [block.key for block in step.blocks], "numbers", lambda text: text + behind, lambda found: found.of_each)
         else:
             self.seek(step)
 
     # --- one diagram
 
-    def ask(self, step, keys, job, input_of, values_of):
+    def ask(self, step, keys, job, input_of, values_in):
         """Asks a job of the smallest diagrams of classes that may be one with another, as far as the keys aren't known."""
         waiting = {}
         for kind in self.classes.not_alone():
@@ -112,7 +111,7 @@ class Steps:
         answers = self.rounds.run(step.name, job, {name: input_of(grid_text(kind.small(turn))) for name, (kind, turn) in waiting.items()})
         for name, answer in answers.items():
             kind, turn = waiting[name]
-            kind.learn(turn, dict(zip(keys, values_of(answer.body.decode()))))
+            kind.learn(turn, dict(zip(keys, values_in(self.rounds.value(step.name, name, job, answer)))))
 
     # --- pairs
 
@@ -131,21 +130,37 @@ class Steps:
             inputs = {name: "".join(grid_text(turned(self.classes.member[one].small, turn)) for one, turn in ((pair.one, pair.of_one), (pair.two, pair.of_two)))
                       for name, pair in waiting.items()}
             for name, answer in self.rounds.run(step.name, step.kind, inputs, step.words).items():
-                self.take(step, waiting[name], answer)
+                if self.take(step, name, waiting[name], answer):
+                    self.told.append((waiting[name], step, name, inputs[name]))
 
-    def take(self, step, pair, answer):
-        """What an answer about a pair makes of the classes."""
-        lines = without_head_line(answer.body).decode().splitlines()
-        if answer.tried[-1].status == ANSWERED and lines[0].startswith("equal "):
-            self.classes.join(*pair[:4], read_moves(Lines("\n".join(lines))))
-        elif answer.tried[-1].status == ANSWERED:
-            block, counts = different_of(lines)
-            self.blocks.setdefault(block.key, block)
-            for name, turn, count in ((pair.one, pair.of_one, counts[0]), (pair.two, pair.of_two, counts[1])):
-                self.classes.learn(name, turn, {block.key: (count,)})
+    def take(self, step, name, pair, answer):
+        """What an answer about a pair makes of the classes. Whether it tells them apart."""
+        found = self.rounds.value(step.name, name, step.kind, answer)
+        if isinstance(found, Equal):
+            self.classes.join(*pair[:4], found.moves)
+        elif isinstance(found, (Different, DifferentNumbers, DifferentLinking)):
+            key, values = self.told_by(found)
+            for one, turn, value in ((pair.one, pair.of_one, values[0]), (pair.two, pair.of_two, values[1])):
+                self.classes.learn(one, turn, {key: value})
+            return True
         else:
-            said = lines[0] if lines else "nothing found"
+            said = "nothing found" if isinstance(found, Nothing) else answer.tried[-1].says
             self.tried.setdefault(pair.key, []).append(f"{step.name}: {' '.join([step.kind, *step.words])}: {said}")
+        return False
+
+    def told_by(self, found):
+        """The key of what tells two diagrams apart in a verdict, and its values for both, as `ask` learns them."""
+        if isinstance(found, DifferentLinking):
+            return LINKING, (found.first.numbers, found.second.numbers)
+        text = found.quandle.text
+        if isinstance(found, DifferentNumbers):
+            text += found.cocycle.text if found.cocycle else ""
+            values = found.first.numbers, found.second.numbers
+        else:
+            values = (len(found.first),), (len(found.second),)
+        block = block_of(text.splitlines())
+        self.blocks.setdefault(block.key, block)
+        return block.key, values
 
     # --- evidence
 
@@ -153,11 +168,15 @@ class Steps:
         """Asks for evidence that classes differ, by pairs of classes. For each pair and turn of which there is evidence the words for what
         tells them apart, the file, and what was said of it."""
         asked = {"linking": {}, "weights": {}, "decide": {}}
-        labels = {}
+        labels, shown = {}, self.shown_by_steps()
+        by_steps = collections.defaultdict(dict)
         for kind, other in pairs:
             for turn in self.classes.turns:
                 block = self.evidence_of(kind, other, turn)
-                if block is not None:
+                if block is None and (kind.first, other.first, turn) in shown:
+                    step, name, text = shown[kind.first, other.first, turn]
+                    by_steps[step][name] = (kind.first, other.first, turn), text
+                elif block is not None:
                     job = "linking" if block == LINKING else "weights" if block.has_weight else "decide"
                     name = file_name([kind.first, other.first], turn)
                     labels[name] = (kind.first, other.first, turn), LINKING if block == LINKING else block_label(block)
@@ -166,12 +185,24 @@ class Steps:
         found = {}
         for name, (path, ruling) in self.rounds.checked("apart", "decide", asked["decide"], COUNTS_ALONE).items():
             found[labels[name][0]] = labels[name][1], path, ruling
+        for step, inputs in by_steps.items():
+            checked = self.rounds.checked(step.name, step.kind, {name: text for name, (_, text) in inputs.items()}, step.words)
+            found.update((inputs[name][0], (f"the step {step.name}", path, ruling)) for name, (path, ruling) in checked.items())
         for job in ("linking", "weights"):
             round_name = f"apart-{job}"
             for name, answer in self.rounds.run(round_name, job, asked[job]).items():
-                last = answer.body.decode().splitlines()[-1]
-                if last == "different":
-                    found[labels[name][0]] = labels[name][1], self.rounds.input_path(round_name, name), last
+                told = self.rounds.value(round_name, name, job, answer)
+                if isinstance(told, Compared) and told.differ:
+                    found[labels[name][0]] = labels[name][1], self.rounds.input_path(round_name, name), "different"
+        return found
+
+    def shown_by_steps(self):
+        """The pairs of classes that a step told apart: by two first members and a turn the step, the name of the input and its text."""
+        found = {}
+        for pair, step, name, text in self.told:
+            one, two = self.classes.of[pair.one], self.classes.of[pair.two]
+            turn = composed(composed(one.members[pair.one], pair.of_one), composed(two.members[pair.two], pair.of_two))
+            found.setdefault(tried_key(one, two, turn), (step, name, text))
         return found
 
     def evidence_of(self, kind, other, turn):
@@ -180,25 +211,7 @@ class Steps:
             if key == LINKING:
                 return LINKING
             block = self.blocks[key]
-            if all(order_of(block) ** bottoms(grid) <= MAX_COLOURINGS for grid in (kind.small(), other.small())):
+            order = order_of(block)
+            if order <= MAX_ORDER and all(order ** bottoms(grid) <= MAX_COLOURINGS for grid in (kind.small(), other.small())):
                 return block
         return None
-
-
-def linking_of(text):
-    """What the job `linking` says of a diagram given twice: its linking numbers. Their number tells that of the components."""
-    return [tuple(map(int, text.splitlines()[0].split()[1:]))]
-
-
-def numbers_of(text):
-    """What the job `numbers` says, a value for each quandle; None where there may be too many colourings."""
-    lines = [line.split() for line in text.splitlines()]
-    return [tuple(map(int, line[1:])) if line[0] == "numbers" else None for line in lines if line[0] in ("numbers", "wide")]
-
-
-def different_of(lines):
-    """The quandle of a verdict `different`, and how many colourings each diagram has."""
-    place = next(place for place, line in enumerate(lines) if line.startswith("list "))
-    block = block_of(["quandle " + lines[0].removeprefix("different "), *lines[1:place]])
-    first = int(lines[place].split()[1])
-    return block, (first, int(lines[place + first + 1].split()[1]))

@@ -1,10 +1,19 @@
 """Files that are there whole or not at all."""
+import errno
 import os
 import re
 import socket
 
+# What is said behind an error that leaves no room for any answer.
+FULL_TEXT = "no room is left, and so all is stopped; called again, it goes on"
+
 # A part of a file bears the host and the process that writes it, so that parts of processes that are gone can be told.
 PART = re.compile(r"\..*\.(?P<host>[^.]+)\.(?P<process>[0-9]+)\.[0-9]+\.part")
+
+
+def is_full(error):
+    """Whether an error of the system says that the disk or a quota is full, so that nothing more can be kept."""
+    return error.errno in (errno.ENOSPC, errno.EDQUOT)
 
 
 def host_name():

@@ -1,0 +1,232 @@
+"""Tests that tools/batch.py and tools/census.py read every kind of answer: those of all examples, each in the place of the job that it answers.
+
+Both scripts run in this process, and what they would call as well: a stand-in for knot and seek, and tools/smaller.py.
+"""
+import contextlib
+import io
+import os
+import re
+import shutil
+import unittest
+from unittest import mock
+
+import common
+import small_knot
+import smaller
+from knot_workbench.answers import Answer
+from knot_workbench.diagrams import Braid, Grid, Lines, diagram_text, grid_text, mirror_image, read_diagram
+from knot_workbench.faults import Fault
+from lib import batch_call, batch_programs, census_call
+from lib.census_plan import blocks_of
+from test_census import HOPF, TREFOIL, UNKNOT, CensusTest
+
+EXAMPLES = os.path.join(common.ROOT, "examples")
+
+# Jobs that the rounds of a census ask.
+OF_CENSUS = ("braid", "check", "decide", "linking", "numbers", "seek", "simplify", "weights")
+JOBS = (*OF_CENSUS, "braidcheck", "close", "code", "colour", "grid", "replay")
+
+TREFOILS = grid_text(TREFOIL) + grid_text(mirror_image(TREFOIL))
+
+# Kinds of answers that no example has, or not in this form.
+NUMBERS = "certificate 3\ndifferent numbers {}seeds 0\nnumbers {}\nseeds 0 1\nnumbers {}\n"
+TABLE_30 = "table 30\n" + "".join(" ".join(str((2 * y - x) % 30) for y in range(30)) + "\n" for x in range(30))
+MORE = {
+    "by numbers of a table of 30": ("seek", 0, NUMBERS.format(TABLE_30, 30, 90)),
+    "by numbers": ("seek", 0, NUMBERS.format("dihedral 3\n", 9, 3)),
+    "by a cocycle": ("seek", 0, NUMBERS.format("dihedral 3\nweight 2\n0 0 0\n0 0 0\n0 0 0\n", "9 0", "3 0")),
+    "by a shadow cocycle": ("seek", 0, NUMBERS.format("dihedral 3\nshadow mochizuki\n", "9 0 18", "9 18 0")),
+    "by linking numbers": ("seek", 0, "certificate 3\ndifferent linking\ncomponents 2\nnumbers 1 1\ncomponents 2\nnumbers -1 -1\n"),
+    "by lists": ("decide", 0, "certificate 2\ndifferent trivial 2\nlist 1\n0 0\nlist 0\n"),
+    "equal": ("seek", 0, "certificate 2\nequal 0\n"),
+    "exhausted": ("decide", 1, "certificate 2\nunknown exhausted 5 2\n"),
+    "budget": ("decide", 1, "certificate 2\nunknown budget 20000\n"),
+    "nothing": ("seek", 1, ""),
+    "malformed": ("decide", 3, "malformed line 3\n"),
+    "limit": ("decide", 4, "limit line 3\n"),
+    "too many bytes": ("numbers", 4, "limit bytes\n"),
+    "refused by seek": ("seek", 3, ""),
+    "rejected": ("check", 8, "rejected otherend\n"),
+    "no memory": ("seek", 7, ""),
+    "half an answer": ("decide", 0, "certificate 2\nequal 3\nshift rows 1\n"),
+    "no answer at all": ("simplify", 0, ""),
+    "moves that are none": ("simplify", 0, "x 0 1\no 1 0\nmoves 1\njump 3\nirreducible\n"),
+    "other numbers": ("numbers", 0, "quandle dihedral 3\nnumber 9\n"),
+}
+
+
+def example_answers():
+    """Each example's answer of each job: the job, its name, its input, the status and the text. Those of seek have their input in words, and two
+    trefoils stand for it."""
+    for job in JOBS:
+        folder = os.path.join(EXAMPLES, job)
+        for name in sorted(name[:-len(".out")] for name in os.listdir(folder) if name.endswith(".out")):
+            base = os.path.join(folder, name)
+            out, status = common.read(base + ".out"), int(common.read(base + ".status")) if os.path.exists(base + ".status") else 0
+            if job != "seek":
+                yield job, name, common.read(base + ".txt"), status, out
+            elif out.startswith("certificate"):
+                yield job, name, TREFOILS, status, out
+
+
+def answered_in_place(job, status, out):
+    """What stands in place of Runner.run: it gives one answer to this job, and asks the stand-in for all others."""
+    def run(_, call, given, is_shown=False):
+        """The answer of a call; of an empty input the line that is due is missing."""
+        words, text = call[1:], given.decode()
+        if call[0].endswith("smaller.py"):
+            try:
+                return batch_programs.Ran(0, smaller.answer(words[0], text).encode())
+            except Fault:
+                return batch_programs.Ran(3, b"malformed line 1\n")
+        is_seek = os.path.basename(call[0]) == "seek"
+        if text and job == ("seek" if is_seek else words[0]):
+            return batch_programs.Ran(status, out.encode())
+        with mock.patch.object(small_knot, "IS_SEEK", is_seek):
+            found = small_knot.answered(["decide"] if is_seek else words, text)
+        return batch_programs.Ran(found[0], found[1].encode())
+    return run
+
+
+class AnswersTest(CensusTest):
+    def main(self, script, words, given):
+        """A call of a script, where a job has the answer that is given: its status and what it said."""
+        out, errors = io.StringIO(), io.StringIO()
+        with mock.patch.object(batch_programs.Runner, "run", answered_in_place(*given)), mock.patch.object(script, "on_signals", lambda: None), \
+                mock.patch.dict(os.environ, self.environment()), contextlib.redirect_stdout(out), contextlib.redirect_stderr(errors):
+            status = script.main(words)
+        return status, errors.getvalue()
+
+    def batch(self, job, text, status, out):
+        """Runs one problem through batch.py."""
+        problems = os.path.join(self.folder, "problems")
+        os.makedirs(problems, exist_ok=True)
+        self.put("problems/a.txt", text)
+        words = ["--with", "python", "--again", "--job", job, problems, os.path.join(self.folder, "answers")]
+        if job == "decide":
+            words[:0] = ["--stages", self.put("one.txt", "only --spare 0\n")]
+        return self.main(batch_call, words, (job, status, out))
+
+    def summary(self):
+        with open(os.path.join(self.folder, "answers", "summary.csv"), encoding="utf-8", newline="") as file:
+            return file.read().splitlines()[1].split(",")[3:5]
+
+
+class BatchReads(AnswersTest):
+    def assert_status(self, status, due, errors):
+        """The status is that of the verdict, but that a certificate which isn't of this problem makes it 3."""
+        self.assertEqual(status, 3 if "the certificate is not accepted" in errors else due, errors)
+
+    def test_every_answer_of_every_example(self):
+        kinds = set()
+        for job, name, text, due, out in example_answers():
+            with self.subTest(job=job, name=name):
+                status, errors = self.batch(job, text, due, out)
+                kind = Answer(job, due, out).kind
+                kinds.add(kind)
+                verdict = {"malformed": "refused", "limit": "refused", "nothing": "unknown"}.get(kind, kind)
+                self.assertEqual(self.summary()[0], verdict)
+                self.assert_status(status, {"refused": 3, "rejected": 3, "unknown": 1}.get(verdict, 0), errors)
+                # The answer can be read whole as well.
+                Answer(job, due, out).value()
+        self.assertLessEqual({"equal", "different", "unknown", "accepted", "rejected", "limit", "alike", "answered"}, kinds)
+
+    def test_kinds_that_no_example_has(self):
+        for name, (job, due, out) in MORE.items():
+            with self.subTest(name):
+                status, errors = self.batch(job, TREFOILS, due, out)
+                kind = Answer(job, due, out).kind
+                self.assert_status(status, {"none": 3, "malformed": 3, "limit": 3, "rejected": 3, "unknown": 1, "nothing": 1}.get(kind, 0), errors)
+
+
+STEPS = "linking linking\nquick decide --spare 0\nfew seek --steps 5\nsmall numbers +one.txt\nagain seek --steps 6\n"
+
+
+class CensusReads(AnswersTest):
+    def sort_given(self, diagrams, given, *more, steps=STEPS):
+        """Sorts diagrams, with small quandles and steps of each kind."""
+        for folder in (self.diagrams, self.census):
+            shutil.rmtree(folder, ignore_errors=True)
+        os.mkdir(self.diagrams)
+        for place, diagram in enumerate(diagrams):
+            self.diagram("ab"[place], diagram)
+        plan = self.put("given.txt", steps)
+        self.put("one.txt", "quandle trivial 2\n")
+        words = ["sort", "--plan", plan, "--processes", "1", *more, self.diagrams, self.census]
+        status, errors = self.main(census_call, words, given)
+        # It ended as its help says: with a result, or a fault in one line.
+        self.assertIn(status, (0, 1, 2, 3, 4), errors)
+        if status in (2, 3):
+            self.assertRegex(errors, "(?m)^census.py: ")
+        return status, errors
+
+    def test_every_answer_of_every_example_of_the_jobs_it_asks(self):
+        count = 0
+        for job, name, text, due, out in example_answers():
+            diagrams = diagrams_in(text) if job in OF_CENSUS else []
+            # The stand-in is too slow for large ones.
+            if diagrams and all(len(diagram_text(one)) < 60 for one in diagrams):
+                with self.subTest(job=job, name=name):
+                    self.sort_given(diagrams, (job, due, out))
+                    count += 1
+        self.assertGreater(count, 30)
+
+    def test_kinds_that_no_example_has(self):
+        for name, given in MORE.items():
+            with self.subTest(name):
+                status, errors = self.sort_given([TREFOIL, HOPF if "linking" in name else mirror_image(TREFOIL)], given)
+                if name.startswith("by "):
+                    # What seek or decide tells apart isn't tried again.
+                    self.assertTrue(status in (0, 1) or "the evidence is not accepted" in errors, errors)
+                    again = os.path.join(self.census, "rounds", "again", "answers")
+                    self.assertEqual(os.listdir(again) if os.path.isdir(again) else [], [], name)
+                elif name in ("half an answer", "no answer at all", "moves that are none", "other numbers"):
+                    self.assertEqual(status, 3)
+                    self.assertIn("wrote a text of another form than was due", errors)
+
+    def test_a_part_whose_own_inputs_fail_waits_for_nobody(self):
+        two = [TREFOIL, mirror_image(TREFOIL)]
+        status, errors = self.sort_given(two, ("seek", 7, ""), "--part", "1/1")
+        self.assertEqual(status, 3, errors)
+        self.assertIn("round few: 1 inputs of this part have no answer", errors)
+        # The other part, which has no input in this round, gives up its turn; where all is done a part ends with 0, whatever is undecided.
+        self.assertEqual(self.sort_given(two, ("seek", 7, ""), "--part", "2/3", "--wait", "0")[0], 4)
+        self.assertEqual(self.sort_given(two, ("seek", 1, ""), "--part", "1/1")[0], 0)
+        self.assertEqual(self.sort_given(two, ("seek", 1, ""))[0], 1)
+
+    def test_where_no_other_evidence_fits_the_certificate_of_seek_is_the_evidence(self):
+        # Colours of the dihedral quandle of order 33, by its table, which is too large for decide: the trefoil has 99, the unknot 33.
+        table = "table 33\n" + "".join(" ".join(str((2 * y - x) % 33) for y in range(33)) + "\n" for x in range(33))
+        text = f"certificate 3\ndifferent numbers {table}seeds 0 1\nnumbers 99\nseeds 0\nnumbers 33\n"
+        status, errors = self.sort_given([UNKNOT, TREFOIL], ("seek", 0, text), steps="few seek --steps 5\n")
+        self.assertEqual(status, 0, errors)
+        row, = self.rows("apart.csv")
+        self.assertEqual((row["first"], row["second"], row["by"], row["check"]), ("a", "b", "the step few", "accepted"))
+        self.assertEqual(row["evidence"], "rounds/few/certificates/a--b.txt")
+        self.assertEqual(self.rows("undecided.csv"), [])
+
+    def test_what_seek_counts_has_the_key_of_the_same_count_of_a_step(self):
+        listed = common.read(os.path.join(common.LISTS, "weights", "list.txt"))
+        for block in blocks_of(listed)[1][:16]:
+            if not block.has_weight:
+                continue
+            modulus = re.search("^weight ([0-9]+)", block.text, re.M)
+            count = int(modulus[1]) if modulus else int(block.quandle.split()[2])
+            numbers = " ".join(["1"] * count)
+            found = Answer("seek", 0, NUMBERS.format(block.text.removeprefix("quandle "), numbers, numbers)).value()
+            self.assertEqual(found.quandle.text + found.cocycle.text, block.text)
+
+
+def diagrams_in(text):
+    """The first two diagrams of an input, or one; none where the first line has none."""
+    lines, found = Lines(text), []
+    try:
+        while len(found) < 2 and lines.peek() in ("x", "braid"):
+            found.append(read_diagram(lines))
+    except Fault:
+        pass
+    return [one for one in found if isinstance(one, (Braid, Grid))]
+
+
+if __name__ == "__main__":
+    unittest.main()
