@@ -7,7 +7,6 @@ import tempfile
 
 CRATES = os.path.join(os.path.dirname(os.path.abspath(__file__)), "..", "crates")
 PROGRAM = os.path.join(CRATES, "knot", "out", "knot")
-FORM_BENCH = os.path.join(CRATES, "form_bench", "out", "form_bench")
 
 # A run as a small process of its own sees it: a child's peak memory counts what its parent held when it was started.
 RUNNER = """

@@ -3,7 +3,7 @@ use Rattle.std.proofs.Common.{◌≡◌, ◌∙◌, ℕ, true, List, sym, ap, su
 use Rattle.crossing_codes.specs.declared.crossing.Crossing.{Crossing}
 use Rattle.crossing_codes.specs.CodeColouring.{names_edges}
 use Rattle.code_grids.specs.Renaming.{AreInverse, new_name, renamed}
-use Rattle.code_grids.specs.Correspond.{KeepsNames}
+use Rattle.code_grids.specs.Correspond.{KeepsNames, KeepRight}
 use Rattle.code_grids.proofs.Renamed.{edges_from, same_crossing}
 
 -- what is kept for each edge of a crossing is kept for the crossing
@@ -39,6 +39,6 @@ four_given n b c d e wanted x y named is two three four first second third fourt
 
 -- what `name_edge` says of a list that is as long
 pub kept_at : (n m : ℕ) (before after wanted back : List ℕ) (old new : ℕ) → m ≡ n → AreInverse n wanted back → new_name wanted old ≡ new
-    → ((wanted back : List ℕ) → AreInverse m wanted back → new_name wanted old ≡ new → KeepsNames m before after wanted) → KeepsNames n before after wanted
+    → KeepRight m (λ asked. new_name asked old ≡ new) before after → KeepsNames n before after wanted
 kept_at n m before after wanted back old new e w is keeps =
     subst (λ (k : ℕ). KeepsNames k before after wanted) e (keeps wanted back (subst (λ (k : ℕ). AreInverse k wanted back) (sym e) w) is)

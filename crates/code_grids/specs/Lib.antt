@@ -1,4 +1,3 @@
 pub mod Renaming
 pub mod Correspond
 pub mod Recoloured
-pub mod Refused

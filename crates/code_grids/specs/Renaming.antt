@@ -10,6 +10,10 @@ use Rattle.code_grids.specs.declared.renaming.Renaming.{Renaming}
 abbrev pub IsUndone : List ℕ → List ℕ → Type 0
 IsUndone there back = (k : ℕ) → k < length there → (slice_index there k < length back) × (slice_index back (slice_index there k) ≡ k)
 
+-- the crossings name no edges but those from 1 to n
+abbrev pub NameEdges : ℕ → List Crossing → Type 0
+NameEdges n xs = All (λ x. names_edges n x ≡ true) xs
+
 -- two lists of the numbers below n that undo each other, so that each of them has each of these numbers once
 pub record AreInverse (n : ℕ) (there back : List ℕ) : Type 0 where
   pub long : length there ≡ n
@@ -48,7 +52,7 @@ pub record IsRenaming (one two : Code) (r : Renaming) : Type 0 where
   pub as_many_crossings : length two.crossings ≡ length one.crossings
   pub as_many_edges : two.edges ≡ one.edges
   pub as_many_loops : two.loops ≡ one.loops
-  pub named : All (λ x. names_edges one.edges x ≡ true) one.crossings
+  pub named : NameEdges one.edges one.crossings
   pub same : IsSame r.edges r.crossings one.crossings two.crossings
 
 -- and each crossing gets the place that the list has for it

@@ -1,5 +1,5 @@
 //! Grid diagrams of codes.
-ghost use Rattle.std.specs.Prelude.{◌≡◌, ◌<◌, ℕ, true, Err, IfOk};
+ghost use Rattle.std.specs.Prelude.{◌≡◌, ◌<◌, ℕ, true, Err, None, IfOk};
 ghost use Rattle.grid_core.specs.declared.grid.TheConstants.{MAX_SIZE};
 ghost use Rattle.quandle_core.specs.Quandle.{Table, IsQuandle};
 ghost use Rattle.quandle_core.specs.Bijection.{IsBijection};
@@ -7,17 +7,15 @@ ghost use Rattle.colour_rows.specs.Colouring.{IsColouring};
 ghost use Rattle.crossing_codes.specs.Code.{code};
 ghost use Rattle.crossing_codes.specs.CodeColouring.{is_code_colouring};
 ghost use Rattle.crossing_codes.specs.EdgeColouring.{edge_colours};
-ghost use Rattle.code_faults.specs.Fault.{first_fault};
+ghost use Rattle.code_rows.specs.CodeFault.{first_fault};
 ghost use Rattle.code_grids.specs.declared.refusal.Refusal.TheVariants as refusal;
-ghost use Rattle.code_grids.specs.Refused.{refused_fault};
 ghost use Rattle.code_grids.specs.Renaming.{IsRenaming};
 ghost use Rattle.code_grids.specs.Recoloured.{recoloured};
 
+use crate::draft::draft_of;
 use crate::refusal::Refusal;
 use crate::renaming::Renaming;
 use crate::same_code::renaming_between;
-use code_drawing::draft_of;
-use code_faults::first_fault;
 use crossing_codes::{Code, code_of};
 use grid_core::{Grid, MAX_SIZE};
 use memory_core::OutOfMemory;
@@ -37,19 +35,16 @@ pub struct Drawing {
 /// The code of the diagram is the given one under other names. For every quandle the colours of the edges and loops that each
 /// colouring of the diagram gives, by their old names, are a colouring of the given code, and each of these comes from exactly one colouring.
 ///
-/// Refused with `Fault` exactly where the code has a fault, and then with the first; with `Columns` where the drawing takes more
-/// columns than a grid may have; with `Lost` where it turned out to be no diagram of the code, which no test has met.
+/// The code may have no fault (`first_fault` of code_rows). Refused with `Columns` where the drawing takes more columns than a grid may
+/// have; with `Lost` where it turned out to be no diagram of the code, which no test has met.
 pub fn grid_of_code(alloc: Global, given: &Code) -> Result<Result<Drawing, Refusal>, OutOfMemory>
-    ensures fault { IfOk result (λ answer. refused_fault answer ≡ first_fault given.now) }
+    requires { first_fault given.now ≡ None }
     ensures columns { IfOk result (λ answer. (n : ℕ) → answer ≡ Err (refusal.Columns n) → MAX_SIZE < n) }
     ensures same { IfOk result (λ answer. IfOk answer (λ drawing. IsRenaming given.now (code drawing.grid) drawing.renaming)) }
     ensures colourings { IfOk result (λ answer. IfOk answer (λ drawing. (t : Table) → IsQuandle t
         → IsBijection (IsColouring t drawing.grid) (λ colours. is_code_colouring t given.now colours ≡ true)
         (λ columns. recoloured drawing.renaming.edges (edge_colours t drawing.grid columns)))) }
 {
-    if let Some(fault) = first_fault(alloc, given)? {
-        return Ok(Err(Refusal::Fault(fault)));
-    }
     let draft = draft_of(alloc, given, MAX_SIZE)?;
     if draft.columns > MAX_SIZE {
         return Ok(Err(Refusal::Columns {

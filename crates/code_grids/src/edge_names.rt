@@ -1,11 +1,11 @@
 //! New names of edges, as the crossings ask for them.
 //!
 //! Names are exchanged in pairs, from each edge's own name on, so that they are one to one whatever is asked for.
-ghost use Rattle.std.specs.Prelude.{◌≡◌, ◌≢◌, ◌<◌, ℕ, true, List, length, slice_index, IfOk};
-ghost use Rattle.std.specs.List.{All, range_with_len};
+ghost use Rattle.std.specs.Prelude.{◌≡◌, true, length, IfOk};
+ghost use Rattle.std.specs.List.{range_with_len};
 ghost use Rattle.crossing_codes.specs.CodeColouring.{is_edge, names_edges};
-ghost use Rattle.code_grids.specs.Renaming.{AreInverse, new_name, renamed, IsSame};
-ghost use Rattle.code_grids.specs.Correspond.{KeepsNames};
+ghost use Rattle.code_grids.specs.Renaming.{NameEdges, AreInverse, new_name, renamed, IsSame};
+ghost use Rattle.code_grids.specs.Correspond.{AreBelow, MeetIfAny, KeepRight};
 
 use crossing_codes::Crossing;
 use std::alloc::{AllocError, Global};
@@ -19,13 +19,12 @@ pub(crate) fn edge_names(
     twos: &[Crossing],
     crossings: &[u32],
 ) -> Result<(Vec<u32>, Vec<u32>), AllocError>
-    requires named { All (λ x. names_edges edges x ≡ true) ones.now }
-    requires named_too { All (λ x. names_edges edges x ≡ true) twos.now }
+    requires named { NameEdges edges ones.now }
+    requires named_too { NameEdges edges twos.now }
     requires long { length crossings.now ≡ length ones.now }
-    requires inside { (k : ℕ) → k < length crossings.now → slice_index crossings.now k < length twos.now }
+    requires inside { AreBelow crossings.now (length twos.now) }
     ensures inverse { IfOk result (λ names. AreInverse edges names.0.items names.1.items) }
-    ensures wanted { IfOk result (λ names. (wanted back : List ℕ) → AreInverse edges wanted back
-        → IsSame wanted crossings.now ones.now twos.now → IsSame names.0.items crossings.now ones.now twos.now) }
+    ensures wanted { IfOk result (λ names. MeetIfAny edges (λ asked. IsSame asked crossings.now ones.now twos.now) names.0.items) }
 {
     let mut there = own_places(alloc, edges)?;
     let mut back = own_places(alloc, edges)?;
@@ -59,13 +58,12 @@ fn name_all(
     crossings: &[u32],
 )
     requires inverse { AreInverse (length there.old) there.old back.old }
-    requires named { All (λ x. names_edges (length there.old) x ≡ true) ones.now }
-    requires named_too { All (λ x. names_edges (length there.old) x ≡ true) twos.now }
+    requires named { NameEdges (length there.old) ones.now }
+    requires named_too { NameEdges (length there.old) twos.now }
     requires long { length crossings.now ≡ length ones.now }
-    requires inside { (k : ℕ) → k < length crossings.now → slice_index crossings.now k < length twos.now }
+    requires inside { AreBelow crossings.now (length twos.now) }
     ensures inverse { AreInverse (length there.old) there.new back.new }
-    ensures wanted { (wanted wanted_back : List ℕ) → AreInverse (length there.old) wanted wanted_back
-        → IsSame wanted crossings.now ones.now twos.now → IsSame there.new crossings.now ones.now twos.now }
+    ensures wanted { MeetIfAny (length there.old) (λ asked. IsSame asked crossings.now ones.now twos.now) there.new }
 {
     for k in 0..ones.len() {
         name_edges(there, back, &ones[k], &twos[crossings[k] as usize]);
@@ -78,10 +76,8 @@ fn name_edges(there: &mut [u32], back: &mut [u32], one: &Crossing, two: &Crossin
     requires named { names_edges (length there.old) one.now ≡ true }
     requires named_too { names_edges (length there.old) two.now ≡ true }
     ensures inverse { AreInverse (length there.old) there.new back.new }
-    ensures given { (wanted wanted_back : List ℕ) → AreInverse (length there.old) wanted wanted_back
-        → renamed wanted one.now ≡ two.now → renamed there.new one.now ≡ two.now }
-    ensures kept { (wanted wanted_back : List ℕ) → AreInverse (length there.old) wanted wanted_back
-        → renamed wanted one.now ≡ two.now → KeepsNames (length there.old) there.old there.new wanted }
+    ensures given { MeetIfAny (length there.old) (λ asked. renamed asked one.now ≡ two.now) there.new }
+    ensures kept { KeepRight (length there.old) (λ asked. renamed asked one.now ≡ two.now) there.old there.new }
 {
     name_edge(there, back, one.first, two.first);
     name_edge(there, back, one.second, two.second);
@@ -96,8 +92,7 @@ fn name_edge(there: &mut [u32], back: &mut [u32], old: u32, new: u32)
     requires new { is_edge (length there.old) new ≡ true }
     ensures inverse { AreInverse (length there.old) there.new back.new }
     ensures given { new_name there.new old ≡ new }
-    ensures kept { (wanted wanted_back : List ℕ) → AreInverse (length there.old) wanted wanted_back
-        → new_name wanted old ≡ new → KeepsNames (length there.old) there.old there.new wanted }
+    ensures kept { KeepRight (length there.old) (λ asked. new_name asked old ≡ new) there.old there.new }
 {
     let edge = old as usize - 1;
     let place = new as usize - 1;

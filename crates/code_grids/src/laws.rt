@@ -1,14 +1,13 @@
 //! Laws of renamings, over the definitions alone.
 ghost use Rattle.std.specs.Prelude.{◌≡◌, ◌<◌, ℕ, true, map, length, slice_index_or, IsPermutation};
-ghost use Rattle.std.specs.List.{All};
 ghost use Rattle.grid_core.specs.Diagram.{IsOneEach};
 ghost use Rattle.quandle_core.specs.Quandle.{Table};
 ghost use Rattle.quandle_core.specs.Bijection.{IsBijection};
 ghost use Rattle.crossing_codes.specs.declared.crossing.Code.{Code};
 ghost use Rattle.crossing_codes.specs.declared.crossing.Crossing.{Crossing};
-ghost use Rattle.crossing_codes.specs.CodeColouring.{names_edges, is_code_colouring};
+ghost use Rattle.crossing_codes.specs.CodeColouring.{is_code_colouring};
 ghost use Rattle.code_grids.specs.declared.renaming.Renaming.{Renaming};
-ghost use Rattle.code_grids.specs.Renaming.{renamed, IsRenaming, IsRenamed};
+ghost use Rattle.code_grids.specs.Renaming.{NameEdges, renamed, IsRenaming, IsRenamed};
 ghost use Rattle.code_grids.specs.Recoloured.{recoloured};
 
 /// A renaming has each edge's new name once, and each crossing's new place once; and the crossings of the second code are those of the
@@ -29,7 +28,7 @@ pub fn the_crossings_tell_the_edges()
 
 /// To be another code under other names is an equivalence of codes that name their own edges alone.
 pub fn renamed_codes_are_equivalent()
-    ensures itself { (one : Code) → All (λ x. names_edges one.edges x ≡ true) one.crossings → IsRenamed one one }
+    ensures itself { (one : Code) → NameEdges one.edges one.crossings → IsRenamed one one }
     ensures back { (one two : Code) → IsRenamed one two → IsRenamed two one }
     ensures through { (one two three : Code) → IsRenamed one two → IsRenamed two three → IsRenamed one three }
 {}

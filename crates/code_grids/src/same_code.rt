@@ -1,10 +1,9 @@
 //! Whether one code is another under other names.
-ghost use Rattle.std.specs.Prelude.{◌≡◌, ◌<◌, ◌≤◌, ◌^◌, ◌↔◌, ℕ, true, List, length, slice_index, IsTrue, IfOk, IfSome, IfNone};
-ghost use Rattle.std.specs.List.{All};
+ghost use Rattle.std.specs.Prelude.{◌≡◌, ◌<◌, ◌≤◌, ◌^◌, ◌↔◌, true, List, ℕ, length, IsTrue, IfOk, IfSome, IfNone};
 ghost use Rattle.crossing_codes.specs.CodeColouring.{is_edge, names_edges};
 ghost use Rattle.code_grids.specs.declared.renaming.Renaming.{Renaming};
-ghost use Rattle.code_grids.specs.Renaming.{IsUndone, AreInverse, new_name, renamed, IsSame, IsRenamingBy};
-ghost use Rattle.code_grids.specs.Correspond.{Correspond};
+ghost use Rattle.code_grids.specs.Renaming.{IsUndone, NameEdges, AreInverse, new_name, renamed, IsSame, IsRenamingBy};
+ghost use Rattle.code_grids.specs.Correspond.{Correspond, AreBelow};
 
 use crate::edge_names::edge_names;
 use crate::renaming::Renaming;
@@ -60,7 +59,7 @@ fn correspond(one: &Code, two: &Code, crossings: &[u32]) -> bool
 
 /// Whether each crossing names edges from 1 to their number alone.
 fn all_name_edges(edges: u32, crossings: &[Crossing]) -> bool
-    ensures { IsTrue result ↔ All (λ x. names_edges edges x ≡ true) crossings.now }
+    ensures { IsTrue result ↔ NameEdges edges crossings.now }
 {
     crossings
         .iter()
@@ -122,10 +121,10 @@ fn is_undone(there: &[u32], back: &[u32]) -> bool
 /// Whether each crossing, with its edges renamed, is the one that the list names.
 fn are_same(names: &[u32], crossings: &[u32], ones: &[Crossing], twos: &[Crossing]) -> bool
     requires few { length names.now < 2 ^ 32 }
-    requires within { (k : ℕ) → k < length names.now → slice_index names.now k < length names.now }
-    requires named { All (λ x. names_edges (length names.now) x ≡ true) ones.now }
+    requires within { AreBelow names.now (length names.now) }
+    requires named { NameEdges (length names.now) ones.now }
     requires long { length crossings.now ≡ length ones.now }
-    requires inside { (k : ℕ) → k < length crossings.now → slice_index crossings.now k < length twos.now }
+    requires inside { AreBelow crossings.now (length twos.now) }
     ensures { IsTrue result ↔ IsSame names.now crossings.now ones.now twos.now }
 {
     for k in 0..ones.len() {
@@ -139,7 +138,7 @@ fn are_same(names: &[u32], crossings: &[u32], ones: &[Crossing], twos: &[Crossin
 /// Whether a crossing with its edges renamed is another.
 fn becomes(names: &[u32], one: &Crossing, two: &Crossing) -> bool
     requires few { length names.now < 2 ^ 32 }
-    requires within { (k : ℕ) → k < length names.now → slice_index names.now k < length names.now }
+    requires within { AreBelow names.now (length names.now) }
     requires named { names_edges (length names.now) one.now ≡ true }
     ensures { IsTrue result ↔ (renamed names.now one.now ≡ two.now) }
 {
@@ -149,7 +148,7 @@ fn becomes(names: &[u32], one: &Crossing, two: &Crossing) -> bool
 /// A crossing with its edges renamed.
 fn renamed(names: &[u32], crossing: &Crossing) -> Crossing
     requires few { length names.now < 2 ^ 32 }
-    requires within { (k : ℕ) → k < length names.now → slice_index names.now k < length names.now }
+    requires within { AreBelow names.now (length names.now) }
     requires named { names_edges (length names.now) crossing.now ≡ true }
     ensures { result ≡ renamed names.now crossing.now }
 {
@@ -165,7 +164,7 @@ fn renamed(names: &[u32], crossing: &Crossing) -> Crossing
 /// The new name of an edge.
 fn new_name(names: &[u32], edge: u32) -> u32
     requires few { length names.now < 2 ^ 32 }
-    requires within { (k : ℕ) → k < length names.now → slice_index names.now k < length names.now }
+    requires within { AreBelow names.now (length names.now) }
     requires edge { is_edge (length names.now) edge ≡ true }
     ensures { result ≡ new_name names.now edge }
 {

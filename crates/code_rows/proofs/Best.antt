@@ -12,19 +12,19 @@ use Rattle.grid_core.specs.Fault.{lowest}
 use Rattle.grid_core.proofs.Accepted.{none_lowest}
 use Rattle.crossing_codes.specs.declared.crossing.Code.{Code}
 use Rattle.crossing_codes.specs.declared.crossing.Crossing.{Crossing}
-use Rattle.code_faults.specs.declared.fault.TheConstants.{MAX_CROSSINGS}
-use Rattle.code_faults.specs.declared.fault.CodeFault.{CodeFault}
-use Rattle.code_faults.specs.declared.fault.CodeFault.TheVariants.{Edge, Plane}
-use Rattle.code_faults.specs.Joined.{is_joined}
-use Rattle.code_faults.specs.Map.{is_plane}
-use Rattle.code_faults.specs.Fault.{first_fault}
-use Rattle.code_faults.proofs.Faults.{edge_fault}
+use Rattle.code_rows.specs.declared.code_fault.TheConstants.{MAX_CROSSINGS}
+use Rattle.code_rows.specs.declared.code_fault.CodeFault.{CodeFault}
+use Rattle.code_rows.specs.declared.code_fault.CodeFault.TheVariants.{Edge, Plane}
+use Rattle.code_rows.specs.JoinedEdges.{is_joined, AreJoined}
+use Rattle.code_rows.specs.CodeMap.{is_plane}
+use Rattle.code_rows.specs.CodeFault.{first_fault}
+use Rattle.code_rows.proofs.Faults.{edge_fault}
 use Rattle.code_rows.specs.declared.row.Row.{Row}
-use Rattle.code_rows.specs.declared.signs.Tie.{Tie}
+use Rattle.code_rows.specs.declared.row_signs.Tie.{Tie}
 use Rattle.code_rows.specs.Rows.{all_names, name_of, numbered, row_of, IsCodeOf}
 use Rattle.code_rows.specs.RowsFault.{ends_of, unpaired}
 use Rattle.code_rows.specs.Refused.{IsClash}
-use Rattle.code_rows.specs.Signs.{turned_by, value_of, tie_of, chosen_values, with_signs, AreJoined, AreBest, IsBest, IsJoining, JoinsEnds, Reached}
+use Rattle.code_rows.specs.RowSigns.{turned_by, value_of, tie_of, chosen_values, with_signs, AreBest, IsBest, IsJoining, JoinsEnds, Reached}
 use Rattle.code_rows.proofs.InRange.{names_long, only_two_faults}
 use Rattle.code_rows.proofs.Signed.{crossings_back}
 use Rattle.code_rows.proofs.Joining.{joined_is, joined_twice}

@@ -9,13 +9,13 @@ use Rattle.grid_core.specs.Fault.{lowest, or_next}
 use Rattle.grid_core.proofs.Accepted.{lowest_none}
 use Rattle.crossing_codes.specs.declared.crossing.Code.{Code}
 use Rattle.crossing_codes.specs.CodeColouring.{is_edge, names_edges}
-use Rattle.code_faults.specs.declared.fault.TheConstants.{MAX_CROSSINGS}
-use Rattle.code_faults.specs.declared.fault.CodeFault.{CodeFault}
-use Rattle.code_faults.specs.declared.fault.CodeFault.TheVariants.{Empty as CodeEmpty, Size, Count, Range, Edge as CodeEdge, Plane as CodePlane}
-use Rattle.code_faults.specs.Joined.{is_joined}
-use Rattle.code_faults.specs.Map.{no_crossing, is_plane}
-use Rattle.code_faults.specs.Fault.{first_fault}
-use Rattle.code_faults.proofs.Faults.{edge_fault, behind}
+use Rattle.code_rows.specs.declared.code_fault.TheConstants.{MAX_CROSSINGS}
+use Rattle.code_rows.specs.declared.code_fault.CodeFault.{CodeFault}
+use Rattle.code_rows.specs.declared.code_fault.CodeFault.TheVariants.{Empty as CodeEmpty, Size, Count, Range, Edge as CodeEdge, Plane as CodePlane}
+use Rattle.code_rows.specs.JoinedEdges.{is_joined}
+use Rattle.code_rows.specs.CodeMap.{no_crossing, is_plane}
+use Rattle.code_rows.specs.CodeFault.{first_fault}
+use Rattle.code_rows.proofs.Faults.{edge_fault, behind}
 use Rattle.code_rows.specs.declared.row.Row.{Row}
 use Rattle.code_rows.specs.Rows.{all_names, edge_number, numbered, row_of, IsCodeOf}
 use Rattle.code_rows.specs.declared.rows_fault.RowsFault.{RowsFault}

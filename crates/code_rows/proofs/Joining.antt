@@ -6,14 +6,14 @@ use Rattle.std.proofs.lemmas.Bool.{eqb-true, eq-eqb, and_parts, cases_lt, both_w
 use Rattle.std.proofs.lemmas.List.{get_or-map}
 use Rattle.std.proofs.lemmas.List.Sums.{sum_by-cons}
 use Rattle.crossing_codes.specs.declared.crossing.Crossing.{Crossing}
-use Rattle.code_faults.specs.Joined.{passages_behind, passages_before, is_joined}
-use Rattle.code_faults.specs.Map.{no_crossing}
-use Rattle.code_faults.proofs.OtherEnds.{counted_both}
-use Rattle.code_faults.proofs.Ends.{four_ends, all_ends, no_end, before_is, behind_is, end_at, ends_long}
+use Rattle.code_rows.specs.JoinedEdges.{passages_behind, passages_before, is_joined}
+use Rattle.code_rows.specs.CodeMap.{no_crossing}
+use Rattle.code_rows.proofs.OtherEnds.{counted_both}
+use Rattle.code_rows.proofs.Ends.{four_ends, all_ends, no_end, before_is, behind_is, end_at, ends_long}
 use Rattle.code_rows.specs.declared.row.Row.{Row}
 use Rattle.code_rows.specs.Rows.{all_names}
 use Rattle.code_rows.specs.RowsFault.{ends_of}
-use Rattle.code_rows.specs.Signs.{turned_by, with_signs}
+use Rattle.code_rows.specs.RowSigns.{turned_by, with_signs}
 use Rattle.code_rows.proofs.InRange.{names_long}
 use Rattle.code_rows.proofs.Signed.{signs_back, signed_long}
 use Rattle.code_rows.proofs.Tied.{leaves}

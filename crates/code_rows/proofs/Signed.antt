@@ -2,8 +2,8 @@
 use Rattle.std.proofs.Common.{◌≡◌, ◌<◌, ◌∷◌, ◌++◌, [], ℕ, zero, suc, Bool, false, List, map, length, get_or, take, refl, ap, arith}
 use Rattle.crossing_codes.specs.declared.crossing.Crossing.{Crossing}
 use Rattle.code_rows.specs.declared.row.Row.{Row}
-use Rattle.code_rows.specs.Rows.{row_of}
-use Rattle.code_rows.specs.Signs.{with_sign, with_signs}
+use Rattle.code_rows.specs.Rows.{row_of, with_sign}
+use Rattle.code_rows.specs.RowSigns.{with_signs}
 
 pub rows_back : (rows : List Row) (signs : List Bool) → map row_of (with_signs rows signs) ≡ rows
 rows_back [] signs = refl

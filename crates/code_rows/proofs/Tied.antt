@@ -4,8 +4,8 @@ use Rattle.std.specs.Prelude.{slice_index_or, if◌then◌else◌}
 use Rattle.std.proofs.lemmas.Bool.{eqb-true, eqb-false, eq-eqb, ne_eqb}
 use Rattle.std.proofs.lemmas.List.{length-map, get_or-map}
 use Rattle.std.proofs.lemmas.Simd.{map-map}
-use Rattle.code_rows.specs.declared.signs.Tie.{Tie}
-use Rattle.code_rows.specs.Signs.{turned_by, value_of, no_tie, tie_of, replaced, tied}
+use Rattle.code_rows.specs.declared.row_signs.Tie.{Tie}
+use Rattle.code_rows.specs.RowSigns.{turned_by, value_of, no_tie, tie_of, replaced, tied}
 
 -- of truth values
 not_turned : (b c : Bool) → turned_by (not b) c ≡ not (turned_by b c)

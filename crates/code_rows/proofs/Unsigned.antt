@@ -5,7 +5,7 @@ use Rattle.std.specs.List.{range_with_len}
 use Rattle.std.proofs.lemmas.List.{length-map}
 use Rattle.grid_core.specs.Fault.{lowest}
 use Rattle.crossing_codes.specs.declared.crossing.Crossing.{Crossing}
-use Rattle.code_faults.specs.Map.{no_crossing, edge_at, twins, faces, parts, is_plane}
+use Rattle.code_rows.specs.CodeMap.{no_crossing, edge_at, twins, faces, parts, is_plane}
 use Rattle.code_rows.specs.declared.row.Row.{Row}
 use Rattle.code_rows.specs.Rows.{row_of}
 

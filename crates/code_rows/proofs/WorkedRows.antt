@@ -1,12 +1,12 @@
 -- Worked examples, by computing: rows of a trefoil and of a kink under other names, and rows with faults.
 use Rattle.std.proofs.Common.{◌≡◌, ◌+◌, ◌∷◌, [], ℕ, Bool, true, false, List, Some, None, map, refl}
 use Rattle.std.specs.List.{range_with_len}
-use Rattle.code_faults.specs.Joined.{is_joined}
+use Rattle.code_rows.specs.JoinedEdges.{is_joined}
 use Rattle.code_rows.specs.declared.row.Row.{Row}
 use Rattle.code_rows.specs.declared.rows_fault.RowsFault.TheVariants.{Empty, Edge}
 use Rattle.code_rows.specs.Rows.{all_names, name_of, numbered}
 use Rattle.code_rows.specs.RowsFault.{unpaired}
-use Rattle.code_rows.specs.Signs.{with_signs}
+use Rattle.code_rows.specs.RowSigns.{with_signs}
 
 abbrev pub R : ℕ → ℕ → ℕ → ℕ → Row
 R i j k l = record { first = i; second = j; third = k; fourth = l }

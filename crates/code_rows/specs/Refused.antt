@@ -1,9 +1,9 @@
 -- Why rows are refused behind the faults of their names: their edges have no directions, or their codes no plane.
 use Rattle.std.specs.Prelude.{◌≡◌, ◌≤◌, ℕ, List, Some, false}
 use Rattle.crossing_codes.specs.declared.crossing.Code.{Code}
-use Rattle.code_faults.specs.Fault.{first_fault}
-use Rattle.code_faults.specs.Map.{is_plane}
-use Rattle.code_faults.specs.declared.fault.CodeFault.TheVariants.{Edge, Plane}
+use Rattle.code_rows.specs.CodeFault.{first_fault}
+use Rattle.code_rows.specs.CodeMap.{is_plane}
+use Rattle.code_rows.specs.declared.code_fault.CodeFault.TheVariants.{Edge, Plane}
 use Rattle.code_rows.specs.declared.row.Row.{Row}
 use Rattle.code_rows.specs.Rows.{all_names, name_of, IsCodeOf}
 

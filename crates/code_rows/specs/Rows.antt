@@ -1,5 +1,5 @@
 -- The rows of a planar diagram code: the edges of each crossing under any names, without signs.
-use Rattle.std.specs.Prelude.{◌≡◌, ℕ, ◌+◌, ◌*◌, ◌/◌, ◌==◌, List, [], ◌∷◌, map, length, count_by, nat_lt, slice_index}
+use Rattle.std.specs.Prelude.{◌≡◌, ℕ, ◌+◌, ◌*◌, ◌/◌, ◌==◌, Bool, List, [], ◌∷◌, map, length, count_by, nat_lt, slice_index}
 use Rattle.std.specs.List.{flat_map, position_or_len}
 use Rattle.crossing_codes.specs.declared.crossing.Code.{Code}
 use Rattle.crossing_codes.specs.declared.crossing.Crossing.{Crossing}
@@ -32,6 +32,10 @@ numbered all r =
 -- the edges of a crossing
 abbrev pub row_of : Crossing → Row
 row_of x = record { first = x.first; second = x.second; third = x.third; fourth = x.fourth }
+
+-- the crossing with these edges and a sign
+abbrev pub with_sign : Row → Bool → Crossing
+with_sign r positive = record { first = r.first; second = r.second; third = r.third; fourth = r.fourth; positive = positive }
 
 -- the code has these rows, with their edges numbered, and so many loops
 pub record IsCodeOf (given : List Row) (free : ℕ) (c : Code) : Type 0 where

@@ -1,17 +1,17 @@
 //! Codes from rows.
 ghost use Rattle.std.specs.Prelude.{◌≡◌, ◌≤◌, ◌*◌, ℕ, length, Err, None, IfOk};
-ghost use Rattle.code_faults.specs.declared.fault.TheConstants.{MAX_CROSSINGS};
-ghost use Rattle.code_faults.specs.Fault.{first_fault};
+ghost use Rattle.code_rows.specs.declared.code_fault.TheConstants.{MAX_CROSSINGS};
+ghost use Rattle.code_rows.specs.CodeFault.{first_fault};
 ghost use Rattle.code_rows.specs.Rows.{all_names, IsCodeOf};
 ghost use Rattle.code_rows.specs.RowsFault.{unpaired, as_unpaired};
 ghost use Rattle.code_rows.specs.Refused.{IsClash, IsUnplane};
-ghost use Rattle.code_rows.specs.Signs.{with_sign, with_signs, IsBest};
+ghost use Rattle.code_rows.specs.RowSigns.{with_signs, IsBest};
 
+use crate::code_fault::{CodeFault, first_fault};
 use crate::numbers::{name_of, names_of, numbered_rows};
 use crate::row::Row;
+use crate::row_signs::signs_of;
 use crate::rows_fault::{RowsFault, unpaired};
-use crate::signs::signs_of;
-use code_faults::{CodeFault, first_fault};
 use crossing_codes::{Code, Crossing};
 use memory_core::{Items, OutOfMemory};
 use std::alloc::{AllocError, Global};
@@ -72,20 +72,7 @@ fn crossings_of(alloc: Global, rows: &[Row], signs: &[bool]) -> Result<Vec<Cross
 {
     let mut crossings = Vec::new(alloc);
     for k in 0..rows.len() {
-        crossings.push(with_sign(&rows[k], signs[k]))?;
+        crossings.push(rows[k].with_sign(signs[k]))?;
     }
     Ok(crossings)
-}
-
-/// The crossing of a row with a sign.
-fn with_sign(row: &Row, positive: bool) -> Crossing
-    ensures { result ≡ with_sign row.now positive }
-{
-    Crossing {
-        first: row.first,
-        second: row.second,
-        third: row.third,
-        fourth: row.fourth,
-        positive,
-    }
 }

@@ -1,6 +1,6 @@
 //! Numbers of edges.
 ghost use Rattle.std.specs.Prelude.{◌≡◌, ◌≤◌, ◌*◌, ◌==◌, ◌++◌, map, length, count_by, nat_lt, IfOk, OnOk};
-ghost use Rattle.code_faults.specs.declared.fault.TheConstants.{MAX_CROSSINGS};
+ghost use Rattle.code_rows.specs.declared.code_fault.TheConstants.{MAX_CROSSINGS};
 ghost use Rattle.code_rows.specs.Rows.{all_names, names_of, edge_number, name_of, numbered};
 
 use crate::row::Row;

@@ -5,7 +5,7 @@ use Rattle.code_rows.specs.declared.rows_fault.RowsFault.{RowsFault}
 use Rattle.code_rows.specs.declared.rows_fault.RowsFault.TheVariants as rows
 use Rattle.code_rows.specs.RowsFault.{unpaired, as_unpaired}
 use Rattle.code_rows.specs.Refused.{IsClash, IsUnplane}
-use Rattle.code_text.specs.declared.whole.CodeText.{CodeText}
+use Rattle.code_text.specs.declared.code_reading.CodeText.{CodeText}
 use Rattle.code_text.specs.TextGrid.{IsRowsFault}
 
 abbrev pub refused_with : RowsFault → Result Code RowsFault

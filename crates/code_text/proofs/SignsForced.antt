@@ -12,7 +12,7 @@ use Rattle.code_rows.specs.declared.row.Row.{Row}
 use Rattle.code_rows.specs.Rows.{row_of, IsCodeOf}
 use Rattle.code_text.specs.declared.gauss_lines.GaussPassage.{GaussPassage}
 use Rattle.code_text.specs.GaussCheck.{crossing_of, are_alike, is_there, is_through, is_passed_twice, all_of, is_gauss_of, agrees}
-use Rattle.code_text.specs.Signs.{sign_by, positive_at, AreSigned}
+use Rattle.code_text.specs.GaussSigns.{sign_by, positive_at, AreSigned}
 
 alike_same : (b c : Bool) → are_alike b c ≡ true → b ≡ c
 alike_same true c is = sym is

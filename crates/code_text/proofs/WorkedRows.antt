@@ -8,7 +8,7 @@ use Rattle.code_text.specs.GaussCheck.{is_gauss_of}
 use Rattle.text_items.specs.Reading.{each_token, word, last_number, number, line_end, next_token, next_line, text_end}
 use Rattle.code_text.specs.RowLines.{with_rows, rows_from}
 use Rattle.code_text.specs.GaussLines.{walk_at, walks_from}
-use Rattle.code_text.specs.Whole.{counted_item, perhaps_counted, rows_item, code_in, code_text_of}
+use Rattle.code_text.specs.CodeReading.{counted_item, perhaps_counted, rows_item, code_in, code_text_of}
 
 -- a kink, as it is pasted, and with all that may stand around it
 abbrev kink : Row

@@ -3,8 +3,8 @@ use Rattle.std.specs.Prelude.{ℕ, ◌*◌, ◌-◌, ◌==◌, ◌&&◌, Bool, t
 use Rattle.std.specs.List.{list_all, range_with_len}
 use Rattle.crossing_codes.specs.declared.crossing.Code.{Code}
 use Rattle.crossing_codes.specs.declared.crossing.Crossing.{Crossing}
-use Rattle.code_faults.specs.Joined.{over_from, over_to}
-use Rattle.code_faults.specs.Map.{no_crossing}
+use Rattle.code_rows.specs.JoinedEdges.{over_from, over_to}
+use Rattle.code_rows.specs.CodeMap.{no_crossing}
 use Rattle.code_text.specs.declared.gauss_lines.GaussPassage.{GaussPassage}
 
 abbrev pub crossing_of : List Crossing → GaussPassage → Crossing

@@ -9,7 +9,7 @@ use Rattle.text_lines.specs.Numbers.{number_of}
 use Rattle.text_items.specs.declared.fault.TextFault.{TextFault}
 use Rattle.text_items.specs.declared.fault.TextFault.TheVariants.{Malformed, Limit}
 use Rattle.text_items.specs.Reading.{◌>>=◌, word, each_token}
-use Rattle.code_faults.specs.declared.fault.TheConstants.{MAX_CROSSINGS}
+use Rattle.code_rows.specs.declared.code_fault.TheConstants.{MAX_CROSSINGS}
 use Rattle.code_text.specs.declared.gauss_lines.GaussPassage.{GaussPassage}
 
 -- O for over, U for under

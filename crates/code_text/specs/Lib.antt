@@ -2,8 +2,8 @@ pub mod Blanks
 pub mod RowLines
 pub mod GaussLines
 pub mod GaussCheck
-pub mod Signs
-pub mod Whole
+pub mod GaussSigns
+pub mod CodeReading
 pub mod TextGrid
 pub use Rattle.text_lines.specs.Lines
 pub use Rattle.text_lines.specs.Tokens
@@ -13,5 +13,5 @@ pub use Rattle.knot_text.specs.Printed
 pub use Rattle.crossing_codes.specs.Code
 pub use Rattle.code_rows.specs.Rows
 pub use Rattle.code_rows.specs.RowsFault
-pub use Rattle.code_faults.specs.Fault
+pub use Rattle.code_rows.specs.CodeFault
 pub use Rattle.code_grids.specs.Renaming

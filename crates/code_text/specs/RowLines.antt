@@ -8,7 +8,7 @@ use Rattle.text_items.specs.declared.fault.TextFault.{TextFault}
 use Rattle.text_items.specs.declared.fault.TextFault.TheVariants.{Malformed, Limit}
 use Rattle.text_items.specs.Reading.{◌>>=◌, each_token}
 use Rattle.text_items.specs.Numbers.{is_long}
-use Rattle.code_faults.specs.declared.fault.TheConstants.{MAX_CROSSINGS}
+use Rattle.code_rows.specs.declared.code_fault.TheConstants.{MAX_CROSSINGS}
 use Rattle.code_rows.specs.declared.row.Row.{Row}
 
 -- the words that stand in front of a crossing, and in front of a code, say nothing

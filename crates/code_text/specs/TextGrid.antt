@@ -4,19 +4,19 @@ use Rattle.grid_core.specs.Diagram.{Diagram, IsGrid}
 use Rattle.grid_core.specs.declared.grid.TheConstants.{MAX_SIZE}
 use Rattle.crossing_codes.specs.declared.crossing.Code.{Code}
 use Rattle.crossing_codes.specs.Code.{code}
-use Rattle.code_faults.specs.Fault.{first_fault}
+use Rattle.code_rows.specs.CodeFault.{first_fault}
 use Rattle.code_rows.specs.declared.rows_fault.RowsFault.{RowsFault}
 use Rattle.code_rows.specs.Rows.{IsCodeOf}
 use Rattle.code_rows.specs.RowsFault.{unpaired}
 use Rattle.code_rows.specs.Refused.{IsClash, IsUnplane}
 use Rattle.code_grids.specs.Renaming.{IsRenamed}
-use Rattle.code_text.specs.declared.whole.CodeText.{CodeText}
+use Rattle.code_text.specs.declared.code_reading.CodeText.{CodeText}
 use Rattle.code_text.specs.declared.refusal.TextRefusal.{TextRefusal}
 use Rattle.code_text.specs.declared.refusal.TextRefusal.TheVariants.{Rows, Gauss, Columns, Lost}
 use Rattle.code_rows.specs.declared.rows_fault.RowsFault.TheVariants as rows
 use Rattle.knot_text.specs.Printed.{grid_text}
 use Rattle.code_text.specs.GaussCheck.{agrees}
-use Rattle.code_text.specs.Whole.{code_text_of}
+use Rattle.code_text.specs.CodeReading.{code_text_of}
 
 -- each name stands at two ends, the code has the rows and the loops of the text, and no fault, and the Gauss lines are its own
 pub record Says (t : CodeText) (c : Code) : Type 0 where

@@ -1,7 +1,7 @@
 //! Whether signed Gauss lines are those of a code.
 ghost use Rattle.std.specs.Prelude.{◌≡◌, ◌≤◌, ◌<◌, ◌+◌, ◌==◌, ◌&&◌, ◌++◌, ℕ, true, List, length, count_by, map, IsTrue, IfOk, OnOk};
 ghost use Rattle.std.specs.List.{list_all, range_with_len};
-ghost use Rattle.code_faults.specs.declared.fault.TheConstants.{MAX_CROSSINGS};
+ghost use Rattle.code_rows.specs.declared.code_fault.TheConstants.{MAX_CROSSINGS};
 ghost use Rattle.code_text.specs.GaussCheck.{crossing_of, comes_on, leaves_on, are_alike, is_there, leads_to, next_of, lead_on, goes_round, all_of, is_through, is_passed_twice, is_gauss_of, agrees};
 
 use crate::gauss_lines::GaussPassage;

@@ -4,7 +4,7 @@ ghost use Rattle.std.specs.List.{list_any};
 ghost use Rattle.text_items.specs.Reading.{Gives, each_token};
 ghost use Rattle.code_text.specs.GaussLines.{over_of, sign_of, passage_of, is_beyond, walk_at, walks_from};
 
-use code_faults::MAX_CROSSINGS;
+use code_rows::MAX_CROSSINGS;
 use memory_core::Items;
 use std::alloc::Global;
 use text_items::TextFault;

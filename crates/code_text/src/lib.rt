@@ -3,15 +3,15 @@
 #![tactic(auto)]
 
 mod blanks;
+mod code_reading;
 mod gauss_check;
 mod gauss_lines;
+mod gauss_signs;
 mod refusal;
 mod row_lines;
-mod signs;
 mod text_grid;
-mod whole;
 
+pub use code_reading::{CodeText, MAX_LOOPS, read_code};
 pub use gauss_lines::GaussPassage;
 pub use refusal::TextRefusal;
 pub use text_grid::grid_of_text;
-pub use whole::{CodeText, MAX_LOOPS, read_code};

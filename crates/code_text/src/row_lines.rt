@@ -1,13 +1,12 @@
 //! Lines of rows.
 ghost use Rattle.std.specs.Prelude.{◌≡◌, ◌≤◌, ◌++◌, [], length, IfOk, OnOk};
 ghost use Rattle.std.specs.List.{list_any};
-ghost use Rattle.code_faults.specs.declared.fault.TheConstants.{MAX_CROSSINGS};
+ghost use Rattle.code_rows.specs.declared.code_fault.TheConstants.{MAX_CROSSINGS};
 ghost use Rattle.text_items.specs.Numbers.{is_long};
 ghost use Rattle.text_items.specs.Reading.{Gives};
 ghost use Rattle.code_text.specs.RowLines.{says_something, row_numbers, rows_of, ruled, with_rows, are_behind, rows_from};
 
-use code_faults::MAX_CROSSINGS;
-use code_rows::Row;
+use code_rows::{MAX_CROSSINGS, Row};
 use std::alloc::{AllocError, Global};
 use text_items::TextFault;
 use text_items::reading::MAX_NUMBER;

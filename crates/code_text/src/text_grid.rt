@@ -1,18 +1,17 @@
 //! Grid diagrams of texts of codes.
 ghost use Rattle.std.specs.Prelude.{◌≡◌, ◌≤◌, None, length, IfOk, IfSome, IfNone};
-ghost use Rattle.code_faults.specs.declared.fault.TheConstants.{MAX_CROSSINGS};
-ghost use Rattle.code_faults.specs.Fault.{first_fault};
+ghost use Rattle.code_rows.specs.declared.code_fault.TheConstants.{MAX_CROSSINGS};
+ghost use Rattle.code_rows.specs.CodeFault.{first_fault};
 ghost use Rattle.code_rows.specs.Rows.{IsCodeOf};
 ghost use Rattle.code_rows.specs.RowsFault.{unpaired};
 ghost use Rattle.code_text.specs.TextGrid.{Says, HasWrongLines, IsAnswer};
 
+use crate::code_reading::CodeText;
 use crate::gauss_check::{agrees, all_of};
+use crate::gauss_signs::signed;
 use crate::refusal::TextRefusal;
-use crate::signs::signed;
-use crate::whole::CodeText;
-use code_faults::first_fault;
 use code_grids::{Refusal, grid_of_code};
-use code_rows::code_of_rows;
+use code_rows::{are_joined, code_of_rows};
 use crossing_codes::Code;
 use grid_core::Grid;
 use memory_core::{Items, OutOfMemory};
@@ -40,7 +39,6 @@ pub fn grid_of_text(
         Ok(drawing) => Ok(Ok(drawing.grid)),
         Err(Refusal::Columns { columns }) => Ok(Err(TextRefusal::Columns { columns })),
         Err(Refusal::Lost) => Ok(Err(TextRefusal::Lost)),
-        Err(Refusal::Fault(_)) => unreachable!(),
     }
 }
 
@@ -67,8 +65,8 @@ fn said_by(alloc: Global, text: &CodeText, code: Code) -> Result<Option<Code>, O
     if !agrees(&said, walks, passages.as_slice()) {
         return Ok(None);
     }
-    match first_fault(alloc, &said)? {
-        None => Ok(Some(said)),
-        Some(_) => Ok(None),
+    if !are_joined(&said) {
+        return Ok(None);
     }
+    Ok(Some(said))
 }

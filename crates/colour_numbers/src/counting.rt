@@ -3,18 +3,17 @@ ghost use Rattle.std.specs.Prelude.{◌≡◌, ◌<◌, ◌-◌, ◌^◌, ◌⊎
 ghost use Rattle.colour_list.specs.Listing.{colourings};
 ghost use Rattle.colour_weights.specs.Weights.{weights};
 ghost use Rattle.colour_seeds.specs.Fits.{fits};
-ghost use Rattle.colour_seeds.specs.Plan.{IsPlan};
+ghost use Rattle.colour_seeds.specs.Plan.{IsPlan, seeds_in};
 ghost use Rattle.colour_seeds.specs.declared.counting.CountFault.TheVariants as fault;
-ghost use Rattle.colour_numbers.specs.Numbers.{choices_of, fits_by, numbers};
+ghost use Rattle.colour_numbers.specs.Numbers.{choices_of, coloured_by, fits_by, numbers};
 
 use cocycle_core::LargeCocycle;
+use cocycle_numbers::{shadow_weights_by_seeds, weights_by_seeds};
 use colour_seeds::{CountFault, Seeding, count, fits};
 use evidence_core::LargeWeighing;
 use grid_core::Grid;
 use quandle_core::Operations;
-use shadow_numbers::shadow_weights_by_seeds;
 use std::alloc::Global;
-use strand_numbers::weights_by_seeds;
 
 /// How many colours are chosen by so many seeds: one for each, and by a shadow cocycle one more, for the outer region.
 pub fn choices_of(cocycle: &Option<LargeWeighing>, seeds: usize) -> usize
@@ -32,21 +31,21 @@ pub fn choices_of(cocycle: &Option<LargeWeighing>, seeds: usize) -> usize
 pub fn fits_by(quandle: &Operations, cocycle: &Option<LargeWeighing>, seeding: &Seeding) -> bool
     ensures { result ≡ fits_by quandle.now cocycle.now seeding.now }
 {
-    match cocycle {
-        None => fits(quandle, seeding),
-        Some(LargeWeighing::Strands(cocycle)) => strands_fit(cocycle, seeding),
-        Some(LargeWeighing::Regions(shadow)) => {
-            shadow_numbers::fits(shadow.cocycle.quandle(), seeding)
-        }
-    }
+    let choices = choices_of(cocycle, seeding.seeds().len());
+    so_many_fit(quandle, cocycle, choices)
 }
 
-/// The same by a 2-cocycle.
-fn strands_fit(cocycle: &LargeCocycle, seeding: &Seeding) -> bool
-    ensures { result ≡ fits cocycle.now.quandle seeding.now }
+/// Whether so many colours can be chosen in at most `MAX_CANDIDATES` ways. A cocycle has its own quandle.
+fn so_many_fit(quandle: &Operations, cocycle: &Option<LargeWeighing>, choices: usize) -> bool
+    ensures { result ≡ fits (coloured_by quandle.now cocycle.now) choices }
 {
-    let quandle = cocycle.quandle();
-    fits(&quandle, seeding)
+    match cocycle {
+        None => fits(quandle, choices),
+        Some(LargeWeighing::Strands(cocycle)) => fits(&cocycle.quandle(), choices),
+        Some(LargeWeighing::Regions(shadow)) => {
+            fits(&shadow.cocycle.quandle().operations(), choices)
+        }
+    }
 }
 
 /// Without a cocycle the number of colourings of a grid by the quandle. With one, for each weight from 0 to its modulus less one, the
@@ -78,7 +77,7 @@ pub fn numbers(
     }
 }
 
-/// The same by a 2-cocycle.
+/// How many colourings have each weight by a 2-cocycle.
 fn strand_weights(
     alloc: Global,
     grid: &Grid,
@@ -87,8 +86,8 @@ fn strand_weights(
 ) -> Result<Vec<u32>, CountFault>
     requires plan { IsPlan grid.now seeding.now }
     ensures weights { IfOk result (λ v. v.items ≡ weights cocycle.now grid.now) }
-    ensures wide { fits cocycle.now.quandle seeding.now ≡ false → result ≡ Err (fault.TooWide) }
-    ensures fault { IfErr result (λ e. e ≡ fault.OutOfMemory ⊎ (fits cocycle.now.quandle seeding.now ≡ false) × (e ≡ fault.TooWide)) }
+    ensures wide { fits cocycle.now.quandle (seeds_in seeding.now) ≡ false → result ≡ Err (fault.TooWide) }
+    ensures fault { IfErr result (λ e. e ≡ fault.OutOfMemory ⊎ (fits cocycle.now.quandle (seeds_in seeding.now) ≡ false) × (e ≡ fault.TooWide)) }
 {
     let values = cocycle.values();
     weights_by_seeds(alloc, grid, &values, seeding)

@@ -54,20 +54,13 @@ impl From<AllocFailed<u32>> for CountFault {
     }
 }
 
-/// Whether the order of the quandle to the power of the number of seeds is at most `MAX_CANDIDATES`. Takes no memory.
-pub fn fits(quandle: &Operations, seeding: &Seeding) -> bool
-    ensures { result ≡ fits quandle.now seeding.now }
+/// Whether so many colours can be chosen in at most `MAX_CANDIDATES` ways: the order of the quandle to the power of their number. Takes no memory.
+pub fn fits(quandle: &Operations, choices: usize) -> bool
+    ensures { result ≡ fits quandle.now choices }
 {
     let _order = quandle.order();
-    let seeds = seed_count(seeding.steps()).min(64) as u32;
-    u32::from(quandle.order()).saturating_pow(seeds) <= MAX_CANDIDATES
-}
-
-/// How many seeds take colours.
-fn seed_count(steps: &[Step]) -> usize
-    ensures { result ≡ seeds_in steps.now }
-{
-    steps.iter().filter(|step| step.is_seed()).count()
+    let choices = choices.min(64) as u32;
+    u32::from(quandle.order()).saturating_pow(choices) <= MAX_CANDIDATES
 }
 
 /// The number of all colourings of a grid by a quandle, by seeds of the grid. The colourings are not kept.
@@ -81,12 +74,12 @@ pub fn count(
 ) -> Result<u32, CountFault>
     requires plan { IsPlan grid.now seeding.now }
     ensures count { IfOk result (λ n. n ≡ length (colourings quandle.now grid.now)) }
-    ensures wide { fits quandle.now seeding.now ≡ false → result ≡ Err (fault.TooWide) }
-    ensures fault { IfErr result (λ e. e ≡ fault.OutOfMemory ⊎ (fits quandle.now seeding.now ≡ false) × (e ≡ fault.TooWide)) }
+    ensures wide { fits quandle.now (seeds_in seeding.now) ≡ false → result ≡ Err (fault.TooWide) }
+    ensures fault { IfErr result (λ e. e ≡ fault.OutOfMemory ⊎ (fits quandle.now (seeds_in seeding.now) ≡ false) × (e ≡ fault.TooWide)) }
 {
     let _size = grid.size();
     let _order = quandle.order();
-    if !fits(quandle, seeding) {
+    if !fits(quandle, seeding.seeds().len()) {
         return Err(CountFault::TooWide);
     }
     let rows = rows_of(alloc, grid)?;

@@ -19,7 +19,7 @@ use Rattle.knot_text.proofs.ShapesSay.{problem_in_says}
 use Rattle.knot_text.proofs.ReadBack.{verdict_behind}
 use Rattle.knot_text.proofs.FeedBetween.{verdict_behind_feed}
 use Rattle.knot_ports.specs.declared.limits.TheConstants.{MAX_CERTIFICATE}
-use Rattle.decision_core.specs.Decision.{put_behind, IsAccepted, IsShort}
+use Rattle.decision_core.specs.Decision.{put_behind, IsAcceptedVerdict, IsShort}
 
 -- ---- the quandles of a problem have texts
 
@@ -90,7 +90,7 @@ by_lines bytes p v false lacks is text = verdict_behind_feed Tidy bytes p v lack
 
 pub accepted_behind : (bytes : List ℕ) (p : ProblemText) (v : Verdict) → problem_of bytes ≡ Ok p
     → (IsShort v → HasVersionText Tidy (columns p.first) (columns p.second) v) → Holds (grid_of p.first) (grid_of p.second) v
-    → length (put_behind bytes (version_text Tidy v)) ≤ MAX_CERTIFICATE → IsAccepted (put_behind bytes (version_text Tidy v)) p v
+    → length (put_behind bytes (version_text Tidy v)) ≤ MAX_CERTIFICATE → IsAcceptedVerdict (put_behind bytes (version_text Tidy v)) p v
 accepted_behind bytes p v is text holds fits = record {
   read = by_lines bytes p v (are_whole_lines bytes) refl is (text (short bytes v fits));
   rules = holds;

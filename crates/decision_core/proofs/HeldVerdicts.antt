@@ -12,7 +12,7 @@ use Rattle.cert_check.proofs.ToldApart.{told_apart}
 use Rattle.knot_text.specs.Printed.{version_text}
 use Rattle.verdict_text.specs.declared.verdicts.Version.TheVariants.{Tidy}
 use Rattle.verdict_text.specs.Problems.{problem_of}
-use Rattle.decision_core.specs.Decision.{IsDecision, IsByWrittenQuandle}
+use Rattle.decision_core.specs.Decision.{IsDecisionByVerdict, IsByWrittenQuandle}
 use Rattle.decision_core.proofs.Grids.{grids_of_problem}
 use Rattle.decision_core.proofs.PrintedVerdicts.{FewColourings, held_text}
 use Rattle.decision_core.proofs.AcceptedBehind.{accepted_behind}
@@ -25,14 +25,14 @@ evident d e (UnknownBudget budget) holds = absurd holds
 evident d e (UnknownExhausted cap k) holds = absurd holds
 
 -- what it says is true
-true_of : (d e : Diagram) (v : Verdict) → IsByWrittenQuandle v → Holds d e v → Claims d e v
+pub true_of : (d e : Diagram) (v : Verdict) → IsByWrittenQuandle v → Holds d e v → Claims d e v
 true_of d e (Equal moves) written holds = (moves, holds)
 true_of d e (Different q one two) named told = told_apart q.table d e (lists_of one) (lists_of two) (named_is q.name q.table named.names) told
 true_of d e (UnknownBudget budget) written holds = absurd holds
 true_of d e (UnknownExhausted cap k) written holds = absurd holds
 
 pub held_decides : FewColourings → (bytes : List ℕ) (p : ProblemText) (v : Verdict) → problem_of bytes ≡ Ok p
-    → Holds (grid_of p.first) (grid_of p.second) v → IsByWrittenQuandle v → IsTidyVerdict v → IsDecision bytes (version_text Tidy v)
+    → Holds (grid_of p.first) (grid_of p.second) v → IsByWrittenQuandle v → IsTidyVerdict v → IsDecisionByVerdict bytes (version_text Tidy v)
 held_decides few bytes p v read holds written tidy =
     let d = grid_of p.first in
     let e = grid_of p.second in

@@ -20,13 +20,13 @@ abbrev pub put_behind : List ℕ → List ℕ → List ℕ
 put_behind bytes text = if are_whole_lines bytes then bytes ++ text else bytes ++ (codes "\n" ++ text)
 
 -- the bytes are read as a certificate of this problem and this verdict, and the ruling on the verdict is that it is accepted
-pub record IsAccepted (bytes : List ℕ) (problem : ProblemText) (verdict : Verdict) : Type 0 where
+pub record IsAcceptedVerdict (bytes : List ℕ) (problem : ProblemText) (verdict : Verdict) : Type 0 where
   pub read : check_of bytes ≡ Ok (problem, verdict)
   pub rules : RulesOn (grid_of problem.first) (grid_of problem.second) verdict Accepted
 
 -- the bytes are a problem, and the text is a verdict on it that is true, with evidence that holds; behind the problem it is accepted,
 -- if both together are not too long for a certificate
-pub record IsDecision (bytes text : List ℕ) : Type 0 where
+pub record IsDecisionByVerdict (bytes text : List ℕ) : Type 0 where
   pub problem : ProblemText
   pub read : problem_of bytes ≡ Ok problem
   pub verdict : Verdict
@@ -34,7 +34,7 @@ pub record IsDecision (bytes text : List ℕ) : Type 0 where
   pub evidence : HasEvidence verdict
   pub holds : Holds (grid_of problem.first) (grid_of problem.second) verdict
   pub is_true : IsTrueVerdict problem verdict
-  pub accepted : length (put_behind bytes text) ≤ MAX_CERTIFICATE → IsAccepted (put_behind bytes text) problem verdict
+  pub accepted : length (put_behind bytes text) ≤ MAX_CERTIFICATE → IsAcceptedVerdict (put_behind bytes text) problem verdict
 
 -- the quandle of a verdict, if it is by one, has a text
 abbrev pub IsByWrittenQuandle : Verdict → Type 0

@@ -7,7 +7,7 @@ ghost use Rattle.verdict_core.specs.Diagrams.{grid_of};
 ghost use Rattle.verdict_core.specs.Evidence.{Holds, IsTidyVerdict};
 ghost use Rattle.knot_text.specs.Printed.{HasQuandleText, version_text};
 ghost use Rattle.verdict_text.specs.Problems.{problem_of};
-ghost use Rattle.decision_core.specs.Decision.{IsDecision, IsByWrittenQuandle};
+ghost use Rattle.decision_core.specs.Decision.{IsDecisionByVerdict, IsByWrittenQuandle};
 
 use knot_text::Version;
 use quandle_laws::lists::no_more_colourings_than_choices;
@@ -22,7 +22,7 @@ pub fn a_verdict_that_holds_is_a_decision()
         → Holds (grid_of problem.first) (grid_of problem.second) verdict
         → IsByWrittenQuandle verdict
         → IsTidyVerdict verdict
-        → IsDecision bytes (version_text Version.Tidy verdict) }
+        → IsDecisionByVerdict bytes (version_text Version.Tidy verdict) }
 {
     no_more_colourings_than_choices();
 }

@@ -3,5 +3,3 @@
 #![tactic(auto)]
 
 pub mod laws;
-
-pub use knot_ports::{MAX_CERTIFICATE, MAX_INPUT, Status};

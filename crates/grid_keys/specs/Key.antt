@@ -49,15 +49,9 @@ same_key p q = (p.size == q.size) && (bytes_eq p.x q.x && bytes_eq p.o q.o)
 abbrev pub compare_keys : Packed → Packed → Ordering
 compare_keys p q = ordering_then (nat_cmp p.size q.size) (ordering_then (slice_cmp nat_cmp p.x q.x) (slice_cmp nat_cmp p.o q.o))
 
--- a checksum of 128 bits behind which one more number is counted in; with one more number added; and with a whole key counted in
+-- a checksum of 128 bits with one more number counted in
 abbrev pub mixed : ℕ → ℕ → ℕ
 mixed sum number = (sum * 31 % 2 ^ 128 + number) % 2 ^ 128
-
-abbrev pub added : ℕ → ℕ → ℕ
-added sum number = (sum + number) % 2 ^ 128
-
-abbrev pub checksum_after : ℕ → Packed → ℕ
-checksum_after before key = fold added (fold added (mixed before key.size) key.x) key.o
 
 -- the digit of column c in the words of a kind; only private clauses and proofs cite it
 abbrev pub digit_at : List ℕ → ℕ → ℕ

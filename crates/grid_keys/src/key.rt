@@ -7,7 +7,7 @@ ghost use Rattle.std.proofs.Common.{rules};
 ghost use Rattle.grid_core.specs.declared.grid.TheConstants.{MAX_SIZE};
 ghost use Rattle.grid_core.specs.Diagram.{Diagram, IsGrid};
 ghost use Rattle.grid_keys.specs.Translation.{translate};
-ghost use Rattle.grid_keys.specs.Key.{number, filled, words_of, key_of, size_of, IsKeyOf, compare_keys, mixed, more_hashed, added, checksum_after, digit_at};
+ghost use Rattle.grid_keys.specs.Key.{number, filled, words_of, key_of, size_of, IsKeyOf, compare_keys, mixed, more_hashed, digit_at};
 
 use crate::translation::translated_rows;
 use arrayvec::ArrayVec;
@@ -52,15 +52,6 @@ impl Packed {
     {
         self.size
     }
-
-    /// A checksum that counts this key in behind what was counted before: a program that only makes keys, to measure what that takes,
-    /// so uses every digit and doesn't look into them.
-    pub fn checksum_after(self, before: u128) -> u128
-        ensures { result ≡ checksum_after before self }
-    {
-        let sum = mixed(before, u128::from(self.size));
-        added_words(added_words(sum, &self.x), &self.o)
-    }
 }
 
 /// Hashed are the size and the first word of each kind, which tell grids of up to `WORD_COLUMNS` columns apart, and of larger grids for each
@@ -97,17 +88,6 @@ fn mixed(sum: u128, number: u128) -> u128
     ensures { result ≡ mixed sum number }
 {
     sum.wrapping_mul(31).wrapping_add(number)
-}
-
-/// A checksum with some words added.
-fn added_words(sum: u128, words: &[u128]) -> u128
-    ensures { result ≡ fold added sum words.now }
-{
-    let mut total = sum;
-    for word in words {
-        total = total.wrapping_add(*word);
-    }
-    total
 }
 
 /// The key of a grid. Takes no memory.

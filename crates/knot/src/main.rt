@@ -7,10 +7,9 @@ mod tell;
 
 use crate::program::program;
 use crate::tell::Terminal;
-use decision_core::MAX_INPUT;
 use given_words::{NoWords, system_words};
 use knot_jobs::Ports;
-use knot_ports::{StdSink, StdSource};
+use knot_ports::{MAX_INPUT, StdSink, StdSource};
 use stated_stack::on_stack;
 use std::process::ExitCode;
 

@@ -1,14 +1,17 @@
 -- A decision is accepted behind its problem by the job `check`.
-use Rattle.std.proofs.Common.{◌≡◌, sym, refl, subst, ℕ, List, Result, IfOk}
+use Rattle.std.proofs.Common.{◌≡◌, ◌≤◌, sym, refl, subst, ℕ, List, Result, IfOk, length}
 use Rattle.std.proofs.lemmas.Result.{IfOk-weaker}
 use Rattle.verdict_core.specs.declared.problem.ProblemText.{ProblemText}
 use Rattle.text_items.specs.declared.fault.TextFault.{TextFault}
 use Rattle.cert_check.specs.declared.ruling.Ruling.TheVariants.{Accepted}
+use Rattle.knot_ports.specs.declared.limits.TheConstants.{MAX_CERTIFICATE}
+use Rattle.certificate_text.specs.Said.{said_of}
 use Rattle.certificate_text.specs.declared.said.Said.{Said}
-use Rattle.number_certificates.proofs.Earlier.{read_so}
+use Rattle.certificate_text.specs.declared.said.Said.TheVariants as said
 use Rattle.linking_check.specs.declared.cause.Ruling.TheVariants as numbers
-use Rattle.decision_core.specs.Decision.{put_behind, IsDecision}
-use Rattle.number_decision.specs.Evidence.{IsEvidenceOn}
+use Rattle.decision_core.specs.Decision.{put_behind}
+use Rattle.certificate_check.specs.Decision.{IsWithinLimit, IsAccepted, IsDecision}
+use Rattle.certificate_check.proofs.Decisions.{decision_by_verdict}
 use Rattle.knot_words.specs.declared.job.Job.{Job}
 use Rattle.knot_words.specs.declared.job.Job.TheVariants.{Decide}
 use Rattle.search_jobs.specs.declared.reply.Reply.{Reply}
@@ -22,21 +25,25 @@ use Rattle.knot_jobs.specs.Truth.{IsAcceptedByCheck, IsTrueIfDone}
 abbrev IsReplied : Result (ProblemText × Said) TextFault → Type 0
 IsReplied read = AnswersRead AnswersCheck read (done (ruling_line Accepted))
 
+within_limit : (bytes : List ℕ) (x : Said) → length bytes ≤ MAX_CERTIFICATE → IsWithinLimit bytes x
+within_limit bytes (said.Verdict v) fits = fits
+within_limit bytes (said.Evidence x) fits = tt
+
+replied : (bytes : List ℕ) (p : ProblemText) (x : Said) → IsAccepted bytes p x → IsReplied (said_of bytes)
+replied bytes p (said.Verdict v) accepted = subst IsReplied (sym accepted.read) (record { ruling = Accepted; rules = accepted.rules; is = refl })
+replied bytes p (said.Evidence x) accepted = subst IsReplied (sym accepted.read) (record { ruling = numbers.Accepted; rules = accepted.rules; is = refl })
+
 pub accepted_by_check : (bytes text : List ℕ) → IsDecision bytes text → IsAcceptedByCheck bytes text
 accepted_by_check bytes text decision = λ fits.
-    let accepted = decision.accepted fits in
-    subst IsReplied (sym (read_so (put_behind bytes text) decision.problem decision.verdict accepted.read))
-    (record { ruling = Accepted; rules = accepted.rules; is = refl })
-
-pub evidence_by_check : (bytes text : List ℕ) → IsEvidenceOn bytes text → IsAcceptedByCheck bytes text
-evidence_by_check bytes text on = λ fits. subst IsReplied (sym on.accepted.read) (record { ruling = numbers.Accepted; rules = on.accepted.rules; is = refl })
+    let whole = put_behind bytes text in
+    replied whole decision.problem decision.statement (decision.accepted (within_limit whole decision.statement fits))
 
 -- ---- what `decide` replies
 
 decided_is_true : (bytes : List ℕ) (reply : Reply) → IsDecisionIfDone bytes reply → IsTrueIfDone Decide bytes reply
 decided_is_true bytes reply decided = λ done.
     let decision = decided done in
-    record { decision = decision; accepted = accepted_by_check bytes reply.text decision }
+    record { decision = decision; accepted = accepted_by_check bytes reply.text (decision_by_verdict bytes reply.text decision) }
 
 -- where `decide` is the job that is asked for
 pub decided_truth : {E : Type 0} (job : Job) (bytes : List ℕ) (r : Result Reply E) → job ≡ Decide → IfOk r (λ reply. IsDecisionIfDone bytes reply)

@@ -12,4 +12,5 @@ pub use Rattle.search_jobs.specs.Simplify
 pub use Rattle.search_jobs.specs.Sample
 pub use Rattle.knot_ports.specs.Status
 pub use Rattle.decision_core.specs.Decision
+pub use Rattle.certificate_check.specs.Decision as Certified
 pub use Rattle.knot_ports.specs.Change

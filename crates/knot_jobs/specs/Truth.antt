@@ -4,7 +4,7 @@ use Rattle.std.specs.Io.KnownBytes.{Appends}
 use Rattle.cert_check.specs.declared.ruling.Ruling.TheVariants.{Accepted}
 use Rattle.knot_ports.specs.declared.status.Status.{Status}
 use Rattle.knot_ports.specs.declared.status.Status.TheVariants as status
-use Rattle.decision_core.specs.Decision.{put_behind, IsDecision}
+use Rattle.decision_core.specs.Decision.{put_behind, IsDecisionByVerdict}
 use Rattle.knot_words.specs.declared.job.PlainJob.TheVariants.{Check}
 use Rattle.reply_text.specs.Lines.{ruling_line}
 use Rattle.reply_text.specs.Reply.{done}
@@ -29,9 +29,9 @@ abbrev pub IsAcceptedByCheck : List ℕ → List ℕ → Type 0
 IsAcceptedByCheck bytes text =
     IsWithin (limit_of (Plain Check)) (put_behind bytes text) → AnswersPlainly Check (put_behind bytes text) (done (ruling_line Accepted))
 
--- the text is a decision on the bytes, and behind them `check` accepts it
+-- the text is a decision on the bytes by a verdict, and behind them `check` accepts it
 pub record IsCheckedDecision (bytes text : List ℕ) : Type 0 where
-  pub decision : IsDecision bytes text
+  pub decision : IsDecisionByVerdict bytes text
   pub accepted : IsAcceptedByCheck bytes text
 
 -- ---- a call

@@ -11,8 +11,7 @@ ghost use Rattle.knot_jobs.specs.Delivered.{IsRead, IsMadeOf, IsRefused, IsDeliv
 use crate::answer::{answer, answer_alone};
 use crate::ports::Ports;
 use check_job::{read_input, write_text};
-use decision_core::Status;
-use knot_ports::{Sink, Source, give_all};
+use knot_ports::{Sink, Source, Status, give_all};
 use knot_words::{Asked, Job, WordsFault, read_words};
 use search_jobs::Reply;
 use search_pool::{Finding, Gate};

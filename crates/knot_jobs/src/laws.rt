@@ -3,8 +3,7 @@ ghost use Rattle.std.specs.Prelude.{◌≡◌, ◌⊎◌, ℕ, List, Option, Som
 ghost use Rattle.search_pool.specs.declared.finding.Finding.{Finding};
 ghost use Rattle.knot_words.specs.Words.{Asks, AsksNothing};
 ghost use Rattle.knot_ports.specs.Status.{IsOfDefinedAnswer, IsOfAnswer};
-ghost use Rattle.decision_core.specs.Decision.{IsDecision};
-ghost use Rattle.number_decision.specs.Evidence.{IsEvidenceOn};
+ghost use Rattle.certificate_check.specs.Decision.{IsDecision};
 ghost use Rattle.knot_words.specs.Limits.{limit_of, part_for};
 ghost use Rattle.knot_jobs.specs.Answer.{leaves_no_choice, IsWithin, IsInShape, IsBeyondColumns, Answers};
 ghost use Rattle.knot_ports.specs.Change.{Failed};
@@ -12,7 +11,7 @@ ghost use Rattle.knot_jobs.specs.Call.{Call, with_workers};
 ghost use Rattle.knot_jobs.specs.Ending.{IsDue, Ends};
 ghost use Rattle.knot_jobs.specs.Truth.{IsAcceptedByCheck};
 
-use decision_core::Status;
+use knot_ports::Status;
 use knot_words::Asked;
 use search_jobs::Reply;
 
@@ -72,9 +71,8 @@ pub fn an_input_in_shape_has_a_defined_answer()
         → IsOfDefinedAnswer reply.status ⊎ IsBeyondColumns asked.job reply }
 {}
 
-/// A decision on an input, whoever found it, is accepted by the job `check` behind the input, where both are within its limit of bytes, and so is
-/// evidence by numbers.
+/// A decision on an input, by a verdict or by numbers, whoever found it, is accepted by the job `check` behind the input, where both are within
+/// its limit of bytes.
 pub fn a_decision_is_accepted_by_check()
-    ensures decision { (bytes text : List ℕ) → IsDecision bytes text → IsAcceptedByCheck bytes text }
-    ensures evidence { (bytes text : List ℕ) → IsEvidenceOn bytes text → IsAcceptedByCheck bytes text }
+    ensures { (bytes text : List ℕ) → IsDecision bytes text → IsAcceptedByCheck bytes text }
 {}

@@ -8,6 +8,6 @@ pub mod laws;
 mod ports;
 
 pub use call::{run, run_alone};
-pub use decision_core::Status;
+pub use knot_ports::Status;
 pub use knot_words::{Asked, Job, PlainJob, WordsFault, read_words};
 pub use ports::Ports;

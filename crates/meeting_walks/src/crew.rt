@@ -54,19 +54,6 @@ impl Crew {
         })
     }
 
-    /// Works in the calling thread until the search is over.
-    pub(crate) fn work<W: Watch>(&mut self, alloc: Global, watch: &mut W) {
-        for _round in 0..self.steps {
-            let Some(limit) = self.next_limit() else {
-                break;
-            };
-            for worker in self.workers.iter_mut() {
-                worker.walk(alloc, limit);
-            }
-            self.report(watch);
-        }
-    }
-
     /// Works in as many threads as there are workers until the search is over.
     pub(crate) fn work_by<R: Threads + Sync, W: Watch>(
         &mut self,

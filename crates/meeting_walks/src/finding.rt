@@ -5,10 +5,10 @@ ghost use Rattle.meeting_walks.specs.Answered.{JoinsIfFound, FindsTranslates};
 ghost use Rattle.meeting_walks.specs.ShiftsTo.{AreShiftsTo};
 
 use crate::crew::{Crew, Found};
-use crate::plan::{Bounds, Plan};
+use crate::plan::Plan;
 use crate::shifts::shifts_to;
 use crate::spelling::spelled;
-use crate::watch::{Unwatched, Watch};
+use crate::watch::Watch;
 use grid_core::Grid;
 use grid_keys::push_shifts;
 use grid_moves::Move;
@@ -24,28 +24,9 @@ use torus_grids::shortened;
 /// None says nothing of the diagrams but that they aren't translates of each other. It comes where the walks end without meeting, and
 /// would come too where a path that they found can't be written as moves, which no test has met.
 ///
-/// One worker searches, in the calling thread.
-pub fn find_joining(
-    alloc: Global,
-    first: &Grid,
-    second: &Grid,
-    bounds: Bounds,
-) -> Result<Option<Vec<Move>>, OutOfMemory>
-    ensures joins { IfOk result (λ found. JoinsIfFound first.now second.now found) }
-    ensures translates { IfOk result (λ found. FindsTranslates first.now second.now found) }
-{
-    match shifts_to(first, second) {
-        Some((columns, rows)) => {
-            Ok(Some(joined_by_shifts(alloc, first, second, columns, rows)?))
-        }
-        None => sought(alloc, first, second, bounds),
-    }
-}
-
-/// A list of moves as `find_joining` answers it, sought by the workers of a plan, in as many threads as can be started. The list is that
-/// of the worker that makes the fewest steps until its walks meet, the first of those with as few: so it doesn't depend on the order in
-/// which the threads run. Want of memory in one worker is the error, whatever the others have found. The watch is told of the progress of
-/// the first worker.
+/// The workers of a plan search, in as many threads as can be started. The list is that of the worker that makes the fewest steps until its
+/// walks meet, the first of those with as few: so it doesn't depend on the order in which the threads run. Want of memory in one worker is
+/// the error, whatever the others have found. The watch is told of the progress of the first worker.
 pub fn find_joining_by<R: Threads + Sync, W: Watch>(
     rt: &R,
     alloc: Global,
@@ -81,21 +62,6 @@ fn joined_by_shifts(
     let mut moves = Vec::new(alloc);
     push_shifts(&mut moves, columns, rows)?;
     Ok(moves)
-}
-
-/// A list of moves that one worker finds in the calling thread.
-fn sought(
-    alloc: Global,
-    first: &Grid,
-    second: &Grid,
-    bounds: Bounds,
-) -> Result<Option<Vec<Move>>, OutOfMemory>
-    ensures { IfOk result (λ found. JoinsIfFound first.now second.now found) }
-{
-    let workers = 1;
-    let mut crew = Crew::new(alloc, first, second, Plan { bounds, workers })?;
-    crew.work(alloc, &mut Unwatched);
-    joining(alloc, first, second, crew.found(alloc)?)
 }
 
 /// A list of moves that some workers find.

@@ -12,9 +12,12 @@ use Rattle.grid_moves.specs.Kinds.{is_shift, is_exchange}
 abbrev pub is_shift_or_exchange : Move → Bool
 is_shift_or_exchange move = is_shift move || is_exchange move
 
+abbrev pub AreShiftsAndExchanges : List Move → Type 0
+AreShiftsAndExchanges moves = All (λ move. is_shift_or_exchange move ≡ true) moves
+
 -- some list of shifts and exchanges joins d to e
 abbrev pub JoinedByExchanges : Diagram → Diagram → Type 0
-JoinedByExchanges d e = (moves : List Move) × (All (λ move. is_shift_or_exchange move ≡ true) moves × Joins d moves e)
+JoinedByExchanges d e = (moves : List Move) × (AreShiftsAndExchanges moves × Joins d moves e)
 
 -- f is in the class of d: the canonical form of a diagram that shifts and exchanges reach from d
 pub record IsInClass (d f : Diagram) : Type 0 where

@@ -1,4 +1,4 @@
--- Members of a class with the ways to them; only private clauses and proofs cite this file.
+-- Members of a class with the ways to them.
 use Rattle.std.specs.Prelude.{◌≡◌, ◌<◌, ◌+◌, ◌++◌, ℕ, suc, List, Bool, true, false, length, map, take, nat_lt, slice_get, Some}
 use Rattle.std.specs.List.{All, Contains, list_any}
 use Rattle.grid_core.specs.Diagram.{Diagram, size}

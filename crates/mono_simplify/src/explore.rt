@@ -99,8 +99,8 @@ fn turn(
 }
 
 /// Puts the keys of the exchanges among these offers, made at the member of a place, to the end of the class, those that are not in it
-/// yet, unless there would be more members than the budget. Whether there would be.
-fn admit_all(
+/// yet, unless there would be more members than the budget. Whether there would be. The error comes where there is no memory.
+pub fn admit_all(
     class: &mut Class,
     place: u32,
     offers: &[Offer],

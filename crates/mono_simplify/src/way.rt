@@ -6,6 +6,7 @@ ghost use Rattle.grid_moves.specs.Joining.{JoinsWithin};
 ghost use Rattle.grid_keys.specs.declared.key.Packed.{Packed};
 ghost use Rattle.grid_keys.specs.Key.{IsKeyOf};
 ghost use Rattle.next_moves.specs.Offers.{Leads};
+ghost use Rattle.mono_simplify.specs.ExchangeClass.{is_shift_or_exchange, AreShiftsAndExchanges};
 ghost use Rattle.mono_simplify.specs.Simplified.{is_monotonic, AreMonotonic};
 ghost use Rattle.mono_simplify.specs.Ways.{keys_in, AreWays};
 
@@ -31,6 +32,7 @@ pub fn way_to(
     requires ways { AreWays grid.now class.now }
     ensures last { IfOk result (λ moves. Contains moves.items last.step) }
     ensures kept { IfOk result (λ moves. is_monotonic last.step ≡ true → AreMonotonic moves.items) }
+    ensures exchanges { IfOk result (λ moves. is_shift_or_exchange last.step ≡ true → AreShiftsAndExchanges moves.items) }
     ensures joined { IfOk result (λ moves. (key : Packed) (member to : Diagram)
         → slice_get (keys_in class.now) place ≡ Some key
         → IsKeyOf key member

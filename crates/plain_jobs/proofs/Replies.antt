@@ -20,7 +20,7 @@ use Rattle.block_text.specs.Weighed.{weighed_in}
 use Rattle.knot_text.specs.FirstBadLine.{FailsFirst}
 use Rattle.knot_text.proofs.ShapesFail.{replay_fails, colour_fails, close_fails, lone_diagram_fails, pair_fails}
 use Rattle.knot_text.proofs.BraidChecksFail.{braidcheck_fails}
-use Rattle.number_laws.proofs.WeighedFails.{weighed_fails}
+use Rattle.certificates.proofs.WeighedFails.{weighed_fails}
 use Rattle.braid_moves.specs.declared.ruling.BraidRuling.{BraidRuling}
 use Rattle.braid_moves.specs.declared.ruling.BraidRuling.TheVariants as braids
 use Rattle.braid_moves.specs.Ruling.{ruling}
@@ -30,12 +30,12 @@ use Rattle.cert_check.proofs.Rulings.{ruled_once, some_ruling}
 use Rattle.certificate_text.specs.declared.said.Said.{Said}
 use Rattle.certificate_text.specs.declared.said.Said.TheVariants as said
 use Rattle.certificate_text.specs.Said.{said_in}
-use Rattle.number_laws.proofs.EvidenceFails.{said_fails}
+use Rattle.certificates.proofs.EvidenceFails.{said_fails}
 use Rattle.linking_check.specs.declared.cause.Ruling.{Ruling as NumberRuling}
 use Rattle.linking_check.specs.declared.cause.Ruling.TheVariants as numbers
 use Rattle.verdict_laws.proofs.OneRuling.{one_ruling}
 use Rattle.verdict_laws.proofs.SomeRuling.{some_ruling as some_number_ruling}
-use Rattle.code_text.specs.declared.whole.CodeText.{CodeText}
+use Rattle.code_text.specs.declared.code_reading.CodeText.{CodeText}
 use Rattle.code_text.specs.declared.refusal.TextRefusal.{TextRefusal}
 use Rattle.code_text.specs.declared.refusal.TextRefusal.TheVariants.{Rows, Gauss, Columns, Lost}
 use Rattle.code_text.specs.TextGrid.{IsAnswer}

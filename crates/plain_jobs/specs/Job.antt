@@ -16,8 +16,8 @@ use Rattle.block_text.specs.declared.weighed.WeighedText.{WeighedText}
 use Rattle.block_text.specs.Weighed.{weighed_of}
 use Rattle.certificate_text.specs.declared.said.Said.{Said}
 use Rattle.certificate_text.specs.Said.{said_of}
-use Rattle.code_text.specs.declared.whole.CodeText.{CodeText}
-use Rattle.code_text.specs.Whole.{code_text_of}
+use Rattle.code_text.specs.declared.code_reading.CodeText.{CodeText}
+use Rattle.code_text.specs.CodeReading.{code_text_of}
 use Rattle.reply_text.specs.declared.reply.PlainReply.{PlainReply}
 use Rattle.knot_words.specs.declared.job.PlainJob.{PlainJob}
 use Rattle.knot_words.specs.declared.job.PlainJob.TheVariants.{Check, Replay, Colour, Close, Code, Braid, Linking, Braidcheck, Weights, Numbers, Grid}

@@ -7,4 +7,3 @@ pub mod Job
 pub mod Truth
 pub use Rattle.knot_ports.specs.Status
 pub use Rattle.certificate_text.specs.Said
-pub use Rattle.number_decision.specs.Evidence

@@ -6,7 +6,7 @@ ghost use Rattle.plain_jobs.specs.Truth.{IsTrueText};
 use crate::jobs::{
     braid, braidcheck, close, code, colour, grid, linking, numbers, replay, weights,
 };
-use decision_core::Status;
+use knot_ports::Status;
 use knot_words::PlainJob;
 use reply_text::PlainReply;
 use std::alloc::{AllocError, Global};

@@ -9,7 +9,7 @@ use Rattle.verdict_core.specs.declared.verdict.Verdict.TheVariants.{Equal, Diffe
 use Rattle.knot_text.specs.Printed.{version_text}
 use Rattle.verdict_text.specs.declared.verdicts.Version.TheVariants.{Tidy}
 use Rattle.verdict_core.specs.Diagrams.{grid_of}
-use Rattle.decision_core.specs.Decision.{IsDecision}
+use Rattle.decision_core.specs.Decision.{IsDecisionByVerdict}
 use Rattle.pair_verdict.specs.Decided.{Decides}
 use Rattle.search_jobs.specs.declared.reply.Reply.{Reply}
 use Rattle.knot_words.specs.declared.words.Asked.{Asked}
@@ -39,4 +39,4 @@ pub record AnswersDecide (asked : Asked) (input : ProblemText) (reply : Reply) :
 
 -- where a reply has Done, its text is a decision on these bytes
 abbrev pub IsDecisionIfDone : List ℕ → Reply → Type 0
-IsDecisionIfDone bytes reply = reply.status ≡ status.Done → IsDecision bytes reply.text
+IsDecisionIfDone bytes reply = reply.status ≡ status.Done → IsDecisionByVerdict bytes reply.text

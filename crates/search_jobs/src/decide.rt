@@ -10,8 +10,8 @@ ghost use Rattle.search_jobs.specs.Decide.{problem_for, verdict_status, AnswersD
 
 use crate::laws::a_decision_has_a_text;
 use crate::reply::Reply;
-use decision_core::Status;
 use grid_core::MAX_SIZE;
+use knot_ports::Status;
 use knot_text::{ProblemText, Verdict, print_verdict, read_problem};
 use knot_words::Asked;
 use memory_core::{Items, OutOfMemory};

@@ -3,7 +3,7 @@ ghost use Rattle.std.specs.Prelude.{◌≡◌, IfOk};
 ghost use Rattle.reply_text.specs.Reply.{too_long, IsFaultReply};
 ghost use Rattle.search_jobs.specs.Reply.{without_search, plainly};
 
-use decision_core::Status;
+use knot_ports::Status;
 use memory_core::Items;
 use reply_text::PlainReply;
 use search_pool::Finding;

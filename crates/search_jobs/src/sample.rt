@@ -2,7 +2,7 @@
 ghost use Rattle.std.specs.Prelude.{IfOk};
 ghost use Rattle.search_jobs.specs.Sample.{AnswersSample};
 
-use decision_core::Status;
+use knot_ports::Status;
 use reply_text::PlainReply;
 use std::alloc::{AllocError, Global};
 use walk_samples::sample_text;

@@ -5,7 +5,7 @@ ghost use Rattle.knot_words.specs.Words.{IsWithinBounds};
 ghost use Rattle.reply_text.specs.Reply.{AnswersRead};
 ghost use Rattle.search_jobs.specs.Simplify.{end_line, simplified_text, AnswersSimplify};
 
-use decision_core::Status;
+use knot_ports::Status;
 use knot_text::{Diagram, print_grid, print_moves, read_diagram};
 use knot_words::Asked;
 use memory_core::OutOfMemory;

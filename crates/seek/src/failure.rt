@@ -3,7 +3,7 @@ ghost use Rattle.std.specs.Prelude.{◌≡◌, ◌≢◌};
 ghost use Rattle.knot_ports.specs.declared.status.Status.TheVariants as status;
 ghost use Rattle.seek.specs.Failure.{failure_status};
 
-use decision_core::Status;
+use knot_ports::Status;
 use seek_parts::{PartFault, text_status};
 use std::{fmt, io};
 use text_items::TextFault;

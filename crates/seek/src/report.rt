@@ -4,7 +4,7 @@ ghost use Rattle.knot_ports.specs.declared.status.Status.TheVariants as status;
 ghost use Rattle.seek.specs.Failure.{failure_status};
 
 use crate::failure::Failure;
-use decision_core::Status;
+use knot_ports::Status;
 use seek_core::{Tried, join_parts, place};
 use seek_faults::{BraidReason, Reason, reason_at};
 use seek_parts::{PartFault, Parts};

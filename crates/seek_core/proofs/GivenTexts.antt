@@ -19,9 +19,9 @@ use Rattle.block_text.specs.Blocks.{blocks, blocks_in, blocks_of}
 use Rattle.quandle_core.specs.declared.operations.TheConstants.{MAX_LARGE_ORDER}
 use Rattle.linking_check.specs.Links.{linked_of}
 use Rattle.linking_check.specs.Links.{are_same}
-use Rattle.number_certificates.specs.Printed.{HasBlockText}
-use Rattle.number_decision.specs.Evidence.{IsByWrittenBlock}
-use Rattle.number_decision.proofs.BlocksSay.{blocks_text}
+use Rattle.certificates.specs.Printed.{HasBlockText}
+use Rattle.certificate_check.specs.Decision.{IsByWrittenBlock}
+use Rattle.certificate_check.proofs.BlocksSay.{blocks_text}
 use Rattle.number_search.specs.declared.seed_pair.SeedPair.{SeedPair}
 use Rattle.number_search.specs.Told.{ArePlansOf, tells, first_telling, evidence_by, told_by_linking, told_by_blocks, told_apart}
 use Rattle.seek_core.specs.Given.{more_blocks}

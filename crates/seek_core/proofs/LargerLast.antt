@@ -9,7 +9,7 @@ use Rattle.std.proofs.lemmas.List.Elements.{All-append, All-filter, filter-appen
 use Rattle.grid_core.specs.Diagram.{Diagram}
 use Rattle.evidence_core.specs.declared.blocks.Block.{Block}
 use Rattle.evidence_core.specs.declared.evidence.Evidence.{Evidence}
-use Rattle.number_certificates.specs.Printed.{HasBlockText}
+use Rattle.certificates.specs.Printed.{HasBlockText}
 use Rattle.number_search.specs.declared.seed_pair.SeedPair.{SeedPair}
 use Rattle.number_search.specs.Told.{tells, first_telling, evidence_by, told_by_linking, told_by_blocks, told_apart}
 use Rattle.seek_core.specs.Sizes.{is_larger, of_size, as_tried}

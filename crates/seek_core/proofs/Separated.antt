@@ -18,16 +18,17 @@ use Rattle.evidence_core.specs.declared.blocks.Block.{Block}
 use Rattle.evidence_core.specs.declared.evidence.Evidence.{Evidence}
 use Rattle.certificate_text.specs.declared.said.Said.{Said}
 use Rattle.certificate_text.specs.declared.said.Said.TheVariants as said
-use Rattle.number_certificates.specs.Printed.{HasBlockText}
+use Rattle.certificates.specs.Printed.{HasBlockText}
 use Rattle.number_search.specs.declared.seed_pair.SeedPair.{SeedPair}
 use Rattle.number_search.specs.Told.{told_by_linking, told_by_blocks, told_apart}
 use Rattle.number_search.proofs.Held.{told_holds}
-use Rattle.number_decision.proofs.HeldTexts.{held_text}
+use Rattle.certificate_check.specs.Decision.{IsFindingOf}
+use Rattle.certificate_check.proofs.HeldTexts.{held_text}
 use Rattle.seek_core.specs.Candidates.{fitting, candidates}
 use Rattle.seek_core.specs.Formulas.{formula_quandles}
 use Rattle.seek_core.specs.declared.finding.Search.{Search}
 use Rattle.seek_core.specs.declared.answer.Tried.{Tried}
-use Rattle.seek_core.specs.Found.{IsVerdictBy, IsFoundWhere, IsSearchOn, IsSearchOf, IsFindingOf}
+use Rattle.seek_core.specs.Found.{IsVerdictBy, IsFoundWhere, IsSearchOn, IsSearchOf}
 use Rattle.seek_core.specs.Answers.{QuandlesTriedInVain, BlocksTriedInVain}
 use Rattle.seek_core.specs.Sizes.{as_tried}
 use Rattle.seek_core.proofs.ByFormula.{formula_texts}

@@ -3,22 +3,15 @@ use Rattle.std.specs.Prelude.{◌≡◌, ◌<◌, ◌⊎◌, ℕ, List, Option, 
 use Rattle.std.specs.Io.KnownBytes.{Keeps, Appends}
 use Rattle.knot_ports.specs.Sink.{AppendsFront}
 use Rattle.text_items.specs.declared.fault.TextFault.TheVariants as bad
-use Rattle.verdict_text.specs.declared.verdicts.Version.TheVariants.{Tidy}
-use Rattle.knot_text.specs.Printed.{version_text}
 use Rattle.verdict_text.specs.Problems.{problem_of}
 use Rattle.knot_ports.specs.declared.status.Status.{Status}
 use Rattle.knot_ports.specs.declared.status.Status.TheVariants as status
 use Rattle.knot_ports.specs.declared.limits.TheConstants.{MAX_INPUT}
-use Rattle.decision_core.specs.Decision.{IsDecision}
 use Rattle.verdict_core.specs.declared.problem.ProblemText.{ProblemText}
 use Rattle.verdict_core.specs.Diagrams.{grid_of, columns}
-use Rattle.verdict_core.specs.Evidence.{IsTidyVerdict}
 use Rattle.pair_verdict.specs.Separates.{first_separating}
 use Rattle.evidence_core.specs.declared.blocks.Block.{Block}
-use Rattle.certificate_text.specs.declared.said.Said.{Said}
-use Rattle.certificate_text.specs.declared.said.Said.TheVariants as said
-use Rattle.number_certificates.specs.Printed.{third_text}
-use Rattle.number_decision.specs.Evidence.{IsEvidenceOn}
+use Rattle.certificate_check.specs.Decision.{IsDecision}
 use Rattle.number_search.specs.declared.seed_pair.SeedPair.{SeedPair}
 use Rattle.number_search.specs.Told.{ArePlansOf, fits_both, told_by_linking, told_by_blocks}
 use Rattle.seek_core.specs.declared.answer.Tried.{Tried}
@@ -27,22 +20,6 @@ use Rattle.seek_core.specs.declared.answer.Answer.TheVariants as answer
 use Rattle.seek_core.specs.declared.ending.Ending.{Ending}
 use Rattle.seek_core.specs.declared.ending.Ending.TheVariants as ending
 use Rattle.seek_core.specs.Candidates.{candidates}
-
--- ---- texts
-
--- the moves of what is said, if any, are a tidy list
-abbrev pub IsTidySaid : Said → Type 0
-IsTidySaid (said.Verdict v) = IsTidyVerdict v
-IsTidySaid (said.Evidence x) = Unit {0}
-
--- a verdict as a certificate of the second version, evidence by numbers as one of the third
-abbrev pub said_text : Said → List ℕ
-said_text (said.Verdict v) = version_text Tidy v
-said_text (said.Evidence x) = third_text x
-
--- the text is a decision on the input, or evidence by numbers on it
-abbrev pub Decides : List ℕ → List ℕ → Type 0
-Decides bytes text = IsDecision bytes text ⊎ IsEvidenceOn bytes text
 
 -- ---- answers
 
@@ -67,7 +44,7 @@ pub record BlocksTriedInVain (bytes : List ℕ) (blocks : List Block) (tried : T
 
 -- a text decides the input; what is said to have been tried was, in vain; and a line is called bad where it is the first bad one
 abbrev pub IsTrueAnswer : List ℕ → List Block → Answer → Type 0
-IsTrueAnswer bytes blocks (answer.Decided text) = Decides bytes text
+IsTrueAnswer bytes blocks (answer.Decided text) = IsDecision bytes text
 IsTrueAnswer bytes blocks (answer.NotFound tried) = QuandlesTriedInVain bytes tried × BlocksTriedInVain bytes blocks tried
 IsTrueAnswer bytes blocks (answer.Malformed line) = problem_of bytes ≡ Err (bad.Malformed line)
 IsTrueAnswer bytes blocks (answer.Limit line) = problem_of bytes ≡ Err (bad.Limit line)
@@ -76,7 +53,7 @@ IsTrueAnswer bytes blocks (answer.Limit line) = problem_of bytes ≡ Err (bad.Li
 
 -- a text that decides the input was written, whole
 abbrev pub WritesDecision : List ℕ → Option (List ℕ) → Option (List ℕ) → Type 0
-WritesDecision bytes before after = (text : List ℕ) × (Decides bytes text × Appends before after text)
+WritesDecision bytes before after = (text : List ℕ) × (IsDecision bytes text × Appends before after text)
 
 -- how a call ended, and what it left in the sink: a text that decides the input where it is done, a front of one where the sink failed, and
 -- nothing else
@@ -86,7 +63,7 @@ Ends bytes before after (ending.NotFound tried) = QuandlesTriedInVain bytes trie
 Ends bytes before after (ending.Malformed line) = (problem_of bytes ≡ Err (bad.Malformed line)) × Keeps before after
 Ends bytes before after (ending.Limit line) = (problem_of bytes ≡ Err (bad.Limit line)) × Keeps before after
 Ends bytes before after ending.TooLong = (MAX_INPUT < length bytes) × Keeps before after
-Ends bytes before after ending.WriteFault = (text : List ℕ) × (Decides bytes text × AppendsFront before after text)
+Ends bytes before after ending.WriteFault = (text : List ℕ) × (IsDecision bytes text × AppendsFront before after text)
 Ends bytes before after ending.OutOfMemory = Keeps before after
 
 -- what a call comes to whose input is too long

@@ -8,16 +8,12 @@ use Rattle.verdict_core.specs.declared.problem.ProblemText.{ProblemText}
 use Rattle.verdict_core.specs.declared.verdict.Verdict.{Verdict}
 use Rattle.verdict_core.specs.declared.verdict.Verdict.TheVariants.{Equal}
 use Rattle.verdict_core.specs.Diagrams.{grid_of}
-use Rattle.verdict_core.specs.Evidence as verdict
 use Rattle.named_quandles.specs.Names.{NamedQuandle}
 use Rattle.pair_verdict.specs.Separates.{first_separating, IsDifferentBy}
-use Rattle.decision_core.specs.Decision.{IsByWrittenQuandle}
 use Rattle.evidence_core.specs.declared.blocks.Block.{Block}
 use Rattle.evidence_core.specs.declared.evidence.Evidence.{Evidence}
-use Rattle.number_check.specs.Holds as numbers
 use Rattle.certificate_text.specs.declared.said.Said.{Said}
 use Rattle.certificate_text.specs.declared.said.Said.TheVariants as said
-use Rattle.number_certificates.specs.Printed.{HasEvidenceText}
 use Rattle.number_search.specs.declared.seed_pair.SeedPair.{SeedPair}
 use Rattle.number_search.specs.Told.{ArePlansOf, fits_both, told_apart}
 use Rattle.seek_core.specs.declared.finding.Search.{Search}
@@ -70,19 +66,3 @@ pub record IsSearchOn (d e : Diagram) (listed : List NamedQuandle) (blocks : Lis
 -- the same of a problem
 abbrev pub IsSearchOf : ProblemText → List Block → Search → Type 0
 IsSearchOf p blocks s = IsSearchOn (grid_of p.first) (grid_of p.second) p.quandles blocks s
-
--- a verdict holds of the diagrams of a problem, its moves, if any, are a tidy list, and its quandle, if it is by one, has a text
-pub record IsVerdictOf (p : ProblemText) (v : Verdict) : Type 0 where
-  pub holds : verdict.Holds (grid_of p.first) (grid_of p.second) v
-  pub written : IsByWrittenQuandle v
-  pub tidy : verdict.IsTidyVerdict v
-
--- evidence by numbers holds of the diagrams of a problem, and has a text
-pub record IsEvidenceOf (p : ProblemText) (x : Evidence) : Type 0 where
-  pub holds : numbers.Holds (grid_of p.first) (grid_of p.second) x
-  pub written : HasEvidenceText x
-
--- what is said of the diagrams of a problem is one of both
-abbrev pub IsFindingOf : ProblemText → Said → Type 0
-IsFindingOf p (said.Verdict v) = IsVerdictOf p v
-IsFindingOf p (said.Evidence x) = IsEvidenceOf p x

@@ -18,6 +18,7 @@ pub use Rattle.pair_verdict.specs.Separates
 pub use Rattle.decision_core.specs.Decision
 pub use Rattle.text_items.specs.Reading
 pub use Rattle.number_text.specs.Blocks
-pub use Rattle.number_certificates.specs.Printed as EvidenceTexts
-pub use Rattle.number_decision.specs.Evidence as WrittenEvidence
+pub use Rattle.certificates.specs.Printed as EvidenceTexts
+pub use Rattle.certificates.specs.Said as SaidTexts
+pub use Rattle.certificate_check.specs.Decision as Certified
 pub use Rattle.number_search.specs.Told

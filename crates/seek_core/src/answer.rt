@@ -3,20 +3,17 @@ ghost use Rattle.std.specs.Prelude.{◌≡◌, ℕ, List, Ok, IfOk};
 ghost use Rattle.std.specs.List.{All};
 ghost use Rattle.knot_text.specs.Printed.{HasQuandleText};
 ghost use Rattle.verdict_text.specs.Problems.{problem_of};
-ghost use Rattle.number_certificates.specs.Printed.{third_text};
-ghost use Rattle.seek_core.specs.Answers.{IsTrueAnswer, IsTidySaid, said_text};
+ghost use Rattle.seek_core.specs.Answers.{IsTrueAnswer};
 
 use crate::blocks::Blocks;
 use crate::bounds::Bounds;
 use crate::finding::{Search, find};
-use check_job::Said;
+use certificate_check::laws::what_holds_is_a_decision;
+use certificates::print_said;
 use decision_core::laws::a_verdict_that_holds_is_a_decision;
-use knot_text::{print_verdict, read_problem};
+use knot_text::read_problem;
 use meeting_walks::Watch;
 use memory_core::{Items, OutOfMemory};
-use number_certificates::print_evidence;
-use number_decision::laws::evidence_that_holds_is_evidence_on_its_problem;
-use number_text::Evidence;
 use std::alloc::Global;
 use std::thread::Threads;
 use text_items::TextFault;
@@ -79,8 +76,7 @@ fn answer_problem<R: Threads + Sync, W: Watch>(
     requires { All HasQuandleText problem.now.quandles }
     ensures { (bytes : List ℕ) → problem_of bytes ≡ Ok problem.now → IfOk result (λ a. IsTrueAnswer bytes blocks.now a) }
 {
-    a_verdict_that_holds_is_a_decision();
-    evidence_that_holds_is_evidence_on_its_problem();
+    what_holds_is_a_decision();
     let Search {
         said,
         quandles,
@@ -88,7 +84,7 @@ fn answer_problem<R: Threads + Sync, W: Watch>(
     } = find(rt, alloc, problem, blocks, bounds, watch)?;
     match said {
         Some(said) => {
-            let text = text_of(alloc, &said)?;
+            let text = print_said(alloc, &said)?;
             Ok(Answer::Decided(Items::from_vec(text)))
         }
         None => Ok(Answer::NotFound(Tried {
@@ -97,23 +93,4 @@ fn answer_problem<R: Threads + Sync, W: Watch>(
             blocks: fitting,
         })),
     }
-}
-
-/// The text of what is said of two diagrams.
-fn text_of(alloc: Global, said: &Said) -> Result<Vec<u8>, OutOfMemory>
-    requires { IsTidySaid said.now }
-    ensures { IfOk result (λ v. v.items ≡ said_text said.now) }
-{
-    match said {
-        Said::Verdict(verdict) => print_verdict(alloc, verdict),
-        Said::Evidence(evidence) => evidence_text(alloc, evidence),
-    }
-}
-
-/// The text of evidence by numbers.
-fn evidence_text(alloc: Global, evidence: &Evidence) -> Result<Vec<u8>, OutOfMemory>
-    ensures { IfOk result (λ v. v.items ≡ third_text evidence.now) }
-{
-    let text = print_evidence(alloc, evidence)?;
-    Ok(text)
 }

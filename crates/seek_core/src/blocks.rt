@@ -1,7 +1,7 @@
 //! Blocks by which diagrams are to be told apart.
 ghost use Rattle.std.specs.Prelude.{◌≡◌, ◌++◌, [], OnOk};
 ghost use Rattle.std.specs.List.{All};
-ghost use Rattle.number_certificates.specs.Printed.{HasBlockText};
+ghost use Rattle.certificates.specs.Printed.{HasBlockText};
 ghost use Rattle.text_items.specs.Reading.{Gives};
 ghost use Rattle.seek_core.specs.Given.{more_blocks};
 
@@ -21,7 +21,7 @@ impl Model for Blocks {
     ghost use Rattle.std.specs.Prelude.{List};
     ghost use Rattle.std.specs.List.{All};
     ghost use Rattle.evidence_core.specs.declared.blocks.Block.{Block};
-    ghost use Rattle.number_certificates.specs.Printed.{HasBlockText};
+    ghost use Rattle.certificates.specs.Printed.{HasBlockText};
 
     ghost Value = { List Block };
 

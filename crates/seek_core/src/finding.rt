@@ -2,14 +2,15 @@
 ghost use Rattle.std.specs.Prelude.{false, IfOk, IfSome};
 ghost use Rattle.std.specs.List.{All};
 ghost use Rattle.knot_text.specs.Printed.{HasQuandleText};
-ghost use Rattle.seek_core.specs.Found.{IsVerdictOn, IsFoundOn, IsSearchOf, IsFindingOf};
+ghost use Rattle.certificate_check.specs.Decision.{IsFindingOf};
+ghost use Rattle.seek_core.specs.Found.{IsVerdictOn, IsFoundOn, IsSearchOf};
 ghost use Rattle.seek_core.specs.Sizes.{of_size, as_tried};
 
 use crate::blocks::Blocks;
 use crate::bounds::{Bounds, SHORT_STEPS};
 use crate::candidates::candidates;
 use crate::pair::Pair;
-use check_job::Said;
+use certificate_text::Said;
 use meeting_walks::Watch;
 use memory_core::OutOfMemory;
 use number_search::{SeedPair, count_fitting};

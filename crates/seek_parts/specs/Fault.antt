@@ -6,9 +6,9 @@ use Rattle.text_items.specs.declared.fault.TextFault.TheVariants as bad
 use Rattle.text_items.specs.Reading.{Fails}
 use Rattle.code_text.specs.declared.refusal.TextRefusal.{TextRefusal}
 use Rattle.code_text.specs.declared.refusal.TextRefusal.TheVariants as refusal
-use Rattle.code_text.specs.declared.whole.CodeText.{CodeText}
+use Rattle.code_text.specs.declared.code_reading.CodeText.{CodeText}
 use Rattle.code_text.specs.TextGrid.{IsRefusal}
-use Rattle.code_text.specs.Whole.{code_text_of}
+use Rattle.code_text.specs.CodeReading.{code_text_of}
 use Rattle.knot_ports.specs.declared.limits.TheConstants.{MAX_INPUT}
 use Rattle.knot_ports.specs.declared.status.Status.{Status}
 use Rattle.knot_ports.specs.declared.status.Status.TheVariants as status

@@ -5,8 +5,8 @@ ghost use Rattle.seek_parts.specs.Fault.{text_status, refusal_status, fault_stat
 
 use code_rows::RowsFault;
 use code_text::TextRefusal;
-use decision_core::{MAX_INPUT, Status};
 use grid_core::MAX_SIZE;
+use knot_ports::{MAX_INPUT, Status};
 use seek_faults::NotOne;
 use std::{fmt, io};
 use text_items::TextFault;

@@ -5,8 +5,7 @@ ghost use Rattle.seek_parts.specs.Clash.{FilesAt};
 ghost use Rattle.seek_parts.specs.Fault.{IsUnread};
 
 use crate::fault::PartFault;
-use decision_core::MAX_INPUT;
-use knot_ports::{ReadEnd, StdSource, read_all};
+use knot_ports::{MAX_INPUT, ReadEnd, StdSource, read_all};
 use std::alloc::Global;
 use std::fs;
 use std::io::Read;

@@ -1,4 +1,5 @@
-//! The tests of the searches of calls, which are kept, and how many workers are at a book at once; and of what is told beside an answer.
+//! Tests of whole calls: with a fault at each call of the source and the sink, of the searches that are kept and of how many workers are at a book at
+//! once, and of what is told beside an answer.
 #![tactic(auto)]
 
 #[cfg(test)]

@@ -1,20 +1,22 @@
-//! The searches that calls of `decide` keep, and what is told beside an answer.
+//! Whole calls, a file for each thing that no program shows.
+mod faults;
 mod gate;
 mod kept;
-mod many;
+mod lines;
+mod options;
 mod told;
+mod workers;
 
 use crate::tests::gate::Meeting;
-use decision_core::Status;
+use crate::tests::lines::words_of;
 use knot_jobs::{Ports, run};
-use knot_ports::{MemSink, MemSource};
+use knot_ports::{MemSink, MemSource, Status};
 use search_book::End;
 use search_pool::Finding;
 use std::alloc::Global;
 use std::sync::Wait;
 use std::test::Fail;
 use std::thread::Threads;
-use trial_calls::words_of;
 
 /// The left trefoil and the right one.
 const TREFOILS: &[u8] = b"x 0 1 2 3 4\no 2 3 4 0 1\nx 4 3 2 1 0\no 2 1 0 4 3\n";

@@ -1,4 +1,4 @@
-//! Tests of colour_seeds, number_certificates and number_search.
+//! Tests of colour_seeds, certificates and number_search.
 #![tactic(auto)]
 
 #[cfg(test)]

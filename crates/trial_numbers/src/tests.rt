@@ -1,4 +1,4 @@
 //! What no program shows, a file a crate.
-mod certificates;
 mod found;
 mod seeds;
+mod written_evidence;

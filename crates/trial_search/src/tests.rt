@@ -1,5 +1,6 @@
 //! A file a crate.
 mod book;
+mod least;
 mod pairs;
 mod pool;
 mod samples;

@@ -7,7 +7,7 @@ use Rattle.text_lines.specs.Spelled.{line_text}
 use Rattle.knot_text.specs.Printed.{grid_text}
 use Rattle.code_rows.specs.declared.rows_fault.RowsFault.{RowsFault}
 use Rattle.code_rows.specs.declared.rows_fault.RowsFault.TheVariants as fault
-use Rattle.code_text.specs.declared.whole.CodeText.{CodeText}
+use Rattle.code_text.specs.declared.code_reading.CodeText.{CodeText}
 use Rattle.code_text.specs.declared.refusal.TextRefusal.{TextRefusal}
 use Rattle.code_text.specs.declared.refusal.TextRefusal.TheVariants.{Rows, Gauss, Columns, Lost}
 use Rattle.code_text.specs.TextGrid.{IsAnswer}

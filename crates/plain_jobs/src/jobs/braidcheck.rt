@@ -11,7 +11,7 @@ ghost use Rattle.plain_jobs.specs.Truth.{IsBraidCertificate};
 
 use crate::laws::accepted_braids_have_equally_many_colourings;
 use braid_moves::{BraidMoveFault, BraidRuling, check_braids};
-use decision_core::Status;
+use knot_ports::Status;
 use knot_text::{BraidCheckText, read_braidcheck};
 use reply_text::PlainReply;
 use reply_text::lines::push_spaced;

@@ -13,7 +13,7 @@ ghost use Rattle.plain_jobs.specs.Jobs.Close.{fixed_lines, fixed_text, feet_line
 
 use braid_closure::close;
 use braid_core::{Braid, FixFault, Tuple, fixed_points};
-use decision_core::Status;
+use knot_ports::Status;
 use knot_text::{CloseText, Listed, print_grid, push_quandle, read_close};
 use quandle_core::Quandle;
 use reply_text::PlainReply;

@@ -5,8 +5,8 @@ ghost use Rattle.reply_text.specs.Reply.{AnswersRead};
 ghost use Rattle.plain_jobs.specs.Jobs.Code.{code_text, AnswersCode};
 
 use crossing_codes::{code_of, gauss_text, pd_text};
-use decision_core::Status;
 use grid_core::Grid;
+use knot_ports::Status;
 use knot_text::{Diagram, read_diagram};
 use memory_core::OutOfMemory;
 use reply_text::PlainReply;

@@ -9,8 +9,8 @@ ghost use Rattle.plain_jobs.specs.Jobs.Colour.{colourings_lines, listed_text, co
 
 use colour_list::{ListFault, list};
 use colour_rows::Colouring;
-use decision_core::Status;
 use grid_core::Grid;
+use knot_ports::Status;
 use knot_text::{ColourText, Listed, push_list, push_quandle, read_colour};
 use quandle_core::Quandle;
 use reply_text::PlainReply;

@@ -1,8 +1,8 @@
 //! The job `grid`: a grid diagram of a code.
 ghost use Rattle.std.specs.Prelude.{◌≡◌, ◌≤◌, ◌++◌, codes, decimal, length, IfOk};
-ghost use Rattle.code_faults.specs.declared.fault.TheConstants.{MAX_CROSSINGS};
+ghost use Rattle.code_rows.specs.declared.code_fault.TheConstants.{MAX_CROSSINGS};
 ghost use Rattle.code_text.specs.TextGrid.{IsDiagramOf, IsTrueDrawing};
-ghost use Rattle.code_text.specs.Whole.{code_text_of};
+ghost use Rattle.code_text.specs.CodeReading.{code_text_of};
 ghost use Rattle.grid_core.specs.Diagram.{Diagram, IsGrid};
 ghost use Rattle.knot_text.specs.Printed.{grid_text};
 ghost use Rattle.plain_jobs.specs.Jobs.Grid.{rows_fault_tokens, columns_reply, refused_reply, AnswersGrid};
@@ -10,7 +10,7 @@ ghost use Rattle.reply_text.specs.Reply.{plain_reply, rejected, AnswersRead};
 
 use code_rows::RowsFault;
 use code_text::{CodeText, TextRefusal, grid_of_text, read_code};
-use decision_core::Status;
+use knot_ports::Status;
 use knot_text::print_grid;
 use reply_text::PlainReply;
 use std::alloc::{AllocError, Global};

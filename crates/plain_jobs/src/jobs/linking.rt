@@ -9,8 +9,8 @@ ghost use Rattle.plain_jobs.specs.Jobs.Linking.{linking_text, AnswersLinking};
 ghost use Rattle.plain_jobs.specs.Truth.{IsTrueLinking};
 
 use crate::comparison::push_comparison;
-use decision_core::Status;
 use grid_core::Grid;
+use knot_ports::Status;
 use knot_text::{Diagram, push_letter_line, read_pair};
 use linking_core::linking;
 use memory_core::OutOfMemory;

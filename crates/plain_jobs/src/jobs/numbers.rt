@@ -5,8 +5,8 @@ ghost use Rattle.reply_text.specs.Reply.{AnswersRead};
 ghost use Rattle.plain_jobs.specs.Jobs.Numbers.{AnswersNumbers};
 
 use block_text::{NumbersText, read_numbers};
-use decision_core::Status;
-use number_certificates::numbers_text;
+use certificates::numbers_text;
+use knot_ports::Status;
 use reply_text::PlainReply;
 use std::alloc::{AllocError, Global};
 

@@ -9,9 +9,9 @@ ghost use Rattle.plain_jobs.specs.Jobs.Replay.{Carries, coloured_text, Replays, 
 
 use colour_laws::carry;
 use colour_rows::{Colouring, is_colouring};
-use decision_core::Status;
 use grid_core::Grid;
 use grid_moves::{Move, MoveFault, apply, apply_all};
+use knot_ports::Status;
 use knot_text::{Listed, ReplayText, print_grid, read_replay};
 use quandle_core::Quandle;
 use reply_text::PlainReply;

@@ -14,12 +14,12 @@ ghost use Rattle.plain_jobs.specs.Truth.{IsTrueWeighing};
 
 use crate::comparison::push_comparison;
 use block_text::{WeighedText, Weighing, read_weighed};
+use certificates::push_number_line;
 use cocycle_core::Cocycle;
 use colour_list::{ListFault, fits};
 use colour_weights::weights;
-use decision_core::Status;
 use grid_core::Grid;
-use number_certificates::push_number_line;
+use knot_ports::Status;
 use quandle_core::Quandle;
 use reply_text::PlainReply;
 use shadow_weights::{ShadowCocycle, shadow_weights};

@@ -1,10 +1,10 @@
-//! Pairs that are joined, by one worker and by several.
+//! A disguised unknot that is joined, and searches that answer the same again, by one worker and by several.
 mod chain;
 mod watched;
 
 use grid_core::{Grid, MAX_SIZE};
 use grid_moves::{Move, apply, apply_all};
-use meeting_walks::{Bounds, Plan, Unwatched, find_joining, find_joining_by};
+use meeting_walks::{Bounds, Plan, Unwatched, find_joining_by};
 use rand_pcg::Pcg32;
 use std::alloc::Global;
 use std::test::Fail;
@@ -19,13 +19,6 @@ const BOUNDS: Bounds = Bounds {
     room: 262144,
 };
 
-/// Bounds within which nothing is sought.
-const NO_STEPS: Bounds = Bounds {
-    seed: 1,
-    steps: 0,
-    room: 0,
-};
-
 /// The closure of a braid of the figure eight knot, and a grid of it.
 const BRAID: Lists = (
     &[0, 1, 4, 6, 5, 3, 2, 7, 8, 9],
@@ -34,12 +27,8 @@ const BRAID: Lists = (
 
 const FIGURE_EIGHT: Lists = (&[3, 4, 0, 5, 2, 1], &[5, 2, 3, 1, 0, 4]);
 
-/// The right trefoil, a translate of it, the same one run through backwards, and the left one.
+/// The right trefoil and the left one.
 const TREFOIL: Lists = (&[4, 3, 2, 1, 0], &[2, 1, 0, 4, 3]);
-
-const TURNED: Lists = (&[0, 4, 3, 2, 1], &[3, 2, 1, 0, 4]);
-
-const REVERSED: Lists = (&[2, 1, 0, 4, 3], &[4, 3, 2, 1, 0]);
 
 const MIRRORED: Lists = (&[0, 1, 2, 3, 4], &[2, 3, 4, 0, 1]);
 
@@ -58,38 +47,30 @@ fn lead(first: &Grid, moves: &[Move], second: &Grid) -> bool {
     }
 }
 
-/// Whether moves are found that lead from the first grid to the second.
-fn is_joined(alloc: Global, first: &Grid, second: &Grid, bounds: Bounds) -> Result<bool, Fail> {
-    match find_joining(alloc, first, second, bounds)? {
+/// The moves that some workers find from the first grid to the second, or None.
+fn found_by<R: Threads + Sync>(
+    rt: &R,
+    alloc: Global,
+    first: &Grid,
+    second: &Grid,
+    plan: Plan,
+) -> Result<Option<Vec<Move>>, Fail> {
+    Ok(find_joining_by(rt, alloc, first, second, plan, &mut Unwatched)?)
+}
+
+/// Whether one worker finds moves that lead from the first grid to the second.
+fn is_joined<R: Threads + Sync>(
+    rt: &R,
+    alloc: Global,
+    first: &Grid,
+    second: &Grid,
+    bounds: Bounds,
+) -> Result<bool, Fail> {
+    let workers = 1;
+    match found_by(rt, alloc, first, second, Plan { bounds, workers })? {
         Some(moves) => Ok(lead(first, moves.as_slice(), second)),
         None => Ok(false),
     }
-}
-
-/// The same of the grids of lists.
-fn are_joined(alloc: Global, first: Lists, second: Lists, bounds: Bounds) -> Result<bool, Fail> {
-    let first = grid_of(first)?;
-    let second = grid_of(second)?;
-    is_joined(alloc, &first, &second, bounds)
-}
-
-#[test]
-fn the_right_trefoil_is_its_reversal(rt: HostRuntime) -> Result<(), Fail> {
-    assert!(rt; are_joined(rt.alloc(), TREFOIL, REVERSED, BOUNDS)?);
-    Ok(())
-}
-
-#[test]
-fn the_closed_braid_of_the_figure_eight_is_its_grid(rt: HostRuntime) -> Result<(), Fail> {
-    assert!(rt; are_joined(rt.alloc(), BRAID, FIGURE_EIGHT, BOUNDS)?);
-    Ok(())
-}
-
-#[test]
-fn within_no_steps_translates_alone_are_joined(rt: HostRuntime) -> Result<(), Fail> {
-    assert!(rt; are_joined(rt.alloc(), TREFOIL, TURNED, NO_STEPS)?);
-    assert!(rt; !are_joined(rt.alloc(), TREFOIL, REVERSED, NO_STEPS)?);
-    Ok(())
 }
 
 /// The grid after a random stabilisation or, mostly, a random exchange, or the same one where the one that was drawn isn't legal.
@@ -125,25 +106,17 @@ fn a_disguised_unknot_of_the_greatest_size_is_one(rt: HostRuntime) -> Result<(),
     let unknot = grid_of(UNKNOT)?;
     let grid = in_disguise(unknot.copy());
     assert_eq!(rt; grid.size() as usize, MAX_SIZE);
-    assert!(rt; is_joined(rt.alloc(), &grid, &unknot, BOUNDS)?);
-    assert!(rt; is_joined(rt.alloc(), &unknot, &grid, BOUNDS)?);
+    assert!(rt; is_joined(&rt, rt.alloc(), &grid, &unknot, BOUNDS)?);
+    assert!(rt; is_joined(&rt, rt.alloc(), &unknot, &grid, BOUNDS)?);
     Ok(())
 }
 
-/// The moves that the calling thread finds from the closed braid of the figure eight to its grid.
-fn found_alone(alloc: Global) -> Result<Vec<Move>, Fail> {
-    let near = grid_of(BRAID)?;
-    let far = grid_of(FIGURE_EIGHT)?;
-    Ok(find_joining(alloc, &near, &far, BOUNDS)?.ok_or("none")?)
-}
-
 /// The moves that some workers find from the closed braid of the figure eight to its grid.
-fn found_by<R: Threads + Sync>(rt: &R, alloc: Global, workers: u32) -> Result<Vec<Move>, Fail> {
+fn found_again<R: Threads + Sync>(rt: &R, alloc: Global, workers: u32) -> Result<Vec<Move>, Fail> {
     let near = grid_of(BRAID)?;
     let far = grid_of(FIGURE_EIGHT)?;
     let bounds = BOUNDS;
-    let plan = Plan { bounds, workers };
-    let found = find_joining_by(rt, alloc, &near, &far, plan, &mut Unwatched)?;
+    let found = found_by(rt, alloc, &near, &far, Plan { bounds, workers })?;
     Ok(found.ok_or("none")?)
 }
 
@@ -155,26 +128,24 @@ fn lead_to_the_grid(moves: &[Move]) -> Result<bool, Fail> {
 }
 
 /// Whether some workers find moves that join, and the same ones again.
-fn find_again<R: Threads + Sync>(rt: &R, alloc: Global, workers: u32) -> Result<bool, Fail> {
-    let one = found_by(rt, alloc, workers)?;
-    let other = found_by(rt, alloc, workers)?;
+fn is_found_again<R: Threads + Sync>(rt: &R, alloc: Global, workers: u32) -> Result<bool, Fail> {
+    let one = found_again(rt, alloc, workers)?;
+    let other = found_again(rt, alloc, workers)?;
     Ok(one.as_slice() == other.as_slice() && lead_to_the_grid(one.as_slice())?)
 }
 
 #[test]
 fn each_number_of_workers_joins_and_answers_the_same_again(rt: HostRuntime) -> Result<(), Fail> {
     for workers in 1u32..4 {
-        assert!(rt; find_again(&rt, rt.alloc(), workers)?);
+        assert!(rt; is_found_again(&rt, rt.alloc(), workers)?);
     }
     Ok(())
 }
 
 #[test]
-fn one_worker_finds_what_the_calling_thread_finds(rt: HostRuntime) -> Result<(), Fail> {
-    let alone = found_alone(rt.alloc())?;
-    let by_one = found_by(&rt, rt.alloc(), 1)?;
-    let by_none = found_by(&rt, rt.alloc(), 0)?;
-    assert!(rt; alone.as_slice() == by_one.as_slice());
-    assert!(rt; alone.as_slice() == by_none.as_slice());
+fn a_plan_for_none_has_one_worker(rt: HostRuntime) -> Result<(), Fail> {
+    let by_one = found_again(&rt, rt.alloc(), 1)?;
+    let by_none = found_again(&rt, rt.alloc(), 0)?;
+    assert!(rt; by_one.as_slice() == by_none.as_slice());
     Ok(())
 }

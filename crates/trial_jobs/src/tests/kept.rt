@@ -1,7 +1,7 @@
 //! The search that a call keeps, where there was one.
 use super::gate::Meeting;
 use super::{TREFOILS, call, is_exhausted};
-use decision_core::Status;
+use knot_ports::Status;
 use search_book::End;
 use search_pool::Finding;
 use std::test::Fail;

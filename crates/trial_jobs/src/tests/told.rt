@@ -1,4 +1,5 @@
 //! What is told of streams that fail in the middle, and of answers; and which words ask for a job that reads.
+use crate::tests::lines::words_of;
 use knot_jobs::{Job, PlainJob, Ports, Status, run_alone};
 use knot_ports::{StdSink, StdSource, give_all};
 use knot_tells::{reading, sentence_of};
@@ -6,7 +7,6 @@ use std::alloc::Global;
 use std::io;
 use std::io::{Read, Write};
 use std::test::Fail;
-use trial_calls::words_of;
 
 /// A reader of bytes, which fails behind them if it is to.
 #[derive(Drop)]

@@ -2,13 +2,13 @@
 ghost use Rattle.colour_seeds.specs.Plan.{IsPlan};
 
 use cocycle_core::Cocycle;
+use cocycle_numbers::weights_by_seeds;
 use colour_seeds::{CountFault, SeedFault, Seeding, Step, count, is_connected};
 use grid_core::Grid;
 use quandle_core::Quandle;
 use seed_search::seeds_of;
 use std::alloc::Global;
 use std::test::Fail;
-use strand_numbers::weights_by_seeds;
 
 /// The rows of a grid: of the Xs, and of the Os.
 type Rows = (&'static [u8], &'static [u8]);

@@ -3,7 +3,7 @@ ghost use Rattle.std.specs.Prelude.{◌≡◌, ◌≤◌};
 ghost use Rattle.search_book.specs.declared.problem.TheConstants.{MAX_BUDGET};
 
 mod atlas;
-mod many;
+mod decided;
 mod searched;
 mod steps;
 

@@ -1,13 +1,12 @@
-//! Searches of one worker, with ends as worked out by hand; of many workers in `many`.
+//! How searches of one worker end, where no job says it; of many workers in `at_once`.
 ghost use Rattle.std.specs.Prelude.{◌≤◌, IfOk};
 ghost use Rattle.grid_core.specs.declared.grid.TheConstants.{MAX_SIZE};
 ghost use Rattle.grid_core.specs.Diagram.{size};
 ghost use Rattle.search_book.specs.declared.problem.TheConstants.{MAX_BUDGET};
 
-mod many;
+mod at_once;
 
 use grid_core::{Grid, MAX_SIZE};
-use grid_moves::{Move, apply_all};
 use search_book::{End, MAX_BUDGET, Meeting, Problem};
 use search_pool::{Finding, alone};
 use std::alloc::Global;
@@ -21,9 +20,6 @@ const LEFT_TREFOIL: Rows = (&[0, 1, 2, 3, 4], &[2, 3, 4, 0, 1]);
 const RIGHT_TREFOIL: Rows = (&[4, 3, 2, 1, 0], &[2, 1, 0, 4, 3]);
 
 const REVERSED: Rows = (&[4, 3, 2, 1, 0], &[1, 0, 4, 3, 2]);
-
-/// The closure of the braid of two strands with the letters 1, 1 and 1, which is the right trefoil too.
-const CLOSURE: Rows = (&[4, 3, 2, 0, 1, 5, 6], &[6, 5, 4, 3, 2, 1, 0]);
 
 /// The grid of these rows.
 fn grid_of(rows: Rows) -> Result<Grid, Fail> {
@@ -93,53 +89,10 @@ fn is_met_by_offer(finding: &Finding) -> bool {
     matches!(finding.book.end(), Some(End::Met(Meeting::Offered { .. })))
 }
 
-/// The list of a search whose sides have met.
-fn joined(alloc: Global, finding: &Finding) -> Result<Vec<Move>, Fail> {
-    match finding.book.joined(alloc) {
-        Ok(Some(moves)) => Ok(moves),
-        _ => Err(Fail::from("not joined")),
-    }
-}
-
-/// Whether moves lead from one grid to another.
-fn leads(first: Rows, moves: &[Move], second: Rows) -> Result<bool, Fail> {
-    let first = grid_of(first)?;
-    let second = grid_of(second)?;
-    match apply_all(&first, moves) {
-        Ok(reached) => Ok(reached.same_as(&second)),
-        Err(_) => Ok(false),
-    }
-}
-
-#[test]
-fn neither_trefoil_has_a_neighbour_of_its_size(rt: HostRuntime) -> Result<(), Fail> {
-    let finding = search(rt.alloc(), LEFT_TREFOIL, RIGHT_TREFOIL, 5, 20_000)?;
-    assert!(rt; is_exhausted(&finding));
-    assert_eq!(rt; counts(&finding), (2, 2, 4));
-    Ok(())
-}
-
-#[test]
-fn a_budget_of_two_is_spent_at_the_next_size(rt: HostRuntime) -> Result<(), Fail> {
-    let finding = search(rt.alloc(), LEFT_TREFOIL, RIGHT_TREFOIL, 6, 2)?;
-    assert!(rt; is_spent(&finding));
-    let (entries, settled, _) = counts(&finding);
-    assert!(rt; entries == 2 && settled == 1);
-    Ok(())
-}
-
 #[test]
 fn the_trefoil_and_its_reverse_meet_at_the_next_size(rt: HostRuntime) -> Result<(), Fail> {
     let finding = search(rt.alloc(), RIGHT_TREFOIL, REVERSED, 6, 20_000)?;
     assert!(rt; is_met_by_offer(&finding));
-    Ok(())
-}
-
-#[test]
-fn a_closure_and_the_trefoil_are_joined_within_its_own_size(rt: HostRuntime) -> Result<(), Fail> {
-    let finding = search(rt.alloc(), CLOSURE, RIGHT_TREFOIL, 7, 200_000)?;
-    let moves = joined(rt.alloc(), &finding)?;
-    assert!(rt; leads(CLOSURE, moves.as_slice(), RIGHT_TREFOIL)?);
     Ok(())
 }
 

@@ -158,42 +158,6 @@ fn a_text_is_put_on_disk(rt: HostRuntime) -> Result<(), Fail> {
     Ok(())
 }
 
-/// The path of a file in a folder, whose name has so many bytes.
-fn long_path(alloc: Global, folder: &str, len: usize) -> Result<String, Fail> {
-    let mut path = format!(in alloc; "{folder}/")?;
-    for _ in 0..len {
-        path.push('n')?;
-    }
-    Ok(path)
-}
-
-const LONG_FOLDER: &str = "whole_files_long";
-
-/// A name has 255 bytes at most. A longer one is refused before there is a text.
-#[test]
-fn a_name_as_long_as_the_system_takes_is_put(rt: HostRuntime) -> Result<(), Fail> {
-    let _gone = fs::remove_dir_all(&rt, LONG_FOLDER);
-    fs::create_dir(&rt, LONG_FOLDER)?;
-    let mut places = DiskPlaces::new(&rt);
-    for len in [239, 240, 245, 255] {
-        let path = long_path(rt.alloc(), LONG_FOLDER, len)?;
-        places.try_path(path.as_str())?;
-        places.put(path.as_str(), TEXT)?;
-        assert_eq!(rt; fs::read(&rt, path.as_str())?.as_slice(), TEXT);
-        fs::remove_file(&rt, path.as_str())?;
-    }
-    let longer = long_path(rt.alloc(), LONG_FOLDER, 256)?;
-    assert!(rt; places.try_path(longer.as_str()).is_err());
-    fs::remove_dir(&rt, LONG_FOLDER)?;
-    Ok(())
-}
-
-#[test]
-fn a_file_without_a_name_is_refused(rt: HostRuntime) -> Result<(), Fail> {
-    assert!(rt; DiskPlaces::new(&rt).try_path("").is_err());
-    Ok(())
-}
-
 const MODE_PATH: &str = "whole_files_mode";
 
 #[test]

@@ -2,7 +2,7 @@
 ghost use Rattle.std.specs.Prelude.{◌≡◌, Some, codes, if◌then◌else◌};
 ghost use Rattle.std.specs.Str.{bytes_eq};
 
-use decision_core::MAX_INPUT;
+use knot_ports::MAX_INPUT;
 use seek_parts::{PartFault, Parts, Texts, read_and_written};
 use seek_words::{Asked, Diagrams, Given, Talk};
 use std::alloc::Global;

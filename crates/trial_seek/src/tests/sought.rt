@@ -1,7 +1,6 @@
 //! What was tried where nothing is found, quandles by formula, and ends of calls that the program doesn't show.
 use super::parts::part;
-use decision_core::Status;
-use knot_ports::MemSink;
+use knot_ports::{MemSink, Status};
 use meeting_walks::Unwatched;
 use seek_core::{Answer, Blocks, Bounds, Ending, answer_to, formula_quandles, run};
 use std::alloc::Global;

@@ -13,7 +13,7 @@ returns-clause-colourings c = λ t q.
     let given = c.args.given.now in
     let grid = c.in-Ok.grid in
     let found = c.in_ok-found.found in
-    let r = c.in-Some-2.renaming in
-    let h : IsRenaming given found r = (rw c.in-Some-2.is at c.in_ok-renaming.ensures.some).0 in
+    let r = c.in-Some.renaming in
+    let h : IsRenaming given found r = (rw c.in-Some.is at c.in_ok-renaming.ensures.some).0 in
     composed (IsColouring t grid) (λ e. is_code_colouring t found e ≡ true) (λ e. is_code_colouring t given e ≡ true)
     (edge_colours t grid) (recoloured r.edges) (c.in_ok-found.ensures.colourings t q) (colourings_one_to_one t given found r h)

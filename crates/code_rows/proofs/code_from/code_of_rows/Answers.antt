@@ -1,7 +1,7 @@
 use Rattle.std.proofs.Common.{◌≡◌, ◌∙◌, ℕ, List, Some, ap, sym, subst, length, arith}
 use Rattle.std.proofs.lemmas.Bool.{true≢false}
-use Rattle.code_faults.specs.declared.fault.CodeFault.TheVariants.{Empty, Size, Count, Range, Edge}
-use Rattle.code_faults.specs.Fault.{first_fault}
+use Rattle.code_rows.specs.declared.code_fault.CodeFault.TheVariants.{Empty, Size, Count, Range, Edge}
+use Rattle.code_rows.specs.CodeFault.{first_fault}
 use Rattle.code_rows.specs.Rows.{name_of}
 use Rattle.code_rows.specs.Refused.{IsClash}
 use Rattle.code_rows.proofs.InRange.{names_long, late_fault, plane_fails}

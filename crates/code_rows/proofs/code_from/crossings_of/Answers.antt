@@ -1,8 +1,8 @@
 use Rattle.std.proofs.Common.{◌∙◌, ◌∷◌, ◌++◌, [], ℕ, List, take, ap, sym, arith, add-one}
 use Rattle.crossing_codes.specs.declared.crossing.Crossing.{Crossing}
-use Rattle.code_faults.specs.Map.{no_crossing}
+use Rattle.code_rows.specs.CodeMap.{no_crossing}
 use Rattle.code_rows.specs.Rows.{row_of}
-use Rattle.code_rows.specs.Signs.{with_signs}
+use Rattle.code_rows.specs.RowSigns.{with_signs}
 use Rattle.code_rows.proofs.Signed.{signed_more}
 use Rattle.code_rows.proofs.code_from.crossings_of.Goals as goal
 

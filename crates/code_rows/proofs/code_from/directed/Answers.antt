@@ -2,7 +2,7 @@ use Rattle.std.proofs.Common.{◌*◌, ◌∙◌, ℕ, List, refl, ap, ap₂, su
 use Rattle.crossing_codes.specs.declared.crossing.Code.{Code}
 use Rattle.code_rows.specs.declared.row.Row.{Row}
 use Rattle.code_rows.specs.Rows.{numbered, row_of, IsCodeOf}
-use Rattle.code_rows.specs.Signs.{with_signs, AreBest}
+use Rattle.code_rows.specs.RowSigns.{with_signs, AreBest}
 use Rattle.code_rows.proofs.InRange.{names_long}
 use Rattle.code_rows.proofs.Signed.{rows_back}
 use Rattle.code_rows.proofs.Best.{best_code}

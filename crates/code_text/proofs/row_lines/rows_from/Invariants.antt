@@ -1,5 +1,5 @@
 use Rattle.std.proofs.Common.{◌≡◌, ◌≤◌, [], length}
-use Rattle.code_faults.specs.declared.fault.TheConstants.{MAX_CROSSINGS}
+use Rattle.code_rows.specs.declared.code_fault.TheConstants.{MAX_CROSSINGS}
 use Rattle.code_text.specs.RowLines.{rows_from}
 use Rattle.code_text.proofs.row_lines.rows_from.Given as goal
 

@@ -3,8 +3,9 @@ use Rattle.std.specs.List.{Contains}
 use Rattle.grid_core.specs.Diagram.{size}
 use Rattle.grid_moves.specs.declared.step.Move.{Move}
 use Rattle.grid_moves.specs.Joining.{JoinsWithin}
-use Rattle.mono_simplify.specs.Simplified.{AreMonotonic}
-use Rattle.mono_simplify.proofs.Monotonic.{monotonic_start, monotonic_on, monotonic_end}
+use Rattle.mono_simplify.specs.ExchangeClass.{is_shift_or_exchange}
+use Rattle.mono_simplify.specs.Simplified.{is_monotonic, AreMonotonic}
+use Rattle.mono_simplify.proofs.Monotonic.{AreAll, monotonic_exchange, all_start, all_on, all_end}
 use Rattle.mono_simplify.proofs.Ways.{link_has, still_has, reverse_has, trails_start, trails_more, trails_end, parent_before}
 use Rattle.mono_simplify.proofs.way.way_to.Goals as goal
 
@@ -13,7 +14,7 @@ loop-here-init c = (
   c.requires.place,
   link_has c.new-back.result.items c.push_link_back.new.list.items c.args.last c.in_ok-push_link_back.ensures.list,
   λ key member to stands names same leads small. trails_start c.args.grid.now c.args.class.now c.args.place c.new-back.result.items c.push_link_back.new.list.items c.args.last key member to c.new-back.ensures.items c.in_ok-push_link_back.ensures.list stands names same leads small,
-  monotonic_start c.new-back.result.items c.push_link_back.new.list.items c.args.last c.new-back.ensures.items c.in_ok-push_link_back.ensures.list,
+  λ kind has step. all_start kind has c.new-back.result.items c.push_link_back.new.list.items c.args.last c.new-back.ensures.items c.in_ok-push_link_back.ensures.list step,
 )
 
 pub origin_at-origin-requires : goal.origin_at-origin-requires
@@ -30,7 +31,7 @@ loop-here-preserved c =
       still_has c.loop-here.back.items _ c.push_link_back-in-loop-here.new.list.items c.args.last.step c.in_ok-push_link_back-2.ensures.list c.loop-here.invariant.1,
       λ key member to stands names same leads small.
           trails_more c.args.grid.now c.args.class.now c.loop-here.here c.origin_at-origin.result c.origin_at-origin.ensures.0 c.loop-here.back.items c.push_link_back-in-loop-here.new.list.items to c.loop-here-test.true c.requires.ways c.origin_at-origin.ensures.1 c.in_ok-push_link_back-2.ensures.list (c.loop-here.invariant.2 key member to stands names same leads small),
-      λ step. monotonic_on c.args.grid.now c.args.class.now c.loop-here.here c.origin_at-origin.result c.origin_at-origin.ensures.0 c.loop-here.back.items c.push_link_back-in-loop-here.new.list.items c.loop-here-test.true c.requires.ways c.origin_at-origin.ensures.1 c.in_ok-push_link_back-2.ensures.list (c.loop-here.invariant.3 step),
+      λ kind has step. all_on kind has c.args.grid.now c.args.class.now c.loop-here.here c.origin_at-origin.result c.origin_at-origin.ensures.0 c.loop-here.back.items c.push_link_back-in-loop-here.new.list.items c.loop-here-test.true c.requires.ways c.origin_at-origin.ensures.1 c.in_ok-push_link_back-2.ensures.list (c.loop-here.invariant.3 kind has step),
     )
 
 pub returns-clause-last : goal.returns-clause-last
@@ -41,7 +42,12 @@ returns-clause-last c =
 pub returns-clause-kept : goal.returns-clause-kept
 returns-clause-kept c = λ step.
     subst AreMonotonic (sym c.reverse.ensures.items)
-    (monotonic_end c.loop-here.back.items c.push_shifts_back.new.list.items c.canonical-form.result.columns c.canonical-form.result.rows c.in_ok-push_shifts_back.ensures.list (c.loop-here.invariant.3 step))
+    (all_end is_monotonic monotonic_exchange c.loop-here.back.items c.push_shifts_back.new.list.items c.canonical-form.result.columns c.canonical-form.result.rows c.in_ok-push_shifts_back.ensures.list (c.loop-here.invariant.3 is_monotonic monotonic_exchange step))
+
+pub returns-clause-exchanges : goal.returns-clause-exchanges
+returns-clause-exchanges c = λ step.
+    subst (AreAll is_shift_or_exchange) (sym c.reverse.ensures.items)
+    (all_end is_shift_or_exchange (λ move is. is) c.loop-here.back.items c.push_shifts_back.new.list.items c.canonical-form.result.columns c.canonical-form.result.rows c.in_ok-push_shifts_back.ensures.list (c.loop-here.invariant.3 is_shift_or_exchange (λ move is. is) step))
 
 pub returns-clause-joined : goal.returns-clause-joined
 returns-clause-joined c = λ key member to stands names same leads small.

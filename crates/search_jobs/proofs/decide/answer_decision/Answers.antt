@@ -9,7 +9,7 @@ use Rattle.search_jobs.specs.Decide.{problem_for}
 use Rattle.search_jobs.proofs.Decisions.{has_evidence}
 use Rattle.verdict_text.specs.declared.verdicts.Version.TheVariants.{Tidy}
 use Rattle.knot_text.specs.Printed.{version_text}
-use Rattle.decision_core.specs.Decision.{IsDecision}
+use Rattle.decision_core.specs.Decision.{IsDecisionByVerdict}
 use Rattle.decision_core.proofs.AcceptedBehind.{accepted_behind}
 use Rattle.search_jobs.proofs.ReadProblems.{has_text}
 use Rattle.search_jobs.proofs.decide.answer_decision.Goals as goal
@@ -33,7 +33,7 @@ returns-clause-claim c = λ bytes read done.
     let text = has_text c.a_decision_has_a_text.ensures bytes asked input asked.workers v kept read decides in
     let printed = ap (λ (r : Reply). r.text) c.reply_of.ensures ∙ c.in-Ok-print_verdict.ensures in
     let written = version_text Tidy v in
-    let decision : IsDecision bytes written = record {
+    let decision : IsDecisionByVerdict bytes written = record {
       problem = input;
       read = read;
       verdict = v;
@@ -43,4 +43,4 @@ returns-clause-claim c = λ bytes read done.
       is_true = claims;
       accepted = accepted_behind bytes input v read text holds;
     } in
-    subst (IsDecision bytes) (sym printed) decision
+    subst (IsDecisionByVerdict bytes) (sym printed) decision

@@ -1,10 +1,9 @@
 use Rattle.std.proofs.Common.{rules, ◌∙◌, List, ℕ, Option, IfSome, sym, subst}
 use Rattle.certificate_text.specs.declared.said.Said.{Said}
 use Rattle.seek_core.specs.declared.answer.Tried.{Tried}
-use Rattle.seek_core.specs.Found.{IsFindingOf}
-use Rattle.seek_core.specs.Answers.{Decides}
+use Rattle.certificate_check.specs.Decision.{IsFindingOf, IsDecision}
 use Rattle.seek_core.proofs.Separated.{in_vain_of}
-use Rattle.seek_core.proofs.Texts.{tidy_said, decided}
+use Rattle.seek_core.proofs.Texts.{tidy_said}
 use Rattle.seek_core.proofs.answer.answer_problem.Goals as goal
 
 pub returns-in-None : goal.returns-in-None
@@ -13,8 +12,8 @@ returns-in-None g c = λ bytes read.
     let tried : Tried = record { columns = (c.columns.result, c.columns-in-None.result); quandles = c.from_vec-in-None.result; blocks = s.blocks } in
     in_vain_of bytes c.args.problem.now c.args.blocks.now s tried read (search rules) c.from_vec-in-None.ensures (search rules) c.in-None.is c.in_ok-said.ensures.search
 
-pub text_of-requires : goal.text_of-requires
-text_of-requires g c =
+pub print_said-requires : goal.print_said-requires
+print_said-requires g c =
     let p = c.args.problem.now in
     tidy_said p c.in-Some.said (subst (λ (o : Option Said). IfSome o (λ x. IsFindingOf p x)) c.in-Some.is c.in_ok-said.ensures.finding)
 
@@ -22,5 +21,5 @@ pub returns-in_ok-text-in-Some : goal.returns-in_ok-text-in-Some
 returns-in_ok-text-in-Some g c = λ bytes read.
     let p = c.args.problem.now in
     let finding = subst (λ (o : Option Said). IfSome o (λ x. IsFindingOf p x)) c.in-Some.is c.in_ok-said.ensures.finding in
-    subst (λ (text : List ℕ). Decides bytes text) (sym (c.from_vec.ensures ∙ c.in_ok-text-in-Some.ensures))
-    (decided c.a_verdict_that_holds_is_a_decision.ensures.decision c.evidence_that_holds_is_evidence_on_its_problem.ensures bytes p c.in-Some.said read finding)
+    subst (λ (text : List ℕ). IsDecision bytes text) (sym (c.from_vec.ensures ∙ c.in_ok-text-in-Some.ensures))
+    (c.what_holds_is_a_decision.ensures.decision bytes p c.in-Some.said read finding)

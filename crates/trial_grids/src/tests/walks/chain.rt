@@ -1,13 +1,14 @@
 //! The paths along the moves that are found, and the shorter ones: chains of forms, each a move away from the one before.
 //! Walks whose own path is no chain have no moves to write down, and nothing is found.
 
-use super::{BOUNDS, BRAID, FIGURE_EIGHT, Lists, grid_of};
+use super::{BOUNDS, BRAID, FIGURE_EIGHT, Lists, found_by, grid_of};
 use grid_core::Grid;
 use grid_moves::{Move, apply};
-use meeting_walks::find_joining;
+use meeting_walks::Plan;
 use rand_pcg::Pcg32;
 use std::alloc::Global;
 use std::test::Fail;
+use std::thread::Threads;
 use torus_grids::{
     Form, Torus, below, destabilise_at_random, exchange_at_random, shortened, stabilise_at_random,
 };
@@ -44,10 +45,17 @@ fn is_chain(path: &[Form], ends: (Form, Form)) -> bool {
 }
 
 /// The moves that one worker finds from a grid to another.
-fn found(alloc: Global, near: &Grid, far: &Grid, seed: u64) -> Result<Vec<Move>, Fail> {
+fn found<R: Threads + Sync>(
+    rt: &R,
+    alloc: Global,
+    near: &Grid,
+    far: &Grid,
+    seed: u64,
+) -> Result<Vec<Move>, Fail> {
     let mut bounds = BOUNDS;
     bounds.seed = seed;
-    Ok(find_joining(alloc, near, far, bounds)?.ok_or("none")?)
+    let workers = 1;
+    Ok(found_by(rt, alloc, near, far, Plan { bounds, workers })?.ok_or("none")?)
 }
 
 /// Puts a form behind others, but where it is the last of them: shifts lead to translates.
@@ -86,10 +94,16 @@ fn is_shortened(
 }
 
 /// Whether the path that one worker finds between the grids of lists, and the shorter one, are chains from the first to the second.
-fn are_chains(alloc: Global, first: Lists, second: Lists, seed: u64) -> Result<bool, Fail> {
+fn are_chains<R: Threads + Sync>(
+    rt: &R,
+    alloc: Global,
+    first: Lists,
+    second: Lists,
+    seed: u64,
+) -> Result<bool, Fail> {
     let near = grid_of(first)?;
     let far = grid_of(second)?;
-    let moves = found(alloc, &near, &far, seed)?;
+    let moves = found(rt, alloc, &near, &far, seed)?;
     let path = path_of(alloc, &near, moves.as_slice())?;
     is_shortened(alloc, path, (form_of(&near), form_of(&far)), seed)
 }
@@ -97,8 +111,8 @@ fn are_chains(alloc: Global, first: Lists, second: Lists, seed: u64) -> Result<b
 #[test]
 fn paths_are_chains_from_the_first_diagram_to_the_second(rt: HostRuntime) -> Result<(), Fail> {
     for seed in 1u64..4 {
-        assert!(rt; are_chains(rt.alloc(), BRAID, FIGURE_EIGHT, seed)?);
-        assert!(rt; are_chains(rt.alloc(), FIGURE_EIGHT, BRAID, seed)?);
+        assert!(rt; are_chains(&rt, rt.alloc(), BRAID, FIGURE_EIGHT, seed)?);
+        assert!(rt; are_chains(&rt, rt.alloc(), FIGURE_EIGHT, BRAID, seed)?);
     }
     Ok(())
 }

@@ -1,0 +1,4 @@
+pub mod BlocksSay
+pub mod LinkingBounds
+pub mod HeldTexts
+pub mod Decisions

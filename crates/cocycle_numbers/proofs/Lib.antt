@@ -1,0 +1,4 @@
+mod Lanes
+mod Tallying
+mod StrandTallies
+mod ShadowTallies

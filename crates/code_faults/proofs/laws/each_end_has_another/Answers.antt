@@ -1,5 +1,0 @@
-use Rattle.code_faults.proofs.OtherEnds.{other_ends}
-use Rattle.code_faults.proofs.laws.each_end_has_another.Goals as goal
-
-pub returns : goal.returns
-returns c = λ code joins. other_ends code joins

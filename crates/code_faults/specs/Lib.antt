@@ -1,4 +1,0 @@
-pub mod Joined
-pub mod Map
-pub mod Fault
-pub mod Chains

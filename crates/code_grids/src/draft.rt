@@ -1,0 +1,149 @@
+//! Drafts of grid diagrams.
+
+use crate::bends::{Bends, bends_of};
+use crate::lines::Lines;
+use crate::order::places;
+use crate::plan::{Plan, turned};
+use crate::rectangles::Pairs;
+use crate::tables::{at, marked};
+use crossing_codes::Code;
+use memory_core::OutOfMemory;
+use std::alloc::{AllocError, Global};
+
+/// What may be the rows of a grid diagram, and where the crossings of the code may stand in it.
+#[derive(Drop)]
+pub struct Draft {
+    /// The rows of the Xs by column.
+    pub x: Vec<u8>,
+    /// The rows of the Os by column.
+    pub o: Vec<u8>,
+    /// The column and the row of each crossing.
+    pub crossings: Vec<(u8, u8)>,
+    /// How many columns the diagram needs; where they are more than `most`, it is not drawn.
+    pub columns: usize,
+}
+
+impl Draft {
+    /// A draft without marks, for a diagram of so many columns.
+    fn empty(alloc: Global, columns: usize) -> Draft {
+        Draft {
+            x: Vec::new(alloc),
+            o: Vec::new(alloc),
+            crossings: Vec::new(alloc),
+            columns,
+        }
+    }
+}
+
+/// A draft of a diagram of a code, of at most so many columns.
+pub fn draft_of(alloc: Global, code: &Code, most: usize) -> Result<Draft, OutOfMemory> {
+    let plan = Plan::of(alloc, code)?;
+    let bends = bends_of(alloc, &plan)?;
+    let loops = code.loops as usize;
+    let mut draft = Draft::empty(alloc, columns_for(&plan, &bends, loops));
+    if draft.columns > most {
+        return Ok(draft);
+    }
+    let lines = Lines::of(alloc, &plan, &bends)?;
+    let pairs = Pairs::of(alloc, &plan, &bends, &lines)?;
+    let (columns, rows) = places_of(alloc, &plan, &lines, &pairs)?;
+    push_marks(&mut draft, &lines, columns.as_slice(), rows.as_slice())?;
+    push_loops(&mut draft, loops)?;
+    push_crossings(
+        &mut draft,
+        &plan,
+        &lines,
+        columns.as_slice(),
+        rows.as_slice(),
+    )?;
+    Ok(draft)
+}
+
+/// How many columns a diagram takes: half as many as its edges turn, and two more for each component without a crossing.
+fn columns_for(plan: &Plan, bends: &Bends, loops: usize) -> usize {
+    let mut turns: usize = 0;
+    for dart in 0..plan.darts {
+        if plan.leaves(dart) {
+            turns = turns.saturating_add(bends.count(dart));
+        }
+    }
+    (turns / 2).saturating_add(loops.saturating_mul(2))
+}
+
+/// The columns of the vertical lines and the rows of the others, by line.
+fn places_of(
+    alloc: Global,
+    plan: &Plan,
+    lines: &Lines,
+    pairs: &Pairs,
+) -> Result<(Vec<usize>, Vec<usize>), OutOfMemory> {
+    let count = lines.count;
+    let total = count.saturating_add(plan.roots.len()).saturating_add(1);
+    let upright = lines.upright.as_slice();
+    let flat: Vec<bool> = upright.iter().map(|upright| !*upright).collect(alloc)?;
+    let columns = places(alloc, pairs.across.as_slice(), upright, count, total)?;
+    let rows = places(
+        alloc,
+        pairs.upward.as_slice(),
+        flat.as_slice(),
+        count,
+        total,
+    )?;
+    Ok((columns, rows))
+}
+
+/// Puts the marks of the lines: each vertical one has its X on the line before and its O on the line after.
+fn push_marks(
+    draft: &mut Draft,
+    lines: &Lines,
+    columns: &[usize],
+    rows: &[usize],
+) -> Result<(), AllocError> {
+    for column in 0..lines.count {
+        for line in 0..lines.count {
+            if marked(lines.upright.as_slice(), line) && at(columns, line) == column {
+                let x = at(rows, at(lines.before.as_slice(), line));
+                let o = at(rows, at(lines.after.as_slice(), line));
+                draft.x.push(small(x))?;
+                draft.o.push(small(o))?;
+            }
+        }
+    }
+    Ok(())
+}
+
+/// Puts the components without a crossing behind the others, each of two columns and rows.
+fn push_loops(draft: &mut Draft, loops: usize) -> Result<(), AllocError> {
+    for _ in 0..loops {
+        let next = draft.x.len();
+        draft.x.push(small(next))?;
+        draft.x.push(small(next.saturating_add(1)))?;
+        draft.o.push(small(next.saturating_add(1)))?;
+        draft.o.push(small(next))?;
+    }
+    Ok(())
+}
+
+/// Puts the crossings, each where its vertical strand over meets the other one.
+fn push_crossings(
+    draft: &mut Draft,
+    plan: &Plan,
+    lines: &Lines,
+    columns: &[usize],
+    rows: &[usize],
+) -> Result<(), AllocError> {
+    for root in 0..plan.darts {
+        if root % 4 == 0 {
+            let over = if plan.leaves(turned(root, 1)) { 1 } else { 3 };
+            let column = at(columns, lines.enters(turned(root, over)));
+            let row = at(rows, lines.enters(turned(root, 2)));
+            draft.crossings.push((small(column), small(row)))?;
+        }
+    }
+    Ok(())
+}
+
+/// A number that is to be below 256; else 255.
+fn small(number: usize) -> u8 {
+    if number < 256 { number as u8 } else { 255 }
+}

@@ -1,5 +1,0 @@
-use Rattle.code_rows.specs.Signs.{Reached}
-use Rattle.code_rows.proofs.signs.joined_ties.Given as goal
-
-abbrev pub invariant-loop-before : goal.invariant-loop-before
-invariant-loop-before l = Reached l.rows l.ties.items l.before

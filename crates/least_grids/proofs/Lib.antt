@@ -1,0 +1,5 @@
+pub mod KeyOrder
+pub mod Seen
+pub mod MemberWays
+pub mod Class
+mod WorkedRows

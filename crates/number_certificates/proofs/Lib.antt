@@ -1,3 +1,0 @@
-pub mod Earlier
-mod WorkedRows
-pub mod PartTexts

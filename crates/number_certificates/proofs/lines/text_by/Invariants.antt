@@ -1,7 +1,0 @@
-use Rattle.std.proofs.Common.{◌≡◌, take}
-use Rattle.std.specs.List.{flat_map}
-use Rattle.number_certificates.specs.Lines.{block_text}
-use Rattle.number_certificates.proofs.lines.text_by.Given as goal
-
-abbrev pub invariant-loop-block : goal.invariant-loop-block
-invariant-loop-block l = l.out.items ≡ flat_map (block_text l.grid l.seeding) (take l.block-index l.blocks)

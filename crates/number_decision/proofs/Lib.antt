@@ -1,4 +1,0 @@
-pub mod BlocksSay
-pub mod LinkingBounds
-pub mod HeldTexts
-pub mod HeldEvidence

@@ -1,5 +1,0 @@
-use Rattle.number_laws.proofs.EvidenceBehind.{evidence_behind}
-use Rattle.number_laws.proofs.laws.evidence_behind_its_problem_is_read.Goals as goal
-
-pub returns : goal.returns
-returns c = evidence_behind

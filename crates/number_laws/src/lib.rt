@@ -1,4 +1,0 @@
-//! Laws of evidence by numbers as a text: what is printed is read back.
-#![tactic(auto)]
-
-pub mod laws;

@@ -1,4 +1,0 @@
-pub mod ValueRows
-pub mod ShadowAgain
-pub mod ShadowSteady
-pub mod ShadowSays

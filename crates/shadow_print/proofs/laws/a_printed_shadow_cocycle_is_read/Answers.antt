@@ -1,5 +1,0 @@
-use Rattle.shadow_print.proofs.ShadowAgain.{shadow_read}
-use Rattle.shadow_print.proofs.laws.a_printed_shadow_cocycle_is_read.Goals as goal
-
-pub returns : goal.returns
-returns c = shadow_read

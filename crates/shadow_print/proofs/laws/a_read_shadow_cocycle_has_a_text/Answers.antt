@@ -1,5 +1,0 @@
-use Rattle.shadow_print.proofs.ShadowSays.{shadow_says}
-use Rattle.shadow_print.proofs.laws.a_read_shadow_cocycle_has_a_text.Goals as goal
-
-pub returns : goal.returns
-returns c = λ q s text rest quandle read. (shadow_says q text quandle).of (s, rest) read

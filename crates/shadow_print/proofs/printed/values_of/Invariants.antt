@@ -1,7 +1,0 @@
-use Rattle.std.proofs.Common.{◌≡◌, map}
-use Rattle.std.specs.List.{range_with_len}
-use Rattle.shadow_cocycles.specs.Cocycle.{value}
-use Rattle.shadow_print.proofs.printed.values_of.Given as goal
-
-abbrev pub invariant-loop-y : goal.invariant-loop-y
-invariant-loop-y l = l.row.items ≡ map (value l.cocycle l.w l.x) (range_with_len 0 l.y)

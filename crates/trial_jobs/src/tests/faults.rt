@@ -1,0 +1,179 @@
+//! Whole calls of which a read or a write fails, and a call over a source and a sink that keep nothing.
+use crate::tests::lines::{Outside, run_line, words_of};
+use knot_jobs::{Ports, run_alone};
+use knot_ports::{MAX_INPUT, QuietSink, QuietSource, Status};
+use std::alloc::{AllocError, Global};
+use std::test::Fail;
+
+/// The unknot, and the unknot with its rows shifted.
+const SHIFTED: &[u8] = b"x 0 1\no 1 0\nx 1 0\no 0 1\nequal 1\nshift rows 1\n";
+
+/// Whether the call of the source that is listed fails the call of a job, and nothing is written.
+fn fails_to_read(alloc: Global, line: &str, input: &[u8], failing: u64) -> Result<bool, Fail> {
+    let outside = Outside {
+        reading: &[failing],
+        writing: &[],
+        room: 100,
+    };
+    let (status, written) = run_line(alloc, line, input, &outside)?;
+    Ok(status == Status::ReadFault && written.is_empty())
+}
+
+#[test]
+fn a_read_that_fails_ends_the_call(rt: HostRuntime) -> Result<(), Fail> {
+    // The input of `check` comes by twelve calls, that of `decide` by nine, and one more meets the end of each.
+    for failing in 0..13 {
+        assert!(rt;
+            fails_to_read(rt.alloc(), "knot check", SHIFTED, failing)?,
+            "call {failing}"
+        );
+    }
+    let apart: &[u8] = b"x 4 3 2 1 0\no 2 1 0 4 3\nx 0 1\no 1 0\n";
+    for failing in 0..10 {
+        assert!(rt;
+            fails_to_read(rt.alloc(), "knot decide", apart, failing)?,
+            "call {failing}"
+        );
+    }
+    Ok(())
+}
+
+/// A line, its input, the calls of the source and of the sink that fail, the room, and the status and the text that are due.
+type Ending = (
+    &'static str,
+    &'static [u8],
+    u64,
+    u64,
+    usize,
+    Status,
+    &'static [u8],
+);
+
+/// The unknot, twice.
+const UNKNOTS: &[u8] = b"x 0 1\no 1 0\nx 0 1\no 1 0\n";
+
+const ENDINGS: [Ending; 10] = [
+    ("knot check", SHIFTED, 13, 0, 100, Status::WriteFault, b""),
+    (
+        "knot check",
+        SHIFTED,
+        13,
+        1,
+        100,
+        Status::WriteFault,
+        b"acc",
+    ),
+    (
+        "knot check",
+        SHIFTED,
+        13,
+        2,
+        100,
+        Status::WriteFault,
+        b"accept",
+    ),
+    (
+        "knot check",
+        SHIFTED,
+        13,
+        3,
+        100,
+        Status::Done,
+        b"accepted\n",
+    ),
+    ("knot check", SHIFTED, 13, 3, 4, Status::WriteFault, b"acce"),
+    ("knot decide", UNKNOTS, 99, 0, 100, Status::WriteFault, b""),
+    (
+        "knot decide",
+        UNKNOTS,
+        99,
+        1,
+        100,
+        Status::WriteFault,
+        b"cer",
+    ),
+    (
+        "knot decide",
+        UNKNOTS,
+        99,
+        2,
+        100,
+        Status::WriteFault,
+        b"certif",
+    ),
+    (
+        "knot decode",
+        SHIFTED,
+        0,
+        1,
+        100,
+        Status::WriteFault,
+        b"usa",
+    ),
+    (
+        "knot check --workers 0",
+        SHIFTED,
+        0,
+        99,
+        100,
+        Status::Usage,
+        b"usage: knot JOB [--workers W] [--budget B] [--spare S] [--seed N]\n",
+    ),
+];
+
+/// Each call of the sink failing in turn, or a sink that is full. On refused words the source, the first call of which would fail, isn't called;
+/// nor is it after its end.
+#[test]
+fn a_write_that_fails_ends_the_call(rt: HostRuntime) -> Result<(), Fail> {
+    for (line, input, reading, writing, room, ended, front) in ENDINGS {
+        let outside = Outside {
+            reading: &[reading],
+            writing: &[writing],
+            room,
+        };
+        let (status, written) = run_line(rt.alloc(), line, input, &outside)?;
+        assert_eq!(rt; status, ended, "call {writing} of {line}");
+        assert_eq!(rt; written.as_slice(), front, "call {writing} of {line}");
+    }
+    Ok(())
+}
+
+/// A braid of one strand with a comment behind it that brings the text to this many bytes.
+fn padded(alloc: Global, size: usize) -> Result<Vec<u8>, AllocError> {
+    let mut text = Vec::with_capacity(alloc, size)?;
+    text.extend_from_slice(b"braid 1\n")?;
+    for _ in 8..size {
+        text.push(b'#')?;
+    }
+    Ok(text)
+}
+
+/// One byte over the limit comes by 262,145 calls, and the next one, which would fail, is not made.
+#[test]
+fn no_byte_is_read_past_the_first_over_the_limit(rt: HostRuntime) -> Result<(), Fail> {
+    let long = padded(rt.alloc(), MAX_INPUT + 1)?;
+    let outside = Outside {
+        reading: &[262_145],
+        writing: &[],
+        room: 100,
+    };
+    let (status, written) = run_line(rt.alloc(), "knot close", long.as_slice(), &outside)?;
+    assert_eq!(rt; status, Status::Limit);
+    assert_eq!(rt; written.as_slice(), b"limit bytes\n".as_slice());
+    Ok(())
+}
+
+#[test]
+fn a_call_ends_likewise_where_nothing_is_kept(rt: HostRuntime) -> Result<(), Fail> {
+    let words = words_of(rt.alloc(), "knot close")?;
+    for (size, ended) in [(MAX_INPUT, Status::Done), (MAX_INPUT + 1, Status::Limit)] {
+        let mut ports = Ports {
+            source: QuietSource::new(padded(rt.alloc(), size)?),
+            sink: QuietSink::new(),
+            kept: None,
+        };
+        let status = run_alone(rt.alloc(), words.as_slice(), &mut ports);
+        assert_eq!(rt; status, ended, "{size} bytes");
+    }
+    Ok(())
+}

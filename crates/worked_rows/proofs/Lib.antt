@@ -1,5 +1,0 @@
-mod Rewritten
-mod Loops
-mod NamedEdges
-mod TryParts
-mod WorkedRows
