@@ -6,6 +6,7 @@ import subprocess
 import sys
 import time
 import unittest
+import unittest.mock
 
 import common
 from test_batch import HAS_PARALLEL, BatchTest
@@ -98,6 +99,21 @@ class HostsTest(BatchTest):
         status, _, errors = self.batch("--with", "auto", "--hosts", hosts)
         self.assertEqual(status, 0, errors)
         self.assertRegex(errors, f"batch.py: {lost} two: left out: .*python3.*\n")
+
+    def test_a_host_where_nothing_is_started_is_left_out(self):
+        self.problem("a", "# at 100: 0 equal 0\n")
+        mute = self.put("mute", "#!/bin/sh\nexit 0\n")
+        os.chmod(mute, 0o755)
+        status, _, errors = self.batch("--with", "auto", "--hosts", self.put("hosts", f"1/{self.ssh} one\n1/{mute} two\n"))
+        self.assertEqual(status, 0, errors)
+        self.assertIn(f"batch.py: {mute} two: left out: the call did not run, status 0\n", errors)
+
+    def test_logins_without_a_shell(self):
+        self.problem("a", "# at 100: 0 equal 0\n")
+        with unittest.mock.patch.dict(os.environ):
+            os.environ.pop("SHELL", None)
+            status, out, errors = self.run_hosts("one")
+        self.assertEqual((status, out), (0, "1 problems: 1 equal; 1 of 1 certificates accepted\n"), errors)
 
     def test_what_a_program_fails_is_not_tried_again_elsewhere(self):
         self.problem("a", "# at 100: 7\n")

@@ -27,7 +27,12 @@ MOST_FAILURES = 3
 # How often what was lost with a host is run again, and how many seconds a host has to answer the first call.
 MOST_PASSES, TRIAL_SECONDS = 6, 90
 
-# Where nothing else is said, ssh asks for no password and notices that a host has gone.
+# What a call that is only tried prints where all is there: GNU parallel ends with 0 for some calls that it could not start on a host.
+FIT = "fit"
+
+# Where nothing else is said, ssh asks for no password and notices that a host has gone, and the shell of a call is one that each host has: GNU
+# parallel would take the one of the login, and start nothing where a login names none.
+SHELL = "/bin/sh"
 SSH = "ssh -o BatchMode=yes -o ConnectTimeout=30 -o ServerAliveInterval=15 -o ServerAliveCountMax=4"
 
 
@@ -87,7 +92,7 @@ def host_of(line):
 
 def environment():
     """The environment of GNU parallel."""
-    return {"PARALLEL_SSH": SSH, **os.environ}
+    return {"PARALLEL_SSH": SSH, "PARALLEL_SHELL": SHELL, **os.environ}
 
 
 def why_unfit(line, call):
@@ -98,17 +103,17 @@ def why_unfit(line, call):
         words = ["parallel", "-q", "--jobs", "1", "--sshloginfile", logins.name, *call, ":::", "--trial"]
         reason = None
         for _ in range(2):
-            process = subprocess.Popen(words, stdin=subprocess.DEVNULL, stdout=subprocess.DEVNULL, stderr=subprocess.PIPE, start_new_session=True,
+            process = subprocess.Popen(words, stdin=subprocess.DEVNULL, stdout=subprocess.PIPE, stderr=subprocess.PIPE, start_new_session=True,
                                        preexec_fn=end_with_parent, env=environment())
             try:
-                told = process.communicate(timeout=TRIAL_SECONDS)[1].decode("utf-8", "replace").strip()
+                out, told = (data.decode("utf-8", "replace").strip() for data in process.communicate(timeout=TRIAL_SECONDS))
             except subprocess.TimeoutExpired:
                 os.killpg(process.pid, signal.SIGKILL)
                 process.communicate()
                 return f"no answer in {TRIAL_SECONDS} seconds"
-            if process.returncode == 0:
+            if process.returncode == 0 and out == FIT:
                 return None
-            reason = re.sub(r"^batch\.py: ", "", told.splitlines()[-1]) if told else f"status {process.returncode}"
+            reason = re.sub(r"^batch\.py: ", "", told.splitlines()[-1]) if told else f"the call did not run, status {process.returncode}"
     return reason
 
 
