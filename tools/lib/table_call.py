@@ -4,7 +4,7 @@ import os
 
 from lib.calls import StreamError, WordsParser, input_bytes, note, reason_of, say
 from lib.code_grids import Grids, NoProgram
-from lib.table_inputs import Faults, absent_names, items_of, lost_inputs, outputs_of, write_all
+from lib.table_inputs import Faults, absent_names, items_of, lost_inputs, outputs_of, tell_odd, write_all
 from lib.table_rows import Table, TableError, decoded
 
 ABOUT = "Makes inputs for knot and seek from a table of knots: one diagram a row, or one problem for each pair that is asked for."
@@ -138,6 +138,7 @@ def main(words):
         note(f"from_table.py: {error}")
         return 2
     absent = absent_names(table, wanted, faults)
+    tell_odd(table)
     try:
         os.makedirs(options.folder, exist_ok=True)
         made, left = write_all(outputs_of(items, options, quandles), table, options.folder, options.replace, faults)

@@ -1,13 +1,17 @@
 """What is made of the rows of a table: diagrams and problems, each with the names that the table has, and the files they are written to."""
+import collections
 import errno
 import os
 import re
+import unicodedata
 
+from knot_workbench.diagrams import Lines, grid_of, read_diagram
+from knot_workbench.identifying import components_of
 from lib.calls import note
 from lib.table_entries import Conventions, EntryError, diagram_of
 from lib.whole_files import write_whole
 
-# The most letters of a file's name. Most systems take 255; a file that is being written has a longer name for a while.
+# The most bytes of a file's name. Most systems take 255; a file that is being written has a longer name for a while.
 MAX_FILE_NAME = 180
 
 
@@ -54,7 +58,32 @@ def diagram_text(table, fields, column, conventions):
     if not entry.strip():
         raise EntryError("the entry is empty")
     read = diagram_of(entry, table.strands_of(fields), conventions)
+    table.seen.setdefault(column, []).append((table.name_of(fields), kind_of(read), components_of(grid_of(read_diagram(Lines(read.text))))))
     return "".join(f"# {remark}\n" for remark in [*read.remarks, *read.warnings]) + read.text, read.warnings
+
+
+def kind_of(read):
+    """What an entry was, in words for one and for several."""
+    if any("DT code" in remark for remark in read.remarks):
+        return "DT code"
+    if any("PD code" in remark for remark in read.remarks):
+        return "PD code"
+    return "braid word" if read.text.startswith("braid") else "arc presentation"
+
+
+def tell_odd(table):
+    """Says on standard error where a column has entries of several kinds, or links among knots: a wrong column may be the cause."""
+    for column, seen in sorted(table.seen.items()):
+        title = table.header[column].strip()
+        kinds = collections.Counter(kind for _, kind, _ in seen)
+        if len(kinds) > 1:
+            counts = " and ".join(f"{count} {kind}{'s' * (count > 1)}" for kind, count in kinds.most_common())
+            rare = kinds.most_common()[-1][0]
+            note(f"{table.path}: the column '{title}' has {counts}, as {next(name for name, kind, _ in seen if kind == rare)}")
+        links = [(name, count) for name, _, count in seen if count > 1]
+        if links and 2 * len(links) < len(seen):
+            shown = ", ".join(f"{name} of {count} components" for name, count in links[:5])
+            note(f"{table.path}: the column '{title}' has {len(links)} link{'s' * (len(links) > 1)} among knots: {shown}{', ..' * (len(links) > 5)}")
 
 
 def in_column(table, fields, column, conventions):
@@ -86,8 +115,8 @@ def check_name(name, lines):
         raise EntryError("the row has no name")
     if not name.isprintable():
         raise EntryError("the name has a line break or another character that can't be printed")
-    if len(file_name(name)) > MAX_FILE_NAME:
-        raise EntryError(f"the name makes a file's name of {len(file_name(name))} letters, and {MAX_FILE_NAME} are the most")
+    if refusal_of(file_name(name)):
+        raise EntryError(refusal_of(file_name(name)))
     if name in lines:
         raise EntryError(f"line {lines[name]} has the same name")
 
@@ -162,21 +191,28 @@ def lost_inputs(items, options):
 
 
 def file_name(name):
-    """A name for a file: letters, digits and a few marks stay, all others become `_`."""
-    kept = re.sub(r"[^A-Za-z0-9_.,+-]", "_", name)
+    """A name for a file: letters and digits of any script and a few marks stay, all others become `_`."""
+    kept = re.sub(r"[^\w.,+-]", "_", unicodedata.normalize("NFC", name))
     return re.sub(r"^[.-]", "_", kept) + ".txt"
+
+
+def free_name(base, taken):
+    """The name of a file, or where another one has it, the first of NAME-2, NAME-3 and so on that none has; `taken` has the names in small
+    letters, since some systems don't tell them from capitals."""
+    stem, number, found = base[:-len(".txt")], 1, base
+    while found.casefold() in taken:
+        number += 1
+        found = f"{stem}-{number}.txt"
+    return found
 
 
 # --- files
 
 
-def refusal_of(base, taken):
-    """Why a file can't have this name, or None; `taken` has the names in small letters, since some systems don't tell them from capitals."""
-    if len(base) > MAX_FILE_NAME:
-        return f"the file's name would have {len(base)} letters, and {MAX_FILE_NAME} are the most"
-    if base.lower() in taken:
-        return f"the file {base} is taken by {taken[base.lower()]}"
-    return None
+def refusal_of(base):
+    """Why a file can't have this name, or None."""
+    length = len(base.encode())
+    return f"the file's name would have {length} bytes, and {MAX_FILE_NAME} are the most" if length > MAX_FILE_NAME else None
 
 
 def put(path, data, replace):
@@ -199,12 +235,12 @@ def put(path, data, replace):
 def write_all(outputs, table, folder, replace, faults):
     """Writes each text to its file. How many files are there now as asked for, and how many inputs weren't written, which are named."""
     made = left = 0
-    taken = {}
+    taken = set()
     for item, name, text in outputs:
-        base = file_name(name)
-        why = refusal_of(base, taken)
+        base = free_name(file_name(name), taken)
+        why = refusal_of(base)
         if why is None:
-            taken[base.lower()] = name
+            taken.add(base.casefold())
             why = put(os.path.join(folder, base), text.encode(), replace)
         if why is None:
             made += 1

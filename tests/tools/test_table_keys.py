@@ -1,0 +1,209 @@
+"""Tests of shadows, diagrams, keys and seeds of tools/tabulate.py, which call no program."""
+import os
+import random
+import unittest
+
+import common
+from lib.table_apart import blocks_in, seeds_of
+from lib.table_book import Book, BookError, in_lines, in_one_line, require_job
+from lib.table_choices import choices, diagrams_to, rows_of
+from lib.table_joins import Joins, Numbers, Pair, found_in, said_of
+from lib.table_keys import after, exchanges, form_of, grid_of_form
+from lib.table_reduced import Reducer
+from lib.table_shadows import KNOWN, faces, is_one_curve, least, maps_to, shadows_to
+from knot_workbench.diagrams import Braid, Grid, closure
+from knot_workbench.identifying import components_of
+from knot_workbench.knot_rows import Block
+from knot_workbench.knot_tables import SAME, TURNS
+from knot_workbench.moves import made
+from knot_workbench.pd_codes import components_of as components_of_code
+
+# Quadrangulations of the sphere without parallel edges, of 2 to 7 faces, as they are tabulated up to reflection.
+MAPS = {2: 1, 3: 1, 4: 2, 5: 3, 6: 9, 7: 18}
+TREFOIL = Grid((4, 3, 2, 1, 0), (2, 1, 0, 4, 3))
+
+
+def faces_of_code(rows):
+    """How many faces the diagram of a code has on the surface that it fills."""
+    place = {}
+    for crossing, row in enumerate(rows):
+        for turn, edge in enumerate(row):
+            place.setdefault(edge, []).append((crossing, turn))
+    seen, count = set(), 0
+    for start in ((crossing, turn) for crossing in range(len(rows)) for turn in range(4)):
+        if start not in seen:
+            count, here = count + 1, start
+            while here not in seen:
+                seen.add(here)
+                there = next(one for one in place[rows[here[0]][here[1]]] if one != here)
+                here = there[0], (there[1] - 1) % 4
+    return count
+
+
+class ShadowsTest(unittest.TestCase):
+    def test_maps_and_shadows_are_as_many_as_is_known(self):
+        self.assertEqual({count: len(found) for count, found in maps_to(7)}, MAPS)
+        self.assertEqual({count: len(found) for count, found in shadows_to(7)}, {count: KNOWN[count] for count in range(3, 8)})
+
+    def test_a_shadow_is_one_curve_in_the_plane(self):
+        for count, found in shadows_to(6):
+            for ends in found:
+                self.assertTrue(is_one_curve(ends))
+                self.assertEqual(len(faces(ends)), count + 2)
+                self.assertEqual([ends[other] for other in ends], list(range(4 * count)))
+
+    def test_a_map_numbered_in_another_way_is_the_same(self):
+        dice = random.Random(1)
+        for _, found in shadows_to(6):
+            for ends in found:
+                names = list(range(len(ends) // 4))
+                dice.shuffle(names)
+                turn = [dice.randrange(4) for _ in names]
+
+                def other(dart):
+                    return 4 * names[dart >> 2] + (-(dart + turn[dart >> 2]) & 3)
+
+                renamed = [0] * len(ends)
+                for dart, end in enumerate(ends):
+                    renamed[other(dart)] = other(end)
+                self.assertEqual(least(tuple(renamed)), ends)
+
+
+class DiagramsTest(unittest.TestCase):
+    def test_there_are_414_diagrams_to_seven_crossings(self):
+        names = [name for name, _ in diagrams_to(7)]
+        self.assertEqual((len(names), len(set(names))), (414, 414))
+
+    def test_codes_are_those_of_knots_in_the_plane(self):
+        for name, rows in diagrams_to(6):
+            with self.subTest(name):
+                self.assertEqual(sorted(edge for row in rows for edge in row), sorted(list(range(1, 2 * len(rows) + 1)) * 2))
+                self.assertEqual(components_of_code(rows), 1)
+                self.assertEqual(faces_of_code(rows), len(rows) + 2)
+                self.assertTrue(all((row[2] - row[0]) % (2 * len(rows)) == 1 for row in rows))
+
+    def test_the_alternating_choice_is_made_once(self):
+        for _, found in shadows_to(6):
+            for ends in found:
+                alternating = [choice for choice in choices(ends) if is_alternating(rows_of(ends, choice))]
+                self.assertEqual(len(alternating), 1)
+
+
+def is_alternating(rows):
+    """Whether a strand that comes to a crossing below leaves it to one above: each edge has one end below."""
+    below = [edge for row in rows for edge in (row[0], row[2])]
+    return len(below) == len(set(below))
+
+
+class KeysTest(unittest.TestCase):
+    def grids(self):
+        for strands, letters in ((2, [1, 1, 1]), (3, [1, -2, 1, -2]), (2, [1] * 5), (3, [1, 1, 1, -2, 1, -2]), (3, [1, 2]), (4, [1, -2, 3, 2, 2])):
+            grid = closure(Braid(strands, letters))[0]
+            self.assertEqual(components_of(grid), 1)
+            yield grid
+
+    def test_moves_lead_to_the_key(self):
+        reducer = Reducer()
+        for grid in self.grids():
+            found = reducer.of_grid(grid)
+            self.assertEqual(after(found.turn.of(grid), found.moves), grid_of_form(found.key))
+
+    def test_the_unknot_has_the_least_key(self):
+        self.assertEqual(Reducer().of_grid(closure(Braid(3, [1, 2]))[0]).key, bytes((0, 1, 1, 0)))
+
+    def test_a_walk_by_shifts_and_exchanges_and_each_turn_keep_the_key(self):
+        dice, reducer = random.Random(1), Reducer()
+        for grid in self.grids():
+            # Of a diagram that has a destabilisation another one may be made, which leads to another key.
+            key = reducer.of_grid(grid).key
+            here = grid_of_form(key)
+            for _ in range(30):
+                here = after(here, dice.choice([*exchanges(here), [("shift", "rows", 1)], [("shift", "columns", 1)]]))
+                for turn in TURNS:
+                    self.assertEqual(reducer.of_grid(turn.of(here)).key, key)
+
+    def test_a_form_is_the_least_translate(self):
+        for grid in (TREFOIL, *self.grids()):
+            forms = set()
+            for columns in range(grid.size):
+                for rows in range(grid.size):
+                    moved = made(grid, ("shift", "columns", columns)) if columns else grid
+                    moved = made(moved, ("shift", "rows", rows)) if rows else moved
+                    forms.add(bytes(moved.xs + moved.os))
+            self.assertEqual(form_of(grid), min(forms))
+
+    def test_an_orbit_that_is_cut_still_has_a_key(self):
+        for grid in self.grids():
+            found = Reducer(bound=2).of_grid(grid)
+            self.assertEqual(after(found.turn.of(grid), found.moves), grid_of_form(found.key))
+
+
+class SeedsTest(unittest.TestCase):
+    def test_two_columns_settle_the_trefoil_and_one_the_unknot(self):
+        self.assertEqual(seeds_of(TREFOIL), (0, 1))
+        self.assertEqual(seeds_of(Grid((0, 1), (1, 0))), (0,))
+
+    def test_blocks_are_cut_at_their_names(self):
+        text = "# some\nquandle dihedral 3\nshadow mochizuki\n\nquandle table 1\n0\n"
+        self.assertEqual(blocks_in(text), ["dihedral 3\nshadow mochizuki\n", "table 1\n0\n"])
+
+
+class JoinsTest(unittest.TestCase):
+    """Keys of one bucket, joined by answers that the test gives."""
+
+    def joins(self, rows):
+        book = Book(os.path.join(common.scratch(self), "tries"))
+        self.addCleanup(book.close)
+        return Joins(Numbers(rows, [Block(3, 0, False)]), book)
+
+    def test_keys_are_tried_within_their_bucket_alone_and_joined(self):
+        small, large, other = bytes((0, 1, 1, 0)), form_of(TREFOIL), form_of(TREFOIL.mirror().reverse())
+        joins = self.joins({small: (((9,),) * 2), large: (((9,),) * 2), other: (((3,),) * 2)})
+        asked = []
+
+        def ask(questions):
+            for pair, *_ in questions:
+                asked.append(pair)
+                yield pair, (("shift", "rows", 1),) if pair.key != pair.aim and pair.turn == TURNS[1] else None
+
+        joins.try_all(ask, ["words"], with_symmetries=False)
+        self.assertEqual(asked, [Pair(large, small, SAME), Pair(large, small, TURNS[1])])
+        self.assertEqual(sorted(joins.roots()), sorted([small, other]))
+        self.assertEqual(joins.way(large), (small, TURNS[1], [("shift", "rows", 1)]))
+        # All is in the book: a second call asks nothing.
+        again = Joins(joins.numbers, joins.book)
+        again.try_all(lambda questions: self.assertEqual(questions, []) or [], ["words"], with_symmetries=False)
+        self.assertEqual(again.above, joins.above)
+
+    def test_what_a_try_found_is_read_as_it_was_written(self):
+        for found in (None, (), (("shift", "rows", 1), ("stabilise", 0, "x", "lowleft")), "certificate 3\ndifferent linking\n"):
+            self.assertEqual(found_in(said_of(found)), found)
+
+
+class BooksTest(unittest.TestCase):
+    def test_a_cut_line_is_left_out(self):
+        path = os.path.join(common.scratch(self), "book")
+        book = Book(path)
+        book.add("one", 1, "a b")
+        book.add("two", 2)
+        book.close()
+        with open(path, "a", encoding="utf-8") as out:
+            out.write("three\t")
+        again = Book(path)
+        again.add("four")
+        again.close()
+        with open(path, encoding="utf-8") as source:
+            self.assertEqual(source.read(), "one\t1\ta b\ntwo\t2\nfour\n")
+
+    def test_a_folder_of_another_call_is_refused(self):
+        folder = common.scratch(self)
+        require_job(folder, "one")
+        require_job(folder, "one")
+        self.assertRaises(BookError, require_job, folder, "two")
+
+    def test_lines_in_one(self):
+        self.assertEqual(in_lines(in_one_line("x 0 1\no 1 0\n")), "x 0 1\no 1 0\n")
+
+
+if __name__ == "__main__":
+    unittest.main()

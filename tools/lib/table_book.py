@@ -1,0 +1,67 @@
+"""Books: files to which a line is added for each answer, so that an interrupt loses nothing. A line that was cut is left out and asked again.
+
+A line has a name and fields, parted by tabs. The file `job` beside the books has the SHA-256 of all that decides the answers.
+"""
+import os
+
+from lib.whole_files import write_whole
+
+FORM = "tabulate 1"
+
+
+class BookError(Exception):
+    """A folder of books belongs to another call."""
+
+
+def require_job(folder, digest):
+    """Writes down what is asked, or sees that the folder is of the same. BookError where it isn't."""
+    path, said = os.path.join(folder, "job"), f"{FORM} {digest}\n".encode()
+    if not os.path.exists(path):
+        write_whole(path, said)
+    with open(path, "rb") as file:
+        if file.read() != said:
+            raise BookError(f"{path}: the folder is of another table or list: name another one")
+
+
+class Book:
+    """A book, with the lines that stand in it by their names, the last of each. Lines are added by `add`."""
+
+    def __init__(self, path):
+        self.path, self.lines = path, {}
+        data = b""
+        if os.path.exists(path):
+            with open(path, "rb") as file:
+                data = file.read()
+        whole = data[:data.rfind(b"\n") + 1]
+        if whole != data:
+            write_whole(path, whole)
+        for line in whole.decode("utf-8", "replace").splitlines():
+            name, *fields = line.split("\t")
+            self.lines[name] = fields
+        self.file = open(path, "a", encoding="utf-8", newline="")
+
+    def add(self, name, *fields):
+        """Adds a line. OSError where it can't be written, with the path of the book."""
+        self.lines[name] = [str(field) for field in fields]
+        try:
+            self.file.write("\t".join([name, *self.lines[name]]) + "\n")
+            self.file.flush()
+        except OSError as error:
+            raise OSError(error.errno, error.strerror, self.path) from None
+
+    def close(self):
+        """Ends the writing."""
+        try:
+            os.fsync(self.file.fileno())
+        finally:
+            self.file.close()
+
+
+def in_one_line(text):
+    """The lines of a text in one, with ' / ' between, as tools/pieces.py reads them."""
+    return text.rstrip("\n").replace("\n", " / ")
+
+
+def in_lines(line):
+    """The text of such a line."""
+    return line.replace(" / ", "\n") + "\n"

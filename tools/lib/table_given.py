@@ -1,0 +1,58 @@
+"""What tabulate.py is given: all diagrams to a number of crossings, a folder of diagrams, or a table of codes."""
+import hashlib
+import os
+
+from knot_workbench.code_grids import Grids
+from knot_workbench.table_entries import Conventions
+from lib.identify_inputs import TABLES, of_folder, of_table, text_of_given
+from lib.table_choices import diagrams_to
+
+# The most crossings of which all diagrams are made.
+MOST_CROSSINGS = 12
+
+
+class Given:
+    """The rows of a call: each a name and a diagram, which is the rows of a planar diagram code, or what identify_inputs gives. `faults` has
+    what is to be said of rows that can't be taken. `places` says where a name stands."""
+
+    def __init__(self, options):
+        self.options, self.faults, self.places = options, [], {}
+        self.most = int(options.what) if options.what.isascii() and options.what.isdigit() else None
+        self.conventions = Conventions(options.arcs, False, False, None, Grids(None))
+
+    def read(self):
+        """All rows, in order. TableError where the folder or the table can't be read."""
+        if self.most is not None:
+            return list(diagrams_to(self.most))
+        path = self.options.what
+        given = of_folder(path) if os.path.isdir(path) or not path.endswith(TABLES) else of_table(path, self.options)
+        found, seen = [], {}
+        for one in given:
+            fault = name_fault(one.name, seen)
+            seen.setdefault(one.name, one.place)
+            self.places.setdefault(one.name, one.place)
+            if fault:
+                self.faults.append(f"{one.place}: {fault}")
+            else:
+                found.append((one.name, one))
+        return found
+
+    def place(self, name):
+        """Where a row stands, for messages."""
+        return self.places.get(name, name)
+
+    def digest(self, rows):
+        """The SHA-256 of the rows."""
+        if self.most is not None:
+            return f"all to {self.most}"
+        found = hashlib.sha256()
+        for name, one in rows:
+            found.update(f"{name}\t{text_of_given(one, self.conventions)}\n".encode())
+        return found.hexdigest()
+
+
+def name_fault(name, seen):
+    """Why a row can't have this name, or None; `seen` has the places of those before."""
+    if not name.strip() or not name.isprintable() or name.startswith("#"):
+        return "the row has no name that can stand in a line"
+    return f"the name '{name}' stands at {seen[name]} too" if name in seen else None

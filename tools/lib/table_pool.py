@@ -1,0 +1,112 @@
+"""The workers of tabulate.py: processes that answer lists of questions, several at once, in the order in which they are asked."""
+import os
+import pickle
+import subprocess
+import sys
+import threading
+import time
+from collections import deque
+from concurrent.futures import ThreadPoolExecutor
+
+from knot_workbench.faults import Fault
+from lib.batch_programs import result_of
+from lib.calls import note
+
+TOOLS = os.path.dirname(os.path.dirname(os.path.realpath(__file__)))
+# A terminal sends its signals to the workers too: only the script that started them ends them.
+SERVE = "import signal, sys; signal.signal(signal.SIGINT, signal.SIG_IGN); sys.path.insert(0, sys.argv[1]); from lib.table_worker import serve; serve()"
+
+# A line on how far it is comes after so many seconds.
+TELL = 10
+
+
+class Pool:
+    """Worker processes, and a thread for each of them that only writes and reads."""
+
+    def __init__(self, processes, words):
+        self.words, self.processes, self.is_stopped = words, processes, False
+        self.own, self.lock, self.workers = threading.local(), threading.Lock(), []
+        self.threads = ThreadPoolExecutor(processes)
+
+    def __enter__(self):
+        return self
+
+    def __exit__(self, *error):
+        self.stop() if error[0] else self.end()
+
+    def end(self):
+        """Ends the workers, which have nothing to do."""
+        self.threads.shutdown(wait=True)
+        for worker in self.workers:
+            worker.stdin.close()
+            worker.wait()
+            worker.stdout.close()
+
+    def stop(self):
+        """Ends the workers at once, and what they run."""
+        with self.lock:
+            self.is_stopped = True
+            for worker in self.workers:
+                worker.terminate()
+        self.threads.shutdown(wait=True, cancel_futures=True)
+        for worker in self.workers:
+            worker.wait()
+            worker.stdout.close()
+
+    def asked(self, method, items):
+        """What a worker answers to a list. Fault where it has no answer."""
+        if not hasattr(self.own, "worker"):
+            with self.lock:
+                if self.is_stopped:
+                    raise Fault("the workers of tabulate.py are stopped")
+                self.own.worker = subprocess.Popen([sys.executable, "-B", "-c", SERVE, TOOLS], stdin=subprocess.PIPE, stdout=subprocess.PIPE)
+                self.workers.append(self.own.worker)
+            self.tell(self.words)
+        try:
+            self.tell((method, items))
+            found = pickle.load(self.own.worker.stdout)
+        except (EOFError, BrokenPipeError, pickle.UnpicklingError):
+            raise Fault("a worker of tabulate.py has ended, perhaps for want of memory") from None
+        if isinstance(found, Fault):
+            raise found
+        return found
+
+    def tell(self, what):
+        """Sends something to the worker of this thread."""
+        pickle.dump(what, self.own.worker.stdin, pickle.HIGHEST_PROTOCOL)
+        self.own.worker.stdin.flush()
+
+    def each(self, method, items, lot=1):
+        """The answers to all items in their order; `lot` of them are handed out at once."""
+        waiting, items = deque(), iter(items)
+        while True:
+            some = [item for _, item in zip(range(lot), items)]
+            if some:
+                waiting.append(self.threads.submit(self.asked, method, some))
+            if waiting and (not some or len(waiting) > 2 * self.processes):
+                yield from result_of(waiting.popleft())
+            elif not some:
+                return
+
+
+class Progress:
+    """Says on standard error how far a part of the work is, now and then and at its end."""
+
+    def __init__(self, what, count, done=0):
+        self.what, self.count, self.done, self.before = what, count, done, done
+        self.began = self.told = time.monotonic()
+
+    def step(self, many=1):
+        """So many more are done."""
+        self.done += many
+        now = time.monotonic()
+        if now - self.told >= TELL:
+            self.told = now
+            rate = (self.done - self.before) / (now - self.began)
+            left = f", {(self.count - self.done) / rate:.0f} s left" if rate and self.count > self.done else ""
+            note(f"tabulate.py: {self.what}: {self.done} of {self.count}{left}")
+
+    def end(self):
+        """All is done."""
+        if self.done > self.before:
+            note(f"tabulate.py: {self.what}: {self.done} in {time.monotonic() - self.began:.0f} s")
