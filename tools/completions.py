@@ -58,8 +58,11 @@ def bash(name, jobs, options):
     if others:
         cases += f"        {' | '.join(others)}) return ;;\n"
     words = " ".join(word.name for word in options)
-    bare = (f"COMPREPLY=($(compgen -W {quoted(' '.join(word.name for word in jobs))} -- \"$word\"))" if jobs
-            else "local IFS=$'\\n'; COMPREPLY=($(compgen -f -- \"$word\")); compopt -o filenames 2>/dev/null")
+    files_of = "local IFS=$'\\n'; COMPREPLY=($(compgen -f -- \"$word\")); compopt -o filenames 2>/dev/null"
+    names = [word.name for word in jobs]
+    # Behind a job no further one is proposed.
+    bare = (f'[[ " ${{COMP_WORDS[*]:1:COMP_CWORD-1}} " =~ \\ ({"|".join(names)})\\  ]] || '
+            f"COMPREPLY=($(compgen -W {quoted(' '.join(names))} -- \"$word\"))" if jobs else files_of)
     return f"""# Completion of {name} for bash.
 _{name}_words() {{
     local word=${{COMP_WORDS[COMP_CWORD]}} before=${{COMP_WORDS[COMP_CWORD-1]}}

@@ -1,10 +1,11 @@
 #!/bin/sh
-# Makes a Debian package of both built programs, their manual pages and completions, the quandle lists and the Python module.
+# Makes a Debian package of both built programs, the tools, documents, manual pages, completions, tables and the Python module.
 #
 #     tools/package.sh [FOLDER]     writes FOLDER/knot-workbench_VERSION_ARCHITECTURE.deb; FOLDER is the current one where none is given
 #
-# It needs dpkg-deb, gzip and python3, and both programs built (tools/build.py). What goes in is what ./install puts below /usr; the
-# package wants the C library that the programs were linked with or a newer one, and suggests python3 for the module.
+# It needs dpkg-deb, gzip and python3, and both programs built (tools/build.py). What goes in is what ./install puts below /usr, with the
+# programs stripped where strip is there; the package wants the C library that the programs were linked with or a newer one, and recommends
+# python3 for the tools and the module. DEBFULLNAME and DEBEMAIL name who made the package, else the user and the host.
 # Status 0 where the package is there, 1 where it can't be made, 2 where the words are wrong.
 set -u
 
@@ -43,6 +44,13 @@ root=$staged/root
 mkdir "$root" || exit 1
 python3 -B "$top/install" --prefix /usr --destdir "$root" --python-folder /usr/lib/python3/dist-packages >/dev/null || exit 1
 gzip -9n "$root"/usr/share/man/man?/* || exit 1
+if command -v strip >/dev/null 2>&1; then
+    # A program that isn't one of the system's own form stays as it is.
+    for program in "$root"/usr/lib/knot-workbench/*; do
+        strip --strip-unneeded "$program" 2>/dev/null || true
+    done
+fi
+maker="${DEBFULLNAME:-$(id -un)} <${DEBEMAIL:-$(id -un)@$(uname -n)}>"
 
 version=$("$top/knot" --version | cut -d ' ' -f 2)
 architecture=$(dpkg --print-architecture)
@@ -54,10 +62,10 @@ cat >"$root/DEBIAN/control" <<END || exit 1
 Package: knot-workbench
 Version: $version
 Architecture: $architecture
-Maintainer: the makers of knot <knot@localhost>
+Maintainer: $maker
 Installed-Size: $kilobytes
 Depends: libc6${library:+ (>= $library)}
-Suggests: python3 (>= 3.9)
+Recommends: python3 (>= 3.9)
 Section: math
 Priority: optional
 Description: decides whether knots and links are the same, with evidence
@@ -67,11 +75,28 @@ Description: decides whether knots and links are the same, with evidence
  .
  With tables of connected quandles, and a module for Python.
 END
-# What Python made of the module's files goes with them.
+documents=$root/usr/share/doc/knot-workbench
+cat >"$documents/copyright" <<END || exit 1
+Format: https://www.debian.org/doc/packaging-manuals/copyright-format/1.0/
+Upstream-Name: knot
+
+Files: *
+Copyright: the makers of knot
+License: not-stated
+ The sources state no licence. Ask their makers before you pass the package on.
+END
+gzip -9n >"$documents/changelog.gz" <<END || exit 1
+knot-workbench ($version) unstable; urgency=medium
+
+  * Made of the tree by tools/package.sh.
+
+ -- $maker  $(LC_ALL=C date -Ru ${SOURCE_DATE_EPOCH:+-d "@$SOURCE_DATE_EPOCH"})
+END
+# What Python made of the files of the module and the tools goes with them.
 cat >"$root/DEBIAN/prerm" <<'END' || exit 1
 #!/bin/sh
 set -e
-rm -rf /usr/lib/python3/dist-packages/knot_workbench/__pycache__
+rm -rf /usr/lib/python3/dist-packages/knot_workbench/__pycache__ /usr/share/knot-workbench/tools/__pycache__ /usr/share/knot-workbench/tools/lib/__pycache__
 END
 chmod 755 "$root/DEBIAN/prerm" || exit 1
 (cd "$root" && find usr -type f -print0 | sort -z | xargs -0 md5sum) >"$root/DEBIAN/md5sums" || exit 1

@@ -17,6 +17,7 @@ scripts it shows diagrams and lists.
 Each move is made and each listed colouring is tried here, but only ./knot check rules on a certificate. With --check it is asked first.
 """
 import argparse
+import base64
 import json
 import os
 from html import escape
@@ -322,7 +323,16 @@ def cocycle_part(cocycle):
                    for region, square in enumerate(cocycle.values))
 
 
-def page_text(page, title, checked):
+def certificate_part(text, ruler):
+    """The text that the page was made of, to be read and to be kept, and how it is ruled on."""
+    kept = base64.b64encode(text.encode()).decode()
+    return (f'<p class="foot">Verticals pass over horizontals. Keep <a download="certificate.txt" href="data:text/plain;charset=utf-8;base64,{kept}">certificate.txt</a>, '
+            f"and have it ruled on: <code>{ruler} &lt; certificate.txt</code>. The separate checker <code>knot_check</code> is a part of the sources of "
+            f"knot, and is built alone by <code>tools/build.py knot_check</code>.</p>\n"
+            f"<details><summary>The certificate</summary><pre>{escape(text)}</pre></details>")
+
+
+def page_text(page, title, checked, text):
     """The whole file."""
     parts = [sentence_of(page, checked), figures_of(page)]
     if page.frames:
@@ -350,7 +360,7 @@ def page_text(page, title, checked):
 <main>
 <h1>{escape(title)}</h1>
 {"".join(parts)}
-<p class="foot">Verticals pass over horizontals. Whoever has the certificate can have it ruled on: <code>{ruler} &lt; certificate.txt</code>.</p>
+{certificate_part(text, ruler)}
 </main>
 <script type="application/json" id="data">{data}</script>
 <script>
@@ -391,7 +401,7 @@ def main():
             certificates.check(text)
     if page.kind in ("equal", "moves") and not page.frames:
         parser.error(f"--frames {words.frames} names none of the frames")
-    calls.put(words.out, page_text(page, words.title or title_of(page), words.check))
+    calls.put(words.out, page_text(page, words.title or title_of(page), words.check, text))
 
 
 if __name__ == "__main__":

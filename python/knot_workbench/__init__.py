@@ -5,29 +5,39 @@
     >>> found.is_equal, found.check()
     (True, True)
 
+Calls take a Grid, a Braid, a text as "2 1 1 1", or a link of Regina, SnapPy or Sage; the docstring of `diagram` has all texts.
+
 The calls run the built programs knot and seek, which the variables KNOT and SEEK or `use` name, or which lie in the tree or the prefix of
 this module, or on PATH. Nothing in this module is proved: a certificate's `check` asks the checker.
 
-Diagrams      Grid, Braid, from_pd, from_code, from_table, from_sage, from_regina, from_snappy
+Diagrams      Grid, Braid, diagram, from_pd, from_dt, from_gauss, from_code, from_table, from_sage, from_regina, from_snappy
 Quandles      quandle, Quandle, cocycle, Cocycle, ShadowCocycle, built_in_list
 Searches      seek, decide, which answer a Certificate; or None, or an Unknown
 One diagram   colour, numbers, code, simplify, braid_word, replay
 Two diagrams  linking, weights
 Certificates  Certificate, check
 Which knot    identify, by a KnotTable
+Pictures      draw; in a notebook diagrams and certificates show themselves
 Errors        each one is a Fault; the module faults has them all
 
 It needs Python 3.9 or later and nothing else.
 """
+import sys
+
+if sys.version_info < (3, 9):
+    raise ImportError("knot_workbench needs Python 3.9 or later, and this is Python %d.%d" % sys.version_info[:2])
+
 from .certificates import Certificate, Counted, Different, DifferentLinking, DifferentNumbers, Equal, Linked, Unknown, check
 from .cocycles import Cocycle, ShadowCocycle
 from .codes import Code, read_code
 from .diagrams import Braid, Diagram, Grid, Move, Quandle, built_in_list, move_text
-from .faults import (BadAnswer, BadCode, BadDiagram, BadText, Failed, Fault, Illegal, Malformed, NoJob, NoProgram, OverLimit, Rejected, TimedOut,
-                     Wide)
+from .drawing import draw
+from .faults import (BadAnswer, BadCode, BadDiagram, BadText, Failed, Fault, Illegal, Malformed, NoFile, NoJob, NoProgram, OverLimit, Rejected,
+                     TimedOut, Wide)
+from .given import diagram
 from .identifying import Identified, identify
-from .jobs import (Colourings, Compared, Numbers, Replayed, Simplified, braid_word, cocycle, code, colour, decide, from_code, from_pd, linking, numbers,
-                   quandle, replay, seek, simplify, weights)
+from .jobs import (Colourings, Compared, Numbers, Replayed, Simplified, braid_word, cocycle, code, colour, decide, from_code, from_dt, from_gauss,
+                   from_pd, linking, numbers, quandle, replay, seek, simplify, weights)
 from .knot_tables import KnotTable, Turn
 from .programs import path_of, use
 from .sources import from_regina, from_sage, from_snappy, from_table
@@ -35,8 +45,9 @@ from .table_entries import EntryError
 from .table_rows import TableError
 
 __all__ = ("BadAnswer", "BadCode", "BadDiagram", "BadText", "Braid", "Certificate", "Cocycle", "Code", "Colourings", "Compared", "Counted",
-           "Diagram", "Different", "DifferentLinking", "DifferentNumbers", "EntryError", "Equal", "Failed", "Fault", "Grid", "Identified", "Illegal",
-           "KnotTable", "Linked", "Malformed", "Move", "NoJob", "NoProgram", "Numbers", "OverLimit", "Quandle", "Rejected", "Replayed",
-           "ShadowCocycle", "Simplified", "TableError", "TimedOut", "Turn", "Unknown", "Wide", "braid_word", "built_in_list", "check", "cocycle",
-           "code", "colour", "decide", "from_code", "from_pd", "from_regina", "from_sage", "from_snappy", "from_table", "identify", "linking",
-           "move_text", "numbers", "path_of", "quandle", "read_code", "replay", "seek", "simplify", "use", "weights")
+           "Diagram", "Different", "DifferentLinking", "DifferentNumbers", "EntryError", "Equal", "Failed", "Fault", "Grid", "Identified",
+           "Illegal", "KnotTable", "Linked", "Malformed", "Move", "NoFile", "NoJob", "NoProgram", "Numbers", "OverLimit", "Quandle",
+           "Rejected", "Replayed", "ShadowCocycle", "Simplified", "TableError", "TimedOut", "Turn", "Unknown", "Wide", "braid_word",
+           "built_in_list", "check", "cocycle", "code", "colour", "decide", "diagram", "draw", "from_code", "from_dt", "from_gauss",
+           "from_pd", "from_regina", "from_sage", "from_snappy", "from_table", "identify", "linking", "move_text", "numbers", "path_of",
+           "quandle", "read_code", "replay", "seek", "simplify", "use", "weights")

@@ -3,9 +3,9 @@ import os
 from typing import List, NamedTuple, Optional, Sequence, Tuple, Union
 
 from .cocycles import Cocycle, ShadowCocycle, read_cocycle, read_shadow
-from .diagrams import (MAX_LARGE_ORDER, Diagram, Grid, Lines, Move, Quandle, Rows, diagram_text, grid_of, move_text, number_of, quandle_named, quandle_text,
+from .diagrams import (MAX_LARGE_ORDER, Braid, Diagram, Grid, Lines, Move, Quandle, Rows, diagram_text, grid_of, move_text, number_of, quandle_named, quandle_text,
                        read_diagram, read_moves, read_quandle, read_quandles)
-from .faults import BadText, Fault, Illegal
+from .faults import BadDiagram, BadText, Fault, Illegal, NoFile, Rejected
 from .moves import carried, made
 from .programs import answered
 
@@ -34,6 +34,15 @@ class Unknown(NamedTuple):
     exhausted: bool
     diagrams: int
     columns: Optional[int]
+
+    @property
+    def is_equal(self) -> None:
+        """None: it isn't known."""
+        return None
+
+    def __bool__(self) -> bool:
+        """False, as of None: no evidence was found."""
+        return False
 
 
 class Counted(NamedTuple):
@@ -83,12 +92,19 @@ class Certificate:
     """
 
     def __init__(self, first: Diagram, second: Diagram, verdict: Evidence, quandles: Sequence[Quandle] = (), version: int = 2) -> None:
+        for diagram in (first, second):
+            if not isinstance(diagram, (Grid, Braid)):
+                raise BadDiagram(f"{diagram!r:.40} is neither a Grid nor a Braid")
+        if not isinstance(verdict, (Equal, Different, DifferentNumbers, DifferentLinking)):
+            raise Fault(f"{verdict!r:.40} is no verdict with evidence")
         self.first, self.second, self.verdict = first, second, verdict
         self.quandles, self.version = tuple(quandles), version
 
     @classmethod
     def parse(cls, text: str) -> "Certificate":
         """The certificate of a text: a problem and a verdict, as `check` reads them. Raises BadText, also for the verdict `unknown`."""
+        if not isinstance(text, str):
+            raise BadText(f"{text!r:.40} is no text")
         lines = Lines(text)
         first, second, quandles = read_diagram(lines), read_diagram(lines), read_quandles(lines)
         verdict, version = read_verdict(lines, grid_of(first), grid_of(second))
@@ -98,12 +114,14 @@ class Certificate:
 
     @classmethod
     def load(cls, path: Union[str, "os.PathLike[str]"]) -> "Certificate":
-        """The certificate in a file. Raises BadText, and OSError where the file can't be read."""
-        with open(path, encoding="utf-8") as source:
-            try:
+        """The certificate in a file. Raises BadText, and NoFile where the file can't be read."""
+        try:
+            with open(path, encoding="utf-8") as source:
                 return cls.parse(source.read())
-            except UnicodeDecodeError as error:
-                raise BadText(f"not UTF-8 at byte {error.start}") from None
+        except UnicodeDecodeError as error:
+            raise BadText(f"not UTF-8 at byte {error.start}") from None
+        except OSError as error:
+            raise NoFile(f"{os.fspath(path)}: {error.strerror}") from error
 
     @property
     def is_equal(self) -> bool:
@@ -128,6 +146,29 @@ class Certificate:
         answers False."""
         return check(self.text)
 
+    def holds(self) -> bool:
+        """Has `knot check` rule on it: whether the evidence holds. `check` tells the cause where it doesn't."""
+        try:
+            return self.check()
+        except Rejected:
+            return False
+
+    def __bool__(self) -> bool:
+        """True, whether it says that the two are the same or that they differ: evidence was found. `is_equal` tells which."""
+        return True
+
+    def _repr_svg_(self) -> str:
+        """Its picture, as a notebook shows it."""
+        from .drawing import draw
+        return draw(self)
+
+    def turned(self) -> "Certificate":
+        """Of `different` the same of the second diagram and the first. Raises Fault where the verdict is `equal`, whose moves lead one way."""
+        verdict = self.verdict
+        if isinstance(verdict, Equal):
+            raise Fault("the moves of 'equal' lead from the first diagram to the second: seek the other way round")
+        return Certificate(self.second, self.first, verdict._replace(first=verdict.second, second=verdict.first), self.quandles, self.version)
+
     def grids(self) -> List[Grid]:
         """The grids along the moves, that of the first diagram first. Raises Illegal where a move isn't legal."""
         grids = [grid_of(self.first)]
@@ -146,16 +187,8 @@ class Certificate:
         return carried_along
 
     def save(self, path: Union[str, "os.PathLike[str]"]) -> None:
-        """Writes it to a file: whole, or not at all. Raises OSError."""
-        part = f"{os.fspath(path)}.{os.getpid()}.part"
-        try:
-            with open(part, "w", encoding="utf-8", newline="\n") as out:
-                out.write(self.text)
-            os.replace(part, path)
-        except BaseException:
-            if os.path.exists(part):
-                os.unlink(part)
-            raise
+        """Writes it to a file: whole, or not at all. Raises NoFile where it can't be written."""
+        put_whole(path, self.text)
 
     def __eq__(self, other: object) -> bool:
         return isinstance(other, Certificate) and self.text == other.text
@@ -176,8 +209,25 @@ def check(certificate: Union[Certificate, str]) -> bool:
     Raises Rejected with the first cause where it doesn't; Malformed or OverLimit where a line of a text is at fault; NoProgram, Failed.
     """
     text = certificate.text if isinstance(certificate, Certificate) else certificate
+    if not isinstance(text, str):
+        raise BadText(f"{text!r:.40} is neither a certificate nor the text of one")
     answered("knot", ["check"], text)
     return True
+
+
+def put_whole(path: Union[str, "os.PathLike[str]"], text: str) -> None:
+    """Writes a text to a file: whole, or not at all. Raises NoFile where it can't be written."""
+    part = f"{os.fspath(path)}.{os.getpid()}.part"
+    try:
+        with open(part, "w", encoding="utf-8", newline="\n") as out:
+            out.write(text)
+        os.replace(part, path)
+    except BaseException as error:
+        if os.path.exists(part):
+            os.unlink(part)
+        if isinstance(error, OSError):
+            raise NoFile(f"{os.fspath(path)}: {error.strerror}") from error
+        raise
 
 
 # Texts of verdicts

@@ -39,6 +39,8 @@ class Code(NamedTuple):
 
 def read_code(text: str) -> Code:
     """The code of a text. Lines that begin with `#`, as tools/batch.py puts before it, are skipped. Raises BadCode."""
+    if not isinstance(text, str):
+        raise BadCode(f"{text!r:.30} is no text")
     rows: List[List[int]] = []
     loops = None
     components: List[List[Passage]] = []
@@ -106,7 +108,7 @@ def rows_text(rows: Iterable[Sequence[int]], loops: int = 0) -> str:
     """Rows and a number of loops, as the job `grid` of knot reads them. Raises BadCode where a row hasn't four numbers."""
     lines = []
     for row in rows:
-        if len(row) != 4:
-            raise BadCode("a row of a planar diagram code has four edges")
+        if not isinstance(row, (list, tuple)) or len(row) != 4:
+            raise BadCode(f"a row of a planar diagram code has four edges, and not {row!r:.30}")
         lines.append(f"X[{','.join(map(str, row))}]\n")
     return "".join(lines) + (f"loops {loops}\n" if loops else "")

@@ -36,7 +36,7 @@ class Grid(_Grid):
     __slots__ = ()
 
     def __new__(cls, xs: Iterable[int], os: Iterable[int]) -> "Grid":
-        grid = tuple.__new__(cls, (tuple(xs), tuple(os)))
+        grid = tuple.__new__(cls, (wholes(xs, "the rows of the Xs"), wholes(os, "the rows of the Os")))
         fault = grid_fault(grid)
         if fault:
             raise BadDiagram(fault)
@@ -51,6 +51,15 @@ class Grid(_Grid):
     def text(self) -> str:
         """The lines `x` and `o`, as the programs read them."""
         return grid_text(self)
+
+    def grid(self) -> "Grid":
+        """Itself: every diagram has a grid."""
+        return self
+
+    def _repr_svg_(self) -> str:
+        """Its picture, as a notebook shows it."""
+        from .drawing import draw
+        return draw(self)
 
     def mirror(self) -> "Grid":
         """The mirror image: the picture turned upside down."""
@@ -69,14 +78,19 @@ class _Braid(NamedTuple):
 class Braid(_Braid):
     """A braid word, which stands for its closure: letter k is the positive crossing of strands k and k + 1, and -k undoes it.
 
-    Raises BadDiagram where there is no strand, or a letter is not on the strands. It has no upper limit, as Grid has none.
+    `Braid(2, [1, 1, 1])` has its strands first. Of a list alone, as `Braid([1, 1, 1])`, it has as many as its letters need. A text is that of
+    `seek --braid`: "2 1 1 1" has strands and letters, "{1,1,1}" letters alone. Raises BadDiagram where there is no strand, a letter is not on
+    the strands, or what is given isn't whole numbers. It has no upper limit, as Grid has none: calls of the programs raise OverLimit.
     """
 
     __slots__ = ()
 
-    def __new__(cls, strands: int, letters: Iterable[int] = ()) -> "Braid":
-        braid = tuple.__new__(cls, (strands, tuple(letters)))
-        if strands < 1:
+    def __new__(cls, strands: Union[int, str, Iterable[int]], letters: Union[str, Iterable[int], None] = None) -> "Braid":
+        if letters is None and not hasattr(strands, "__index__"):
+            strands, letters = strands_and_letters(strands)
+        count = whole(strands, "the number of strands")
+        braid = tuple.__new__(cls, (count, wholes(() if letters is None else letters, "the letters of a braid")))
+        if count < 1:
             raise BadDiagram("a braid has one strand or more")
         fault = letter_fault(braid)
         if fault:
@@ -92,6 +106,15 @@ class Braid(_Braid):
         """The grid of the closed braid, as the program draws it: it has as many columns as letters and twice the strands."""
         return closure(self)[0]
 
+    def grid(self) -> Grid:
+        """The grid of the closed braid."""
+        return closure(self)[0]
+
+    def _repr_svg_(self) -> str:
+        """Its picture, as a notebook shows it."""
+        from .drawing import draw
+        return draw(self)
+
     def mirror(self) -> "Braid":
         """The mirror image: every sign changed."""
         return mirror_braid(self)
@@ -102,6 +125,42 @@ class Braid(_Braid):
 
 
 Diagram = Union[Grid, Braid]
+
+
+def whole(value: Any, what: str) -> int:
+    """A whole number. Raises BadDiagram."""
+    if hasattr(value, "__index__"):
+        return int(value.__index__())
+    raise BadDiagram(f"{what}: a whole number is due, and not {value!r:.30}")
+
+
+def wholes(values: Any, what: str) -> Rows:
+    """Whole numbers, of a list, or of a text with blanks or commas between them. Raises BadDiagram."""
+    if isinstance(values, str):
+        values = [numeral(word, what) for word in values.strip(" \t\r\n[]{}()").replace(",", " ").split()]
+    try:
+        found = tuple(values)
+    except TypeError:
+        raise BadDiagram(f"{what}: a list of whole numbers is due, and not {values!r:.30}") from None
+    return tuple(whole(value, what) for value in found)
+
+
+def numeral(word: str, what: str) -> int:
+    """The whole number that a word writes. Raises BadDiagram."""
+    digits = word[1:] if word[0] in "+-" else word
+    if not (digits.isascii() and digits.isdigit() and len(digits) <= 9):
+        raise BadDiagram(f"{what}: '{word[:20]}' is no whole number")
+    return int(word)
+
+
+def strands_and_letters(given: Any) -> Tuple[int, Rows]:
+    """The strands and letters of a braid that is given as one: of a text in brackets and of a list the letters alone. Raises BadDiagram."""
+    letters = wholes(given, "a braid")
+    if isinstance(given, str) and given.lstrip()[:1] not in ("[", "{", "("):
+        if not letters:
+            raise BadDiagram("the text of a braid is empty: its strands and letters are due, as '2 1 1 1'")
+        return letters[0], letters[1:]
+    return max(map(abs, letters), default=0) + 1, letters
 
 
 class Quandle(NamedTuple):
@@ -284,7 +343,8 @@ def read_grid(lines: Lines) -> Grid:
     """A grid within the limits of the programs. Raises BadText."""
     line, tokens = lines.take("a diagram")
     if tokens[0] != "x":
-        raise BadText("a line 'x' or 'braid' is due", line)
+        is_code = tokens[0].startswith(("PD", "X[", "[", "{", "(", "DT", "Gauss", "crossings"))
+        raise BadText("a line 'x' or 'braid' is due" + ("; of a PD, DT or Gauss code tools/code.py --grid draws one" if is_code else ""), line)
     xs = [number_of(token, line) for token in tokens[1:]]
     size = len(xs)
     if not 2 <= size <= MAX_SIZE:
@@ -380,7 +440,9 @@ def move_of(line: Optional[int], tokens: Sequence[str]) -> Move:
 
 
 def move_text(move: Move) -> str:
-    """The line of a move."""
+    """The line of a move. Raises BadText where it isn't a tuple of words and numbers."""
+    if not isinstance(move, (tuple, list)):
+        raise BadText(f"{move!r:.40} is no move: a tuple is due, as ('shift', 'columns', 2)")
     return " ".join(map(str, move))
 
 

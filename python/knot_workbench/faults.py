@@ -22,6 +22,10 @@ class BadCode(Fault):
     """A text or rows that are no crossing code."""
 
 
+class NoFile(Fault, OSError):
+    """A file can't be read or written. It is an OSError too."""
+
+
 class Illegal(Fault):
     """A move that is not legal where it is made, with the cause as the program writes it."""
 

@@ -1,13 +1,16 @@
 """Which knot of a table a diagram is, with a certificate.
 
 The diagram is made smaller, and its numbers of colourings name a few candidates in the table. Walks of `seek` join the diagram to the diagram
-of one, mirrored or reversed as need be. Nothing is believed of what is found before `knot check` accepted the certificate.
+of one, mirrored or reversed as need be. Short walks to all candidates come before longer ones, and those of other Alexander polynomials have
+none. Nothing is believed of what is found before `knot check` accepted the certificate.
 """
 import threading
-from typing import Dict, List, NamedTuple, Optional, Sequence, Tuple, Union
+from typing import Any, Dict, List, NamedTuple, Optional, Sequence, Tuple, Union
 
+from .alexander import alexander_square
 from .certificates import Certificate, Equal, Evidence
 from .diagrams import Diagram, Grid, Move, grid_of
+from .given import diagram as diagram_given
 from .jobs import certificate_of, simplify
 from .knot_rows import row_of
 from .knot_tables import KnotTable, Parts, name_of
@@ -19,8 +22,8 @@ UNKNOT = Grid((0, 1), (1, 0))
 # The budgets of `simplify`, the first for every diagram, the second where no short walk joined one.
 FIRST_BUDGET, LATER_BUDGET = 1_000, 20_000
 
-# The rounds of walks: a seed, and the steps of each candidate's walk.
-ROUNDS = ((1, 100_000), (2, 1_000_000), (3, 8_000_000))
+# The rounds of walks: a seed, and the steps of each candidate's walk. The first is the short walk of `seek` alone.
+ROUNDS = ((1, 32_768), (2, 250_000), (3, 1_500_000), (4, 8_000_000))
 
 
 class Identified(NamedTuple):
@@ -77,12 +80,14 @@ def components_of(grid: Grid) -> int:
     return count
 
 
-def identify(diagram: Diagram, table: Union[KnotTable, str, None] = None, *, first: Optional[Parts] = None,
+def identify(diagram: Any, table: Union[KnotTable, str, None] = None, *, first: Optional[Parts] = None,
              rounds: Sequence[Tuple[int, int]] = ROUNDS) -> Identified:
-    """Which knot of a table a grid or a braid is: by default of the prime knots to twelve crossings, or a sum of such of at most twelve crossings.
+    """Which knot of a table a diagram is, which may be given as other calls take it: by default of the prime knots to twelve crossings, or a sum of such of at most twelve crossings.
 
-    `first` is tried before other candidates. `rounds` are the seeds and steps of walks, the shortest first. Raises TableError where the table
-    can't be used; NoProgram, OverLimit, Failed as other calls; and Rejected where the checker doesn't accept what was found."""
+    `first` is tried before other candidates, unless it has another Alexander polynomial. `rounds` are the seeds and steps of walks, the shortest
+    first. Raises TableError where the table can't be used; NoProgram, OverLimit, Failed as other calls; and Rejected where the checker doesn't
+    accept what was found."""
+    diagram = diagram_given(diagram)
     grid = grid_of(diagram)
     components = components_of(grid)
     if components > 1:
@@ -92,24 +97,33 @@ def identify(diagram: Diagram, table: Union[KnotTable, str, None] = None, *, fir
     if small.size == 2:
         across = [] if small == UNKNOT else [("shift", "columns", 1)]
         return named(diagram, (), UNKNOT, moves + across)
-    candidates = in_order(known.candidates(row_of(small, known.listed)), first)
+    likely, unlikely = by_likelihood(small, known, known.candidates(row_of(small, known.listed)), first)
     for place, (seed, steps) in enumerate(rounds):
-        if candidates and place == 1 and is_spent:
+        if likely and place == 1 and is_spent:
             small, more, _ = smaller(small, LATER_BUDGET)
             moves = moves + more
-        for parts in list(candidates):
+        for parts in list(likely):
             target = known.grid(parts)
             verdict = sought(small, target, seed, steps)
             if isinstance(verdict, Equal):
                 return named(diagram, parts, target, [*moves, *verdict.moves])
             if verdict is not None:
-                candidates.remove(parts)
-    return Identified(1, None, None, tuple(candidates))
+                likely.remove(parts)
+    return Identified(1, None, None, (*likely, *unlikely))
 
 
-def in_order(candidates: List[Parts], first: Optional[Parts]) -> List[Parts]:
-    """Candidates, with this one in front where it is among them."""
-    return sorted(candidates, key=lambda parts: parts != first)
+def by_likelihood(grid: Grid, known: KnotTable, candidates: List[Parts], first: Optional[Parts]) -> Tuple[List[Parts], List[Parts]]:
+    """Candidates for a grid in the order in which they are tried, and those that have another Alexander polynomial. `first` is in front, and
+    behind it are those whose diagrams in the table have nearly as many columns as the grid."""
+    # The turns of one knot have one polynomial.
+    is_one = len({tuple(name for name, _ in parts) for parts in candidates}) < 2
+    due = None if is_one else alexander_square(grid)
+    likely: List[Parts] = []
+    unlikely: List[Parts] = []
+    grids = {parts: known.grid(parts) for parts in candidates}
+    for parts in sorted(candidates, key=lambda parts: (parts != first, abs(grids[parts].size - grid.size))):
+        (likely if is_one or alexander_square(grids[parts]) == due else unlikely).append(parts)
+    return likely, unlikely
 
 
 def smaller(grid: Grid, budget: int) -> Tuple[Grid, List[Move], bool]:

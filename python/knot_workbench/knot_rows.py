@@ -13,6 +13,12 @@ from .programs import answered
 Entry = Optional[Rows]
 Row = Tuple[Entry, ...]
 
+# How many colourings a knot has by each block, of all weights together; None where the quandle is too large.
+Counts = Tuple[Optional[int], ...]
+
+
+NOT_CONNECTED = "numbers of colourings of two knots make none of their sum, so a quandle isn't connected"
+
 
 class Block(NamedTuple):
     """Of a block: how many colours its quandle has, how many weights, 0 without a cocycle, and whether the cocycle is a shadow cocycle."""
@@ -102,8 +108,26 @@ def opposite(row: Row, blocks: Sequence[Block]) -> Row:
     return tuple(entry if entry is None or not block.weights else entry[:1] + entry[:0:-1] for entry, block in zip(row, blocks))
 
 
-def may_be_one(first: Row, second: Row) -> bool:
-    """Whether no entry tells two rows apart."""
+def counts_of(row: Row) -> Counts:
+    """The counts of a row. Mirror images and reverses have the same."""
+    return tuple(None if entry is None else sum(entry) for entry in row)
+
+
+def counts_of_sum(first: Counts, second: Counts, blocks: Sequence[Block]) -> Counts:
+    """The counts of the sum of two knots, as `of_sum`. Raises BadAnswer where the counts can't be those of knots by a connected quandle."""
+    found: List[Optional[int]] = []
+    for one, other, block in zip(first, second, blocks):
+        if one is None or other is None:
+            found.append(None)
+        elif one * other % block.pairs:
+            raise BadAnswer(NOT_CONNECTED)
+        else:
+            found.append(one * other // block.pairs)
+    return tuple(found)
+
+
+def may_be_one(first: Sequence[Optional[object]], second: Sequence[Optional[object]]) -> bool:
+    """Whether no entry tells two rows apart, or two lists of counts."""
     return all(one is None or other is None or one == other for one, other in zip(first, second))
 
 
@@ -130,5 +154,5 @@ def entry_of_sum(one: Entry, other: Entry, block: Block) -> Entry:
             for further, times in enumerate(other):
                 found[(place + further) % len(one)] += count * times
     if any(number % block.pairs for number in found):
-        raise BadAnswer("numbers of colourings of two knots make none of their sum, so a quandle isn't connected")
+        raise BadAnswer(NOT_CONNECTED)
     return tuple(number // block.pairs for number in found)

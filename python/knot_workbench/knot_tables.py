@@ -9,11 +9,12 @@ import hashlib
 import os
 import re
 import threading
+from functools import reduce
 from typing import Dict, Iterable, Iterator, List, NamedTuple, Optional, Sequence, Tuple
 
 from .diagrams import Grid, diagram_text
 from .faults import BadDiagram
-from .knot_rows import Block, Row, blocks_of, may_be_one, of_sum, opposite, row_in, text_of
+from .knot_rows import Block, Counts, Row, blocks_of, counts_of, counts_of_sum, may_be_one, of_sum, opposite, row_in, text_of
 from .sums import sum_of_grids
 from .table_rows import TableError
 
@@ -246,7 +247,8 @@ class KnotTable:
         self.order = {name: place for place, name in enumerate(self.knots)}
         self._known: Dict[Tuple[str, bool], Row] = {}
         self._lock = threading.Lock()
-        self._sums: Optional[Dict[str, List[Parts]]] = None
+        self._sums: Optional[Dict[Counts, List[Parts]]] = None
+        self._wide_sums: List[Counts] = []
 
     def row(self, name: str, turn: Turn = SAME) -> Row:
         """The row of a knot after a turn."""
@@ -276,35 +278,43 @@ class KnotTable:
 
     def sum_candidates(self, row: Row) -> List[Parts]:
         """The sums of knots of the table of at most twelve crossings in all, as `candidates`."""
-        sums = self.sums_by_row()
-        exact = sums.get(text_of(row, self.blocks), [])
-        return exact + [parts for text, found in sums.items() if found is not exact and (None in row or "?" in text)
-                        and may_be_one(row, row_in(text, self.blocks)) for parts in found]
+        counts, sums = counts_of(row), self.sums_by_counts()
+        near = list(sums.get(counts, []))
+        for key in sums if None in counts else self._wide_sums:
+            if key != counts and may_be_one(counts, key):
+                near += sums[key]
+        return [parts for parts in near if may_be_one(row, self.sum_row(parts))]
 
-    def sums_by_row(self) -> Dict[str, List[Parts]]:
-        """The sums by the texts of their rows, made once, also where several threads ask for them."""
+    def sum_row(self, parts: Parts) -> Row:
+        """The row of a sum, or of one knot alone."""
+        rows = [self.row(name, turn) for name, turn in parts]
+        return reduce(lambda one, other: of_sum(one, other, self.blocks), rows)
+
+    def sums_by_counts(self) -> Dict[Counts, List[Parts]]:
+        """The sums by their counts, made once, also where several threads ask for them."""
         with self._lock:
             if self._sums is None:
-                found: Dict[str, List[Parts]] = {}
-                for parts, row in self.all_sums():
-                    found.setdefault(text_of(row, self.blocks), []).append(parts)
-                self._sums = found
+                found: Dict[Counts, List[Parts]] = {}
+                for parts, counts in self.all_sums():
+                    found.setdefault(counts, []).append(parts)
+                self._sums, self._wide_sums = found, [counts for counts in found if None in counts]
             return self._sums
 
-    def all_sums(self) -> Iterator[Tuple[Parts, Row]]:
-        """All sums of at most twelve crossings in all, each once, with their rows."""
+    def all_sums(self) -> Iterator[Tuple[Parts, Counts]]:
+        """All sums of at most twelve crossings in all, each once, with their counts."""
         least = min((knot.crossings for knot in self.knots.values()), default=SUM_CROSSINGS)
-        summands = [(knot.crossings, (name, turn), self.row(name, turn)) for name, knot in self.knots.items()
+        summands = [(knot.crossings, (name, turn), counts_of(self.row(name, turn))) for name, knot in self.knots.items()
                     if knot.crossings + least <= SUM_CROSSINGS for turn in knot.turns()]
 
-        def longer(parts: Parts, row: Optional[Row], begin: int, left: int) -> Iterator[Tuple[Parts, Row]]:
+        def longer(parts: Parts, counts: Optional[Counts], begin: int, left: int) -> Iterator[Tuple[Parts, Counts]]:
             for place in range(begin, len(summands)):
                 crossings, part, more = summands[place]
                 if crossings <= left:
-                    whole = more if row is None else of_sum(row, more, self.blocks)
-                    if row is not None:
+                    whole = more if counts is None else counts_of_sum(counts, more, self.blocks)
+                    if counts is not None:
                         yield (*parts, part), whole
-                    yield from longer((*parts, part), whole, place, left - crossings)
+                    if crossings + least <= left:
+                        yield from longer((*parts, part), whole, place, left - crossings)
 
         yield from longer((), None, 0, SUM_CROSSINGS)
 

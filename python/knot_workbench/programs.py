@@ -27,7 +27,9 @@ def use(knot: Optional[str] = None, seek: Optional[str] = None) -> None:
     """Names the programs that are called from now on, each by its path or by its name on PATH; None leaves one as it is."""
     for name, path in (("knot", knot), ("seek", seek)):
         if path is not None:
-            _given[name] = path
+            if not isinstance(path, (str, os.PathLike)):
+                raise NoProgram(f"{path!r:.40} is no path of a program")
+            _given[name] = os.fspath(path)
 
 
 def candidates(name: str) -> List[str]:
@@ -69,6 +71,8 @@ def weights_in_tree() -> List[str]:
 def run(name: str, words: Sequence[str], text: str, timeout: Optional[float] = None) -> Ran:
     """Runs a program on a text, and waits so many seconds at most. Raises NoProgram, TimedOut."""
     path = path_of(name)
+    if timeout is not None and not isinstance(timeout, (int, float)):
+        raise NoJob(f"timeout takes a number of seconds, and {timeout!r:.30} is none")
     try:
         done = subprocess.run([path, *words], input=text.encode(), stdout=subprocess.PIPE, stderr=subprocess.PIPE, timeout=timeout, check=False)
     except subprocess.TimeoutExpired:

@@ -5,38 +5,12 @@ from typing import Any, List, Optional, Tuple, Union
 
 from .code_grids import Grids
 from .diagrams import Diagram, Grid, Lines, read_diagram
-from .faults import BadCode, Fault
+from .faults import Fault
+from .identifying import UNKNOT, table_of
 from .jobs import from_pd
-from .pd_codes import components_of
+from .links import code_of_regina, code_of_sage, code_of_snappy
 from .table_entries import Conventions, EntryError, diagram_of
-from .table_rows import Table
-
-
-# Rows of crossings, and how many components have none.
-RowsAndLoops = Tuple[List[List[int]], int]
-
-
-def with_loops(rows: List[List[int]], components: int) -> RowsAndLoops:
-    """Rows, and as many loops as the link has components beside those of the rows. Raises BadCode where it has fewer."""
-    loops = components - components_of(rows)
-    if loops < 0:
-        raise BadCode(f"the code has {components - loops} components, and the link {components}")
-    return rows, loops
-
-
-def code_of_sage(link: Any) -> RowsAndLoops:
-    """The rows and loops of one of Sage's links. Sage lists the edges of a crossing the other way round, which is undone here."""
-    return with_loops([[i, j, k, l] for i, l, k, j in ([int(edge) for edge in row] for row in link.pd_code())], int(link.number_of_components()))
-
-
-def code_of_regina(link: Any) -> RowsAndLoops:
-    """The rows and loops of one of Regina's links."""
-    return with_loops([[int(edge) for edge in row] for row in link.pdData()], int(link.countComponents()))
-
-
-def code_of_snappy(link: Any) -> RowsAndLoops:
-    """The rows and loops of one of SnapPy's links. It is written by SnapPy's documentation, and wasn't run with SnapPy."""
-    return [[int(edge) for edge in row] for row in link.PD_code()], int(getattr(link, "unlinked_unknot_components", 0))
+from .table_rows import Table, TableError
 
 
 def from_sage(link: Any) -> Grid:
@@ -54,17 +28,28 @@ def from_snappy(link: Any) -> Grid:
     return from_pd(*code_of_snappy(link))
 
 
-def from_table(path: Union[str, "os.PathLike[str]"], diagram: str, name: str = "name", *, strands: Optional[str] = None, arcs: str = "columns",
+def from_table(path: Union[str, "os.PathLike[str]"], diagram: Optional[str] = None, name: str = "name", *, strands: Optional[str] = None, arcs: str = "columns",
                mirror: bool = False, reverse: bool = False, reads: Optional[str] = None, delimiter: Optional[str] = None, has_header: bool = True,
-               skip_rows: int = 0, faults: Optional[List[Fault]] = None) -> List[Tuple[str, Diagram]]:
-    """The names and diagrams of a table of knots: a CSV or TSV file whose column `diagram` has braid words, arc presentations, PD or DT codes.
+               skip_rows: int = 0, faults: Optional[List[Fault]] = None) -> Any:
+    """The names and diagrams of a table of knots, a list of pairs; or a Grid of one knot by its name, as `from_table("8_19")`.
+
+    A table is a CSV or TSV file whose column `diagram` has braid words, arc presentations, PD or DT codes. Where no column is named, the only
+    one counts that has diagrams by its title. A name is one of the table of prime knots to twelve crossings, as "10_132", "11n34",
+    "3_1 mirrored" or "3_1 # 4_1": what is neither a path nor named with a column is taken for one.
 
     What an entry is, its column's title or its brackets tell, or `reads`: "braid", "PD" or "DT". Codes are drawn by `knot grid`.
     Columns are named by their titles, or by their numbers from 1; the other words are those of tools/from_table.py. A row that can't be had
     is put into `faults` and left out where this list is given, and else raised as an EntryError. Raises TableError where the table as a whole
-    can't be read, and OSError."""
-    with open(path, "rb") as file:
-        data = file.read()
+    can't be read, or has no knot of this name."""
+    if not isinstance(path, (str, os.PathLike)):
+        raise TableError(f"{path!r:.40} is neither the path of a table nor the name of a knot")
+    if diagram is None and not os.path.exists(path) and not os.fspath(path).endswith((".csv", ".tsv", ".tab", ".txt")):
+        return grid_named(os.fspath(path))
+    try:
+        with open(path, "rb") as file:
+            data = file.read()
+    except OSError as error:
+        raise TableError(f"{os.fspath(path)}: {error.strerror}") from None
     words = SimpleNamespace(delimiter=delimiter, no_header=not has_header, skip_rows=skip_rows, name=name, diagram=diagram, second=None,
                             strands=strands, as_kind=reads)
     table = Table(os.fspath(path), data, words)
@@ -81,3 +66,12 @@ def from_table(path: Union[str, "os.PathLike[str]"], diagram: str, name: str = "
                 raise named from None
             faults.append(named)
     return found
+
+
+def grid_named(said: str) -> Grid:
+    """The diagram of a knot of the default table by its name. Raises TableError."""
+    table = table_of(None)
+    parts = table.parts_of(said)
+    if parts is None:
+        raise TableError(f"'{said}' is no knot of {os.path.basename(table.path)}, and no file; a knot is named as 8_19, 11n34 or '3_1 mirrored'")
+    return table.grid(parts) if parts else UNKNOT

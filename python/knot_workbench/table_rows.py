@@ -31,8 +31,10 @@ def decoded(path, data):
     try:
         return data.decode("utf-8-sig")
     except UnicodeDecodeError as error:
+        if data[:2] in (b"\xff\xfe", b"\xfe\xff"):
+            raise TableError(f"{path}: the text is UTF-16, and not UTF-8: iconv -f UTF-16 -t UTF-8 turns it; Excel saves UTF-8 as 'CSV UTF-8'") from None
         line = data.count(b"\n", 0, error.start) + 1
-        raise TableError(f"{path}:{line}: the table is not UTF-8") from None
+        raise TableError(f"{path}:{line}: the text is not UTF-8: iconv -f LATIN1 -t UTF-8 may turn it; Excel saves UTF-8 as 'CSV UTF-8'") from None
 
 
 def rows_of(path, data, delimiter):
@@ -96,6 +98,8 @@ class Table:
         if not rows:
             raise TableError(f"{path}: the table is empty")
         self.path = path
+        # What was read of a column, for whoever reads it to keep.
+        self.seen = {}
         header = rows[0][1]
         if options.no_header:
             header = [str(place) for place in range(1, len(header) + 1)]

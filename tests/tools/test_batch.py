@@ -9,8 +9,12 @@ import sys
 import tempfile
 import time
 import unittest
+from types import SimpleNamespace
+from unittest import mock
 
 import common
+from lib import batch_call
+from lib.batch_stages import BatchError
 from lib.whole_files import host_name
 
 TREE = common.ROOT
@@ -422,6 +426,23 @@ class SignalsTest(BatchTest):
         other = self.put("answers/answers/.c.txt.elsewhere.1.0.part", "half")
         self.batch()
         self.assertEqual([os.path.exists(path) for path in (old, new, other)], [False, True, True])
+
+
+class OwnProcesses(unittest.TestCase):
+    """What runs the processes where no word says it."""
+
+    def test_gnu_parallel_is_taken_for_hosts_alone(self):
+        for runs, hosts, wanted in (("auto", None, False), ("auto", "hosts", True), ("python", None, False), ("parallel", None, True)):
+            options = SimpleNamespace(runs=runs, hosts=hosts, job="check")
+            programs = SimpleNamespace(prepare=lambda uses: None, completed=lambda stage: stage, call=lambda stage: [], probe=lambda *words: None)
+            with mock.patch.object(batch_call, "has_parallel", lambda: True):
+                batch_call.prepare(options, [], programs)
+            self.assertEqual(options.parallel, wanted, (runs, hosts))
+
+    def test_hosts_want_gnu_parallel(self):
+        for runs, hosts, said in (("auto", "hosts", "not installed"), ("parallel", None, "not installed"), ("python", "hosts", "--hosts needs GNU parallel")):
+            with mock.patch.object(batch_call, "has_parallel", lambda: False), self.assertRaisesRegex(BatchError, said):
+                batch_call.prepare(SimpleNamespace(runs=runs, hosts=hosts, job="check"), [], None)
 
 
 @unittest.skipUnless(HAS_PARALLEL, "GNU parallel is not installed")

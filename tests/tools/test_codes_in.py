@@ -83,8 +83,8 @@ class CodesIn(unittest.TestCase):
         self.assertEqual(out, f"--pd\n{TREFOIL}\n--pd\n{UNKNOTS}\n--seed\n2\n")
 
     def test_what_is_no_link_is_told(self):
-        for expression, reason in (("nothing", "the link has no component"), ("odd", "it has no planar diagram code: ValueError"),
-                                   ("1 + 1", "it has no planar diagram code: AttributeError"), ("no_such_name", "NameError: name 'no_such_name' is not defined")):
+        for expression, reason in (("nothing", "the link has no component"), ("odd", "it has no planar diagram code: BadCode"),
+                                   ("1 + 1", "it has no planar diagram code: BadCode"), ("no_such_name", "NameError: name 'no_such_name' is not defined")):
             status, out, errors = self.call("regina", expression)
             self.assertEqual((status, out), (1, ""))
             self.assertTrue(errors.startswith(f"from_regina.py: {expression}: {reason}"), errors)

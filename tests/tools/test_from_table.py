@@ -236,12 +236,36 @@ class TableShapesTest(TableTest):
         path = self.table('name,word\na,{1}\na,{2}\n,{1}\n"T(2,3)",{1}\n"b\nc",{1}\n../d,{1}\nA,{1}\n')
         status, _, errors = self.call(path, self.out, "--diagram", "word")
         self.assertEqual(status, 1)
-        self.assertEqual(self.files(), ["T_2,3_.txt", "_._d.txt", "a.txt"])
+        self.assertEqual(self.files(), ["A-2.txt", "T_2,3_.txt", "_._d.txt", "a.txt"])
         self.assertEqual(errors.splitlines(), [
             f"{path}:3: a: line 2 has the same name",
             f"{path}:4: (no name): the row has no name",
-            f"{path}:6: 'b\\nc': the name has a line break or another character that can't be printed",
-            f"{path}:9: A: the file A.txt is taken by a"])
+            f"{path}:6: 'b\\nc': the name has a line break or another character that can't be printed"])
+
+    def test_names_in_any_script(self):
+        path = self.table("name|word\nузел/11a_1|{1}\nкруг|{1}\n5₂ (Fünfkreuz)|{1,1,1}\nузел 11a_1|{1}\n")
+        self.assertEqual(self.call(path, self.out, "--diagram", "word")[0], 0)
+        self.assertEqual(self.files(), ["5₂__Fünfkreuz_.txt", "круг.txt", "узел_11a_1-2.txt", "узел_11a_1.txt"])
+        self.assertEqual(self.made("узел_11a_1-2"), "# name: узел 11a_1\nbraid 2 1\n")
+        path = self.table("name|word\n" + "я" * 100 + "|{1}\n")
+        self.assertIn("would have 204 bytes, and 180 are the most", self.call(path, self.out, "--diagram", "word")[2])
+
+    def test_other_kinds_and_links_among_knots_are_told(self):
+        path = self.table("name|word\na|{1}\nb|{1,1}\nc|{{5,3},{4,2},{3,1},{2,5},{1,4}}\nd|{1,1,1}\n")
+        status, _, errors = self.call(path, self.out, "--diagram", "word")
+        self.assertEqual((status, errors), (0, f"{path}: the column 'word' has 3 braid words and 1 arc presentation, as c\n"
+                                               f"{path}: the column 'word' has 1 link among knots: b of 2 components\n"))
+        path = self.table("name|word\na|{1,1}\nb|{1,1}\n")
+        self.assertEqual(self.call(path, os.path.join(self.out, "more"), "--diagram", "word")[2], "")
+
+    def test_another_encoding_is_told_with_a_way_on(self):
+        for encoding, said in (("utf-16", "iconv -f UTF-16 -t UTF-8"), ("latin-1", "t.csv:2: the text is not UTF-8: iconv -f LATIN1")):
+            path = os.path.join(os.path.dirname(self.out), "t.csv")
+            with open(path, "w", encoding=encoding) as file:
+                file.write("name|word\nFünf|{1}\n")
+            status, _, errors = self.call(path, self.out, "--diagram", "word")
+            self.assertEqual(status, 2)
+            self.assertIn(said, errors)
 
     def test_files_that_are_there(self):
         path = self.table("name,word\na,{1}\nb,{1}\n")
@@ -260,10 +284,10 @@ class TableShapesTest(TableTest):
         path = self.table(f"name,word\na,{{1}}\n{'b' * 600},{{1}}\n{'c' * 150},{{1}}\n{'d' * 150},{{1}}\n")
         status, out, errors = self.call(path, self.out, "--diagram", "word")
         self.assertEqual((status, out), (1, f"4 rows: 3 diagrams in {self.out}, 1 not to be had\n"))
-        self.assertEqual(errors, f"{path}:3: {'b' * 40}... (600 letters): the name makes a file's name of 604 letters, and 180 are the most\n")
+        self.assertEqual(errors, f"{path}:3: {'b' * 40}... (600 letters): the file's name would have 604 bytes, and 180 are the most\n")
         status, out, errors = self.call(path, os.path.join(self.folder, "pairs"), "--diagram", "word", "--all-pairs")
         self.assertEqual((status, out), (1, f"4 rows: 2 problems in {self.folder}/pairs, 1 not written, 3 not to be had\n"))
-        self.assertIn(f"{path}:4: {'c' * 40}... (302 letters): the file's name would have 306 letters, and 180 are the most", errors)
+        self.assertIn(f"{path}:4: {'c' * 40}... (302 letters): the file's name would have 306 bytes, and 180 are the most", errors)
 
     def test_columns_by_their_titles_but_for_blanks_marks_and_capitals(self):
         path = self.table("Name|Braid Notation|braid_notation\na|{1}|{-1}\n")
@@ -279,7 +303,7 @@ class TableShapesTest(TableTest):
         for path, words, why in (
                 (os.path.join(self.folder, "none.csv"), (), "none.csv: No such file or directory"),
                 (self.table("", "empty.csv"), (), "empty.csv: the table is empty"),
-                (self.table(b"name,word\n\xff,{1}\n", "latin.csv"), (), "latin.csv:2: the table is not UTF-8"),
+                (self.table(b"name,word\n\xff,{1}\n", "latin.csv"), (), "latin.csv:2: the text is not UTF-8"),
                 (self.table("name,word,word\n", "twice.csv"), (), "twice.csv: 2 columns are called 'word'; give the number of one"),
                 (self.table('name,word\na,"{1}\n', "quote.csv"), (), "quote.csv:2: unexpected end of data"),
                 (good, ("--name", "knot"), "good.csv: no column is called 'knot'; there are 'name', 'word'"),
@@ -363,10 +387,10 @@ class ProblemsTest(TableTest):
     def test_names_of_pairs_that_make_the_same_file_name(self):
         path = self.table("name|word\nT(2,3)|{1,1,1}\nT[2,3]|{-1,-1,-1}\n4_1|{1,-2,1,-2}\n")
         status, out, errors = self.call(path, self.out, "--diagram", "word", "--all-pairs")
-        self.assertEqual((status, self.files()), (1, ["T_2,3___4_1.txt", "T_2,3___T_2,3_.txt"]))
+        self.assertEqual((status, self.files()), (0, ["T_2,3___4_1-2.txt", "T_2,3___4_1.txt", "T_2,3___T_2,3_.txt"]))
         self.assertEqual(self.made("T_2,3___4_1"), "# first: T(2,3)\nbraid 2 1 1 1\n# second: 4_1\nbraid 3 1 -2 1 -2\n")
-        self.assertIn("T[2,3]__4_1: the file T_2,3___4_1.txt is taken by T(2,3)__4_1", errors)
-        self.assertEqual(out, f"3 rows: 2 problems in {self.out}, 1 not written, 0 not to be had\n")
+        self.assertEqual(self.made("T_2,3___4_1-2"), "# first: T[2,3]\nbraid 2 -1 -1 -1\n# second: 4_1\nbraid 3 1 -2 1 -2\n")
+        self.assertEqual((errors, out), ("", f"3 rows: 3 problems in {self.out}, 0 not to be had\n"))
 
     def test_quandles_behind_each(self):
         quandles = self.table("quandle dihedral 11", "quandles.txt")

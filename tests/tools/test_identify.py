@@ -1,8 +1,10 @@
 """Tests of tools/identify.py, of tools/knot_table.py and of tables/: with a slow stand-in for both programs, which joins diagrams by shifts
 alone, and with the programs themselves where they are built."""
 import collections
+import contextlib
 import csv
 import os
+import random
 import re
 import subprocess
 import sys
@@ -12,10 +14,14 @@ from concurrent.futures import ThreadPoolExecutor
 import common
 import knot_invariants
 from knot_workbench import Braid, Grid, KnotTable, Turn, identify
-from knot_workbench.diagrams import grid_of, grid_text
+from knot_workbench.alexander import PLACE, PRIME, alexander_square
+from knot_workbench.diagrams import CORNERS, grid_of, grid_text
+from knot_workbench.faults import Illegal
+from knot_workbench.identifying import by_likelihood
 from knot_workbench.knot_rows import blocks_of, may_be_one, of_sum, opposite, row_in, row_of, text_of
 from knot_workbench.knot_tables import read_knots
-from knot_workbench.sums import sum_of_grids
+from knot_workbench.moves import made
+from knot_workbench.sums import shifted_to, sum_of_grids
 from knot_workbench.table_entries import nested
 
 STAND_IN = os.path.join(common.ROOT, "tests", "tools", "small_knot.py")
@@ -104,6 +110,51 @@ class OneDiagram(IdentifyTest):
         status, out, said = self.identify("--braid", "3 1 -2 1 -2")
         self.assertEqual((status, out), (1, "open\n"))
         self.assertTrue(said.startswith("identify.py: candidates: 4_1"), said)
+
+
+class Likelihood(IdentifyTest):
+    def parts(self, *said):
+        known = KnotTable(self.table, self.list)
+        return known, [known.parts_of(one) for one in said]
+
+    def test_other_alexander_polynomials_come_last_and_have_no_walk(self):
+        known, (trefoil, eight, mirrored) = self.parts("3_1", "4_1", "4_1 mirrored")
+        self.assertEqual(by_likelihood(EIGHT, known, [trefoil, eight, mirrored], trefoil), ([eight, mirrored], [trefoil]))
+        self.assertEqual(by_likelihood(EIGHT, known, [trefoil, eight, mirrored], mirrored), ([mirrored, eight], [trefoil]))
+
+    def test_turns_of_one_knot_are_all_likely(self):
+        known, (eight, mirrored) = self.parts("4_1", "4_1 mirrored")
+        self.assertEqual(by_likelihood(LEFT, known, [eight, mirrored], None), ([eight, mirrored], []))
+
+    def test_sums_of_one_polynomial_stay_in_their_order(self):
+        # Both sums have nine columns and one polynomial, so the table's order stays.
+        known, (left, both) = self.parts("3_1 # 3_1", "3_1 # 3_1 mirrored")
+        grid = sum_of_grids(LEFT, LEFT.mirror())
+        self.assertEqual(by_likelihood(grid, known, [left, both], None), ([left, both], []))
+
+
+class Alexander(unittest.TestCase):
+    def test_the_polynomial_at_one_place_is_that_of_the_word(self):
+        for braid, polynomial in ((Braid(2, (1, 1, 1)), (1, -1, 1)), (Braid(3, (1, -2, 1, -2)), (-1, 3, -1)), (Braid(2, (1,) * 5), (1, -1, 1, -1, 1)),
+                                  (Braid(3, (-1, -1, -1, -2, 1, -2)), (2, -3, 2)), (Braid(1, ()), (1,))):
+            middle = len(polynomial) // 2
+            value = sum(count * pow(PLACE, power - middle, PRIME) for power, count in enumerate(polynomial))
+            self.assertEqual(alexander_square(grid_of(braid)), value * value % PRIME, braid)
+
+    def test_moves_and_turns_keep_it_and_sums_multiply_it(self):
+        dice = random.Random(1)
+        for grid in (LEFT, EIGHT):
+            due = alexander_square(grid)
+            for turned in (grid.mirror(), grid.reverse(), shifted_to(grid, 2, 3, "o")):
+                self.assertEqual(alexander_square(turned), due)
+            here = grid
+            for _ in range(60):
+                move = ("stabilise", dice.randrange(here.size), dice.choice("xo"), dice.choice(CORNERS)) if here.size < 9 else (
+                    "exchange", dice.choice(("columns", "rows")), dice.randrange(here.size - 1))
+                with contextlib.suppress(Illegal):
+                    here = made(here, move)
+            self.assertEqual((here.size, alexander_square(here)), (9, due))
+            self.assertEqual(alexander_square(sum_of_grids(here, EIGHT)), due * alexander_square(EIGHT) % PRIME)
 
 
 class Certificates(IdentifyTest):
@@ -397,6 +448,14 @@ class WithThePrograms(IdentifyTest):
         # The torus knot of two strands and 61 crossings, whose smallest grid has 63 columns.
         rows = [[(edge - 1) % 122 + 1 for edge in (k, k + 62, k + 1, k + 61)] for k in range(1, 123, 2)]
         self.assertEqual(self.identify("-", text=str(rows)), (1, "refused\n", "identify.py: its drawing takes 63 columns, and a grid has at most 48\n"))
+
+    def test_a_small_trial(self):
+        words = ("--disguised", "9", "--published", "6", "--errors", "2", "--timed", "0", "--most", "7", "--", "--processes", "2")
+        done = subprocess.run([sys.executable, "-B", os.path.join(common.ROOT, "bench", "identify.py"), *words], capture_output=True, text=True, check=False,
+                              env={**os.environ, "KNOT": BUILT, "SEEK": BUILT_SEEK})
+        self.assertEqual(done.returncode, 0, done.stdout + done.stderr)
+        self.assertIn("9 disguised diagrams: 9 right; 9 certificates accepted", done.stdout)
+        self.assertIn("6 published identifications with 2 errors: 2 of these came back, and 0 others", done.stdout)
 
     def test_the_module_answers_a_certificate_that_the_checker_accepts(self):
         found = identify(Braid(3, (1, 1, 1, 2, -1, 2)), KnotTable(self.table, self.list))

@@ -95,7 +95,7 @@ class Completions(unittest.TestCase):
 
     def test_bash_completes(self):
         for name, words, wanted in (("knot", ["knot", "de"], ["decide"]), ("knot", ["knot", "decide", "--s"], ["--spare", "--seed"]),
-                                    ("knot", ["knot", "--budget", ""], []), ("seek", ["seek", "--qu"], ["--quandles", "--quiet"]),
+                                    ("knot", ["knot", "--budget", ""], []), ("knot", ["knot", "decide", ""], []), ("knot", ["knot", "--budget", "5", "de"], ["decide"]), ("seek", ["seek", "--qu"], ["--quandles", "--quiet"]),
                                     ("seek", ["seek", "--out", "a"], ["a file"])):
             folder = common.scratch(self)
             with open(os.path.join(folder, "a file"), "w", encoding="utf-8"):
@@ -151,7 +151,10 @@ class Installed(unittest.TestCase):
         for path in ("bin/knot", "bin/seek", "lib/knot-workbench/knot", "lib/knot-workbench/seek", "share/man/man1/knot.1", "share/man/man1/seek.1", "share/man/man5/knot-formats.5",
                      "share/bash-completion/completions/knot", "share/zsh/site-functions/_seek", "share/fish/vendor_completions.d/knot.fish",
                      "share/knot-workbench/quandles/list-64.txt", "share/knot-workbench/tables/prime-knots-to-12.csv", "share/knot-workbench/quandles/weights/T5.txt",
-                     "share/knot-workbench/quandles/weights/list.txt", "share/knot-workbench/installed.txt"):
+                     "share/knot-workbench/quandles/weights/list.txt", "share/knot-workbench/installed.txt", "share/knot-workbench/tools/batch.py",
+                     "share/knot-workbench/tools/lib/page.css", "share/knot-workbench/tools/stages.txt", "share/doc/knot-workbench/docs/GUIDE.md",
+                     "share/doc/knot-workbench/examples/check/unknot-shifted.txt", "bin/knot-batch", "bin/knot-census", "bin/knot-table", "bin/knot-identify",
+                     "bin/knot-draw", "bin/knot-page", "bin/knot-code", "bin/knot-turn", "bin/knot-join", "bin/knot-cocycles", "bin/knot-pieces"):
             self.assertIn(path, files)
         self.assertEqual(self.called("--uninstall"), (0, f"{len(files) - 1} files removed from {self.prefix}\n", ""))
         self.assertFalse(os.path.exists(self.prefix))
@@ -163,6 +166,11 @@ class Installed(unittest.TestCase):
         self.called()
         knot = self.path("bin", "knot")
         shown = common.call([os.path.join(common.ROOT, "knot"), "--help"]).stdout
+        documents = self.path("share", "doc", "knot-workbench")
+        shown = shown.replace("docs/", f"{documents}/docs/").replace("examples/", f"{documents}/examples/")
+        # Each document and example that the help names is there.
+        for path in re.findall(re.escape(documents) + r"/[\w./-]+\w", shown):
+            self.assertTrue(os.path.isfile(path), path)
         for words in (["--help"], ["help"], ["-h"], ["help", "check"], ["decide", "--help"]):
             done = common.call([knot, *words])
             self.assertEqual((done.returncode, done.stdout), (0, shown))
@@ -170,6 +178,8 @@ class Installed(unittest.TestCase):
         done = common.call([knot, "code"], text=UNKNOT)
         self.assertEqual((done.returncode, done.stdout), (0, "crossings 0\nloops 1\n"))
         self.assertEqual(common.call([knot, "nojob"], text="").returncode, 2)
+        done = common.call([knot, "check", "--budget", "5"], text=UNKNOT)
+        self.assertEqual((done.returncode, done.stderr), (2, "knot: --budget does nothing for check: it is an option of decide and simplify\n"))
 
     def test_seek_is_given_the_installed_list(self):
         with open(self.program, "w", encoding="utf-8") as out:
@@ -237,7 +247,62 @@ class Installed(unittest.TestCase):
         status, out, said = self.called("--uninstall")
         self.assertEqual((status, said), (1, f"install: {page} was changed since, and is left\n"))
         self.assertIn(", 1 left that were changed", out)
-        self.assertEqual(self.installed(), ["share/man/man1/knot.1"])
+        self.assertEqual(self.installed(), ["share/knot-workbench/installed.txt", "share/man/man1/knot.1"])
+        # A further installation takes its place, and keeps what was there.
+        status, out, said = self.called()
+        self.assertEqual((status, said), (0, f"install: {page} was changed since, and what it was is {page}.changed\n"))
+        with open(f"{page}.changed", encoding="utf-8") as file:
+            self.assertTrue(file.read().endswith("\na line\n"))
+        self.assertEqual(self.called("--uninstall")[0], 0)
+        self.assertEqual(self.installed(), ["share/man/man1/knot.1.changed"])
+
+    def test_a_changed_file_that_is_removed_leaves_nothing(self):
+        self.called()
+        page = self.path("share", "man", "man1", "knot.1")
+        with open(page, "a", encoding="utf-8") as out:
+            out.write("a line\n")
+        self.assertEqual(self.called("--uninstall")[0], 1)
+        os.unlink(page)
+        self.assertEqual(self.called("--uninstall")[0], 0)
+        self.assertFalse(os.path.exists(self.prefix))
+
+    def test_knot_alone(self):
+        status, out, said = self.called("--only", "knot", SEEK="/no/such/program")
+        self.assertEqual((status, said), (0, ""))
+        files = self.installed()
+        self.assertIn("bin/knot-batch", files)
+        for path in files:
+            self.assertFalse(os.path.basename(path) in ("seek", "_seek", "seek.fish", "seek.1", "knot-identify") and not path.startswith("share/doc"), path)
+        self.assertEqual(common.call([self.path("bin", "knot"), "code"], text=UNKNOT).stdout, "crossings 0\nloops 1\n")
+        # The rest comes beside it, and all goes together.
+        self.assertEqual(self.called()[0], 0)
+        self.assertIn("bin/seek", self.installed())
+        self.assertEqual(self.called("--uninstall")[0], 0)
+        self.assertFalse(os.path.exists(self.prefix))
+        self.assertEqual(self.called("--only", "knot", "--checker")[0], 2)
+
+    def test_the_tools_run_from_any_place(self):
+        self.called()
+        plain = {name: value for name, value in os.environ.items() if name not in ("KNOT", "SEEK", "PYTHONPATH")}
+
+        def tool(name, *words, text=""):
+            return common.call([self.path("bin", name), *words], text=text, cwd=self.folder, env=plain)
+        for name in sorted(os.listdir(self.path("bin"))):
+            if name.startswith("knot-"):
+                done = tool(name, "--help")
+                self.assertEqual((done.returncode, done.stderr), (0, ""), name)
+        self.assertTrue(tool("knot-draw", text=UNKNOT).stdout.startswith("<svg"))
+        self.assertIn("<html", tool("knot-page", text=UNKNOT + UNKNOT + "equal 0\n").stdout)
+        self.assertEqual(tool("knot-turn", "--mirror", text="braid 2 1 1 1\n").stdout, "braid 2 -1 -1 -1\n")
+        self.assertIn("crossings 3\n", tool("knot-code", "DT[4,6,2]").stdout)
+        table = self.path("share", "doc", "knot-workbench", "examples", "table", "knots.csv")
+        done = tool("knot-table", table, "problems", "--diagram", "braid_notation", "--second", "braid_notation")
+        self.assertIn("9 rows: 8 problems in problems", done.stdout)
+        os.mkdir(os.path.join(self.folder, "certificates"))
+        with open(os.path.join(self.folder, "certificates", "one.txt"), "w", encoding="utf-8") as out:
+            out.write(UNKNOT + UNKNOT + "equal 0\n")
+        done = tool("knot-batch", "--job", "check", "certificates", "rulings")
+        self.assertEqual((done.returncode, done.stdout), (0, "1 problems: 1 accepted\n"))
 
     def test_a_second_installation_takes_the_place_of_the_first(self):
         self.called()
@@ -255,6 +320,7 @@ class Installed(unittest.TestCase):
         status, out, said = self.called(SEEK=os.path.join(self.folder, "none"))
         self.assertEqual((status, out), (1, ""))
         self.assertIn("none: build both with tools/build.py", said)
+        self.assertIn("--only knot leaves seek out", said)
         self.assertFalse(os.path.exists(self.prefix))
         with open(os.path.join(self.folder, "file"), "w", encoding="utf-8"):
             pass
@@ -276,6 +342,9 @@ class Installed(unittest.TestCase):
         self.assertEqual((modes["/usr/bin/knot"], modes["/usr/bin/seek"], modes["/usr/share/man/man1/knot.1.gz"]), ("-rwxr-xr-x", "-rwxr-xr-x", "-rw-r--r--"))
         self.assertIn("/usr/lib/python3/dist-packages/knot_workbench/__init__.py", modes)
         self.assertNotIn("/usr/share/knot-workbench/installed.txt", modes)
+        for path in ("/usr/bin/knot-batch", "/usr/share/doc/knot-workbench/copyright", "/usr/share/doc/knot-workbench/changelog.gz", "/usr/share/doc/knot-workbench/docs/GUIDE.md"):
+            self.assertIn(path, modes)
+        self.assertNotIn("localhost", subprocess.run(["dpkg-deb", "-f", package, "Maintainer"], capture_output=True, text=True, check=True).stdout)
         said = subprocess.run(["dpkg-deb", "-f", package, "Package", "Version"], capture_output=True, text=True, check=True).stdout
         self.assertEqual(said, f"Package: knot-workbench\nVersion: {common.call([os.path.join(common.ROOT, 'knot'), '--version']).stdout.split()[1]}\n")
         self.assertEqual(common.call([script, "/no/such/folder"]).returncode, 2)

@@ -63,7 +63,9 @@ class Pages(unittest.TestCase):
             reader = read(out)
             self.assertEqual((reader.open, reader.faults), ([], []))
             self.assertEqual(len(reader.ids), len(set(reader.ids)))
-            self.assertNotRegex(re.sub(r'"http://www.w3.org/2000/svg"', "", out), r"https?:|src=|href=|url\(|@import")
+            # A link that holds what it leads to, the certificate, asks nothing of others.
+            own = re.sub(r'"http://www.w3.org/2000/svg"|href="data:[^"]*"', "", out)
+            self.assertNotRegex(own, r"https?:|src=|href=|url\(|@import")
             self.assertIn('<meta name="viewport"', out)
             self.assertIn('<html lang="en">', out)
 

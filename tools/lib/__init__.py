@@ -11,13 +11,26 @@ identify_call   the call of identify.py; on identify_inputs and identify_program
 smaller         braid words and grids made smaller by random changes
 whole_files     files that are there whole or not at all
 pieces_call     the call of pieces.py; on pieces_cut, pieces_run, pieces_answers and pieces_join
+tabulate_call   the call of tabulate.py; on table_given (table_shadows, table_choices), table_pool (table_worker, table_reduced, table_keys),
+                table_book, table_joins, table_apart and table_written
 
 Diagrams, quandles, moves, codes and tables stand in python/knot_workbench, which is found from here on.
 """
 import os
 import sys
 
-sys.path.insert(0, os.path.join(os.path.dirname(os.path.dirname(os.path.dirname(os.path.realpath(__file__)))), "python"))
+# The module of the next lines refuses an older Python by an error of its own, which isn't for those who call a program.
+if sys.version_info < (3, 9):
+    sys.stderr.write("%s: Python 3.9 or newer is needed, and this is Python %d.%d\n" % ((os.path.basename(sys.argv[0]),) + tuple(sys.version_info[:2])))
+    sys.exit(1)
+
+_top = os.path.dirname(os.path.dirname(os.path.dirname(os.path.realpath(__file__))))
+_python = os.path.join(_top, "python")
+if not os.path.isdir(_python) and os.path.isfile(os.path.join(_top, "python-folder.txt")):
+    # An installation says where it put the module.
+    with open(os.path.join(_top, "python-folder.txt"), encoding="utf-8") as _said:
+        _python = _said.read().rstrip("\n")
+sys.path.insert(0, _python)
 
 from knot_workbench import code_grids, diagrams, moves, pd_codes, table_entries, table_rows
 

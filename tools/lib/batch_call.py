@@ -4,7 +4,7 @@ import os
 import re
 import subprocess
 
-from lib.batch_parallel import Hosts
+from lib.batch_parallel import FIT, Hosts
 from lib.batch_programs import Programs, Runner, Stopped, on_signals
 from lib.batch_runs import Batch, tell
 from lib.batch_stages import BatchError, Stage, is_handed_over, read_stages, taken_over
@@ -65,13 +65,13 @@ def parser():
     words.add_argument("--processes", type=int, metavar="N",
                        help="how many at once (default: as many as there are processors); with --hosts the file says it")
     words.add_argument("--with", dest="runs", choices=("auto", "parallel", "python"), default="auto",
-                       help="GNU parallel, or this script alone (default: GNU parallel where it is installed)")
+                       help="GNU parallel, or this script's own processes (default: its own, which cost a tenth; with --hosts GNU parallel)")
     words.add_argument("--hosts", metavar="FILE", help="GNU parallel's file of ssh logins; the hosts must see the same folders")
     words.add_argument("--part", metavar="K/N", help="only part K of N, as in an array job; no summary, nothing is checked")
     words.add_argument("--again", action="store_true", help="forget the answers that are there")
     words.add_argument("--stage", metavar="NAME", help="run one problem in this stage, whatever is kept, and no more; or a whole stage, in the "
                                                        "word by which GNU parallel gets it")
-    words.add_argument("--trial", action="store_true", help="with --stage, only try whether a folder's problems can be run in this stage here")
+    words.add_argument("--trial", action="store_true", help="with --stage, only try whether a folder's problems can be run in this stage here, and print 'fit'")
     return words
 
 
@@ -181,12 +181,13 @@ def trial(options, programs, stage):
         if not (os.path.isdir(path) and os.access(path, right)):
             raise BatchError(f"{path}: {said}")
     programs.probe(programs.call(stage), f"stage {stage.name}")
+    print(FIT)
     return 0
 
 
 def prepare(options, stages, programs):
     """Has the programs built where that is due, and tries the words of each stage: the stages as they are run."""
-    options.parallel = options.runs != "python" and has_parallel()
+    options.parallel = (options.runs == "parallel" or options.runs == "auto" and options.hosts is not None) and has_parallel()
     if options.runs == "python" and options.hosts:
         raise BatchError("--hosts needs GNU parallel, and --with python takes none")
     if not options.parallel and (options.runs == "parallel" or options.hosts):

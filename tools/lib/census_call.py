@@ -201,8 +201,10 @@ def apart(options):
     try:
         with open(settings_path(options.census), encoding="utf-8") as file:
             kept = json.load(file)
-    except (OSError, ValueError) as error:
-        raise BatchError(f"{options.census}: no census that `sort` has made: {error}") from None
+    except OSError as error:
+        raise BatchError(f"{options.census}: no census that `sort` has made is there: {error.strerror}") from None
+    except ValueError:
+        raise BatchError(f"{settings_path(options.census)}: the file was changed since `sort` made it") from None
     diagrams, plan = (os.path.normpath(os.path.join(options.census, kept[key])) for key in ("diagrams", "plan"))
     census = Census(options.census, diagrams, read_plan(plan), turns_of(kept["mirror"], kept["reverse"]), batch_options(options), False)
     try:

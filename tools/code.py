@@ -1,0 +1,98 @@
+#!/usr/bin/env python3
+"""Takes PD, DT and Gauss codes of other programs to knot and seek.
+
+    tools/code.py 'DT[4,6,2]' | ./knot grid
+    tools/code.py 'GaussCode[-1,2,-3,1,-2,3]' > code.txt; ./seek --pd code.txt --braid "2 1 1 1"
+    tools/code.py --as gauss --signs "1 1 1" '1 -2 3 -1 2 -3'
+    tools/code.py --grid 'DT:[(4,6,8,2)]'                        the grid itself, by ./knot grid
+
+CODE is a text as the other program prints it, or the path of a file with one; standard input is read where none is given. It becomes a planar
+diagram code as ./knot grid and ./seek --pd read it, with a comment that says how it was had. Taken are, in brackets of any kind:
+
+PD     PD[X[4,2,5,1], ..] of KnotTheory, [[4,2,5,1], ..] of KnotInfo, SnapPy and Regina; Sage lists edges the other way round, see --sage
+DT     KnotInfo and KnotTheory: [4,6,2], DT[4,6,2], DTCode[{6,8},{2,4}] with a list for each component
+       SnapPy: DT:[(4,6,2)] with a list for each component, and DT[cacbca] in letters: the number of crossings, that of components, the length
+       of each, and then 2, 4, .. as a, b, .. and -2, -4, .. as A, B, ..
+Gauss  KnotInfo, KnotTheory and Regina: {-1,2,-3,1,-2,3}, where a negative number is a passage under; a list for each component of a link
+       Sage: [[[-1,2,-3,1,-2,3]],[1,1,1]], and O1+U2+O3+U1+O2+U3+, where the crossings have signs
+
+A list without a word tells by its numbers what it is; --as says it. The signs of a DT code mean the same to KnotInfo and SnapPy but for the
+mirror image, which neither code decides: a DT code, and a Gauss code without signs of crossings, are codes of the mirror image too. SnapPy's
+flips behind a DT code (.001, or a list of 0 and 1) would decide it, and are not read.
+"""
+import argparse
+import os
+import re
+import sys
+
+from lib import calls
+
+from knot_workbench.code_texts import kind_of_text, lists_in, of_signed, read_text, unwrapped, unwrapped_components
+from knot_workbench.faults import BadCode
+from knot_workbench.given import grid_by
+from knot_workbench.programs import use
+
+TOP = os.path.dirname(os.path.dirname(os.path.realpath(__file__)))
+KINDS = {"pd": "PD", "dt": "DT", "gauss": "Gauss"}
+
+
+def without_comments(text):
+    """A text without the lines that begin with a `#`."""
+    return "".join(line for line in text.splitlines(keepends=True) if not line.lstrip().startswith("#"))
+
+
+def given_text(word):
+    """The text of a code: of a file, of standard input, or the word itself."""
+    if word is None or word == "-":
+        return without_comments(calls.text_of())
+    return without_comments(calls.text_of(word)) if os.path.isfile(word) else word
+
+
+def code_of(text, kind, signs, is_sage):
+    """The code of a text. Raises BadCode."""
+    if signs is not None:
+        return of_signed(unwrapped_components(unwrapped(lists_in(kind_of_text(text)[1]))), lists_in(signs))
+    found = read_text(text, kind)
+    if is_sage:
+        if found.kind != "PD" or found.given is not None:
+            raise BadCode("--sage is for the rows of a PD code")
+        return found._replace(rows=[[i, j, k, l] for i, l, k, j in found.rows])
+    return found
+
+
+def remark(found):
+    """How a code was had, as a comment."""
+    if not found.parts:
+        return f"# of a {found.kind} code\n"
+    which = "the mirror image has it too" if found.parts == 1 else f"each of {found.parts} parts may be mirrored"
+    return f"# of a {found.kind} code: {which}\n"
+
+
+def main():
+    parser = argparse.ArgumentParser(prog="code.py", description=__doc__, formatter_class=argparse.RawDescriptionHelpFormatter)
+    parser.add_argument("code", nargs="?", metavar="CODE", help="the code, or a file with it; standard input where none is given")
+    parser.add_argument("--as", dest="kind", choices=sorted(KINDS), help="what the code is")
+    parser.add_argument("--signs", metavar="SIGNS", help='the sign of each crossing of a Gauss code, in the order of their numbers, as "1 -1 1"')
+    parser.add_argument("--sage", action="store_true", help="rows of a PD code as Sage lists them, clockwise")
+    parser.add_argument("--grid", action="store_true", help="write the grid that ./knot grid draws of it")
+    words = parser.parse_args(as_code_words())
+    if words.signs is not None and words.kind not in (None, "gauss"):
+        parser.error("--signs goes with a Gauss code")
+    with calls.naming(words.code if words.code and os.path.isfile(words.code) else None):
+        found = code_of(given_text(words.code), KINDS.get(words.kind), words.signs, words.sage)
+    if not words.grid:
+        calls.put(None, remark(found) + found.text)
+        return
+    if not os.environ.get("KNOT"):
+        use(knot=os.path.join(TOP, "knot"))
+    calls.put(None, remark(found) + grid_by(found.text).text)
+
+
+def as_code_words():
+    """The words of the call, in which a code that begins with a minus sign, as '-1 2 -3 1 -2 3', isn't taken for an option."""
+    words = sys.argv[1:]
+    return [f" {word}" if re.match(r"-[0-9]", word) else word for word in words]
+
+
+if __name__ == "__main__":
+    calls.run("code.py", main)
