@@ -24,7 +24,7 @@ HERE = os.path.dirname(os.path.realpath(__file__))
 FOLDERS = ("tools", "python", "launcher")
 
 # Those that take longest begin first.
-SLOW = ("test_census", "test_ways", "test_census_answers", "test_batch", "test_batch_examples", "test_batch_hosts", "test_quandles", "test_from_table", "test_launcher")
+SLOW = ("test_tabulate", "test_census", "test_ways", "test_census_answers", "test_batch", "test_batch_examples", "test_batch_hosts", "test_quandles", "test_from_table", "test_launcher")
 
 FAILED = re.compile(r"^(?:FAIL|ERROR): (.*)$", re.M)
 SKIPPED = re.compile(r"\.\.\. skipped (['\"])(.*)\1$", re.M)

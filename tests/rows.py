@@ -29,6 +29,9 @@ A file has a subject, and is read by people. A row is a name, a call, and parts.
   input is NAME             standard input is this file, which lies where the call is made
   word WORD                 one word more, with escapes as within lines
   file NAME                 a file that lies where the call is made, or in a folder there
+  link NAME to OTHER        a symbolic link that lies there, with this text as its target
+  pipe NAME                 a named pipe that lies there; what stands in the part is written into it, and where it is empty, it is read
+  memory N                  the call has N kilobytes of address space; where the program was built with a sanitizer, the row is passed over
   each of                   so many cases: each line stands in turn in the place of the line `...` above, up to the next `each of`
   answer STATUS             the exit status, and standard output
   front STATUS              the exit status, and what standard output begins with
@@ -41,6 +44,8 @@ A file has a subject, and is read by people. A row is a name, a call, and parts.
   drawn in N columns        a grid of N columns is written
   lists of N ..             lists of so many lines are written
   written NAME              the call writes this file, which begins so
+  piped NAME                the call writes into this pipe what begins so
+  linked NAME               a symbolic link of this name is there still
   unwritten NAME            no file of this name stands where the call is made
   cut at each byte          of each front of the input: it is malformed, or answered likewise where only the last line feed is gone
   altered at each byte      of the input with a byte 1 in each place: its line is malformed
@@ -58,13 +63,16 @@ exit status:
   2  the words are no call, a row is none, or a program is wanting; nothing was tried
 """
 import argparse
+import functools
 import itertools
 import os
 import re
+import resource
 import shlex
 import subprocess
 import sys
 import tempfile
+import threading
 from concurrent.futures import ThreadPoolExecutor
 from dataclasses import dataclass, field, replace
 
@@ -83,9 +91,10 @@ ONE_BYTE = {"\\": b"\\", "t": b"\t", "r": b"\r", "n": b"\n", "0": b"\0"}
 ESCAPE = re.compile(r"\\(?:\{(?P<sum>[^}]*)\}|x(?P<byte>[0-9a-f]{2})|(?P<one>.))")
 NUMBER = re.compile(r"(?P<front>\w+)(?: (?P<sign>[+-]) (?P<rest>[0-9]+))?")
 PART = re.compile(r"input|unreadable input|input is (?P<input>\S+)|word (?P<word>.+)|file (?P<file>\S+)|each of"
+                  r"|link (?P<link>\S+ to \S+)|pipe (?P<pipe>\S+)|memory (?P<memory>[0-9]+)"
                   r"|(?:answer|front) (?P<status>[0-9]+)|error|taken|accepted behind it"
                   r"|(?:simplified to|equal within|drawn in) (?P<columns>[0-9]+) columns|lists of (?P<lists>[0-9]+(?: [0-9]+)*)"
-                  r"|(?:(?:un)?written|accepted in) (?P<written>\S+)|(?:cut|altered) at each byte")
+                  r"|(?:(?:un)?written|accepted in|piped|linked) (?P<written>\S+)|(?:cut|altered) at each byte")
 
 
 class RowError(Exception):
@@ -101,6 +110,9 @@ class Case:
     files: dict = field(default_factory=dict)
     wanted: list = field(default_factory=list)
     input: str = None
+    links: dict = field(default_factory=dict)
+    pipes: dict = field(default_factory=dict)
+    memory: int = None
 
 
 @dataclass
@@ -110,6 +122,7 @@ class Ended:
     text: bytes
     error: bytes
     folder: str = None
+    piped: dict = field(default_factory=dict)
 
 
 def constants():
@@ -234,6 +247,13 @@ def cases_of(name, blocks, known):
             frame.words.append(bytes_of(part["word"], known))
         elif part["file"]:
             frame.files[part["file"]] = lines
+        elif part["link"]:
+            link, _, target = part["link"].partition(" to ")
+            frame.links[link] = target
+        elif part["pipe"]:
+            frame.pipes[part["pipe"]] = lines
+        elif part["memory"]:
+            frame.memory = int(part["memory"])
         else:
             frame.wanted.append((line.split()[0], detail_of(part), text_of(lines, known)))
     if not made:
@@ -261,7 +281,8 @@ def one_case(frame, other, place, known):
 
     given = None if frame.given is None else put(frame.given)
     name = frame.name if other is None else f"{frame.name}, {place}: {other}"
-    return Case(name, frame.words, given, {path: put(lines) for path, lines in frame.files.items()}, frame.wanted, frame.input)
+    return Case(name, frame.words, given, {path: put(lines) for path, lines in frame.files.items()}, frame.wanted, frame.input, frame.links,
+                {path: put(lines) for path, lines in frame.pipes.items()}, frame.memory)
 
 
 def all_cases(names):
@@ -279,6 +300,55 @@ def all_cases(names):
             except RowError as error:
                 raise RowError(f"tests/rows/{subject}.txt, {error}") from None
     return made
+
+
+@functools.lru_cache(maxsize=None)
+def is_sanitized(program):
+    """Whether a program was built with a sanitizer, which takes far more address space than a row gives it. A script is none."""
+    try:
+        with open(program, "rb") as file:
+            return b"__asan_init" in file.read()
+    except OSError:
+        return False
+
+
+class Pipes:
+    """Named pipes in a folder while a call is made: one with a text gets it, and of one without what comes is kept in `got`."""
+
+    def __init__(self, folder, texts):
+        self.paths = {name: os.path.join(folder, name) for name in texts}
+        self.texts, self.got, self.threads = texts, {}, []
+
+    def __enter__(self):
+        for name, path in self.paths.items():
+            os.mkfifo(path)
+            self.threads.append(threading.Thread(target=self.served, args=(name, path), daemon=True))
+            self.threads[-1].start()
+        return self
+
+    def served(self, name, path):
+        """Writes a pipe's text, or reads what comes."""
+        try:
+            if self.texts[name]:
+                with open(path, "wb") as pipe:
+                    pipe.write(self.texts[name])
+            else:
+                with open(path, "rb") as pipe:
+                    self.got[name] = pipe.read()
+        except BrokenPipeError:
+            # Who reads it has ended before.
+            pass
+
+    def __exit__(self, *_):
+        for path in self.paths.values():
+            # A call that never opened the pipe would leave its thread waiting.
+            for way in (os.O_RDONLY | os.O_NONBLOCK, os.O_WRONLY | os.O_NONBLOCK):
+                try:
+                    os.close(os.open(path, way))
+                except OSError:
+                    pass
+        for thread in self.threads:
+            thread.join(10)
 
 
 class Runner:
@@ -304,10 +374,24 @@ class Runner:
             os.close(unreadable)
         return Ended(done.returncode, done.stdout, done.stderr, folder)
 
+    def call_within(self, case):
+        """A call in so much address space."""
+        next(self.counter)
+        kilobytes = case.memory
+
+        def limit():
+            resource.setrlimit(resource.RLIMIT_AS, (kilobytes * 1024, kilobytes * 1024))
+            resource.setrlimit(resource.RLIMIT_CORE, (0, 0))
+        done = subprocess.run([self.programs[case.words[0]], *case.words[1:]], input=case.given, capture_output=True, preexec_fn=limit, timeout=PATIENCE,
+                              check=False)
+        return Ended(done.returncode, done.stdout, done.stderr)
+
     def problems(self, case):
         """What differs in a case."""
         try:
-            if not case.files and not any(isinstance(detail, str) for _, detail, _ in case.wanted):
+            if case.memory is not None:
+                return [] if is_sanitized(self.programs[case.words[0]]) else self.differences(case, self.call_within(case))
+            if not (case.files or case.links or case.pipes) and not any(isinstance(detail, str) for _, detail, _ in case.wanted):
                 return self.differences(case, self.call(case.words, case.given))
             with tempfile.TemporaryDirectory(prefix="knot-rows.") as folder:
                 for name, text in case.files.items():
@@ -315,7 +399,12 @@ class Runner:
                     os.makedirs(os.path.dirname(path), exist_ok=True)
                     with open(path, "wb") as file:
                         file.write(text)
-                return self.differences(case, self.call(case.words, case.given, folder, case.input))
+                for name, target in case.links.items():
+                    os.symlink(target, os.path.join(folder, name))
+                with Pipes(folder, case.pipes) as pipes:
+                    ended = self.call(case.words, case.given, folder, case.input)
+                ended.piped = pipes.got
+                return self.differences(case, ended)
         except subprocess.TimeoutExpired:
             return [f"a call took over {PATIENCE} seconds"]
 
@@ -386,6 +475,13 @@ class Runner:
 
     def part_unwritten(self, _case, ended, name, _text):
         return [f"a file {name} is written" if os.path.isfile(os.path.join(ended.folder, name)) else None]
+
+    def part_piped(self, _case, ended, name, text):
+        found = ended.piped.get(name)
+        return [f"nothing is written into {name}" if found is None else differs(f"the front of what {name} got", found[:len(text)], text)]
+
+    def part_linked(self, _case, ended, name, _text):
+        return [None if os.path.islink(os.path.join(ended.folder, name)) else f"{name} is no symbolic link any more"]
 
     def part_cut(self, case, ended, _number, _text):
         fronts = [(length, self.call(case.words, case.given[:length])) for length in range(len(case.given))]
