@@ -3,13 +3,20 @@
 # Further words stand in NAME.args, in one line. What decide answers with status 0 must be accepted by check behind its input.
 # Those of check are answered likewise by the separate checker, where crates/knot_check/out/knot_check is there or KNOT_CHECK names it.
 # Then every example of ./seek: the words in seek/NAME.words, one a line, must give NAME.out and NAME.err, or nothing, and the status.
+# Where KNOT or SEEK names a program, the launchers call it, and none is built.
 set -u
 
 here=$(CDPATH='' cd -- "$(dirname -- "$0")" && pwd) || exit 1
-knot=$here/../knot
-checker=${KNOT_CHECK:-$here/../crates/knot_check/out/knot_check}
+top=$here/..
+checker=${KNOT_CHECK:-$top/crates/knot_check/out/knot_check}
 found=${TMPDIR:-/tmp}/knot-example.$$
-trap 'rm -f "$found" "$found".*' EXIT
+trap 'rm -rf "$found" "$found".*' EXIT
+if [ -n "${KNOT-}${SEEK-}" ]; then
+    python3 -B "$top/tests/launched.py" "$found.tree" || exit 1
+    top=$found.tree
+fi
+knot=$top/knot
+seek=$top/seek
 passed=0
 failed=0
 
@@ -21,7 +28,7 @@ is_accepted() {
 for input in "$here"/*/*.txt; do
     job=$(basename -- "$(dirname -- "$input")")
     case $job in
-        decide | check | replay | colour | close | code | braid | linking | braidcheck | weights | numbers | simplify | grid | sample) ;;
+        decide | check | replay | colour | close | code | braid | linking | braidcheck | weights | numbers | simplify | least | grid | sample) ;;
         *) continue ;;
     esac
     stem=${input%.txt}
@@ -54,7 +61,6 @@ for input in "$here"/*/*.txt; do
     fi
 done
 
-seek=$here/../seek
 cd "$here/seek" || exit 1
 for words in *.words; do
     stem=${words%.words}

@@ -23,6 +23,7 @@ GOOD = {
     b"linking": b"braid 2 1 1\nbraid 2 -1 -1\n",
     b"braidcheck": b"braid 3 2 1 2 1\nbraid 2 1 1 1\nsteps 5\ntriple 0\nturn 2\ninsert 1 -2\ncancel 1\nshrink\n",
     b"simplify": b"x 1 0 2\no 0 2 1\n",
+    b"least": b"x 1 0 2\no 0 2 1\n",
     b"grid": b"crossings 2\nX[4,1,3,2]\nX[2,3,1,4]\nloops 1\ngauss O1- U2-\ngauss O2- U1-\n",
     b"numbers": TREFOIL + b"quandle tetrahedral\nweight 2\n0 1 1 0\n1 0 1 0\n1 1 0 0\n0 0 0 0\nquandle dihedral 3\n",
     b"weights": TREFOIL + b"braid 2\nquandle tetrahedral\nweight 2\n0 1 1 0\n1 0 1 0\n1 1 0 0\n0 0 0 0\n",

@@ -40,6 +40,7 @@ A file has a subject, and is read by people. A row is a name, a call, and parts.
   accepted behind it        the status is 0, and `knot check` accepts what is written behind the input
   accepted in NAME          the same of what stands in this file
   simplified to N columns   a grid of N columns, moves and `irreducible` are written, and `knot replay` makes these moves to this grid
+  whole                     a grid, moves and `whole` are written, and `knot replay` makes these moves to this grid
   equal within N columns    the verdict is `equal`, and no diagram along its moves has more than N columns
   drawn in N columns        a grid of N columns is written
   lists of N ..             lists of so many lines are written
@@ -92,7 +93,7 @@ ESCAPE = re.compile(r"\\(?:\{(?P<sum>[^}]*)\}|x(?P<byte>[0-9a-f]{2})|(?P<one>.))
 NUMBER = re.compile(r"(?P<front>\w+)(?: (?P<sign>[+-]) (?P<rest>[0-9]+))?")
 PART = re.compile(r"input|unreadable input|input is (?P<input>\S+)|word (?P<word>.+)|file (?P<file>\S+)|each of"
                   r"|link (?P<link>\S+ to \S+)|pipe (?P<pipe>\S+)|memory (?P<memory>[0-9]+)"
-                  r"|(?:answer|front) (?P<status>[0-9]+)|error|taken|accepted behind it"
+                  r"|(?:answer|front) (?P<status>[0-9]+)|error|taken|whole|accepted behind it"
                   r"|(?:simplified to|equal within|drawn in) (?P<columns>[0-9]+) columns|lists of (?P<lists>[0-9]+(?: [0-9]+)*)"
                   r"|(?:(?:un)?written|accepted in|piped|linked) (?P<written>\S+)|(?:cut|altered) at each byte")
 
@@ -436,12 +437,19 @@ class Runner:
         ruled = [self.call(words, case.given + found) for words in ([["knot", "check"], [CHECKER]] if CHECKER in self.programs else [["knot", "check"]])]
         return [differs("status", ended.status, 0), *(differs("what `check` says of it", ruling.text, b"accepted\n") for ruling in ruled)]
 
-    def part_simplified(self, case, ended, columns, _text):
+    def led(self, case, ended, last):
+        """What is wrong with a grid, moves that lead to it, and this last line."""
         lines = ended.text.splitlines(keepends=True)
         grid, moves = lines[:2], lines[2:-1]
         reached = self.call(["knot", "replay"], case.given + b"".join(moves))
-        return [differs("status", ended.status, 0), differs("the last line", lines[-1:], [b"irreducible\n"]),
-                differs("columns", [len(line.split()) - 1 for line in grid], [columns] * 2), differs("the last diagram", reached.text, b"".join(grid))]
+        return [differs("status", ended.status, 0), differs("the last line", lines[-1:], [last]), differs("the last diagram", reached.text, b"".join(grid))]
+
+    def part_simplified(self, case, ended, columns, _text):
+        return [*self.led(case, ended, b"irreducible\n"),
+                differs("columns", [len(line.split()) - 1 for line in ended.text.splitlines()[:2]], [columns] * 2)]
+
+    def part_whole(self, case, ended, _number, _text):
+        return self.led(case, ended, b"whole\n")
 
     def part_equal(self, case, ended, columns, _text):
         lines = ended.text.decode(errors="replace").splitlines()

@@ -15,6 +15,7 @@ and for a few diagrams where another search, without any cunning, counts as many
     codes.py      crossing codes, linking numbers
     weights.py    cocycles and weights
     numbers.py    numbers of colourings, by blocks
+    tables.py     tables of knots
     drawn.py      diagrams of codes
     answers.py    how a call may end
     jobs.py       what each job answers, and the words that ask for it

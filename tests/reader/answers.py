@@ -101,13 +101,14 @@ class Searched:
         return [reach(grid, self.cap, self.TRIED_AGAIN) for grid in (self.first, self.second)]
 
 
-class Simplified:
-    """The answer of `simplify`: one of several."""
+class Led:
+    """The answer of a job that leads to a diagram by moves: one of several."""
 
     kind = "searched"
     # Of so many members, of at most so many columns, the class is listed again.
     LISTED_AGAIN = 40
     COLUMNS_LISTED_AGAIN = 6
+    job, ways = None, ()
 
     def __init__(self, grid, budget):
         self.grid, self.budget = grid, budget
@@ -124,17 +125,31 @@ class Simplified:
             return f"no grid and moves at line {fault.line}: {first_line(text)!r}"
         end = [line for line in text.decode().split("\n") if line][-1]
         if text.decode() != print_grid(grid) + "\n".join([f"moves {len(moves)}", *map(print_move, moves), end]) + "\n":
-            return f"not as `simplify` prints: {first_line(text)!r}"
+            return f"not as `{self.job}` prints: {first_line(text)!r}"
         last, stop, largest = play(self.grid, moves)
         if stop or last != grid:
             return f"its moves stop: {stop}" if stop else "its moves lead elsewhere"
         if largest > size_of(self.grid):
             return f"its moves lead through {largest} columns"
-        if any(move[0] not in ("shift", "exchange", "destabilise") for move in moves):
-            return "it slides or stabilises"
+        if any(move[0] not in self.ways for move in moves):
+            return f"it makes other moves than {' and '.join(self.ways)}"
+        return self.problem_with_moves(moves) or self.problem_with_end(grid, end)
+
+    def problem_with_moves(self, _moves):
+        """What is wrong with moves that lead to the diagram, or None."""
+        return None
+
+
+class Simplified(Led):
+    """The answer of `simplify`."""
+
+    job, ways = "simplify", ("shift", "exchange", "destabilise")
+
+    def problem_with_moves(self, moves):
+        """What is wrong with moves that lead to the diagram, or None."""
         if moves and all(move[0] != "destabilise" for move in moves):
             return "it moves, and makes nothing smaller"
-        return self.problem_with_end(grid, end)
+        return None
 
     def problem_with_end(self, grid, end):
         """What is wrong with the last line of `simplify`."""
@@ -150,6 +165,29 @@ class Simplified:
         if len(listed) > self.budget:
             return f"irreducible, and {len(listed)} are reached, more than the budget"
         return "it may be made smaller" if any(may_destabilise(turn) for member in listed for turn in translates(member)) else None
+
+
+class Least(Led):
+    """The answer of `least`."""
+
+    job, ways = "least", ("shift", "exchange")
+
+    def problem_with_end(self, grid, end):
+        """What is wrong with the diagram and with the last line of `least`."""
+        if end not in ("whole", f"spent {self.budget}"):
+            return f"it ends with {end!r}"
+        if grid != canonical(grid):
+            return "it has a lesser translate"
+        if size_of(grid) > self.COLUMNS_LISTED_AGAIN or end != "whole" and self.budget > self.LISTED_AGAIN:
+            return None
+        listed = exchange_class(self.grid, self.LISTED_AGAIN)
+        if end != "whole":
+            return None if len(listed) > self.budget else f"spent, and {len(listed)} are reached"
+        if len(listed) > self.LISTED_AGAIN:
+            return None
+        if len(listed) > self.budget:
+            return f"whole, and {len(listed)} are reached, more than the budget"
+        return None if grid == min(listed) else "a lesser diagram is reached"
 
 
 def exchange_class(grid, enough):

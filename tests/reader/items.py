@@ -330,13 +330,69 @@ def problem(lines):
     return (*two_diagrams(lines), read_quandles(lines))
 
 
-def problem_and_said(lines):
-    """A problem, whose quandles are passed over, and a verdict or evidence by numbers."""
+def read_block(lines, **of_name):
+    """A quandle, perhaps with a cocycle of either kind behind it."""
+    quandle = read_name(lines, b"quandle", **of_name)
+    return quandle, read_any_cocycle(lines, quandle) if is_cocycle_next(lines) else None
+
+
+def read_class(lines, blocks):
+    """A diagram, its seeds, and its numbers by each block; None where nothing is said."""
+    grid = read_diagram(lines)
+    seeds = read_values(lines, b"seeds", is_number, MAX_SIZE)
+    lines.advance()
+    counts = []
+    for _, cocycle in blocks:
+        if lines.begins_with(b"wide"):
+            read_count(lines, b"wide")
+            counts.append(None)
+            continue
+        counts.append(read_values(lines, b"numbers", is_number))
+        lines.content(len(counts[-1]) == (cocycle[0] if cocycle else 1))
+        lines.advance()
+    return grid, seeds, counts
+
+
+def read_open_pair(lines, classes):
+    """Two classes that are left open."""
+    tokens = lines.due()
+    lines.form(len(tokens) == 3 and tokens[0] == b"classes" and are_numbers(tokens[1:]))
+    lines.limits(are_short(tokens[1:]))
+    first, second = map(int, tokens[1:])
+    lines.content(first < second < classes)
+    lines.advance()
+    return first, second
+
+
+def read_row(lines, classes):
+    """A diagram, its class, and moves."""
+    grid = read_diagram(lines)
+    tokens = lines.due()
+    lines.form(len(tokens) == 2 and tokens[0] == b"class" and is_number(tokens[1]))
+    lines.limits(is_short(tokens[1]))
+    lines.content(int(tokens[1]) < classes)
+    lines.advance()
+    return grid, int(tokens[1]), read_moves(lines)
+
+
+def read_table(lines):
+    """Blocks, classes, pairs of classes that are left open, and rows, behind the line `certificate 4`."""
+    lines.advance()
+    blocks = [read_block(lines, largest=MAX_LARGE_ORDER) for _ in range(read_count(lines, b"blocks", MAX_QUANDLES))]
+    classes = [read_class(lines, blocks) for _ in range(read_count(lines, b"classes"))]
+    left = {read_open_pair(lines, len(classes)) for _ in range(read_count(lines, b"open"))}
+    return blocks, classes, left, [read_row(lines, len(classes)) for _ in range(read_count(lines, b"rows"))]
+
+
+def certificate(lines):
+    """A table where the line `certificate 4` is first. Else a problem, whose quandles are passed over, and a verdict or evidence by numbers."""
+    if lines.tokens is not None and tuple(lines.tokens) == (b"certificate", b"4"):
+        return ("table", *read_table(lines)),
     first, second = two_diagrams(lines)
     read_quandles(lines)
     if lines.tokens is not None and tuple(lines.tokens) == (b"certificate", b"3"):
-        return first, second, read_evidence(lines)
-    return first, second, read_verdict(lines, first, second)
+        return read_evidence(lines), first, second
+    return read_verdict(lines, first, second), first, second
 
 
 def diagram_and_moves(lines):
@@ -472,6 +528,5 @@ def diagram_and_blocks(lines):
     """A diagram, and any number of quandles, each perhaps with a cocycle behind it; the built-in list where there are none."""
     grid, blocks = read_diagram(lines), []
     while lines.begins_with(b"quandle"):
-        quandle = read_name(lines, b"quandle", is_one_too_many=len(blocks) == MAX_QUANDLES)
-        blocks.append((quandle, read_any_cocycle(lines, quandle) if is_cocycle_next(lines) else None))
+        blocks.append(read_block(lines, is_one_too_many=len(blocks) == MAX_QUANDLES))
     return grid, blocks or [(quandle, None) for quandle in BUILT_IN]

@@ -5,15 +5,16 @@ their own, and its answer here.
 """
 import re
 
-from .answers import Answer, Searched, Simplified, print_verdict
+from .answers import Answer, Least, Searched, Simplified, print_verdict
 from .braids import after_step, at_feet, closure, feet_of_closure, fixed_points, range_of_step, room_for_step, shape_of_step, word_of
 from .codes import linking_numbers, print_code
 from .diagrams import apply, bottoms, carried, colourings, fits, is_colouring, play, print_grid, print_list
 from .drawn import answer_grid
-from .items import (braid_and_quandles, code_text, diagram_and_blocks, diagram_and_moves, diagram_and_quandles, lone_diagram, pair_and_weights,
-    problem, problem_and_said, two_braids_and_steps, two_diagrams)
+from .items import (braid_and_quandles, certificate, code_text, diagram_and_blocks, diagram_and_moves, diagram_and_quandles, lone_diagram, pair_and_weights,
+    problem, two_braids_and_steps, two_diagrams)
 from .lines import DONE, Fault, LIMIT, Lines, MALFORMED, MAX_LIST, NOT_UTF8, REJECTED, USAGE
 from .numbers import answer_numbers, cause_of_linking, cause_of_numbers
+from .tables import cause_of_table
 from .weights import counts_by_weight
 
 USAGE_LINE = b"usage: knot JOB [--workers W] [--budget B] [--spare S] [--seed N]\n"
@@ -52,10 +53,14 @@ def cause_of(first, second, verdict):
 CAUSES_BY_NUMBERS = {"numbers": cause_of_numbers, "linking": cause_of_linking}
 
 
-def answer_check(_options, first, second, said):
+def answer_check(_options, said, *diagrams):
     """`accepted`, or the first cause."""
-    by_numbers = CAUSES_BY_NUMBERS.get(said[0])
-    cause = by_numbers(first, second, *said[1:]) if by_numbers else cause_of(first, second, said)
+    if said[0] == "table":
+        cause = cause_of_table(*said[1:])
+    elif said[0] in CAUSES_BY_NUMBERS:
+        cause = CAUSES_BY_NUMBERS[said[0]](*diagrams, *said[1:])
+    else:
+        cause = cause_of(*diagrams, said)
     return Answer(REJECTED, f"rejected {cause}\n") if cause else Answer(DONE, "accepted\n")
 
 
@@ -100,6 +105,11 @@ def answer_code(_options, grid):
 def answer_simplify(options, grid):
     """What a simplification may find."""
     return Simplified(grid, options["budget"])
+
+
+def answer_least(options, grid):
+    """What the least diagram of a class may be answered by."""
+    return Least(grid, options["budget"])
 
 
 def answer_sample(options):
@@ -157,7 +167,7 @@ MEBIBYTE = 1_048_576
 # A job's shape, its answer, and its limit of bytes; None where the input is not read.
 JOBS = {
     b"decide": (problem, answer_decide, MEBIBYTE),
-    b"check": (problem_and_said, answer_check, 32 * MEBIBYTE),
+    b"check": (certificate, answer_check, 32 * MEBIBYTE),
     b"replay": (diagram_and_moves, answer_replay, MEBIBYTE),
     b"colour": (diagram_and_quandles, answer_colour, MEBIBYTE),
     b"close": (braid_and_quandles, answer_close, MEBIBYTE),
@@ -169,6 +179,7 @@ JOBS = {
     b"numbers": (diagram_and_blocks, answer_numbers, MEBIBYTE),
     b"grid": (code_text, answer_grid, MEBIBYTE),
     b"simplify": (lone_diagram, answer_simplify, MEBIBYTE),
+    b"least": (lone_diagram, answer_least, MEBIBYTE),
     b"sample": (None, answer_sample, None),
 }
 

@@ -1,14 +1,13 @@
 -- Blocks as a text: a quandle item, and perhaps a cocycle of this quandle behind it.
 use Rattle.std.specs.Prelude.{ℕ, zero, suc, List, [], ◌∷◌, map, codes, None, Result, Ok, Err, if◌then◌else◌}
-use Rattle.std.specs.Str.{bytes_eq}
 use Rattle.quandle_core.specs.declared.quandle.TheConstants.{MAX_ORDER}
 use Rattle.quandle_core.specs.declared.operations.TheConstants.{MAX_LARGE_ORDER}
-use Rattle.text_lines.specs.Lines.{NumberedLine, Text, text_of, begins}
+use Rattle.text_lines.specs.Lines.{Text, text_of, begins}
 use Rattle.named_quandles.specs.Names.{NamedQuandle}
 use Rattle.text_items.specs.declared.fault.TextFault.{TextFault}
-use Rattle.text_items.specs.declared.fault.TextFault.TheVariants.{Malformed, Limit}
+use Rattle.text_items.specs.declared.fault.TextFault.TheVariants.{Limit}
 use Rattle.text_items.specs.declared.quandles.TheConstants.{MAX_QUANDLES}
-use Rattle.text_items.specs.Reading.{◌>>=◌, next_line, next_token, line_end, text_end, word, number, last_number}
+use Rattle.text_items.specs.Reading.{◌>>=◌, next_line, text_end, word}
 use Rattle.text_items.specs.Quandles.{written_at, quandle_at, built_in}
 use Rattle.evidence_core.specs.declared.blocks.Block.{Block}
 use Rattle.number_text.specs.Blocks.{cocycle_or_none}
@@ -27,41 +26,6 @@ block_item most text = do
   cocycle ← cocycle_or_none quandle.0.table quandle.1
   Ok (record { listed = quandle.0; cocycle = cocycle.0 }, cocycle.1)
 
--- ---- the form of a name; only private clauses and proofs cite these
-
-unfoldable pub order_form : NumberedLine → Result (Unit {0}) TextFault
-order_form line = do
-  order ← last_number line
-  Ok tt
-
-unfoldable pub factor_form : NumberedLine → Result (Unit {0}) TextFault
-factor_form line = do
-  order ← number line
-  factor ← last_number order.1
-  Ok tt
-
-unfoldable pub end_form : NumberedLine → Result (Unit {0}) TextFault
-end_form line = do
-  end ← line_end line
-  Ok tt
-
--- by the family that the first token names
-unfoldable pub spelled_form : NumberedLine → Result (Unit {0}) TextFault
-spelled_form line = do
-  family ← next_token line
-  if bytes_eq family.0 (codes "trivial") then order_form family.1
-      else if bytes_eq family.0 (codes "dihedral") then order_form family.1
-      else if bytes_eq family.0 (codes "tetrahedral") then end_form family.1
-      else if bytes_eq family.0 (codes "alexander") then factor_form family.1
-      else if bytes_eq family.0 (codes "table") then order_form family.1
-      else Err (Malformed family.1.number)
-
--- the same, by the definition of a name
-unfoldable pub name_form : NumberedLine → Result (Unit {0}) TextFault
-name_form line = do
-  name ← written_at line
-  Ok tt
-
 -- ---- a list of blocks
 
 -- one block more than a text may have: the form of its first line is tried before the limit
@@ -69,7 +33,7 @@ unfoldable pub surplus_block : Text → Result (List Block × Text) TextFault
 surplus_block text = do
   line ← next_line text
   rest ← word (codes "quandle") line.0
-  form ← name_form rest
+  name ← written_at rest
   Err (Limit line.0.number)
 
 -- all blocks up to the first line behind one that does not begin with `quandle`, of which there may be as many as the second number

@@ -9,6 +9,7 @@ use Rattle.verdict_core.specs.declared.problem.ProblemText.{ProblemText}
 use Rattle.named_quandles.specs.Names.{NamedQuandle}
 use Rattle.named_quandles.proofs.Named.{named_within, named_wider}
 use Rattle.text_items.specs.Reading.{◌>>=◌, next_line, next_token, line_end, word, text_end}
+use Rattle.text_items.specs.Quandles.{written_at}
 use Rattle.knot_text.specs.Printed.{HasQuandleTextWithin}
 use Rattle.knot_text.specs.WrittenThere.{cocycle_lines, HasCocycleText}
 use Rattle.verdict_text.specs.Problems.{problem_item, check_of}
@@ -24,7 +25,7 @@ use Rattle.evidence_core.specs.declared.blocks.LargeWeighing.TheVariants.{Strand
 use Rattle.evidence_core.specs.declared.blocks.Block.{Block}
 use Rattle.evidence_core.specs.declared.evidence.Evidence.{Evidence}
 use Rattle.evidence_core.specs.declared.evidence.Evidence.TheVariants.{Numbers, Linking}
-use Rattle.block_text.specs.Blocks.{block_quandle, block_item, name_form, surplus_block, blocks}
+use Rattle.block_text.specs.Blocks.{block_quandle, block_item, surplus_block, blocks}
 use Rattle.number_text.specs.Blocks.{cocycle_or_none}
 use Rattle.number_text.specs.Evidence.{count_of, counted_item, numbers_evidence, linked_item, linking_evidence, evidence_at, head_at, third_item}
 use Rattle.certificate_text.specs.declared.said.Said.{Said}
@@ -61,7 +62,7 @@ surplus_says : (text : Text) → Says (surplus_block text) (λ x. AllByRecursion
 unfolding surplus_block
 surplus_says text = says_bind (λ x. Unit {0}) (anything (next_line text)) (λ line there.
     says_bind (λ x. Unit {0}) (anything (word (codes "quandle") line.0)) (λ rest named.
-    says_bind (λ x. Unit {0}) (anything (name_form rest)) (λ form is. says_err)))
+    says_bind (λ x. Unit {0}) (anything (written_at rest)) (λ name is. says_err)))
 
 blocks_say : (most : ℕ) → most ≤ MAX_LARGE_ORDER → (room : ℕ) (text : Text) → Says (blocks most room text) (λ x. AllByRecursion HasBlockText x.0)
 unfolding blocks

@@ -5,7 +5,6 @@ ghost use Rattle.grid_core.specs.Diagram.{Diagram, IsGrid};
 ghost use Rattle.quandle_core.specs.declared.operations.TheConstants.{MAX_LARGE_ORDER};
 ghost use Rattle.text_lines.specs.Lines.{Text};
 ghost use Rattle.verdict_core.specs.declared.problem.ProblemText.{ProblemText};
-ghost use Rattle.verdict_core.specs.Diagrams.{grid_of};
 ghost use Rattle.verdict_text.specs.Problems.{problem_of};
 ghost use Rattle.evidence_core.specs.declared.blocks.Block.{Block};
 ghost use Rattle.evidence_core.specs.declared.evidence.Evidence.{Evidence};

@@ -52,11 +52,11 @@ use Rattle.certificate_text.specs.Said.{is_third_line, starts_third, has_third, 
 
 -- ---- lines of numbers
 
-seeds_at_at : (line : NumberedLine) → At line.number (seeds_at line)
+pub seeds_at_at : (line : NumberedLine) → At line.number (seeds_at line)
 unfolding seeds_at
 seeds_at_at line = at_bind (numbers_behind_at (codes "seeds") line) (λ values e. at_ok)
 
-numbers_at_at : (count : ℕ) (line : NumberedLine) → At line.number (numbers_at count line)
+pub numbers_at_at : (count : ℕ) (line : NumberedLine) → At line.number (numbers_at count line)
 unfolding numbers_at
 numbers_at_at count line =
     at_bind (word_at (codes "numbers") line) (λ rest e. at_same ((word_keeps (codes "numbers") line).of rest e)

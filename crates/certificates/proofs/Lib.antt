@@ -7,7 +7,7 @@ mod EvidenceAgain
 mod EvidenceWords
 mod PartTexts
 mod ShadowAgain
-mod ShadowSteady
+pub mod ShadowSteady
 mod ValueRows
 mod WeighedBefore
 mod WorkedRows

@@ -1,5 +1,5 @@
 -- How a call ends, from the reply that is due and what was written.
-use Rattle.std.proofs.Common.{◌≡◌, Bool, true, false, Result, Ok, Err, refl, sym, ap, subst, ◌∙◌, inl, inr, ◌⊎◌}
+use Rattle.std.proofs.Common.{◌≡◌, Bool, true, false, Result, Ok, Err, refl, sym, ap, subst, ◌∙◌, inl, inr}
 use Rattle.text_items.specs.declared.fault.TextFault.{TextFault}
 use Rattle.text_items.specs.declared.fault.TextFault.TheVariants as bad
 use Rattle.verdict_core.specs.declared.problem.ProblemText.{ProblemText}
@@ -14,8 +14,11 @@ use Rattle.knot_ports.specs.declared.status.Status.TheVariants as status
 use Rattle.reply_text.specs.declared.reply.PlainReply.{PlainReply}
 use Rattle.certificate_text.specs.declared.said.Said.{Said}
 use Rattle.certificate_text.specs.declared.said.Said.TheVariants as said
-use Rattle.certificate_text.specs.Said.{said_of}
 use Rattle.reply_text.specs.Reply.{AnswersRead}
+use Rattle.table_check.specs.declared.cause.TableRuling.{TableRuling}
+use Rattle.table_check.specs.declared.cause.TableRuling.TheVariants as table
+use Rattle.table_job.specs.Answer.{table_ruling_status}
+use Rattle.check_job.specs.Input.{Certificate, certificate_of}
 use Rattle.check_job.specs.Answer.{ruling_status, number_ruling_status, AnswersSaid, AnswersCheck}
 use Rattle.check_job.specs.Ending.{IsDue, IsCutOff, Writes, Ends}
 use Rattle.check_job.specs.Ports.{IsWithoutReply, IsWritten}
@@ -43,14 +46,22 @@ of_said : (p : ProblemText) (s : Said) (r : PlainReply) → AnswersSaid p s r �
 of_said p (said.Verdict v) r a = ap is_of_reply (ap status_of a.is) ∙ of_ruling a.ruling
 of_said p (said.Evidence e) r a = ap is_of_reply (ap status_of a.is) ∙ of_number_ruling a.ruling
 
-of_read : (read : Result (ProblemText × Said) TextFault) (r : PlainReply) → AnswersRead AnswersCheck read r → is_of_reply r.status ≡ true
-of_read (Ok input) r a = of_said input.0 input.1 r a
+of_table_ruling : (ruling : TableRuling) → is_of_reply (table_ruling_status ruling) ≡ true
+of_table_ruling table.Accepted = refl
+of_table_ruling (table.Rejected cause) = refl
+
+of_certificate : (c : Certificate) (r : PlainReply) → AnswersCheck c r → is_of_reply r.status ≡ true
+of_certificate (inl pair) r a = of_said pair.0 pair.1 r a
+of_certificate (inr t) r a = ap is_of_reply (ap status_of a.is) ∙ of_table_ruling a.ruling
+
+of_read : (read : Result Certificate TextFault) (r : PlainReply) → AnswersRead AnswersCheck read r → is_of_reply r.status ≡ true
+of_read (Ok certificate) r a = of_certificate certificate r a
 of_read (Err (bad.Malformed line)) r a = ap is_of_reply (ap status_of a)
 of_read (Err (bad.Limit line)) r a = ap is_of_reply (ap status_of a)
 of_read (Err bad.OutOfMemory) r a = absurd a
 
 of_due : (source : Change) (r : PlainReply) → IsDue source r → is_of_reply r.status ≡ true
-of_due source r due = elim due [ inl whole ↦ of_read (said_of whole.bytes) r whole.answer | inr long ↦ ap is_of_reply (ap status_of long.is) ]
+of_due source r due = elim due [ inl whole ↦ of_read (certificate_of whole.bytes) r whole.answer | inr long ↦ ap is_of_reply (ap status_of long.is) ]
 
 written : (source sink : Change) (s : Status) → is_of_reply s ≡ true → Writes source sink s → Ends source sink s
 written source sink status.Done is writes = writes

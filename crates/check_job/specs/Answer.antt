@@ -1,4 +1,5 @@
--- The job `check`: what is said of two diagrams is answered by the ruling on its evidence.
+-- The job `check`: what is said of two diagrams is answered by the ruling on its evidence, and a table of knots by the ruling on it.
+use mathlib.Core.Logic.{inl, inr}
 use Rattle.std.specs.Prelude.{◌≡◌}
 use Rattle.verdict_core.specs.declared.problem.ProblemText.{ProblemText}
 use Rattle.verdict_core.specs.declared.verdict.Verdict.{Verdict}
@@ -17,6 +18,8 @@ use Rattle.knot_ports.specs.declared.status.Status.{Status}
 use Rattle.knot_ports.specs.declared.status.Status.TheVariants as status
 use Rattle.reply_text.specs.Lines.{ruling_line, number_ruling_line}
 use Rattle.reply_text.specs.Reply.{plain_reply}
+use Rattle.table_job.specs.Answer.{AnswersTable}
+use Rattle.check_job.specs.Input.{Certificate}
 
 abbrev pub ruling_status : Ruling → Status
 ruling_status Accepted = status.Done
@@ -42,5 +45,10 @@ abbrev pub AnswersSaid : ProblemText → Said → PlainReply → Type 0
 AnswersSaid problem (said.Verdict verdict) reply = AnswersVerdict problem verdict reply
 AnswersSaid problem (said.Evidence evidence) reply = AnswersEvidence problem evidence reply
 
-abbrev pub AnswersCheck : ProblemText × Said → PlainReply → Type 0
-AnswersCheck input reply = AnswersSaid input.0 input.1 reply
+abbrev pub AnswersPair : ProblemText × Said → PlainReply → Type 0
+AnswersPair pair reply = AnswersSaid pair.0 pair.1 reply
+
+-- either
+abbrev pub AnswersCheck : Certificate → PlainReply → Type 0
+AnswersCheck (inl pair) reply = AnswersPair pair reply
+AnswersCheck (inr table) reply = AnswersTable table reply

@@ -1,5 +1,5 @@
 -- How a call of the checker ends: the reply that is due to its input, and what it leaves outside by its status.
-use Rattle.std.specs.Prelude.{◌≡◌, ◌<◌, ◌≤◌, ◌+◌, ◌⊎◌, ℕ, List, length}
+use Rattle.std.specs.Prelude.{◌≡◌, ◌+◌, ◌⊎◌, ℕ, List}
 use Rattle.std.specs.Io.KnownBytes.{Appends}
 use Rattle.knot_ports.specs.Sink.{AppendsFront}
 use Rattle.knot_ports.specs.Change.{Change, IsUntouched, Failed, IsWhole, IsTooMuch, Drops}
@@ -7,7 +7,7 @@ use Rattle.knot_ports.specs.declared.limits.TheConstants.{MAX_CERTIFICATE}
 use Rattle.knot_ports.specs.declared.status.Status.{Status}
 use Rattle.knot_ports.specs.declared.status.Status.TheVariants as status
 use Rattle.reply_text.specs.declared.reply.PlainReply.{PlainReply}
-use Rattle.certificate_text.specs.Said.{said_of}
+use Rattle.check_job.specs.Input.{certificate_of}
 use Rattle.reply_text.specs.Reply.{too_long, AnswersRead}
 use Rattle.check_job.specs.Answer.{AnswersCheck}
 use Rattle.check_job.specs.Truth.{IsCertificate}
@@ -16,7 +16,7 @@ use Rattle.check_job.specs.Truth.{IsCertificate}
 pub record IsReplyTo (source : Change) (reply : PlainReply) : Type 0 where
   pub bytes : List ℕ
   pub came : IsWhole MAX_CERTIFICATE source bytes
-  pub answer : AnswersRead AnswersCheck (said_of bytes) reply
+  pub answer : AnswersRead AnswersCheck (certificate_of bytes) reply
   pub truth : reply.status ≡ status.Done → IsCertificate bytes
 
 -- the reply to an input of more bytes than a certificate may have

@@ -1,3 +1,4 @@
+pub mod Input
 pub mod Answer
 pub mod Truth
 pub mod Ports
@@ -14,3 +15,8 @@ pub use Rattle.number_text.specs.Evidence
 pub use Rattle.number_check.specs.Holds
 pub use Rattle.number_check.specs.Ruling as NumberRuling
 pub use Rattle.cert_check.specs.Ruling
+pub use Rattle.table_text.specs.Tables
+pub use Rattle.table_check.specs.Holds as TableHolds
+pub use Rattle.table_check.specs.Ruling as TableRuling
+pub use Rattle.table_job.specs.Answer as TableAnswer
+pub use Rattle.table_job.specs.Lines as TableLines

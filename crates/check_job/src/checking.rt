@@ -1,12 +1,13 @@
-//! The job `check`: the ruling on what is said of two diagrams.
+//! The job `check`: the ruling on a certificate, of what is said of two diagrams or of a table of knots.
 ghost use Rattle.std.specs.Prelude.{◌≡◌, IfOk};
 ghost use Rattle.certificate_text.specs.Said.{said_of};
 ghost use Rattle.cert_check.specs.Truth.{IsTrueVerdict};
 ghost use Rattle.check_job.specs.Truth.{AreApart, IsTrueSaid};
 ghost use Rattle.reply_text.specs.Lines.{ruling_line, number_ruling_line};
 ghost use Rattle.reply_text.specs.Reply.{plain_reply, AnswersRead};
-ghost use Rattle.check_job.specs.Answer.{ruling_status, number_ruling_status, AnswersVerdict, AnswersEvidence, AnswersSaid, AnswersCheck};
-ghost use Rattle.check_job.specs.Truth.{IsCertificate};
+ghost use Rattle.check_job.specs.Input.{certificate_of};
+ghost use Rattle.check_job.specs.Answer.{ruling_status, number_ruling_status, AnswersVerdict, AnswersEvidence, AnswersSaid, AnswersPair, AnswersCheck};
+ghost use Rattle.check_job.specs.Truth.{IsTruePair, IsCertificate};
 
 use crate::evidence::check_evidence;
 use cert_check::{Ruling, check};
@@ -17,12 +18,27 @@ use number_check::Ruling as NumberRuling;
 use reply_text::PlainReply;
 use reply_text::lines::{number_ruling_line, ruling_line};
 use std::alloc::{AllocError, Global};
+use table_job::answer_table;
+use table_text::begins_table;
 use verdict_core::{ProblemText, Verdict};
 
-/// The answer to the bytes of a problem, and of a verdict on it or evidence by numbers.
+/// The answer to the bytes of a certificate: of a table of knots where their first line is `certificate 4`, else of a problem, and of a verdict
+/// on it or evidence by numbers.
 pub fn answer(alloc: Global, bytes: &[u8]) -> Result<PlainReply, AllocError>
-    ensures answer { IfOk result (λ reply. AnswersRead AnswersCheck (said_of bytes.now) reply) }
+    ensures answer { IfOk result (λ reply. AnswersRead AnswersCheck (certificate_of bytes.now) reply) }
     ensures claim { IfOk result (λ reply. reply.status ≡ Status.Done → IsCertificate bytes.now) }
+{
+    if begins_table(bytes) {
+        answer_table(alloc, bytes)
+    } else {
+        answer_pair(alloc, bytes)
+    }
+}
+
+/// The answer to the bytes of a problem, and of a verdict on it or evidence by numbers.
+fn answer_pair(alloc: Global, bytes: &[u8]) -> Result<PlainReply, AllocError>
+    ensures answer { IfOk result (λ reply. AnswersRead AnswersPair (said_of bytes.now) reply) }
+    ensures claim { IfOk result (λ reply. reply.status ≡ Status.Done → IsTruePair bytes.now) }
 {
     match read_said(alloc, bytes) {
         Ok((problem, said)) => answer_said(alloc, &problem, &said),

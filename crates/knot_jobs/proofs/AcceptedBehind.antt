@@ -5,7 +5,6 @@ use Rattle.verdict_core.specs.declared.problem.ProblemText.{ProblemText}
 use Rattle.text_items.specs.declared.fault.TextFault.{TextFault}
 use Rattle.cert_check.specs.declared.ruling.Ruling.TheVariants.{Accepted}
 use Rattle.knot_ports.specs.declared.limits.TheConstants.{MAX_CERTIFICATE}
-use Rattle.certificate_text.specs.Said.{said_of}
 use Rattle.certificate_text.specs.declared.said.Said.{Said}
 use Rattle.certificate_text.specs.declared.said.Said.TheVariants as said
 use Rattle.linking_check.specs.declared.cause.Ruling.TheVariants as numbers
@@ -16,22 +15,26 @@ use Rattle.knot_words.specs.declared.job.Job.{Job}
 use Rattle.knot_words.specs.declared.job.Job.TheVariants.{Decide}
 use Rattle.search_jobs.specs.declared.reply.Reply.{Reply}
 use Rattle.search_jobs.specs.Decide.{IsDecisionIfDone}
+use Rattle.check_job.specs.Input.{Certificate, certificate_of}
 use Rattle.check_job.specs.Answer.{AnswersCheck}
+use Rattle.check_job.proofs.Read.{pair_read_so}
 use Rattle.reply_text.specs.Lines.{ruling_line}
 use Rattle.reply_text.specs.Reply.{done, AnswersRead}
 use Rattle.knot_jobs.specs.Truth.{IsAcceptedByCheck, IsTrueIfDone}
 
 -- what is read so is accepted
-abbrev IsReplied : Result (ProblemText × Said) TextFault → Type 0
+abbrev IsReplied : Result Certificate TextFault → Type 0
 IsReplied read = AnswersRead AnswersCheck read (done (ruling_line Accepted))
 
 within_limit : (bytes : List ℕ) (x : Said) → length bytes ≤ MAX_CERTIFICATE → IsWithinLimit bytes x
 within_limit bytes (said.Verdict v) fits = fits
 within_limit bytes (said.Evidence x) fits = tt
 
-replied : (bytes : List ℕ) (p : ProblemText) (x : Said) → IsAccepted bytes p x → IsReplied (said_of bytes)
-replied bytes p (said.Verdict v) accepted = subst IsReplied (sym accepted.read) (record { ruling = Accepted; rules = accepted.rules; is = refl })
-replied bytes p (said.Evidence x) accepted = subst IsReplied (sym accepted.read) (record { ruling = numbers.Accepted; rules = accepted.rules; is = refl })
+replied : (bytes : List ℕ) (p : ProblemText) (x : Said) → IsAccepted bytes p x → IsReplied (certificate_of bytes)
+replied bytes p (said.Verdict v) accepted =
+    subst IsReplied (sym (pair_read_so bytes (p, said.Verdict v) accepted.read)) (record { ruling = Accepted; rules = accepted.rules; is = refl })
+replied bytes p (said.Evidence x) accepted =
+    subst IsReplied (sym (pair_read_so bytes (p, said.Evidence x) accepted.read)) (record { ruling = numbers.Accepted; rules = accepted.rules; is = refl })
 
 pub accepted_by_check : (bytes text : List ℕ) → IsDecision bytes text → IsAcceptedByCheck bytes text
 accepted_by_check bytes text decision = λ fits.

@@ -16,7 +16,7 @@ use Rattle.plain_jobs.proofs.Replies.{replies_defined as plain_defined, too_wide
 use Rattle.plain_jobs.proofs.Replies.{some_reply as some_plain, never_memory as plain_memory}
 use Rattle.search_jobs.specs.declared.reply.Reply.{Reply}
 use Rattle.knot_words.specs.declared.job.Job.{Job}
-use Rattle.knot_words.specs.declared.job.Job.TheVariants.{Decide, Simplify, Sample, Plain}
+use Rattle.knot_words.specs.declared.job.Job.TheVariants.{Decide, Simplify, Least, Sample, Plain}
 use Rattle.knot_words.specs.declared.words.Asked.{Asked}
 use Rattle.search_jobs.specs.Reply.{without_search, plain_of, RepliesRead}
 use Rattle.knot_jobs.specs.Call.{with_workers}
@@ -48,6 +48,7 @@ IsDefined job r = IsOfDefinedAnswer r.status ⊎ IsBeyondColumns job r
 replies_defined : (job : Job) (asked : Asked) (i : (task_of job asked).Input) (r : Reply) → (task_of job asked).Replies i r → IsDefined job r
 replies_defined Decide asked i r a = inl (rw a.status_is (verdict_defined a.verdict))
 replies_defined Simplify asked i r a = let is = a.1.is in inl (inl (ap status_of is))
+replies_defined Least asked i r a = let is = a.1.is in inl (inl (ap status_of is))
 replies_defined Sample asked i r a = inl (inl (ap status_of a.1))
 replies_defined (Plain job) asked i r a = plain_defined job i (plain_of r) a.1
 
@@ -77,6 +78,7 @@ replies_once : (job : Job) (asked : Asked) → leaves_no_choice job ≡ true →
     → (task_of job asked).Replies i r → (task_of job asked).Replies i r' → r ≡ r'
 replies_once Decide asked fixed i r r' one two = absurd (let wrong : false ≡ true = fixed in cc)
 replies_once Simplify asked fixed i r r' one two = absurd (let wrong : false ≡ true = fixed in cc)
+replies_once Least asked fixed i r r' one two = absurd (let wrong : false ≡ true = fixed in cc)
 replies_once Sample asked fixed i r r' one two = same_plainly r r' one.0 two.0 (one.1 ∙ sym two.1)
 replies_once (Plain job) asked fixed i r r' one two = same_plainly r r' one.0 two.0 (plain_once job fixed i (plain_of r) (plain_of r') one.1 two.1)
 
@@ -117,6 +119,7 @@ read_by_so_many : (job : Job) (searching : ℕ → ℕ) (asked : Asked) (bytes :
     → RepliesRead (task_of job asked).Replies ((task_of job asked).read bytes) r
 read_by_so_many Decide searching asked bytes r other a = absurd (other refl)
 read_by_so_many Simplify searching asked bytes r other a = a
+read_by_so_many Least searching asked bytes r other a = a
 read_by_so_many Sample searching asked bytes r other a = a
 read_by_so_many (Plain job) searching asked bytes r other a = a
 
@@ -137,6 +140,7 @@ some_reply : (job : Job) (asked : Asked) → leaves_no_choice job ≡ true → (
     → SomeReply ((task_of job asked).Replies i)
 some_reply Decide asked fixed bytes i is = absurd (let wrong : false ≡ true = fixed in cc)
 some_reply Simplify asked fixed bytes i is = absurd (let wrong : false ≡ true = fixed in cc)
+some_reply Least asked fixed bytes i is = absurd (let wrong : false ≡ true = fixed in cc)
 some_reply Sample asked fixed bytes i is = (without_search (done (sample_text i)), (refl, (refl, refl)))
 some_reply (Plain job) asked fixed bytes i is =
     let plain = some_plain job fixed bytes i is in
@@ -146,6 +150,7 @@ some_reply (Plain job) asked fixed bytes i is =
 never_memory : (job : Job) (asked : Asked) → leaves_no_choice job ≡ true → (bytes : List ℕ) → (task_of job asked).read bytes ≡ Err bad.OutOfMemory → ⊥
 never_memory Decide asked fixed bytes is = absurd (let wrong : false ≡ true = fixed in cc)
 never_memory Simplify asked fixed bytes is = absurd (let wrong : false ≡ true = fixed in cc)
+never_memory Least asked fixed bytes is = absurd (let wrong : false ≡ true = fixed in cc)
 never_memory Sample asked fixed bytes is = let wrong = is in cc
 never_memory (Plain job) asked fixed bytes is = plain_memory job fixed bytes is
 

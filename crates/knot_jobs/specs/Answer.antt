@@ -11,11 +11,12 @@ use Rattle.plain_jobs.specs.Job.{plain_task, is_determined, IsTooWideFor}
 use Rattle.search_jobs.specs.declared.reply.Reply.{Reply}
 use Rattle.knot_words.specs.Limits.{limit_of}
 use Rattle.knot_words.specs.declared.job.Job.{Job}
-use Rattle.knot_words.specs.declared.job.Job.TheVariants.{Decide, Simplify, Sample, Plain}
+use Rattle.knot_words.specs.declared.job.Job.TheVariants.{Decide, Simplify, Least, Sample, Plain}
 use Rattle.knot_words.specs.declared.words.Asked.{Asked}
 use Rattle.search_jobs.specs.Reply.{without_search, plain_of, plainly, RepliesRead}
 use Rattle.search_jobs.specs.Decide.{AnswersDecide}
 use Rattle.search_jobs.specs.Simplify.{AnswersSimplify}
+use Rattle.search_jobs.specs.Least.{AnswersLeast}
 use Rattle.search_jobs.specs.Sample.{AnswersSample}
 
 -- ---- the bytes of an input
@@ -42,14 +43,16 @@ pub record Task : Type 1 where
 abbrev pub task_of : Job → Asked → Task
 task_of Decide asked = record { Input = ProblemText; read = problem_of; Replies = AnswersDecide asked }
 task_of Simplify asked = record { Input = Diagram; read = lone_diagram_of; Replies = plainly (AnswersSimplify asked.budget) }
+task_of Least asked = record { Input = Diagram; read = lone_diagram_of; Replies = plainly (AnswersLeast asked.budget) }
 task_of Sample asked = record { Input = ℕ; read = λ bytes. Ok asked.seed; Replies = plainly AnswersSample }
 task_of (Plain job) asked = record { Input = (plain_task job).Input; read = (plain_task job).read; Replies = plainly (plain_task job).Replies }
 
--- the job leaves no choice of what to reply: the verdict of `decide` may rest on one search or another, `simplify` may go by one list
--- of moves or another, and some plain jobs aren't determined by their inputs
+-- the job leaves no choice of what to reply: the verdict of `decide` may rest on one search or another, `simplify` and `least` may go by
+-- one list of moves or another, and some plain jobs aren't determined by their inputs
 abbrev pub leaves_no_choice : Job → Bool
 leaves_no_choice Decide = false
 leaves_no_choice Simplify = false
+leaves_no_choice Least = false
 leaves_no_choice Sample = true
 leaves_no_choice (Plain job) = is_determined job
 

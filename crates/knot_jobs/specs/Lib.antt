@@ -9,6 +9,7 @@ pub use Rattle.knot_words.specs.Words
 pub use Rattle.search_jobs.specs.Reply
 pub use Rattle.search_jobs.specs.Decide
 pub use Rattle.search_jobs.specs.Simplify
+pub use Rattle.search_jobs.specs.Least
 pub use Rattle.search_jobs.specs.Sample
 pub use Rattle.knot_ports.specs.Status
 pub use Rattle.decision_core.specs.Decision

@@ -36,8 +36,8 @@ pub record IsCheckedDecision (bytes text : List ℕ) : Type 0 where
 
 -- ---- a call
 
--- what a job's text with Done says of its input is true: of `decide`, which writes a verdict, and of plain jobs. `simplify` and `sample`
--- claim nothing
+-- what a job's text with Done says of its input is true: of `decide`, which writes a verdict, and of plain jobs. `simplify`, `least`
+-- and `sample` claim nothing
 abbrev pub IsTrueReply : Job → List ℕ → List ℕ → Type 0
 IsTrueReply Decide bytes text = IsCheckedDecision bytes text
 IsTrueReply (Plain job) bytes text = IsTrueText job bytes text

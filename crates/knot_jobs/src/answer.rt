@@ -5,7 +5,7 @@ ghost use Rattle.knot_jobs.specs.Answer.{AnswersText};
 ghost use Rattle.knot_jobs.specs.Truth.{IsTrueIfDone};
 
 use knot_words::{Asked, Job};
-use search_jobs::{Reply, decide, sample, simplify};
+use search_jobs::{Reply, decide, least, sample, simplify};
 use search_pool::Gate;
 use std::alloc::{AllocError, Global};
 use std::sync::Wait;
@@ -39,6 +39,7 @@ pub(crate) fn answer_alone(alloc: Global, asked: &Asked, bytes: &[u8]) -> Result
     match asked.job {
         Job::Decide => decide::answer_alone(alloc, asked, bytes),
         Job::Simplify => Ok(Reply::without_search(simplify::answer(alloc, asked, bytes)?)),
+        Job::Least => Ok(Reply::without_search(least::answer(alloc, asked, bytes)?)),
         Job::Sample => Ok(Reply::without_search(sample::answer(alloc, asked.seed)?)),
         Job::Plain(job) => Ok(Reply::without_search(plain_jobs::answer(alloc, job, bytes)?)),
     }

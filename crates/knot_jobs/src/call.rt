@@ -25,7 +25,7 @@ const USAGE: &[u8] = b"usage: knot JOB [--workers W] [--budget B] [--spare S] [-
 /// Does what the words ask for: reads the whole input from the source, answers it, and writes the answer to the sink.
 ///
 /// The words are the program's name, which isn't looked at, a job (`decide`, `check`, `replay`, `colour`, `close`, `code`, `grid`,
-/// `braid`, `linking`, `braidcheck`, `weights`, `numbers`, `simplify` or `sample`) and options. Other words end in `Usage`; then the
+/// `braid`, `linking`, `braidcheck`, `weights`, `numbers`, `simplify`, `least` or `sample`) and options. Other words end in `Usage`; then the
 /// source is not called, and neither is it for `sample`. An input of more bytes than the job's limit (33,554,432 for `check`, else
 /// 1,048,576) ends in `Limit`, one with a bad line in `Malformed` or `Limit` by its first bad line. Every other ends as the job
 /// answers it: `Done`, `Unknown` where `decide` finds no evidence, `Rejected`, or `Limit` where `grid` has a code that no diagram of

@@ -15,8 +15,8 @@ use knot_ports::Status;
 use knot_words::Asked;
 use search_jobs::Reply;
 
-/// A job that leaves no choice, which is every one but `decide`, `simplify`, `numbers` and `grid`, has one answer to each input: there is
-/// one, which keeps no search, and no other. Those four may have several.
+/// A job that leaves no choice, which is every one but `decide`, `simplify`, `least`, `numbers` and `grid`, has one answer to each input: there
+/// is one, which keeps no search, and no other. Those five may have several.
 pub fn an_input_has_one_answer()
     ensures some { (asked : Asked) (bytes : List ℕ) → leaves_no_choice asked.job ≡ true
         → (reply : Reply) × ((reply.kept ≡ None) × Answers asked bytes reply) }
@@ -32,7 +32,7 @@ pub fn an_answer_has_its_own_status()
 {}
 
 /// Where the source tells its bytes, the words and these bytes decide the reply of a call of a job other than `decide`, `simplify`,
-/// `numbers` and `grid`, but for a counted fault and want of memory, however many workers search in it.
+/// `least`, `numbers` and `grid`, but for a counted fault and want of memory, however many workers search in it.
 pub fn the_words_and_the_input_decide()
     ensures { (input : List ℕ) (call again : Call) (asked : Asked) (reply other : Reply)
         → call.words ≡ again.words

@@ -1,15 +1,19 @@
 //! What is told of a call, as a sentence.
-ghost use Rattle.std.specs.Prelude.{◌≡◌, ◌≢◌, IfSome, IsSome, None};
-ghost use Rattle.knot_ports.specs.Status.{IsOfDefinedAnswer, IsOfAnswer};
+ghost use Rattle.std.specs.Prelude.{◌≡◌, ◌≢◌, ◌⊎◌, IfSome, IsSome, None};
+ghost use Rattle.knot_ports.specs.Status.{IsOfAnswer};
+ghost use Rattle.knot_ports.specs.declared.status.Status.TheVariants as kind;
 ghost use Rattle.knot_words.specs.Numbers.{texts_of};
 ghost use Rattle.knot_words.specs.Words.{Asks};
-ghost use Rattle.knot_tells.specs.Told.{IsOf, IsOfInput};
+ghost use Rattle.knot_tells.specs.Told.{AsksToDraw, IsOf, IsOfInput, IsOfRefusal};
 
-use crate::lines::{Named, has_line, named_in};
+use crate::jobs::Jobs;
+use crate::lines::{Named, begins_table, has_line, named_in};
+use crate::refusals::{Refusal, refusal_in};
 use crate::shapes::shape_of;
-use crate::words::{BadWords, JOBS, bad_words};
+use crate::words::{BadWords, bad_words};
+use grid_core::MAX_SIZE;
 use knot_ports::{Status, StdSink, StdSource};
-use knot_words::{Asked, Job, read_words};
+use knot_words::{Asked, Job, PlainJob, read_words};
 use seek_faults::{Reason, Shown, reason_in};
 use std::alloc::Global;
 use std::fs::Files;
@@ -25,6 +29,12 @@ pub enum Sentence<'a> {
     Line { line: usize, reason: Reason<'a> },
     /// A line is bad, and it isn't known why.
     LineAlone { line: usize, is_limit: bool },
+    /// A line of a code is bad.
+    CodeLine { line: usize, is_limit: bool },
+    /// A drawing takes more columns than a diagram may have.
+    Wide { columns: usize },
+    /// No diagram of a code is answered.
+    Refused(Refusal),
     /// The input is too long.
     Long,
     /// Reading failed.
@@ -55,11 +65,13 @@ pub fn sentence_of<'a, R: Read + Drop, W: Write + Drop>(
     sink: &'a StdSink<W>,
 ) -> Option<Sentence<'a>>
     ensures told { IfSome result (λ s. IsOf status s) }
-    ensures silent { IsOfDefinedAnswer status → result ≡ None }
+    ensures silent { (status ≡ kind.Done) ⊎ (status ≡ kind.Unknown) → result ≡ None }
+    ensures drawn { IfSome result (λ s. status ≡ kind.Rejected → AsksToDraw (texts_of words.entry.now)) }
     ensures some { (IsOfAnswer status → ⊥) → IsSome result }
 {
     match status {
-        Status::Done | Status::Unknown | Status::Rejected => None,
+        Status::Done | Status::Unknown => None,
+        Status::Rejected => refused_sentence(reading(alloc, words)?, sink),
         Status::Usage => match bad_words(files, alloc, words) {
             Ok(bad) => Some(Sentence::Words(bad)),
             Err(_) => Some(Sentence::Words(BadWords::Other)),
@@ -78,7 +90,18 @@ pub fn sentence_of<'a, R: Read + Drop, W: Write + Drop>(
     }
 }
 
-/// What is told of the line that an answer names, or of the length of the input.
+/// What is told where an input was rejected: of a code, why no diagram of it is answered.
+fn refused_sentence<'a, W: Write + Drop>(job: Job, sink: &StdSink<W>) -> Option<Sentence<'a>>
+    ensures told { IfSome result (λ s. IsOfRefusal s) }
+    ensures drawn { IfSome result (λ s. job ≡ Job.Plain PlainJob.Grid) }
+{
+    match job {
+        Job::Plain(PlainJob::Grid) => Some(Sentence::Refused(refusal_in(sink.front())?)),
+        _ => None,
+    }
+}
+
+/// What is told of the line that an answer names, of the length of the input, or of the columns of a drawing.
 fn line_sentence<'a, R: Read + Drop, W: Write + Drop>(
     job: Job,
     is_limit: bool,
@@ -89,13 +112,16 @@ fn line_sentence<'a, R: Read + Drop, W: Write + Drop>(
 {
     let line = match named_in(sink.front())? {
         Named::Bytes => return Some(Sentence::Long),
+        Named::Columns(columns) if is_limit => return Some(Sentence::Wide { columns }),
+        Named::Columns(_) => return None,
         Named::Line(line) => line,
     };
     let Some(shape) = shape_of(job) else {
-        return Some(Sentence::LineAlone { line, is_limit });
+        return Some(Sentence::CodeLine { line, is_limit });
     };
     let front = source.front();
-    if source.is_whole() || has_line(front, line) {
+    let is_table = job == Job::Plain(PlainJob::Check) && begins_table(front);
+    if !is_table && (source.is_whole() || has_line(front, line)) {
         let reason = reason_in(shape, front, line, is_limit);
         return Some(Sentence::Line { line, reason });
     }
@@ -112,6 +138,19 @@ impl<'a> fmt::Display for Sentence<'a> {
                 is_limit: true,
             } => write!(f, "line {line} exceeds a limit"),
             Sentence::LineAlone { line, .. } => write!(f, "line {line} is not what is due there"),
+            Sentence::CodeLine {
+                line,
+                is_limit: true,
+            } => write!(f, "line {line} exceeds a limit of a planar diagram code"),
+            Sentence::CodeLine { line, .. } => write!(
+                f,
+                "line {line} is not what is due in a planar diagram code; of DT and Gauss codes tools/code.py makes diagrams"
+            ),
+            Sentence::Wide { columns } => write!(
+                f,
+                "the drawing takes {columns} columns, and a diagram may have {MAX_SIZE}"
+            ),
+            Sentence::Refused(why) => write!(f, "{why}"),
             Sentence::Long => write!(f, "the input has more bytes than the job takes"),
             Sentence::Read { error } => write_io(f, "standard input can't be read", *error),
             Sentence::Write { error } => write_io(f, "standard output can't be written", *error),
@@ -135,10 +174,14 @@ fn write_io<W: fmt::Write>(
 impl<'a> fmt::Display for BadWords<'a> {
     fn fmt<W: fmt::Write>(&self, f: &mut fmt::Formatter<W>) -> fmt::Result {
         match self {
-            BadWords::NoJob => write!(f, "a job is due; the jobs are {JOBS}"),
-            BadWords::OtherJob { word } => {
+            BadWords::NoJob => write!(f, "a job is due; the jobs are {Jobs}"),
+            BadWords::OtherJob { word, nearest } => {
                 let word = Shown(word.as_bytes());
-                write!(f, "there is no job {word}; the jobs are {JOBS}")
+                write!(f, "there is no job {word}")?;
+                if let Some(name) = nearest {
+                    write!(f, ", and `{name}` is the nearest")?;
+                }
+                write!(f, "; the jobs are {Jobs}")
             }
             BadWords::File { job, file } => write!(
                 f,
@@ -169,9 +212,9 @@ impl<'a> fmt::Display for BadWords<'a> {
             }
             BadWords::Help => write!(
                 f,
-                "the launcher ./knot and docs/FORMATS.md have the help; the jobs are {JOBS}"
+                "the launcher ./knot and docs/FORMATS.md have the help; the jobs are {Jobs}"
             ),
-            BadWords::Other => write!(f, "the words ask for no job; the jobs are {JOBS}"),
+            BadWords::Other => write!(f, "the words ask for no job; the jobs are {Jobs}"),
         }
     }
 }

@@ -14,7 +14,7 @@ const DIAGRAM: Shape = Shape {
 pub(crate) fn shape_of(job: Job) -> Option<Shape> {
     match job {
         Job::Decide => Some(PROBLEM),
-        Job::Simplify => Some(DIAGRAM),
+        Job::Simplify | Job::Least => Some(DIAGRAM),
         Job::Sample => None,
         Job::Plain(job) => plain_shape_of(job),
     }

@@ -1,13 +1,10 @@
 //! Why words ask for no job.
 
+use crate::jobs::nearest;
 use knot_words::{WordsFault, read_words};
 use std::alloc::{AllocError, Global};
 use std::fs::Files;
 use std::{fmt, fs};
-
-/// The jobs, as they are told.
-pub(crate) const JOBS: &str =
-    "decide, check, replay, colour, close, code, braid, linking, braidcheck, weights, numbers, simplify, grid and sample";
 
 /// An option, and which whole numbers it takes.
 #[derive(Clone, Copy, Debug, PartialEq, Eq)]
@@ -52,20 +49,38 @@ const KNOBS: [Knob; 4] = [
 pub enum BadWords<'a> {
     /// There is none.
     NoJob,
-    /// A word names none.
-    OtherJob { word: &'a str },
+    /// A word names none, but is perhaps near the name of one.
+    OtherJob {
+        word: &'a str,
+        nearest: Option<&'static str>,
+    },
     /// A file stands behind the job.
-    File { job: &'a str, file: &'a str },
+    File {
+        job: &'a str,
+        file: &'a str,
+    },
     /// There are two.
-    TwoJobs { first: &'a str, second: &'a str },
+    TwoJobs {
+        first: &'a str,
+        second: &'a str,
+    },
     /// A value is out of bounds, or no whole number.
-    Value { knob: Knob, value: &'a str },
+    Value {
+        knob: Knob,
+        value: &'a str,
+    },
     /// An option has no value.
-    NoValue { knob: Knob },
+    NoValue {
+        knob: Knob,
+    },
     /// An option stands twice.
-    Twice { knob: Knob },
+    Twice {
+        knob: Knob,
+    },
     /// A word is no option.
-    NoOption { word: &'a str },
+    NoOption {
+        word: &'a str,
+    },
     /// Help is asked for.
     Help,
     /// No cause was found.
@@ -112,6 +127,9 @@ impl<'a> Reader<'a> {
     /// Takes a word: why it is bad, if it is.
     fn take(&mut self, alloc: Global, word: &'a str) -> Result<Option<BadWords<'a>>, AllocError> {
         if let Some(knob) = self.due.take() {
+            if is_below_zero(word) {
+                return Ok(Some(BadWords::Value { knob, value: word }));
+            }
             if word.starts_with("-") {
                 return Ok(Some(BadWords::NoValue { knob }));
             }
@@ -174,6 +192,14 @@ impl<'a> Reader<'a> {
     }
 }
 
+/// Whether a word is a minus and a digit, and perhaps more: no option, and no value, since this has no minus where it is a word of its own.
+fn is_below_zero(word: &str) -> bool {
+    match word.as_bytes() {
+        [b'-', digit, ..] => digit.is_ascii_digit(),
+        _ => false,
+    }
+}
+
 /// The option of this name.
 fn knob_named(name: &str) -> Option<Knob> {
     for knob in KNOBS {
@@ -194,7 +220,10 @@ fn jobs_fault<'a>(
         return Ok(BadWords::NoJob);
     };
     if is_refused(alloc, &["knot", "--", first])? {
-        return Ok(BadWords::OtherJob { word: first });
+        return Ok(BadWords::OtherJob {
+            word: first,
+            nearest: nearest(first),
+        });
     }
     Ok(match jobs.get(1).copied() {
         Some(file) if is_file(files, file) => BadWords::File { job: first, file },

@@ -6,7 +6,7 @@ use Rattle.clap.specs.Walk.{Text}
 use Rattle.knot_words.specs.Words.{job_word, Asks, AsksNothing}
 use Rattle.knot_words.specs.declared.words.Asked.{Asked}
 use Rattle.knot_words.specs.declared.job.Job.{Job}
-use Rattle.knot_words.specs.declared.job.Job.TheVariants.{Decide, Simplify, Sample, Plain}
+use Rattle.knot_words.specs.declared.job.Job.TheVariants.{Decide, Simplify, Least, Sample, Plain}
 use Rattle.knot_words.specs.declared.job.PlainJob.TheVariants.{Check, Replay, Colour, Close, Code, Braid, Linking, Braidcheck, Weights, Numbers, Grid}
 use Rattle.knot_words.proofs.KnotReads.{one_number}
 
@@ -14,6 +14,7 @@ use Rattle.knot_words.proofs.KnotReads.{one_number}
 abbrev job_of : List ℕ → Job
 job_of word = if bytes_eq word (job_word Decide) then Decide else (
     if bytes_eq word (job_word Simplify) then Simplify else (
+    if bytes_eq word (job_word Least) then Least else (
     if bytes_eq word (job_word (Plain Check)) then Plain Check else (
     if bytes_eq word (job_word (Plain Replay)) then Plain Replay else (
     if bytes_eq word (job_word (Plain Colour)) then Plain Colour else (
@@ -39,10 +40,12 @@ job_of word = if bytes_eq word (job_word Decide) then Decide else (
     )
     )
     )
+    )
 
 job_of_word : (job : Job) → job_of (job_word job) ≡ job
 job_of_word Decide = refl
 job_of_word Simplify = refl
+job_of_word Least = refl
 job_of_word (Plain Check) = refl
 job_of_word (Plain Replay) = refl
 job_of_word (Plain Colour) = refl

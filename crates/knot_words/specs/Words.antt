@@ -9,7 +9,7 @@ use Rattle.clap.specs.declared.builder.value_parser.ValueParser.TheVariants as p
 use Rattle.knot_words.specs.declared.words.TheConstants.{MAX_BUDGET}
 use Rattle.knot_words.specs.declared.words.Asked.{Asked}
 use Rattle.knot_words.specs.declared.job.Job.{Job}
-use Rattle.knot_words.specs.declared.job.Job.TheVariants.{Decide, Simplify, Sample, Plain}
+use Rattle.knot_words.specs.declared.job.Job.TheVariants.{Decide, Simplify, Least, Sample, Plain}
 use Rattle.knot_words.specs.declared.job.PlainJob.{PlainJob}
 use Rattle.knot_words.specs.declared.job.PlainJob.TheVariants.{Check, Replay, Colour, Close, Code, Braid, Linking, Braidcheck, Weights, Numbers, Grid}
 use Rattle.knot_words.specs.Numbers.{number_rule, workers_rule, seed_rule, number_of}
@@ -61,6 +61,7 @@ plain_word Grid = codes "grid"
 abbrev pub job_word : Job → Text
 job_word Decide = codes "decide"
 job_word Simplify = codes "simplify"
+job_word Least = codes "least"
 job_word Sample = codes "sample"
 job_word (Plain job) = plain_word job
 

@@ -12,6 +12,8 @@ pub enum Job {
     Decide,
     /// Simplifies a diagram by moves that never make it larger.
     Simplify,
+    /// Finds the least canonical diagram that shifts and exchanges reach from a diagram.
+    Least,
     /// Makes a list of moves from a seed, has it checked, and counts colourings at both ends. It reads nothing.
     Sample,
     /// A job that needs no search and takes no option.

@@ -18,7 +18,7 @@ pub fn words_ask_for_one_thing()
 /// `weights` among them. `sample` has no input.
 pub fn each_job_has_its_limit()
     ensures check { limit_of (Job.Plain PlainJob.Check) ≡ Some 33554432 }
-    ensures searches { AllByRecursion (λ (job : Job). limit_of job ≡ Some 1048576) (Job.Decide ∷ Job.Simplify ∷ []) }
+    ensures searches { AllByRecursion (λ (job : Job). limit_of job ≡ Some 1048576) (Job.Decide ∷ Job.Simplify ∷ Job.Least ∷ []) }
     ensures others { AllByRecursion (λ (job : PlainJob). limit_of (Job.Plain job) ≡ Some 1048576) (PlainJob.Replay ∷ PlainJob.Colour
         ∷ PlainJob.Close ∷ PlainJob.Code ∷ PlainJob.Braid ∷ PlainJob.Linking ∷ PlainJob.Braidcheck ∷ PlainJob.Weights ∷ PlainJob.Numbers
         ∷ PlainJob.Grid ∷ []) }

@@ -20,7 +20,7 @@ pub struct Asked {
     pub job: Job,
     /// How many workers search, 1 to 64.
     pub workers: u32,
-    /// How many diagrams the search may admit, and how many members a listing of `simplify` may have, 2 to `MAX_BUDGET`.
+    /// How many diagrams the search may admit, and how many members a listing of `simplify` or `least` may have, 2 to `MAX_BUDGET`.
     pub budget: u32,
     /// How much the search may grow beyond the larger diagram, 0 to 4.
     pub spare: u8,
@@ -161,6 +161,7 @@ fn job_named(word: &str) -> Option<Job>
     match word {
         "decide" => Some(Job::Decide),
         "simplify" => Some(Job::Simplify),
+        "least" => Some(Job::Least),
         "sample" => Some(Job::Sample),
         _ => Some(Job::Plain(plain_job_named(word)?)),
     }

@@ -46,7 +46,7 @@ numbers_hold b which d c settled none = by (nat_le ((table_of b).order ^ choices
     by false many none = absurd cc
 
 -- and where they are, there is none
-numbers_faultless : (b : Block) (which : ℕ) (d : Diagram) (c : Counted) → AreNumbersOf b d c → counts_cause b which d c ≡ None
+pub numbers_faultless : (b : Block) (which : ℕ) (d : Diagram) (c : Counted) → AreNumbersOf b d c → counts_cause b which d c ≡ None
 numbers_faultless b which d c are =
     let few : nat_le ((table_of b).order ^ choices_by b (length c.seeds.items)) MAX_CANDIDATES ≡ true =
     le-leb ((table_of b).order ^ choices_by b (length c.seeds.items)) MAX_CANDIDATES are.few in

@@ -28,9 +28,13 @@ IsSeedCause which d seeds _ = ⊥
 abbrev pub wide : Block → ℕ → ℕ → Option Cause
 wide b which seeds = if nat_le ((table_of b).order ^ choices_by b seeds) MAX_CANDIDATES then None else Some (cause.Wide which seeds)
 
+-- why these numbers are not shown to be its own by so many seeds that settle it
+abbrev pub settled_cause : Block → ℕ → Diagram → ℕ → List ℕ → Option Cause
+settled_cause b which d seeds numbers = or_else (wide b which seeds) (place_cause which (first_unequal nat_eq numbers (numbers_by b d)))
+
 -- why its numbers are not shown to be its own by seeds that settle it
 abbrev pub counts_cause : Block → ℕ → Diagram → Counted → Option Cause
-counts_cause b which d c = or_else (wide b which (length c.seeds.items)) (place_cause which (first_unequal nat_eq c.numbers (numbers_by b d)))
+counts_cause b which d c = settled_cause b which d (length c.seeds.items) c.numbers
 
 abbrev pub IsCauseOf : Block → ℕ → Diagram → Counted → Cause → Type 0
 IsCauseOf b which d c cause = IsSeedCause which d c.seeds.items cause ⊎ (Determine c.seeds.items d × (counts_cause b which d c ≡ Some cause))

@@ -5,7 +5,7 @@ ghost use Rattle.colour_numbers.specs.Numbers.{fits_by};
 ghost use Rattle.colour_seeds.specs.Settled.{Determine};
 ghost use Rattle.colour_seeds.specs.Plan.{IsPlan, seeds_in};
 ghost use Rattle.number_check.specs.Holds.{AreNumbersOf, table_of, numbers_by};
-ghost use Rattle.number_check.specs.Cause.{IsCauseOf, counts_cause};
+ghost use Rattle.number_check.specs.Cause.{IsCauseOf, settled_cause};
 
 use colour_numbers::{choices_of, numbers};
 use colour_seeds::{CountFault, MAX_CANDIDATES, SeedFault, Seeding};
@@ -50,32 +50,39 @@ fn cause_by(
     ensures some { IfOk result (λ o. IfSome o (λ cause. IsCauseOf block.now which grid.now counted.now cause)) }
     ensures none { IfOk result (λ o. o ≡ None → AreNumbersOf block.now grid.now counted.now) }
 {
-    let given = cause_settled(alloc, which, grid, block, counted, seeding)?;
+    let given = cause_settled(
+        alloc,
+        which,
+        grid,
+        block,
+        counted.seeds.as_slice(),
+        counted.numbers.as_slice(),
+        seeding,
+    )?;
     Ok(given)
 }
 
-/// The same as a function of the definition.
-fn cause_settled(
+/// Why numbers are not shown to be those of a diagram by seeds, of which this is a plan: they have too many choices of colours, or else the
+/// numbers and its own first differ at a place. `None` where they are its own. It counts the diagram's colourings once.
+pub fn cause_settled(
     alloc: Global,
     which: u8,
     grid: &Grid,
     block: &Block,
-    counted: &Counted,
+    seeds: &[u8],
+    numbers: &[u32],
     seeding: &Seeding,
 ) -> Result<Option<Cause>, OutOfMemory>
     requires plan { IsPlan grid.now seeding.now }
-    requires few { seeds_in seeding.now ≤ length counted.now.seeds.items }
-    ensures { IfOk result (λ o. o ≡ counts_cause block.now which grid.now counted.now) }
+    requires few { seeds_in seeding.now ≤ length seeds.now }
+    ensures { IfOk result (λ o. o ≡ settled_cause block.now which grid.now (length seeds.now) numbers.now) }
 {
-    let seeds = counted.seeds.len();
+    let seeds = seeds.len();
     if !are_few(&colouring_quandle(block), choices_of(&block.cocycle, seeds)) {
         return Ok(Some(Cause::Wide { which, seeds }));
     }
     let own = numbers_by(alloc, grid, block, seeding)?;
-    Ok(place_cause(
-        which,
-        first_unequal(counted.numbers.as_slice(), own.as_slice()),
-    ))
+    Ok(place_cause(which, first_unequal(numbers, own.as_slice())))
 }
 
 /// The numbers of a grid by a block, by a plan of the grid that the block's quandle fits.

@@ -17,7 +17,7 @@ use text_lines::{Line, Lines};
 pub const THIRD_VERSION: u32 = 3;
 
 /// How many numbers a diagram has: one, or as many as the modulus.
-fn count_of(cocycle: &Option<LargeWeighing>) -> u8
+pub fn count_of(cocycle: &Option<LargeWeighing>) -> u8
     ensures { result ≡ count_of cocycle.now }
 {
     match cocycle {

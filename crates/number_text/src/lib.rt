@@ -7,4 +7,5 @@ mod number_lines;
 
 pub use blocks::perhaps_cocycle;
 pub use evidence_core::{Block, Counted, Evidence, LargeWeighing, Linked};
-pub use evidence_items::{THIRD_VERSION, third_item};
+pub use evidence_items::{THIRD_VERSION, count_of, third_item};
+pub use number_lines::{numbers_at, seeds_at};

@@ -16,7 +16,7 @@ use text_lines::{Line, Lines};
 
 /// The word `numbers`, and so many numbers.
 #[tactic(auto, unfolding(crate::specs::Evidence::numbers_at))]
-fn numbers_at(alloc: Global, count: u8, line: &mut Line) -> Result<Vec<u32>, TextFault>
+pub fn numbers_at(alloc: Global, count: u8, line: &mut Line) -> Result<Vec<u32>, TextFault>
     ensures { Gives (λ v. v.items) result (numbers_at count line.old) }
 {
     word(line, b"numbers")?;
@@ -33,7 +33,7 @@ fn numbers_at(alloc: Global, count: u8, line: &mut Line) -> Result<Vec<u32>, Tex
 
 /// The word `seeds`, and at most `MAX_SIZE` numbers; one above 254 is read as 255, which is no column.
 #[tactic(auto, unfolding(crate::specs::Evidence::seeds_at))]
-fn seeds_at(line: &mut Line) -> Result<Rows, TextFault>
+pub fn seeds_at(line: &mut Line) -> Result<Rows, TextFault>
     ensures { Gives (λ r. r) result (seeds_at line.old) }
 {
     numbers_behind(b"seeds", line)

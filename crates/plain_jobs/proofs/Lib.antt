@@ -6,4 +6,6 @@ mod Compared
 mod EquallyMany
 mod Along
 mod Grids
+mod TableGrids
+mod TableFails
 pub mod Replies

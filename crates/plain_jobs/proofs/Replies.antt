@@ -1,5 +1,5 @@
 -- The replies of plain jobs to what was read: their statuses, and that there is one where the input determines it.
-use Rattle.std.proofs.Common.{◌≡◌, ◌∷◌, ℕ, List, [], Bool, Option, Some, None, Result, Ok, Err, true, false, codes, refl, sym, ap, ap₂, ◌∙◌, inl, inr, ◌⊎◌}
+use Rattle.std.proofs.Common.{◌≡◌, ◌∷◌, ℕ, List, [], Bool, Option, Some, None, Result, Ok, Err, true, false, cond, codes, refl, sym, ap, ap₂, subst, ◌∙◌, inl, inr, ◌⊎◌}
 use Rattle.arrayvec.specs.ArrayVec.{ArrayVec}
 use Rattle.grid_core.specs.Diagram.{Diagram, IsGrid}
 use Rattle.grid_moves.specs.declared.step.Move.{Move}
@@ -18,6 +18,7 @@ use Rattle.knot_text.specs.Pairs.{pair_in}
 use Rattle.knot_text.specs.BraidChecks.{braidcheck_in}
 use Rattle.block_text.specs.Weighed.{weighed_in}
 use Rattle.knot_text.specs.FirstBadLine.{FailsFirst}
+use Rattle.knot_text.proofs.Steady.{ok_is}
 use Rattle.knot_text.proofs.ShapesFail.{replay_fails, colour_fails, close_fails, lone_diagram_fails, pair_fails}
 use Rattle.knot_text.proofs.BraidChecksFail.{braidcheck_fails}
 use Rattle.certificates.proofs.WeighedFails.{weighed_fails}
@@ -29,12 +30,19 @@ use Rattle.cert_check.specs.declared.ruling.Ruling.TheVariants.{Accepted, Reject
 use Rattle.cert_check.proofs.Rulings.{ruled_once, some_ruling}
 use Rattle.certificate_text.specs.declared.said.Said.{Said}
 use Rattle.certificate_text.specs.declared.said.Said.TheVariants as said
-use Rattle.certificate_text.specs.Said.{said_in}
-use Rattle.certificates.proofs.EvidenceFails.{said_fails}
+use Rattle.certificate_text.specs.Said.{said_of}
 use Rattle.linking_check.specs.declared.cause.Ruling.{Ruling as NumberRuling}
 use Rattle.linking_check.specs.declared.cause.Ruling.TheVariants as numbers
 use Rattle.verdict_laws.proofs.OneRuling.{one_ruling}
 use Rattle.verdict_laws.proofs.SomeRuling.{some_ruling as some_number_ruling}
+use Rattle.verdict_laws.proofs.OneTableRuling.{one_table_ruling}
+use Rattle.verdict_laws.proofs.SomeTableRuling.{some_table_ruling}
+use Rattle.table_text.specs.declared.tables.KnotTable.{KnotTable}
+use Rattle.table_text.specs.Tables.{starts_table, table_of}
+use Rattle.table_check.specs.declared.cause.TableRuling.{TableRuling}
+use Rattle.table_check.specs.declared.cause.TableRuling.TheVariants as tables
+use Rattle.table_job.specs.Lines.{table_ruling_line}
+use Rattle.table_job.specs.Answer.{table_ruling_status, AnswersTable}
 use Rattle.code_text.specs.declared.code_reading.CodeText.{CodeText}
 use Rattle.code_text.specs.declared.refusal.TextRefusal.{TextRefusal}
 use Rattle.code_text.specs.declared.refusal.TextRefusal.TheVariants.{Rows, Gauss, Columns, Lost}
@@ -47,7 +55,8 @@ use Rattle.knot_words.specs.declared.job.PlainJob.{PlainJob}
 use Rattle.knot_words.specs.declared.job.PlainJob.TheVariants.{Check, Replay, Colour, Close, Code, Braid, Linking, Braidcheck, Weights, Numbers, Grid}
 use Rattle.reply_text.specs.Lines.{ruling_line, number_ruling_line, step_tokens}
 use Rattle.reply_text.specs.Reply.{plain_reply, done, rejected}
-use Rattle.check_job.specs.Answer.{ruling_status, number_ruling_status, AnswersSaid}
+use Rattle.check_job.specs.Input.{Certificate, as_pair, as_table, certificate_in, certificate_of}
+use Rattle.check_job.specs.Answer.{ruling_status, number_ruling_status, AnswersSaid, AnswersCheck}
 use Rattle.plain_jobs.specs.Jobs.Replay.{coloured_text, Replays, ReplaysColoured, Stops, AnswersMoves}
 use Rattle.plain_jobs.specs.Jobs.Colour.{colour_text}
 use Rattle.plain_jobs.specs.Jobs.Close.{close_text}
@@ -60,6 +69,8 @@ use Rattle.plain_jobs.specs.Jobs.Grid.{drawn_reply}
 use Rattle.plain_jobs.specs.Job.{plain_task, is_determined, IsTooWideFor}
 use Rattle.plain_jobs.proofs.Along.{carries_once, carried_along, joins_along}
 use Rattle.plain_jobs.proofs.Grids.{said_grids, replay_grid}
+use Rattle.plain_jobs.proofs.TableGrids.{table_grids}
+use Rattle.plain_jobs.proofs.TableFails.{certificate_fails}
 
 abbrev status_of : PlainReply → Status
 status_of r = r.status
@@ -77,6 +88,14 @@ number_ruling_defined (numbers.Rejected cause) = inr (inr refl)
 said_defined : (p : ProblemText) (s : Said) (r : PlainReply) → AnswersSaid p s r → IsOfDefinedAnswer r.status
 said_defined p (said.Verdict v) r a = rw (ap status_of a.is) (ruling_defined a.ruling)
 said_defined p (said.Evidence e) r a = rw (ap status_of a.is) (number_ruling_defined a.ruling)
+
+table_ruling_defined : (ruling : TableRuling) → IsOfDefinedAnswer (table_ruling_status ruling)
+table_ruling_defined tables.Accepted = inl refl
+table_ruling_defined (tables.Rejected cause) = inr (inr refl)
+
+certificate_defined : (c : Certificate) (r : PlainReply) → AnswersCheck c r → IsOfDefinedAnswer r.status
+certificate_defined (inl pair) r a = said_defined pair.0 pair.1 r a
+certificate_defined (inr table) r a = rw (ap status_of a.is) (table_ruling_defined a.ruling)
 
 ruled_defined : (ruled : BraidRuling) → IsOfDefinedAnswer (ruled_reply ruled).status
 ruled_defined braids.Accepted = inl refl
@@ -103,7 +122,7 @@ drawn_defined i (Err (Columns columns)) r is_true is = inr (columns, is_true.0, 
 drawn_defined i (Err Lost) r is_true is = inl (inr (inr (ap status_of is)))
 
 pub replies_defined : (job : PlainJob) (i : (plain_task job).Input) (r : PlainReply) → (plain_task job).Replies i r → IsDefined job r
-replies_defined Check i r a = inl (said_defined i.0 i.1 r a)
+replies_defined Check i r a = inl (certificate_defined i r a)
 replies_defined Replay i r a = inl (moves_defined (grid_of i.diagram) i.moves i.colours r a)
 replies_defined Colour i r a = inl (inl (ap status_of a))
 replies_defined Close i r a = inl (inl (ap status_of a))
@@ -129,6 +148,12 @@ said_once p (said.Verdict v) r r' one two =
 said_once p (said.Evidence e) r r' one two =
     let same = one_ruling (grid_of p.first) (grid_of p.second) e one.ruling two.ruling one.rules two.rules in
     one.is ∙ ap (λ ruling. plain_reply (number_ruling_status ruling) (number_ruling_line ruling)) same ∙ sym two.is
+
+certificate_once : (c : Certificate) (r r' : PlainReply) → AnswersCheck c r → AnswersCheck c r' → r ≡ r'
+certificate_once (inl pair) r r' one two = said_once pair.0 pair.1 r r' one two
+certificate_once (inr table) r r' one two =
+    let same = one_table_ruling table one.ruling two.ruling one.rules two.rules in
+    one.is ∙ ap (λ ruling. plain_reply (table_ruling_status ruling) (table_ruling_line ruling)) same ∙ sym two.is
 
 stop_once : (d : Diagram) (moves : List Move) (r r' : PlainReply) → Stops d moves r → Stops d moves r' → r ≡ r'
 stop_once d moves r r' a b =
@@ -175,7 +200,7 @@ moves_once d moves (Some (q, colours)) r r' one two = elim one [
 
 pub replies_once : (job : PlainJob) → is_determined job ≡ true → (i : (plain_task job).Input) (r r' : PlainReply)
     → (plain_task job).Replies i r → (plain_task job).Replies i r' → r ≡ r'
-replies_once Check fixed i r r' one two = said_once i.0 i.1 r r' one two
+replies_once Check fixed i r r' one two = certificate_once i r r' one two
 replies_once Replay fixed i r r' one two = moves_once (grid_of i.diagram) i.moves i.colours r r' one two
 replies_once Colour fixed i r r' one two = one ∙ sym two
 replies_once Close fixed i r r' one two = one ∙ sym two
@@ -200,6 +225,29 @@ some_said p (said.Evidence e) first second =
     let r = some_number_ruling (grid_of p.first) (grid_of p.second) e first second in
     (plain_reply (number_ruling_status r.0) (number_ruling_line r.0), record { ruling = r.0; rules = r.1; is = refl })
 
+some_table : (bytes : List ℕ) (table : KnotTable) → table_of bytes ≡ Ok table → SomeReply (AnswersTable table)
+some_table bytes table is =
+    let grids = table_grids bytes table is in
+    let r = some_table_ruling table grids.0 grids.1 in
+    (plain_reply (table_ruling_status r.0) (table_ruling_line r.0), record { ruling = r.0; rules = r.1; is = refl })
+
+some_certificate : (bytes : List ℕ) (c : Certificate) → certificate_of bytes ≡ Ok c → SomeReply (AnswersCheck c)
+some_certificate bytes c is = by (starts_table (text_of bytes).lines) is
+  where
+    pair : (s : Result (ProblemText × Said) TextFault) → said_of bytes ≡ s → as_pair s ≡ Ok c → SomeReply (AnswersCheck c)
+    pair (Ok x) read is =
+        let grids = said_grids bytes x.0 x.1 read in
+        subst (λ (y : Certificate). SomeReply (AnswersCheck y)) (ok_is (inl x) c is) (some_said x.0 x.1 grids.0 grids.1)
+    pair (Err fault) read is = absurd cc
+
+    table : (s : Result KnotTable TextFault) → table_of bytes ≡ s → as_table s ≡ Ok c → SomeReply (AnswersCheck c)
+    table (Ok x) read is = subst (λ (y : Certificate). SomeReply (AnswersCheck y)) (ok_is (inr x) c is) (some_table bytes x read)
+    table (Err fault) read is = absurd cc
+
+    by : (t : Bool) → cond t (as_table (table_of bytes)) (as_pair (said_of bytes)) ≡ Ok c → SomeReply (AnswersCheck c)
+    by true is = table (table_of bytes) refl is
+    by false is = pair (said_of bytes) refl is
+
 some_moves : (d : Diagram) (moves : List Move) (colours : Option (NamedQuandle × ArrayVec ℕ)) → IsGrid d → SomeReply (AnswersMoves d moves colours)
 some_moves d moves None grid = elim (joins_or_stops moves d grid) [
   | inl joined ↦ (done (grid_text joined.0), inl (record { last = joined.0; joins = joined.1; is = refl }))
@@ -221,7 +269,7 @@ some_moves d moves (Some (q, colours)) grid = by (is_colouring q.table d colours
 
 pub some_reply : (job : PlainJob) → is_determined job ≡ true → (bytes : List ℕ) (i : (plain_task job).Input) → (plain_task job).read bytes ≡ Ok i
     → SomeReply ((plain_task job).Replies i)
-some_reply Check fixed bytes i is = let grids = said_grids bytes i.0 i.1 is in some_said i.0 i.1 grids.0 grids.1
+some_reply Check fixed bytes i is = some_certificate bytes i is
 some_reply Replay fixed bytes i is = some_moves (grid_of i.diagram) i.moves i.colours (replay_grid bytes i is)
 some_reply Colour fixed bytes i is = (done (colour_text (grid_of i.diagram) i.quandles), refl)
 some_reply Close fixed bytes i is = (done (close_text i.braid i.quandles), refl)
@@ -241,7 +289,7 @@ first_fails read first text is = elim (first text bad.OutOfMemory is) [
 ]
 
 pub never_memory : (job : PlainJob) → is_determined job ≡ true → (bytes : List ℕ) → (plain_task job).read bytes ≡ Err bad.OutOfMemory → ⊥
-never_memory Check fixed bytes is = first_fails said_in said_fails (text_of bytes) is
+never_memory Check fixed bytes is = first_fails certificate_in certificate_fails (text_of bytes) is
 never_memory Replay fixed bytes is = first_fails replay_in replay_fails (text_of bytes) is
 never_memory Colour fixed bytes is = first_fails colour_in colour_fails (text_of bytes) is
 never_memory Close fixed bytes is = first_fails close_in close_fails (text_of bytes) is

@@ -2,7 +2,6 @@
 use Rattle.std.specs.Prelude.{ℕ, List, Bool, true, false, Result}
 use Rattle.verdict_core.specs.declared.diagrams.Diagram.{Diagram}
 use Rattle.text_items.specs.declared.fault.TextFault.{TextFault}
-use Rattle.verdict_core.specs.declared.problem.ProblemText.{ProblemText}
 use Rattle.knot_text.specs.declared.shapes.ReplayText.{ReplayText}
 use Rattle.knot_text.specs.declared.shapes.ColourText.{ColourText}
 use Rattle.knot_text.specs.declared.shapes.CloseText.{CloseText}
@@ -14,14 +13,13 @@ use Rattle.block_text.specs.declared.numbered.NumbersText.{NumbersText}
 use Rattle.block_text.specs.Numbered.{numbers_of}
 use Rattle.block_text.specs.declared.weighed.WeighedText.{WeighedText}
 use Rattle.block_text.specs.Weighed.{weighed_of}
-use Rattle.certificate_text.specs.declared.said.Said.{Said}
-use Rattle.certificate_text.specs.Said.{said_of}
 use Rattle.code_text.specs.declared.code_reading.CodeText.{CodeText}
 use Rattle.code_text.specs.CodeReading.{code_text_of}
 use Rattle.reply_text.specs.declared.reply.PlainReply.{PlainReply}
 use Rattle.knot_words.specs.declared.job.PlainJob.{PlainJob}
 use Rattle.knot_words.specs.declared.job.PlainJob.TheVariants.{Check, Replay, Colour, Close, Code, Braid, Linking, Braidcheck, Weights, Numbers, Grid}
 use Rattle.reply_text.specs.Reply.{AnswersRead}
+use Rattle.check_job.specs.Input.{Certificate, certificate_of}
 use Rattle.check_job.specs.Answer.{AnswersCheck}
 use Rattle.plain_jobs.specs.Jobs.Replay.{AnswersReplay}
 use Rattle.plain_jobs.specs.Jobs.Colour.{AnswersColour}
@@ -42,7 +40,7 @@ pub record PlainTask : Type 1 where
 
 -- the task of each job
 abbrev pub plain_task : PlainJob → PlainTask
-plain_task Check = record { Input = ProblemText × Said; read = said_of; Replies = AnswersCheck }
+plain_task Check = record { Input = Certificate; read = certificate_of; Replies = AnswersCheck }
 plain_task Replay = record { Input = ReplayText; read = replay_of; Replies = AnswersReplay }
 plain_task Colour = record { Input = ColourText; read = colour_of; Replies = AnswersColour }
 plain_task Close = record { Input = CloseText; read = close_of; Replies = AnswersClose }

@@ -7,3 +7,4 @@ pub mod Job
 pub mod Truth
 pub use Rattle.knot_ports.specs.Status
 pub use Rattle.certificate_text.specs.Said
+pub use Rattle.check_job.specs.Input

@@ -41,8 +41,8 @@ pub record IsBraidCertificate (bytes : List ℕ) : Type 0 where
 
 -- ---- each job
 
--- what a job's text with `Done` says of its input is true: of `check`, which accepts a verdict or evidence by numbers, `linking` and `weights`,
--- which compare two diagrams, `braidcheck`, which accepts steps between two braids, and `grid`, which draws a code. The others claim nothing
+-- what a job's text with `Done` says of its input is true: of `check`, which accepts a verdict, evidence by numbers or a table, `linking` and
+-- `weights`, which compare two diagrams, `braidcheck`, which accepts steps between two braids, and `grid`, which draws a code. The others claim nothing
 abbrev pub IsTrueText : PlainJob → List ℕ → List ℕ → Type 0
 IsTrueText Check bytes text = IsCertificate bytes
 IsTrueText Linking bytes text = IsTrueLinking bytes text

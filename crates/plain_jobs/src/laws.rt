@@ -1,5 +1,5 @@
 //! Laws of single jobs, over the definitions alone.
-ghost use Rattle.std.specs.Prelude.{◌≡◌, ℕ, List};
+ghost use Rattle.std.specs.Prelude.{◌≡◌, ℕ, List, Ok};
 ghost use Rattle.grid_core.specs.Diagram.{Diagram};
 ghost use Rattle.grid_moves.specs.Joining.{Joins};
 ghost use Rattle.quandle_core.specs.Quandle.{Table, IsQuandle};
@@ -7,6 +7,12 @@ ghost use Rattle.colour_rows.specs.Colouring.{IsColouring};
 ghost use Rattle.braid_core.specs.Braid.{Word, IsBraid};
 ghost use Rattle.braid_moves.specs.declared.ruling.BraidRuling.TheVariants.{Accepted};
 ghost use Rattle.braid_moves.specs.Ruling.{ruling};
+ghost use Rattle.verdict_core.specs.declared.problem.ProblemText.{ProblemText};
+ghost use Rattle.knot_text.specs.FirstBadLine.{FailsFirst};
+ghost use Rattle.certificate_text.specs.declared.said.Said.{Said};
+ghost use Rattle.certificate_text.specs.Said.{said_of};
+ghost use Rattle.table_text.specs.Tables.{table_in};
+ghost use Rattle.check_job.specs.Input.{as_pair, certificate_in, certificate_of};
 ghost use Rattle.plain_jobs.specs.Jobs.Replay.{Carries};
 ghost use Rattle.plain_jobs.specs.EquallyMany.{HaveEquallyMany};
 
@@ -25,4 +31,15 @@ pub fn a_replay_carries_a_colouring_to_a_colouring()
 /// quandle, and their closures equally many colourings.
 pub fn accepted_braids_have_equally_many_colourings()
     ensures { (v w : Word) → IsBraid v → IsBraid w → (steps : List BraidMove) → ruling v w steps ≡ Accepted → HaveEquallyMany v w }
+{}
+
+/// A table, and a certificate of any version, fails at its first bad line, or where something is due at its end.
+pub fn a_certificate_fails_at_its_first_bad_line()
+    ensures table { FailsFirst table_in }
+    ensures certificate { FailsFirst certificate_in }
+{}
+
+/// What is read as a problem with what is said of its two diagrams, in one of the first three versions, is read so beside tables.
+pub fn earlier_certificates_are_read_as_before()
+    ensures { (bytes : List ℕ) (x : ProblemText × Said) → said_of bytes ≡ Ok x → certificate_of bytes ≡ as_pair (Ok x) }
 {}

@@ -1,5 +1,5 @@
 -- The lines in which the jobs answer, as tokens, which are printed with one space between them.
-use Rattle.std.specs.Prelude.{ℕ, List, [], ◌∷◌, codes, length, map}
+use Rattle.std.specs.Prelude.{ℕ, List, [], ◌∷◌, codes}
 use Rattle.std.specs.Fmt.{decimal}
 use Rattle.grid_moves.specs.declared.step.MoveFault.{MoveFault}
 use Rattle.grid_moves.specs.declared.step.MoveFault.TheVariants as fault

@@ -50,7 +50,7 @@ fn push_two(out: &mut Vec<u8>, words: &[u8], a: u8, b: u64) -> Result<(), AllocE
 }
 
 /// Appends why evidence does not hold, each token behind a space.
-fn push_why(out: &mut Vec<u8>, why: Why) -> Result<(), AllocError>
+pub fn push_why(out: &mut Vec<u8>, why: Why) -> Result<(), AllocError>
     ensures { OnOk result (out.new.items ≡ out.old.items ++ flat_map spaced (why_tokens why)) }
 {
     match why {

@@ -1,3 +1,4 @@
 mod Decisions
+mod LeastTexts
 mod PrintedVerdicts
 mod ReadProblems

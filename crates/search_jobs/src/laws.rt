@@ -1,7 +1,9 @@
-//! Laws of the searches and of the texts of `decide`, over the definitions alone.
-ghost use Rattle.std.specs.Prelude.{◌≡◌, ◌+◌, ℕ, List, Option, min, max};
+//! Laws of the searches, and of the texts of `decide` and `least`, over the definitions alone.
+ghost use Rattle.std.specs.Prelude.{◌≡◌, ◌+◌, ◌↔◌, ℕ, List, Option, min, max};
 ghost use Rattle.std.specs.List.{AllByRecursion};
 ghost use Rattle.grid_core.specs.Diagram.{Diagram, IsGrid, size};
+ghost use Rattle.verdict_core.specs.declared.diagrams.Diagram.{Diagram as Given};
+ghost use Rattle.verdict_core.specs.Diagrams.{grid_of};
 ghost use Rattle.grid_core.specs.declared.grid.TheConstants.{MAX_SIZE};
 ghost use Rattle.verdict_core.specs.declared.verdict.Verdict.{Verdict};
 ghost use Rattle.named_quandles.specs.Names.{NamedQuandle};
@@ -12,7 +14,10 @@ ghost use Rattle.search_pool.specs.declared.finding.Finding.{Finding};
 ghost use Rattle.pair_verdict.specs.Decided.{Decides};
 ghost use Rattle.decision_core.specs.Decision.{IsShort};
 ghost use Rattle.knot_words.specs.declared.words.TheConstants as words;
+ghost use Rattle.mono_simplify.specs.ExchangeClass.{JoinedByExchanges};
+ghost use Rattle.least_grids.specs.Least.{IsLeastReached};
 ghost use Rattle.search_jobs.specs.Decide.{problem_for};
+ghost use Rattle.search_jobs.specs.Least.{TellsWhole};
 
 use knot_text::Version;
 use knot_words::Asked;
@@ -44,3 +49,15 @@ pub fn a_decision_has_a_text()
 {
     no_more_colourings_than_choices();
 }
+
+/// A text of `least` whose last line is `whole` begins with the least diagram that shifts and exchanges reach. So two such texts begin
+/// with one diagram exactly where shifts and exchanges join the two that were given.
+pub fn whole_texts_begin_with_one_diagram_exactly_where_exchanges_join()
+    ensures least { (d : Given) (text : List ℕ) (g : Diagram) → IsGrid (grid_of d) → TellsWhole d text g → IsLeastReached (grid_of d) g }
+    ensures one { (d e : Given) (first second : List ℕ) (g h : Diagram)
+        → IsGrid (grid_of d)
+        → IsGrid (grid_of e)
+        → TellsWhole d first g
+        → TellsWhole e second h
+        → JoinedByExchanges (grid_of d) (grid_of e) ↔ (g ≡ h) }
+{}

@@ -17,7 +17,7 @@ use crate::search::Search;
 use clap::error::ErrorKind;
 use knot_ports::{Status, give_all};
 use seek_parts::{Texts, read_and_written};
-use seek_words::{Asked, option_bounds, read_words};
+use seek_words::{Asked, read_words, refusal_text};
 use std::alloc::Global;
 use std::io::Write;
 use std::process::ExitCode;
@@ -77,18 +77,18 @@ fn answer_words<R: Eprint, P: Places, W: Write + Drop>(
         ErrorKind::DisplayHelp | ErrorKind::DisplayVersion => show(rt, alloc, error, outlets),
         ErrorKind::OutOfMemory => tell(rt, &Failure::OutOfMemory),
         _ => {
-            let _told = eprint!(rt; "{error}");
-            tell_bounds(rt, alloc, error);
+            tell_refusal(rt, alloc, error);
             Status::Usage
         }
     }
 }
 
-/// Tells the bounds of an option's number, where that is what is wrong with the words.
-fn tell_bounds<R: Eprint>(rt: &R, alloc: Global, error: &clap::Error) {
-    if let Ok(Some(bounds)) = option_bounds(alloc, error) {
-        let _told = eprintln!(rt; "seek: {bounds}");
-    }
+/// Tells why words are refused. Where memory is wanting for it, the text of `clap` stands as it is.
+fn tell_refusal<R: Eprint>(rt: &R, alloc: Global, error: &clap::Error) {
+    let _told = match refusal_text(alloc, error) {
+        Ok(text) => eprint!(rt; "{text}"),
+        Err(_) => eprint!(rt; "{error}"),
+    };
 }
 
 /// Writes a text of `clap` to the output: the status.

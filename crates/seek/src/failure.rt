@@ -75,6 +75,14 @@ fn write_blocks<W: fmt::Write>(
     }
 }
 
+/// Writes what stands for standard output, where its name in the system was refused.
+fn write_way<W: fmt::Write>(f: &mut fmt::Formatter<W>, error: &io::Error) -> fmt::Result {
+    match error.kind() {
+        io::ErrorKind::InvalidInput => write!(f, "; `--out -` is standard output"),
+        _ => Ok(()),
+    }
+}
+
 /// Writes that memory was wanting.
 fn write_memory<W: fmt::Write>(f: &mut fmt::Formatter<W>) -> fmt::Result {
     write!(f, "there is not enough memory")
@@ -92,7 +100,10 @@ impl<'a> fmt::Display for Failure<'a> {
             Failure::Write {
                 name,
                 error: Some(error),
-            } => write!(f, "{name} can't be written: {error}"),
+            } => {
+                write!(f, "{name} can't be written: {error}")?;
+                write_way(f, error)
+            }
             Failure::Write { name, error: None } => write!(f, "{name} can't be written"),
             Failure::OutOfMemory => write_memory(f),
         }

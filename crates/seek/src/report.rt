@@ -28,7 +28,10 @@ pub(crate) fn tell_tried<R: Eprint>(rt: &R, asked: &Asked, tried: &Tried, made: 
     ensures { result ≡ status.Unknown }
 {
     if asked.talk != Talk::Quiet {
-        let tried = InWords(tried);
+        let tried = InWords {
+            tried,
+            has_files: !asked.weights.is_empty(),
+        };
         let walks = walks_of(asked, made);
         let _told = eprintln!(rt; "seek: nothing found: {tried}, and {walks}");
     }
@@ -94,7 +97,7 @@ fn place_of<'a>(parts: &Parts<'a>, at: usize) -> (&'a str, usize) {
 
 /// What is said of a braid among the words that has another form.
 const BRAID_FORM: &str =
-    "; behind --braid stand the number of strands and the letters, with blanks between, as \"2 1 1 1\"";
+    "; behind --braid stand the number of strands and the letters, as \"2 1 1 1\"";
 
 /// Whether a line has not the form of a braid.
 fn is_of_form(reason: Reason) -> bool {
@@ -108,18 +111,23 @@ fn is_of_form(reason: Reason) -> bool {
 
 /// What was tried, as a part of a sentence.
 #[derive(Clone, Copy)]
-struct InWords<'a>(&'a Tried);
+struct InWords<'a> {
+    tried: &'a Tried,
+    /// Whether files of blocks were read.
+    has_files: bool,
+}
 
 impl<'a> fmt::Display for InWords<'a> {
     fn fmt<W: fmt::Write>(&self, f: &mut fmt::Formatter<W>) -> fmt::Result {
-        let (first, second) = self.0.columns;
+        let (first, second) = self.tried.columns;
         write!(
             f,
             "of diagrams of {first} and {second} columns, whose linking numbers agree,"
         )?;
-        write_quandles(f, self.0.quandles.as_slice())?;
-        match self.0.blocks {
-            0 => Ok(()),
+        write_quandles(f, self.tried.quandles.as_slice())?;
+        match self.tried.blocks {
+            0 if self.has_files => Ok(()),
+            0 => write!(f, ", no file of --weights was read for cocycles"),
             blocks => write!(f, ", nor do numbers by {blocks} quandles of --weights"),
         }
     }

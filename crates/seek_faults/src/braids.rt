@@ -1,7 +1,7 @@
 //! Why a line is no braid.
 
 use crate::reason::{Due, Reason};
-use crate::shown::Shown;
+use crate::shown::{Shown, write_blanks};
 use braid_core::MAX_STRANDS;
 use grid_core::MAX_SIZE;
 use std::fmt;
@@ -39,10 +39,13 @@ impl<'a> fmt::Display for BraidReason<'a> {
                 f,
                 "{strands} strands are more than the {MAX_STRANDS} that a braid may have"
             ),
-            BraidReason::NoLetter { token } => write!(
-                f,
-                "{token} is not a letter: a letter is a number, with a `-` before it for a negative crossing"
-            ),
+            BraidReason::NoLetter { token } => {
+                write!(
+                    f,
+                    "{token} is not a letter: a letter is a number, with a `-` before it for a negative crossing"
+                )?;
+                write_blanks(f, *token, "letters")
+            }
             BraidReason::Letter { letter: 0, .. } => {
                 write!(
                     f,

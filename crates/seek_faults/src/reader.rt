@@ -99,9 +99,12 @@ impl Reader {
         let are_two = self.shape.are_two;
         match (self.shape.then.part(self.quandles), self.part) {
             (Some(part), Some(line)) => Due::Behind { part, line },
-            (Some(part), None) => Due::Begin { part },
+            (Some(part), None) => Due::Begin {
+                part,
+                or_quandle: self.shape.then.takes_quandle(self.quandles),
+            },
             (None, _) => match self.shape.then {
-                Then::Quandles => Due::Quandles { are_two },
+                Then::Quandles | Then::QuandlesAnd(_) => Due::Quandles { are_two },
                 Then::QuandleAnd(_) => Due::Quandle,
                 _ => Due::Nothing { are_two },
             },
@@ -221,7 +224,7 @@ impl Reader {
             return quandle_reason(line, self.quandles >= MAX_QUANDLES, due);
         }
         match due {
-            Due::Begin { part } if part.begins(token) => reason_of_part(part, due, is_limit),
+            Due::Begin { part, .. } if part.begins(token) => reason_of_part(part, due, is_limit),
             _ => begins,
         }
     }

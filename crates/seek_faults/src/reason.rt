@@ -4,7 +4,7 @@ use crate::braids::BraidReason;
 use crate::grids::GridReason;
 use crate::quandles::QuandleReason;
 use crate::shape::{Limits, Part};
-use crate::shown::Shown;
+use crate::shown::{Shown, write_blanks};
 use std::fmt;
 use text_lines::MAX_DIGITS;
 
@@ -31,8 +31,8 @@ pub enum Due {
     Quandle,
     /// Nothing.
     Nothing { are_two: bool },
-    /// The first line of a part; in the place of a verdict's a quandle may stand.
-    Begin { part: Part },
+    /// The first line of a part, or a quandle in its place, if one may stand there.
+    Begin { part: Part, or_quandle: bool },
     /// A further line of the part that begins in a line.
     Behind { part: Part, line: usize },
 }
@@ -120,7 +120,7 @@ impl fmt::Display for Due {
                 let diagrams = diagrams(*are_two);
                 write!(f, "nothing may follow {diagrams}")
             }
-            Due::Begin { part } => write_begin(f, *part),
+            Due::Begin { part, or_quandle } => write_begin(f, *part, *or_quandle),
             Due::Behind { part, line } => {
                 write!(f, "more is due behind line {line}, where {part}")
             }
@@ -129,23 +129,46 @@ impl fmt::Display for Due {
 }
 
 /// Writes what is due where a part may begin.
-fn write_begin<W: fmt::Write>(f: &mut fmt::Formatter<W>, part: Part) -> fmt::Result {
+fn write_begin<W: fmt::Write>(
+    f: &mut fmt::Formatter<W>,
+    part: Part,
+    or_quandle: bool,
+) -> fmt::Result {
     f.write_str(match part {
         Part::Verdict => {
             "lines `quandle ..` or a verdict are due, from `certificate ..`, `equal ..`, `different ..` or `unknown ..` on"
         }
         Part::Moves => "a line `moves ..` with their number is due",
         Part::Steps => "a line `steps ..` with their number is due",
+        Part::Cocycle if or_quandle => {
+            "only a cocycle of the quandle, from a line `weight ..` or `shadow ..` on, or lines `quandle ..` may follow"
+        }
         Part::Cocycle => "a line `weight ..` with a modulus or a line `shadow ..` is due",
     })
+}
+
+/// Writes who reads a planar diagram code, where one begins in the place of a diagram.
+fn write_readers<W: fmt::Write>(f: &mut fmt::Formatter<W>, due: Due, token: Shown) -> fmt::Result {
+    match due {
+        Due::Diagram { .. } if token.begins_code() => f.write_str(
+            "; a planar diagram code, as this may be, is read by `knot grid` and by `seek --pd FILE`",
+        ),
+        _ => Ok(()),
+    }
 }
 
 impl<'a> fmt::Display for Reason<'a> {
     fn fmt<W: fmt::Write>(&self, f: &mut fmt::Formatter<W>) -> fmt::Result {
         match self {
             Reason::Ends { due } => write!(f, "the input ends here, and {due}"),
-            Reason::Begins { due, token } => write!(f, "the line begins with {token}, and {due}"),
-            Reason::NoNumber { token } => write!(f, "{token} is not a number"),
+            Reason::Begins { due, token } => {
+                write!(f, "the line begins with {token}, and {due}")?;
+                write_readers(f, *due, *token)
+            }
+            Reason::NoNumber { token } => {
+                write!(f, "{token} is not a number")?;
+                write_blanks(f, *token, "numbers")
+            }
             Reason::Digits { token } => {
                 write!(
                     f,

@@ -27,7 +27,7 @@ pub enum Then {
     Nothing,
     /// Any number of quandles.
     Quandles,
-    /// Any number of quandles, and a further part.
+    /// Any number of quandles, and a further part; a cocycle stands behind its quandle, or there is none.
     QuandlesAnd(Part),
     /// One quandle, and a further part.
     QuandleAnd(Part),
@@ -65,9 +65,9 @@ impl Then {
     /// The part that may begin behind so many quandles.
     pub(crate) fn part(self, quandles: usize) -> Option<Part> {
         match self {
-            Then::QuandlesAnd(part) | Then::Only(part) => Some(part),
-            Then::QuandleAnd(part) if quandles > 0 => Some(part),
-            Then::QuandleAnd(_) | Then::Nothing | Then::Quandles => None,
+            Then::QuandlesAnd(Part::Cocycle) | Then::QuandleAnd(_) if quandles < 1 => None,
+            Then::QuandlesAnd(part) | Then::QuandleAnd(part) | Then::Only(part) => Some(part),
+            Then::Nothing | Then::Quandles => None,
         }
     }
 }

@@ -9,10 +9,51 @@ const MARK: &[u8] = b"\xef\xbb\xbf";
 /// The bytes of U+2212, the minus sign of typeset texts.
 const MINUS: &[u8] = b"\xe2\x88\x92";
 
+/// The marks with which a text in UTF-16 begins.
+const WIDE_MARKS: [&[u8]; 2] = [b"\xff\xfe", b"\xfe\xff"];
+/// With what the first token of a planar diagram code may begin, as programs print one.
+const CODE_FRONTS: [&[u8]; 8] = [
+    b"PD[",
+    b"PD(",
+    b"X[",
+    b"[[",
+    b"[(",
+    b"((",
+    b"{{",
+    b"crossings",
+];
+
 /// A token of a text, as it is shown in a sentence: its first bytes, and a `?` for each that is no printable ASCII. A byte order mark, which
-/// nobody sees, and the minus sign of typeset texts, which looks like another one, are named behind it.
+/// nobody sees, and the minus sign of typeset texts, which looks like another one, are named behind it, and so is UTF-16.
 #[derive(Clone, Copy, Debug, PartialEq, Eq)]
 pub struct Shown<'a>(pub &'a [u8]);
+
+impl<'a> Shown<'a> {
+    /// Whether it may be the first token of a planar diagram code.
+    pub(crate) fn begins_code(self) -> bool {
+        begins_with_any(self.0, &CODE_FRONTS)
+    }
+}
+
+/// Whether bytes begin with one of these fronts.
+fn begins_with_any(bytes: &[u8], fronts: &[&[u8]]) -> bool {
+    fronts
+        .iter()
+        .any(|front| bytes.strip_prefix(*front).is_some())
+}
+
+/// Writes that blanks stand between tokens of a kind, where a comma stands in this one.
+pub(crate) fn write_blanks<W: fmt::Write>(
+    f: &mut fmt::Formatter<W>,
+    token: Shown,
+    kind: &str,
+) -> fmt::Result {
+    if token.0.contains(&b',') {
+        write!(f, "; blanks stand between {kind}")
+    } else {
+        Ok(())
+    }
+}
 
 impl<'a> fmt::Display for Shown<'a> {
     fn fmt<W: fmt::Write>(&self, f: &mut fmt::Formatter<W>) -> fmt::Result {
@@ -39,6 +80,11 @@ impl<'a> fmt::Display for Shown<'a> {
         }
         if has_minus {
             f.write_str(" (with U+2212, a minus sign from a text; write -)")?;
+        }
+        if begins_with_any(self.0, &WIDE_MARKS) {
+            f.write_str(
+                " (of a text in UTF-16; `iconv -f UTF-16 -t UTF-8` makes one that is read)",
+            )?;
         }
         Ok(())
     }

@@ -87,6 +87,10 @@ fn write_job<W: fmt::Write>(f: &mut fmt::Formatter<W>, name: &str) -> fmt::Resul
             f,
             "; `{name}` is a job of `knot`, and `seek` takes files without a job"
         ),
+        _ if name.contains("[") => write!(
+            f,
+            "; a code stands in a file, or in standard input, as `--pd -`"
+        ),
         _ => Ok(()),
     }
 }

@@ -6,9 +6,9 @@ mod command;
 mod given;
 mod inputs;
 pub mod laws;
-mod limits;
+mod refusal;
 
 pub use asked::{Asked, Talk, read_words};
 pub use command::VERSION;
 pub use given::{Diagrams, Given};
-pub use limits::option_bounds;
+pub use refusal::refusal_text;

@@ -1,4 +1,4 @@
-//! Tests of least_grids, mono_simplify, pair_verdict, search_book, search_pool and walk_samples.
+//! Tests of mono_simplify, pair_verdict, search_book, search_pool and walk_samples.
 #![tactic(auto)]
 
 #[cfg(test)]

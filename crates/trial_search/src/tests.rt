@@ -1,6 +1,5 @@
 //! A file a crate.
 mod book;
-mod least;
 mod pairs;
 mod pool;
 mod samples;

@@ -24,7 +24,7 @@ some_once o x y one two = ap (λ (p : Option Cause). unwrap_or p x) (sym one ∙
 
 -- ---- seeds
 
-outside_once : (d : Diagram) (seeds : List ℕ) (b c : ℕ) → IsFault seeds d (fault.Outside b) → IsFault seeds d (fault.Outside c) → b ≡ c
+pub outside_once : (d : Diagram) (seeds : List ℕ) (b c : ℕ) → IsFault seeds d (fault.Outside b) → IsFault seeds d (fault.Outside c) → b ≡ c
 outside_once d seeds b c one two = elim (cases_lt one.0 two.0) [
   | inl less ↦ absurd (let inside : slice_index seeds one.0 < size d = two.4 one.0 less in omega (arith, inside, one.2, one.3))
   | inr least ↦ elim (cases_lt two.0 one.0) [
@@ -33,7 +33,7 @@ outside_once d seeds b c one two = elim (cases_lt one.0 two.0) [
   ]
 ]
 
-unsettled_once : (d : Diagram) (seeds : List ℕ) (b c : ℕ) → IsFault seeds d (fault.Unsettled b) → IsFault seeds d (fault.Unsettled c) → b ≡ c
+pub unsettled_once : (d : Diagram) (seeds : List ℕ) (b c : ℕ) → IsFault seeds d (fault.Unsettled b) → IsFault seeds d (fault.Unsettled c) → b ≡ c
 unsettled_once d seeds b c one two = elim (cases_lt b c) [
   | inl less ↦ absurd (one.2 (two.3 b less))
   | inr least ↦ elim (cases_lt c b) [
@@ -43,7 +43,7 @@ unsettled_once d seeds b c one two = elim (cases_lt b c) [
 ]
 
 -- where a seed is no column, no column is told as unsettled
-not_both : (d : Diagram) (seeds : List ℕ) (b c : ℕ) → IsFault seeds d (fault.Outside b) → IsFault seeds d (fault.Unsettled c) → ⊥
+pub not_both : (d : Diagram) (seeds : List ℕ) (b c : ℕ) → IsFault seeds d (fault.Outside b) → IsFault seeds d (fault.Unsettled c) → ⊥
 not_both d seeds b c one two =
     let inside : slice_index seeds one.0 < size d = two.0 one.0 0 one.1 in
     omega (arith, inside, one.2, one.3)

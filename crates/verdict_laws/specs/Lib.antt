@@ -8,3 +8,5 @@ pub use Rattle.number_check.specs.Ruling as NumberRuling
 pub use Rattle.quandle_core.specs.Quandle
 pub use Rattle.verdict_core.specs.Evidence
 pub use Rattle.named_quandles.specs.Names
+pub use Rattle.table_check.specs.Ruling as TableRuling
+pub use Rattle.verdict_core.specs.Diagrams

@@ -8,6 +8,7 @@ ghost use Rattle.whole_files.specs.Places.{PutsAt};
 use crate::place::Place;
 use crate::places::Places;
 use crate::put::{put_whole, try_place};
+use crate::streams::leads_to_stream;
 use knot_ports::{StdSink, give_all};
 use std::alloc::{AllocError, Global};
 use std::fs::{File, FileType, OpenOptions, Permissions};
@@ -31,9 +32,15 @@ struct DiskPlace<'a> {
     is_stored: bool,
 }
 
+/// What is said of a path that leads to an open stream.
+const IS_STREAM: &str = "it leads to an open stream, and a file would take its place";
+
 impl<'a> DiskPlace<'a> {
-    /// The place at a path.
-    fn new(rt: &'a HostRuntime, path: &'a str) -> Result<DiskPlace<'a>, AllocError> {
+    /// The place at a path. One that leads to an open stream is refused, with an error of kind `InvalidInput`.
+    fn new(rt: &'a HostRuntime, path: &'a str) -> io::Result<DiskPlace<'a>> {
+        if leads_to_stream(rt, path)? {
+            return Err(io::Error::new(io::ErrorKind::InvalidInput, IS_STREAM));
+        }
         let own = process::id(rt.process());
         Ok(DiskPlace {
             rt,

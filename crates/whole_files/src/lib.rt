@@ -6,6 +6,7 @@ mod disk;
 mod place;
 mod places;
 mod put;
+mod streams;
 mod text;
 
 pub use disk::DiskPlaces;

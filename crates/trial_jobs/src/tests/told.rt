@@ -107,7 +107,7 @@ fn faults_of_streams_are_told(rt: HostRuntime) -> Result<(), Fail> {
     Ok(())
 }
 
-/// What is told where a call of `grid`, whose lines have no reasons, ended with a status and wrote this.
+/// What is told where a call of `grid` ended with a status and wrote this.
 fn said_of(rt: &HostRuntime, status: Status, written: &[u8]) -> Result<String, Fail> {
     let reader = Bytes {
         left: b"",
@@ -119,13 +119,23 @@ fn said_of(rt: &HostRuntime, status: Status, written: &[u8]) -> Result<String, F
     said(rt, "knot grid", status, &source, &sink)
 }
 
-const WRITTEN: [(Status, &[u8], &str); 6] = [
+const WRITTEN: [(Status, &[u8], &str); 8] = [
     (
         Status::Malformed,
         b"malformed line 12\n",
-        "line 12 is not what is due there",
+        "line 12 is not what is due in a planar diagram code; of DT and Gauss codes tools/code.py makes diagrams",
     ),
-    (Status::Limit, b"limit line 1\n", "line 1 exceeds a limit"),
+    (
+        Status::Limit,
+        b"limit line 1\n",
+        "line 1 exceeds a limit of a planar diagram code",
+    ),
+    (
+        Status::Rejected,
+        b"rejected edge 7\n",
+        "edge 7 does not stand exactly twice",
+    ),
+    (Status::Rejected, b"rejected step 0 range\n", ""),
     (
         Status::Limit,
         b"limit bytes\n",

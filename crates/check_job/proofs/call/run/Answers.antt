@@ -1,5 +1,5 @@
 use Rattle.std.proofs.Common.{rules, subst}
-use Rattle.knot_ports.specs.Change.{source_change, sink_change}
+use Rattle.knot_ports.specs.Change.{source_change}
 use Rattle.check_job.specs.Delivered.{IsMadeOf}
 use Rattle.check_job.proofs.Endings.{reply_ends, without_ends}
 use Rattle.check_job.proofs.call.run.Goals as goal

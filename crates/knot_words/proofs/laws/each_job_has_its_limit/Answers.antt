@@ -5,7 +5,7 @@ pub returns-clause-check : goal.returns-clause-check
 returns-clause-check c = refl
 
 pub returns-clause-searches : goal.returns-clause-searches
-returns-clause-searches c = (refl, (refl, tt))
+returns-clause-searches c = (refl, (refl, (refl, tt)))
 
 pub returns-clause-others : goal.returns-clause-others
 returns-clause-others c = (refl, (refl, (refl, (refl, (refl, (refl, (refl, (refl, (refl, (refl, tt))))))))))

@@ -1,0 +1,5 @@
+use Rattle.table_check.specs.Holds.{PairsHold}
+use Rattle.table_check.proofs.pairs.pairs_cause.Given as goal
+
+abbrev pub invariant-loop-first : goal.invariant-loop-first
+invariant-loop-first l = PairsHold l.table l.first
