@@ -8,7 +8,7 @@
     tools/join.py problem.txt one.simple two.simple verdict.txt > certificate.txt
     ./knot check < certificate.txt
 
-PROBLEM has the two given diagrams. FIRST and SECOND are what `simplify` wrote of them: a grid, and the moves that lead there. VERDICT is
+PROBLEM has the two given diagrams. FIRST and SECOND are what `simplify` wrote of them, or `least`: a grid, and the moves that lead there. VERDICT is
 `equal` with its moves, of either version, and may have its problem before it. The certificate is the problem with a verdict of version 2
 behind it: the moves of the first simplification, those of the verdict, and those of the second simplification undone, from the last to
 the first, with each run of shifts made into one of columns and one of rows at most. With --plain it is of version 1, and no shift is joined.
@@ -43,14 +43,15 @@ def read_problem(path):
 
 
 def read_simplified(path):
-    """The grid and the moves that `simplify` wrote."""
+    """The grid and the moves that `simplify` or `least` wrote."""
     with calls.naming(path):
         lines = Lines(calls.text_of(path))
         grid = grid_of(read_diagram(lines))
         moves = read_moves(lines)
-        line, tokens = lines.take("the line 'irreducible' or 'spent'")
-        if tokens != ["irreducible"] and tokens[0] != "spent":
-            raise BadText("the line 'irreducible' or 'spent' is due", line)
+        due = "the line 'irreducible', 'whole' or 'spent'"
+        line, tokens = lines.take(due)
+        if tokens not in (["irreducible"], ["whole"]) and tokens[0] != "spent":
+            raise BadText(f"{due} is due", line)
         lines.done()
     return grid, moves
 
@@ -88,8 +89,8 @@ def joined(first, second, simplified, verdict, names):
 
 def main():
     parser = argparse.ArgumentParser(description=__doc__, formatter_class=argparse.RawDescriptionHelpFormatter)
-    for name, said in (("problem", "the two given diagrams"), ("first", "what simplify wrote of the first one"),
-                       ("second", "what simplify wrote of the second one"), ("verdict", "what decide wrote of the simplified ones")):
+    for name, said in (("problem", "the two given diagrams"), ("first", "what simplify or least wrote of the first one"),
+                       ("second", "what simplify or least wrote of the second one"), ("verdict", "what decide wrote of the simplified ones")):
         parser.add_argument(name, metavar=name.upper(), help=said)
     parser.add_argument("--out", metavar="FILE", help="where the certificate goes; standard output where none is given")
     parser.add_argument("--plain", action="store_true", help="version 1, with all moves as they are")

@@ -25,6 +25,8 @@ BUILT_SEEK = os.environ.get("SEEK") or os.path.join(common.ROOT, "crates", "seek
 
 TREFOIL = Grid((4, 3, 2, 1, 0), (2, 1, 0, 4, 3))
 UNKNOT = Grid((0, 1), (1, 0))
+# Two diagrams of the trefoil that exchanges join, and that the stand-in makes no smaller.
+LARGER, EXCHANGED = Grid((0, 5, 4, 3, 2, 1), (1, 3, 2, 0, 5, 4)), Grid((0, 1, 5, 4, 3, 2), (4, 2, 3, 1, 0, 5))
 HOPF = Grid((0, 1, 2, 3), (2, 3, 0, 1))
 PLAN = """\
 # small quandles, since the stand-in is slow
@@ -163,13 +165,26 @@ class SortTest(CensusTest):
                          ["", "mirror image", "reverse", "reversed mirror image"])
 
     def test_what_nothing_joins_is_undecided_with_what_was_tried(self):
-        self.diagram("a", TREFOIL)
-        self.diagram("b", made(TREFOIL, ("shift", "rows", 1)))
+        self.diagram("a", LARGER)
+        self.diagram("b", EXCHANGED)
         status, out, _ = self.sort(LONELY="1")
         self.assertEqual((status, out), (1, "2 diagrams: 2 classes, 1 pairs of classes undecided; 2 of 2 certificates accepted\n"))
         row, = self.rows("undecided.csv")
         self.assertEqual((row["first"], row["second"]), ("a", "b"))
         self.assertEqual(row["tried"], "4 numbers alike; quick: decide --spare 0: unknown budget 2; few: seek --steps 5: nothing found")
+
+    def test_translates_and_those_with_one_least_diagram_are_joined_without_a_search(self):
+        self.diagram("a", LARGER)
+        self.diagram("b", mirror_image(EXCHANGED))
+        self.diagram("c", made(LARGER, ("shift", "rows", 2)))
+        self.diagram("d", made(mirror_image(LARGER), ("shift", "rows", 3)))
+        self.plan = self.put("plan.txt", "linking linking\nkeys least\n")
+        status, out, errors = self.sort("--mirror", LONELY="1")
+        self.assertEqual((status, out), (0, "4 diagrams: 1 classes, 0 pairs of classes undecided; 4 of 4 certificates accepted\n"), errors)
+        self.assertEqual({name: row[1] for name, row in self.classes().items()}, {"a": "", "b": "mirror image", "c": "", "d": "mirror image"})
+        # The translate, and the mirror image of one, were joined before any was asked; knots have no linking numbers.
+        made_now = self.calls_made()
+        self.assertEqual([made_now.count(job) for job in ("least", "linking", "decide --spare 0")], [1 + 4, 0, 0])
 
     def test_evidence_on_demand(self):
         self.put_sorted()

@@ -210,7 +210,7 @@ class CensusReads(AnswersTest):
         for block in blocks_of(listed)[1][:16]:
             if not block.has_weight:
                 continue
-            modulus = re.search("^weight ([0-9]+)", block.text, re.M)
+            modulus = re.search("^(?:weight|shadow) ([0-9]+)", block.text, re.M)
             count = int(modulus[1]) if modulus else int(block.quandle.split()[2])
             numbers = " ".join(["1"] * count)
             found = Answer("seek", 0, NUMBERS.format(block.text.removeprefix("quandle "), numbers, numbers)).value()

@@ -169,7 +169,7 @@ class Plans(unittest.TestCase):
 
     def test_the_plan_of_the_tree_is_read(self):
         steps = read_plan(os.path.join(common.TOOLS, "census.txt"))
-        self.assertEqual(steps[0].kind, "linking")
+        self.assertEqual([step.kind for step in steps[:2]], ["linking", "least"])
         self.assertEqual([len(step.blocks) for step in steps if step.name == "short"], [18])
         self.assertTrue(all(len(step.blocks) <= 64 for step in steps))
 
@@ -183,7 +183,8 @@ class Plans(unittest.TestCase):
         self.put("none.txt", "# no quandle\n")
         for text, said in (("", "no step"), ("a linking\na linking\n", "2: a step before has the name 'a'"), ("a\n", "1: one of linking,"),
                            ("a colour\n", "1: one of linking,"), ("a numbers\n", "words +FILE, and one at least"), ("a linking x\n", "no words"),
-                           ("a seek +none.txt\n", "options and no +FILE"), ("a numbers +none.txt\n", "no quandle"), ("a numbers +no.txt\n", "No such file")):
+                           ("a seek +none.txt\n", "options and no +FILE"),
+                           ("a least +none.txt\n", "options and no +FILE"), ("a numbers +none.txt\n", "no quandle"), ("a numbers +no.txt\n", "No such file")):
             with self.assertRaises(BatchError, msg=text) as caught:
                 read_plan(self.put("plan", text))
             self.assertIn(said, str(caught.exception))

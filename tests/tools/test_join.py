@@ -109,6 +109,16 @@ class Joined(unittest.TestCase):
             out.write("quandle dihedral 3\n")
         self.assertEqual(common.run("join.py", *files), (0, "braid 2 1 -1 1\nbraid 2 1 -1 1\nquandle dihedral 3\ncertificate 2\nequal 0\n", ""))
 
+    def test_two_diagrams_with_one_least_diagram_are_joined(self):
+        least = common.read("examples", "least", "trefoil.out")
+        problem = self.put("problem.txt", 2 * common.read("examples", "least", "trefoil.txt"))
+        one, two = self.put("one.least", least), self.put("two.least", least)
+        status, out, said = common.run("join.py", problem, one, two, self.put("verdict.txt", "certificate 2\nequal 0\n"))
+        self.assertEqual((status, said), (0, ""))
+        self.assertEqual(reader.answer([b"check"], out.encode()).text, b"accepted\n")
+        status, out, said = common.run("join.py", problem, one, self.put("two.least", least + "whole\n"), problem)
+        self.assertEqual((status, out), (1, ""))
+
     def test_a_verdict_behind_its_problem_is_read_and_a_file_is_written(self):
         path = os.path.join(self.folder, "out.txt")
         shifted = made(TREFOIL, ("shift", "rows", 1))

@@ -1,14 +1,16 @@
 """Tests of shadows, diagrams, keys and seeds of tools/tabulate.py, which call no program."""
 import os
 import random
+import sys
 import unittest
 
 import common
+import plain_orbits
 from lib.table_apart import blocks_in, seeds_of
 from lib.table_book import Book, BookError, in_lines, in_one_line, require_job
 from lib.table_choices import choices, diagrams_to, rows_of
 from lib.table_joins import Joins, Numbers, Pair, found_in, said_of
-from lib.table_keys import after, exchanges, form_of, grid_of_form
+from lib.table_keys import after, form_of, grid_of_form, shifts_between
 from lib.table_reduced import Reducer
 from lib.table_shadows import KNOWN, faces, is_one_curve, least, maps_to, shadows_to
 from knot_workbench.diagrams import Braid, Grid, closure
@@ -103,22 +105,22 @@ class KeysTest(unittest.TestCase):
             yield grid
 
     def test_moves_lead_to_the_key(self):
-        reducer = Reducer()
+        reducer = plain_reducer()
         for grid in self.grids():
             found = reducer.of_grid(grid)
             self.assertEqual(after(found.turn.of(grid), found.moves), grid_of_form(found.key))
 
     def test_the_unknot_has_the_least_key(self):
-        self.assertEqual(Reducer().of_grid(closure(Braid(3, [1, 2]))[0]).key, bytes((0, 1, 1, 0)))
+        self.assertEqual(plain_reducer().of_grid(closure(Braid(3, [1, 2]))[0]).key, bytes((0, 1, 1, 0)))
 
     def test_a_walk_by_shifts_and_exchanges_and_each_turn_keep_the_key(self):
-        dice, reducer = random.Random(1), Reducer()
+        dice, reducer = random.Random(1), plain_reducer()
         for grid in self.grids():
             # Of a diagram that has a destabilisation another one may be made, which leads to another key.
             key = reducer.of_grid(grid).key
             here = grid_of_form(key)
-            for _ in range(30):
-                here = after(here, dice.choice([*exchanges(here), [("shift", "rows", 1)], [("shift", "columns", 1)]]))
+            for _ in range(5):
+                here = plain_orbits.walked(here, dice, 6)
                 for turn in TURNS:
                     self.assertEqual(reducer.of_grid(turn.of(here)).key, key)
 
@@ -132,10 +134,22 @@ class KeysTest(unittest.TestCase):
                     forms.add(bytes(moved.xs + moved.os))
             self.assertEqual(form_of(grid), min(forms))
 
-    def test_an_orbit_that_is_cut_still_has_a_key(self):
+    def test_a_listing_that_is_cut_still_has_a_key(self):
         for grid in self.grids():
-            found = Reducer(bound=2).of_grid(grid)
+            found = Reducer(lambda one: (one, []), lambda one: (grid_of_form(form_of(one)), shifts_between(one, grid_of_form(form_of(one))))).of_grid(grid)
             self.assertEqual(after(found.turn.of(grid), found.moves), grid_of_form(found.key))
+
+    def test_what_is_known_of_a_form_is_not_asked_again(self):
+        asked = []
+        reducer = Reducer(lambda one: asked.append(one) or plain_orbits.simplified(one), plain_orbits.least)
+        for grid in (TREFOIL, made(TREFOIL, ("shift", "rows", 2)), made(made(TREFOIL, ("stabilise", 1, "x", "lowleft")), ("shift", "columns", 1))):
+            reducer.of_grid(grid)
+        self.assertEqual([grid.size for grid in asked], [5])
+
+
+def plain_reducer():
+    """A reducer that calls no program."""
+    return Reducer(plain_orbits.simplified, plain_orbits.least)
 
 
 class SeedsTest(unittest.TestCase):
@@ -178,6 +192,14 @@ class JoinsTest(unittest.TestCase):
     def test_what_a_try_found_is_read_as_it_was_written(self):
         for found in (None, (), (("shift", "rows", 1), ("stabilise", 0, "x", "lowleft")), "certificate 3\ndifferent linking\n"):
             self.assertEqual(found_in(said_of(found)), found)
+
+
+class WorkerTest(unittest.TestCase):
+    def test_a_signal_behind_the_end_of_a_program_leaves_no_traceback(self):
+        script = ("import subprocess, sys; sys.path.insert(0, sys.argv[1]); from lib.table_worker import Caller\n"
+                  "caller = Caller(); gone = subprocess.Popen([sys.executable, '-c', '']); gone.wait(); caller.child = gone.pid; caller.stop()")
+        done = common.call([sys.executable, "-B", "-c", script, common.TOOLS])
+        self.assertEqual((done.returncode, done.stdout, done.stderr), (1, "", ""))
 
 
 class BooksTest(unittest.TestCase):

@@ -1,6 +1,7 @@
 """Tests of tools/tabulate.py, with the programs where they are built: a table to few crossings, bad inputs, and what an interrupt leaves."""
 import collections
 import csv
+import html
 import os
 import signal
 import subprocess
@@ -9,11 +10,13 @@ import time
 import unittest
 
 import common
-from lib.table_book import in_lines
+import reader
+from reader.items import read_table
 
 BUILT = common.built_program()
 BUILT_SEEK = os.environ.get("SEEK") or os.path.join(common.ROOT, "crates", "seek", "out", "seek")
-HAS_PROGRAMS = bool(BUILT) and os.access(BUILT_SEEK, os.X_OK)
+EMPTY = "certificate 4\nblocks 0\nclasses 0\nopen 0\nrows 0\n"
+HAS_PROGRAMS = bool(BUILT) and os.access(BUILT_SEEK, os.X_OK) and common.call([BUILT, "check"], text=EMPTY).stdout == "accepted\n"
 TO_10 = os.path.join(common.ROOT, "tables", "prime-knots-to-10.csv")
 
 SCRIPT = (sys.executable, "-B", os.path.join(common.TOOLS, "tabulate.py"), "--processes", "2")
@@ -43,7 +46,7 @@ def rows(folder, name):
     return list(csv.DictReader(read(folder, name).splitlines()))
 
 
-@unittest.skipUnless(HAS_PROGRAMS, "knot and seek are not built")
+@unittest.skipUnless(HAS_PROGRAMS, "knot and seek are not built, or older than certificates of tables")
 class TableTest(unittest.TestCase):
     """A whole table."""
 
@@ -61,21 +64,40 @@ class TableTest(unittest.TestCase):
         self.assertEqual({one["reverse"] for one in classes}, {"same"})
         self.assertEqual(sum(int(one["diagrams"]) for one in classes), len(rows(folder, "rows.csv")))
         self.certificates(folder, classes)
+        self.page(folder, classes)
 
     def certificates(self, folder, classes):
-        """Each line is a certificate for what its name says."""
-        found = dict(line.split("\t") for line in read(folder, "certificates.txt").splitlines())
-        count = len(classes)
-        self.assertEqual(len(found), len(rows(folder, "rows.csv")) + count * (count - 1) // 2 * 4 + 3 * count + count)
-        aims = {one["class"]: f"x {one['x']} / o {one['o']}" for one in classes}
-        for one in rows(folder, "rows.csv")[::10]:
-            text = found[one["name"]]
-            self.assertTrue(" / ".join(text.split(" / ")[2:4]) == aims[one["class"]])
-            checked = common.call([BUILT, "check"], text=in_lines(text))
-            self.assertEqual(checked.stdout, "accepted\n")
+        """One certificate has all rows, what turns make of the classes, and what has their names and braids."""
+        text = read(folder, "certificate-1.txt")
+        self.assertFalse(os.path.exists(os.path.join(folder, "certificate-2.txt")))
+        self.assertEqual(common.call([BUILT, "check"], text=text).stdout, "accepted\n")
+        _, standing, left, told = read_table(reader.Lines(text.encode()))
+        self.assertEqual(left, set())
+        self.assertEqual(len(standing), sum(4 // (1 + [one["mirror"], one["reverse"], one["mirror_reverse"]].count("same")) for one in classes))
+        given = rows(folder, "rows.csv")
+        braids = sum(bool(one["braid_notation"]) for one in classes)
+        self.assertGreater(braids, len(classes) // 2)
+        self.assertEqual(len(told), len(given) + len(classes) * (4 + 1) + braids)
+        certified = [{words.partition(" ")[2]: int(words.partition(" ")[0]) for words in one["certified"].split(", ")} for one in classes]
+        for one in given:
+            grid, place, _ = told[int(one["row"])]
+            self.assertEqual(grid, tuple(tuple(map(int, one[mark].split())) for mark in "xo"))
+            self.assertEqual((place, one["certificate"]), (certified[int(one["class"]) - 1][one["turn"]], "certificate-1.txt"))
+        # The first row of a class stands for it, without a turn, and so does its braid.
+        by_name = {one["name"]: one for one in given}
+        for number, one in enumerate(classes, 1):
+            self.assertEqual((by_name[one["first"]]["class"], by_name[one["first"]]["turn"]), (str(number), ""))
+            self.assertEqual(standing[certified[number - 1][""]][0], tuple(tuple(map(int, one[mark].split())) for mark in "xo"))
+
+    def page(self, folder, classes):
+        """The page has a picture for each class."""
+        page = read(folder, "page.html")
+        self.assertEqual((page.count("<svg "), page.count("<tr data-names=")), (len(classes), len(classes)))
+        for one in classes:
+            self.assertIn(html.escape(one["pd_notation"]), page)
 
 
-@unittest.skipUnless(HAS_PROGRAMS, "knot and seek are not built")
+@unittest.skipUnless(HAS_PROGRAMS, "knot and seek are not built, or older than certificates of tables")
 class InputsTest(unittest.TestCase):
     """Folders and tables of diagrams."""
 
@@ -115,21 +137,39 @@ class InputsTest(unittest.TestCase):
         done = call(os.path.join(self.folder, "in"), self.out, "--table", TO_10, timeout=common.LONG)
         self.assertEqual((done.returncode, [one["name"] for one in rows(self.out, "table.csv")]), (0, ["unknot", "3_1"]), done.stderr)
 
+    def test_lines_of_pieces_in_parts(self):
+        lines = self.put("lines.txt", "# codes and grids\none\tPD[X[1,5,2,4], X[3,1,4,6], X[5,3,6,2]]\ntwo\t0\tx 4 3 2 1 0 / o 2 1 0 4 3\n"
+                         "three\t8\trejected plane\nfour\tbraid 2 1 -1 1\n\nfive\n")
+        # Each part names the bad lines of its own rows.
+        for part, status in (("1/2", 3), ("2/2", 0)):
+            done = call(lines, self.out, "--table", TO_10, "--part", part, timeout=common.LONG)
+            self.assertEqual(done.returncode, status, done.stderr)
+        self.assertEqual(sorted(os.listdir(self.out)), ["work"])
+        before = read(self.out, "work/rows-1-of-2.tsv"), read(self.out, "work/rows-2-of-2.tsv")
+        done = call(lines, self.out, "--table", TO_10, timeout=common.LONG)
+        self.assertEqual(done.returncode, 3, done.stderr)
+        self.assertIn("lines.txt:4: the program ended with status 8: rejected plane", done.stderr)
+        self.assertIn("lines.txt:7: ", done.stderr)
+        self.assertEqual([(one["name"], one["diagrams"]) for one in rows(self.out, "table.csv")], [("unknot", "1"), ("3_1", "2")])
+        # What the parts found isn't looked for again.
+        self.assertEqual((read(self.out, "work/rows-1-of-2.tsv"), read(self.out, "work/rows-2-of-2.tsv")), before)
+        self.assertNotIn("0\tx", read(self.out, "work/rows.tsv"))
+
     def test_what_stops_the_call_is_told(self):
         for what in (os.path.join(self.folder, "none"), self.put("empty.csv", ""), self.put("titles.csv", "name,what\nx,y\n")):
             done = call(what, self.out)
             self.assertEqual((done.returncode, "Traceback" in done.stderr, done.stderr.startswith("tabulate.py: ")), (2, False, True), done.stderr)
-        for words in (["2", self.out], ["13", self.out], [], ["7"], ["4", self.out, "--nothing"]):
+        for words in (["2", self.out], ["13", self.out], [], ["7"], ["4", self.out, "--nothing"], ["4", self.out, "--part", "3/2"]):
             self.assertEqual(call(*words).returncode, 2)
 
     def test_a_folder_of_another_table_is_refused(self):
-        self.put("out/work/job", "tabulate 1 another\n")
+        self.put("out/work/job", "tabulate 2 another\n")
         done = call("4", self.out, "--table", TO_10)
         self.assertEqual(done.returncode, 2)
         self.assertIn("another", done.stderr)
 
 
-@unittest.skipUnless(HAS_PROGRAMS, "knot and seek are not built")
+@unittest.skipUnless(HAS_PROGRAMS, "knot and seek are not built, or older than certificates of tables")
 class InterruptTest(unittest.TestCase):
     """An interrupt loses nothing."""
 
@@ -142,7 +182,7 @@ class InterruptTest(unittest.TestCase):
         done = call("4", cut, "--table", TO_10, timeout=common.LONG)
         self.assertEqual(done.returncode, 0, done.stderr)
         self.assertTrue(read(cut, "work/numbers.tsv").startswith(before[:before.rfind("\n") + 1]))
-        for name in ("table.csv", "rows.csv", "certificates.txt"):
+        for name in ("table.csv", "rows.csv", "certificate-1.txt", "page.html"):
             self.assertEqual(read(cut, name), read(whole, name))
 
     def interrupted(self, folder, number, book):

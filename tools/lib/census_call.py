@@ -9,7 +9,7 @@ from lib.batch_runs import tell, write_named
 from lib.batch_stages import BatchError, Stage
 from lib.census_classes import Classes, turns_of
 from lib.census_page import page_text
-from lib.census_plan import read_plan
+from lib.census_plan import WITH_OPTIONS, read_plan
 from lib.census_results import Results
 from lib.census_rounds import Failed, Rounds, Unfinished, put_if_new
 from lib.census_steps import Steps, read_members
@@ -102,7 +102,7 @@ def programs_of(options, plan):
     programs = Programs(Runner(), options.program, options.seeker, options.checker)
     programs.prepare(["check", "knot", "seek"])
     for step in plan:
-        if step.kind in ("decide", "seek"):
+        if step.kind in WITH_OPTIONS:
             programs.probe(programs.call(programs.completed(Stage(step.name, step.kind, step.words, ()))), f"step {step.name}")
     # tools/colour_numbers.py asks this one.
     os.environ["KNOT"] = programs.path("knot")
@@ -145,6 +145,7 @@ class Census:
         members, faults = read_members(self.texts(), self.rounds)
         self.faults += [f"{os.path.join(self.diagrams, name)}.txt: {reason}" for name, reason in faults.items()]
         steps = Steps(Classes(members, self.turns), self.rounds)
+        steps.join_translates()
         for step in self.plan:
             steps.run(step)
         return steps

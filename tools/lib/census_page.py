@@ -106,9 +106,14 @@ def page_text(results):
         for one, other in ((first, second), (second, first)):
             doubts.setdefault(one, []).append(f"{other}{', ' + said if said else ''}: {tried}")
     body = "\n".join(row_of(kind, rows[kind.first], doubts.get(kind.first, [])) for kind in results.classes.kinds.values())
-    heads = "".join(f'<th scope="col" data-place="{place}"><button type="button">{name}</button></th>' for place, name in enumerate(HEADS, 1))
-    return (f'<!DOCTYPE html>\n<html lang="en">\n<head>\n<meta charset="utf-8">\n<meta name="viewport" content="width=device-width">\n<title>A census</title>\n'
-            f"<style>{STYLE}</style>\n</head>\n<body>\n<h1>A census</h1>\n<p>{escape(results.count_line())}.</p>\n"
-            f'<label>Find a diagram <input id="find" type="search"></label>\n<p id="status" role="status"></p>\n'
-            f'<table>\n<thead><tr><th scope="col" class="picture">smallest diagram</th>{heads}</tr></thead>\n<tbody>\n{body}\n</tbody>\n</table>\n'
+    return whole_page("A census", results.count_line(), "Find a diagram", "smallest diagram", HEADS, body)
+
+
+def whole_page(title, said, find, drawn, names, body):
+    """A page with a table of these rows, which can be sorted by its columns and searched. `drawn` is the head of the pictures."""
+    heads = "".join(f'<th scope="col" data-place="{place}"><button type="button">{name}</button></th>' for place, name in enumerate(names, 1))
+    return (f'<!DOCTYPE html>\n<html lang="en">\n<head>\n<meta charset="utf-8">\n<meta name="viewport" content="width=device-width">\n<title>{title}</title>\n'
+            f"<style>{STYLE}</style>\n</head>\n<body>\n<h1>{title}</h1>\n<p>{escape(said)}.</p>\n"
+            f'<label>{find} <input id="find" type="search"></label>\n<p id="status" role="status"></p>\n'
+            f'<table>\n<thead><tr><th scope="col" class="picture">{drawn}</th>{heads}</tr></thead>\n<tbody>\n{body}\n</tbody>\n</table>\n'
             f"<script>{SCRIPT}</script>\n</body>\n</html>\n")

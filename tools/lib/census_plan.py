@@ -5,14 +5,15 @@ import os
 from lib.batch_stages import BatchError, digest, rows_of
 from lib.diagrams import MAX_QUANDLES
 
-# kind: linking, numbers, decide or seek. words: the options of decide and seek. blocks: what `numbers` counts by.
+# kind: linking, least, numbers, decide or seek. words: the options of least, decide and seek. blocks: what `numbers` counts by.
 Step = collections.namedtuple("Step", "name kind words blocks")
 
 # A quandle, with its cocycle, of either kind, where one stands behind it. quandle: the lines of the quandle alone. text: all lines. key: their digest.
 # source: the name of the file it came from.
 Block = collections.namedtuple("Block", "quandle text has_weight key source")
 
-KINDS = ("linking", "numbers", "decide", "seek")
+KINDS = ("linking", "least", "numbers", "decide", "seek")
+WITH_OPTIONS = ("least", "decide", "seek")
 TAKES = {"numbers": "words +FILE, and one at least", "linking": "no words"}
 
 
@@ -80,11 +81,11 @@ def read_plan(path):
             raise BatchError(f"{path}:{line}: one of {', '.join(KINDS)} is due behind the name '{name}'")
         kind, words = words[0], words[1:]
         files = [word[1:] for word in words if word.startswith("+")]
-        if kind in ("decide", "seek") and files or kind == "numbers" and (not files or len(files) < len(words)) or kind == "linking" and words:
+        if kind in WITH_OPTIONS and files or kind == "numbers" and (not files or len(files) < len(words)) or kind == "linking" and words:
             raise BatchError(f"{path}:{line}: the step {kind} takes {TAKES.get(kind, 'options and no +FILE')}")
         blocks = read_blocks(path, line, files)
         if len(blocks) <= MAX_QUANDLES:
-            steps.append(Step(name, kind, tuple(words) if kind in ("decide", "seek") else (), tuple(blocks)))
+            steps.append(Step(name, kind, tuple(words) if kind in WITH_OPTIONS else (), tuple(blocks)))
             continue
         for part in range(0, len(blocks), MAX_QUANDLES):
             steps.append(Step(f"{name}-{part // MAX_QUANDLES + 1}", kind, (), tuple(blocks[part:part + MAX_QUANDLES])))

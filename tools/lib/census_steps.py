@@ -3,10 +3,13 @@ import collections
 
 from knot_workbench.answers import Compared, Nothing
 from knot_workbench.certificates import Different, DifferentLinking, DifferentNumbers, Equal
+from knot_workbench.identifying import components_of
 from lib.batch_stages import digest
 from lib.census_classes import composed, member_of, said_of, size_of, suffix_of, tried_key, turned
 from lib.census_plan import block_label, block_of, order_of
 from lib.diagrams import MAX_COLOURINGS, MAX_ORDER, BadText, Braid, Lines, bottoms, braid_fault, diagram_text, grid_of, grid_text, read_diagram
+from lib.moves import back
+from lib.table_keys import form_of, shifts_between
 
 # By what the linking numbers are known. The keys of quandles and cocycles are digests.
 LINKING = "linking"
@@ -89,14 +92,51 @@ class Steps:
     def run(self, step):
         """Runs a step of the plan."""
         if step.kind == "linking":
-            # A diagram given twice: how many linking numbers there are tells how many components.
+            # A knot has no linking numbers. A diagram given twice: how many there are tells how many components.
+            for kind in self.classes.not_alone():
+                if components_of(kind.small()) == 1:
+                    for turn in self.classes.turns:
+                        kind.learn(turn, {LINKING: ()})
             self.ask(step, [LINKING], "linking", lambda text: text + text, lambda found: [found.first])
+        elif step.kind == "least":
+            self.join_by_least(step)
         elif step.kind == "numbers":
             self.blocks.update((block.key, block) for block in step.blocks)
             behind = "".join(block.text for block in step.blocks)
             self.ask(step, [block.key for block in step.blocks], "numbers", lambda text: text + behind, lambda found: found.of_each)
         else:
             self.seek(step)
+
+    # --- joined without a search
+
+    def join_translates(self):
+        """Joins members whose small diagrams are translates of one another, perhaps after a turn. No program is asked."""
+        found = {}
+        for name, member in self.classes.member.items():
+            forms = {form_of(turned(member.small, turn)): turn for turn in reversed(self.classes.turns)}
+            form = next((form for form in forms if form in found), None)
+            if form is None:
+                found[form_of(member.small)] = member
+            else:
+                grid = turned(member.small, forms[form])
+                self.classes.join(name, forms[form], found[form].name, "", shifts_between(grid, found[form].small))
+
+    def join_by_least(self, step):
+        """Joins classes of whose smallest diagrams, perhaps after turns, shifts and exchanges make one least diagram."""
+        waiting, found = {}, {}
+        for kind in self.classes.not_alone():
+            for turn in self.classes.turns:
+                of_best = composed(kind.members[kind.best.name], turn)
+                waiting[file_name([kind.best.name], of_best)] = kind.best, of_best
+        inputs = {name: grid_text(turned(member.small, turn)) for name, (member, turn) in waiting.items()}
+        for name, answer in self.rounds.run(step.name, "least", inputs, step.words).items():
+            member, turn = waiting[name]
+            least = self.rounds.value(step.name, name, "least", answer)
+            if least.grid not in found:
+                found[least.grid] = member, turn, least.moves
+            else:
+                other, of_other, moves = found[least.grid]
+                self.classes.join(member.name, turn, other.name, of_other, [*least.moves, *back(turned(other.small, of_other), moves)])
 
     # --- one diagram
 

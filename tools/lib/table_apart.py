@@ -1,9 +1,7 @@
-"""What tells classes apart: evidence by rows of numbers, with seeds, as certificates of version 3."""
+"""What tells classes apart: numbers of colourings, with columns that settle a diagram, by which `knot check` counts them anew."""
 import itertools
 
 from knot_workbench.diagrams import covers, ends
-from knot_workbench.knot_tables import TURNS
-from lib.table_joins import Pair
 from lib.table_keys import grid_of_form
 
 # As many choices of colours at the seeds, and of the outer colour, does the checker try.
@@ -44,35 +42,30 @@ def settled(columns, rows):
         columns = more
 
 
-class Apart:
-    """Evidence that classes differ, of their first keys."""
+def cost(block, seeds):
+    """How many choices the checker tries of a block by so many seeds; None where these are too many for it."""
+    choices = block.order ** (seeds + block.is_shadow)
+    return choices if choices <= MOST_CHOICES else None
 
-    def __init__(self, numbers, told, listed):
-        self.numbers, self.told, self.texts, self._seeds = numbers, told, blocks_in(listed), {}
 
-    def seeds(self, key):
-        """The seeds of a key's diagram, which are those of all its turns."""
-        if key not in self._seeds:
-            self._seeds[key] = seeds_of(grid_of_form(key))
-        return self._seeds[key]
+def told_in(text):
+    """Of a verdict by numbers the text of the block, and the numbers of both diagrams; None of any other."""
+    _, mark, said = text.partition("different numbers ")
+    if not mark:
+        return None
+    block, _, counted = said.partition("seeds ")
+    first, second = (tuple(map(int, line.split()[1:])) for line in counted.splitlines() if line.startswith("numbers "))
+    return block, first, second
 
-    def by(self, key, aim, turn):
-        """The certificate that a key, after a turn, differs from another or from itself; None where there is no evidence."""
-        problem = turn.of(grid_of_form(key)).text + grid_of_form(aim).text
-        one, other = self.numbers.row(key, turn), self.numbers.row(aim)
-        most = max(len(self.seeds(key)), len(self.seeds(aim)))
-        costs = [(block.order ** (most + block.is_shadow), place) for place, block in enumerate(self.numbers.blocks)
-                 if None not in (one[place], other[place]) and one[place] != other[place]]
-        if costs and min(costs)[0] <= MOST_CHOICES:
-            place = min(costs)[1]
-            return problem + f"certificate 3\ndifferent numbers {self.texts[place]}" + "".join(
-                f"seeds {' '.join(map(str, self.seeds(of)))}\nnumbers {' '.join(map(str, row[place]))}\n" for of, row in ((key, one), (aim, other)))
-        told = self.told.get(Pair(key, aim, turn))
-        return problem + told if told else None
 
-    def pairs(self, keys):
-        """For each two of these keys and each turn the names by places from 1, and the certificate or None."""
-        for place, key in enumerate(keys, 1):
-            for before, aim in enumerate(keys[:place - 1], 1):
-                for turn in TURNS:
-                    yield f"{place}{turn.words} and {before}", self.by(key, aim, turn)
+class Seeds:
+    """The seeds of keys, found once. Those of a diagram are those of all its turns too."""
+
+    def __init__(self):
+        self.known = {}
+
+    def of(self, key):
+        """The seeds of a key's diagram."""
+        if key not in self.known:
+            self.known[key] = seeds_of(grid_of_form(key))
+        return self.known[key]

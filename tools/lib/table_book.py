@@ -6,7 +6,7 @@ import os
 
 from lib.whole_files import write_whole
 
-FORM = "tabulate 1"
+FORM = "tabulate 2"
 
 
 class BookError(Exception):
@@ -23,21 +23,30 @@ def require_job(folder, digest):
             raise BookError(f"{path}: the folder is of another table or list: name another one")
 
 
+def data_in(path):
+    """The bytes of a file, none where there is none."""
+    if not os.path.exists(path):
+        return b""
+    with open(path, "rb") as file:
+        return file.read()
+
+
+def lines_in(data):
+    """The whole lines of a book by their names, of each the fields."""
+    lines = (line.split("\t") for line in data[:data.rfind(b"\n") + 1].decode("utf-8", "replace").splitlines())
+    return {name: fields for name, *fields in lines}
+
+
 class Book:
     """A book, with the lines that stand in it by their names, the last of each. Lines are added by `add`."""
 
     def __init__(self, path):
-        self.path, self.lines = path, {}
-        data = b""
-        if os.path.exists(path):
-            with open(path, "rb") as file:
-                data = file.read()
+        self.path = path
+        data = data_in(path)
         whole = data[:data.rfind(b"\n") + 1]
         if whole != data:
             write_whole(path, whole)
-        for line in whole.decode("utf-8", "replace").splitlines():
-            name, *fields = line.split("\t")
-            self.lines[name] = fields
+        self.lines = lines_in(whole)
         self.file = open(path, "a", encoding="utf-8", newline="")
 
     def add(self, name, *fields):

@@ -1,10 +1,13 @@
-"""What tabulate.py is given: all diagrams to a number of crossings, a folder of diagrams, or a table of codes."""
+"""What tabulate.py is given: all diagrams to a number of crossings, a folder of diagrams, a table of codes, or lines of pieces.py."""
 import hashlib
 import os
 
 from knot_workbench.code_grids import Grids
 from knot_workbench.table_entries import Conventions
-from lib.identify_inputs import TABLES, of_folder, of_table, text_of_given
+from knot_workbench.table_rows import TableError, decoded
+from lib.identify_inputs import TABLES, Given as Row, of_folder, of_table, text_of_given
+from lib.table_book import in_lines
+from lib.table_call import read_bytes
 from lib.table_choices import diagrams_to
 
 # The most crossings of which all diagrams are made.
@@ -25,7 +28,7 @@ class Given:
         if self.most is not None:
             return list(diagrams_to(self.most))
         path = self.options.what
-        given = of_folder(path) if os.path.isdir(path) or not path.endswith(TABLES) else of_table(path, self.options)
+        given = of_table(path, self.options) if path.endswith(TABLES) else of_lines(path) if os.path.isfile(path) else of_folder(path)
         found, seen = [], {}
         for one in given:
             fault = name_fault(one.name, seen)
@@ -49,6 +52,26 @@ class Given:
         for name, one in rows:
             found.update(f"{name}\t{text_of_given(one, self.conventions)}\n".encode())
         return found.hexdigest()
+
+
+def of_lines(path):
+    """The rows of a file of lines: a name, a tab and the lines of a diagram with ' / ' between, or an answer of pieces.py to such a line, which
+    has the status of a program before its lines."""
+    found = []
+    for number, line in enumerate(decoded(path, read_bytes(path)).split("\n"), 1):
+        line = line.rstrip("\r")
+        if line.startswith("#") or not line.strip():
+            continue
+        name, *fields = line.split("\t")
+        fault = None
+        if len(fields) == 2 and fields[0] != "0":
+            fault = f"the program ended with status {fields[0]}: {fields[1]}"
+        elif len(fields) not in (1, 2):
+            fault = f"a line has a name and a diagram, parted by a tab, and here are {len(fields) + 1} fields"
+        found.append(Row(name, f"{path}:{number}", in_lines(fields[-1]) if fields else "", "file", fault=fault))
+    if not found:
+        raise TableError(f"{path}: it has no line")
+    return found
 
 
 def name_fault(name, seen):

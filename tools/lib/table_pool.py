@@ -1,4 +1,5 @@
 """The workers of tabulate.py: processes that answer lists of questions, several at once, in the order in which they are asked."""
+import contextlib
 import os
 import pickle
 import subprocess
@@ -50,6 +51,9 @@ class Pool:
                 worker.terminate()
         self.threads.shutdown(wait=True, cancel_futures=True)
         for worker in self.workers:
+            # (one that was started while this process ignored the signal has ignored it too, until it could handle it)
+            with contextlib.suppress(OSError):
+                worker.stdin.close()
             worker.wait()
             worker.stdout.close()
 

@@ -1,15 +1,18 @@
-"""Grids of knots made smaller by exchanges and destabilisations, and their keys; what is found of a form is found once.
+"""Grids of knots made smaller, and their keys; what is found of a form is found once.
 
 A column whose two marks lie in neighbouring rows can be exchanged with each column that has no mark in these rows. So it comes beside one
-that has, and a destabilisation takes it away. The same holds of rows. Where no form of an orbit has such a column or row, none has a
-destabilisation.
+that has, and a destabilisation takes it away. The same holds of rows. Where there is none, `knot simplify` looks for a smaller grid, and where
+it finds none either, `knot least` has the key.
 """
-from typing import Dict, List, NamedTuple, Optional, Tuple
+from typing import Callable, Dict, List, NamedTuple, Optional, Sequence, Tuple
 
 from knot_workbench.diagrams import Grid, Move
 from knot_workbench.knot_tables import TURNS, Turn
 from knot_workbench.moves import tidied, transposed, turned
-from lib.table_keys import BOUND, after, form_of, grid_of_form, moves_along, neighbours, shifts_between, sized, turned_form
+from lib.table_keys import after, form_of, grid_of_form, shifts_between
+
+# A job of knot: of a grid, another one and the moves that lead there.
+Job = Callable[[Grid], Tuple[Grid, Sequence[Move]]]
 
 
 class Reduced(NamedTuple):
@@ -53,10 +56,10 @@ def taken_away(grid: Grid, which: str, place: int) -> List[Move]:
 
 
 class Reducer:
-    """Ways from forms to their keys. `bound` is how many forms an orbit may have."""
+    """Ways from forms to their keys, by the jobs `simplify` and `least` of knot."""
 
-    def __init__(self, bound: int = BOUND) -> None:
-        self.bound = bound
+    def __init__(self, simplify: Job, least: Job) -> None:
+        self.simplify, self.least = simplify, least
         self.links: Dict[bytes, Tuple[List[Move], bytes]] = {}
         self.ends: Dict[bytes, Reduced] = {}
 
@@ -70,23 +73,21 @@ class Reducer:
             more, here = self.links[here]
             moves = moves + more
         end = self.ends[here]
-        moves = turned(grid.size, moves, end.turn.is_mirrored, end.turn.is_reversed) + list(end.moves)
+        moves = turned(grid.size, moves, *end.turn) + list(end.moves)
         return Reduced(end.key, end.turn, tuple(tidied(end.turn.of(grid), moves)))
 
     def found_link(self, form: bytes) -> bool:
         """Finds the way from a form to a smaller one, or else its key: whether it is the former."""
-        place = short_place(form)
-        if len(form) > 4 and place:
-            grid = grid_of_form(form)
+        grid, place = grid_of_form(form), short_place(form)
+        if grid.size > 2 and place:
             self.keep_link(form, grid, taken_away(grid, *place))
             return True
-        before, end = self.orbit(form)
-        if end is None:
-            self.ends[form] = key_in(form, before)
-            return False
-        moves, _ = moves_along(grid_of_form(form), way_to(end, before))
-        self.keep_link(form, grid_of_form(form), moves)
-        return True
+        there, moves = self.simplify(grid)
+        if there.size < grid.size:
+            self.keep_link(form, grid, list(moves))
+            return True
+        self.ends[form] = self.key(grid)
+        return False
 
     def keep_link(self, form: bytes, grid: Grid, moves: List[Move]) -> None:
         """Keeps moves from the grid of a form, with shifts to the form of where they lead."""
@@ -94,35 +95,10 @@ class Reducer:
         found = form_of(there)
         self.links[form] = moves + shifts_between(there, grid_of_form(found)), found
 
-    def orbit(self, start: bytes) -> Tuple[Dict[bytes, Optional[bytes]], Optional[bytes]]:
-        """The forms that exchanges reach, each with the one before it, up to the first that has a short column or row, which is told."""
-        known, before, ahead = sized(len(start) // 2), {start: None}, [start]
-        if known.size < 3:
-            return before, None
-        for here in ahead:
-            for there in neighbours(here, known):
-                if there not in before:
-                    if len(ahead) == self.bound:
-                        return before, None
-                    before[there] = here
-                    if short_place(there):
-                        return before, there
-                    ahead.append(there)
-        return before, None
-
-
-def way_to(end: bytes, before: Dict[bytes, Optional[bytes]]) -> List[bytes]:
-    """The forms on the way to one, from the first."""
-    way = [end]
-    while before[way[-1]] is not None:
-        way.append(before[way[-1]])
-    return way[::-1]
-
-
-def key_in(start: bytes, before: Dict[bytes, Optional[bytes]]) -> Reduced:
-    """The least form of an orbit over the four turns, and how the first form comes there."""
-    least, turn, end = min((turned_form(found, turn), turn, found) for found in before for turn in TURNS)
-    moves, here = moves_along(grid_of_form(start), way_to(end, before))
-    moves = turned(here.size, moves, turn.is_mirrored, turn.is_reversed)
-    moves += shifts_between(turn.of(here), grid_of_form(least))
-    return Reduced(least, turn, tuple(moves))
+    def key(self, grid: Grid) -> Reduced:
+        """The least of the diagrams that shifts and exchanges reach over the four turns, and how a grid comes there."""
+        found = []
+        for turn in TURNS:
+            there, moves = self.least(turn.of(grid))
+            found.append(Reduced(bytes(there.xs + there.os), turn, tuple(moves)))
+        return min(found)

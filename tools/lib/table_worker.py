@@ -1,7 +1,10 @@
 """A worker of tabulate.py: a process that is asked by its standard input, and calls the programs. It ends where its input does."""
+import contextlib
 import functools
 import os
 import pickle
+import random
+import re
 import signal
 import subprocess
 import sys
@@ -9,22 +12,27 @@ import tempfile
 
 from knot_workbench import code_grids, use
 from knot_workbench.certificates import Equal, read_verdict
-from knot_workbench.diagrams import Grid, Lines, crossings, grid_of, move_text
+from knot_workbench.diagrams import MAX_SIZE, MAX_STRANDS, Braid, Grid, Lines, crossings, grid_of, read_diagram, read_moves
 from knot_workbench.faults import Fault, NoProgram
 from knot_workbench.identifying import UNKNOT, components_of
-from knot_workbench.knot_tables import KnotTable, Turn
-from knot_workbench.moves import tidied, turned
+from knot_workbench.knot_tables import KnotTable
+from knot_workbench.moves import turned
 from knot_workbench.pd_codes import text_of
 from lib.identify_inputs import had
+from lib.smaller import reduced
 from lib.table_apart import blocks_in
-from lib.table_keys import grid_of_form
+from lib.table_keys import grid_of_form, shifts_between
 from lib.table_reduced import Reducer
+from lib.table_written import code_text
 
 # Statuses with an answer: what is asked for, nothing found, rejected.
 ANSWERED, NOTHING, REJECTED = 0, 1, 8
 
 # By so many first blocks of the list each key is counted; by all of them, which take far longer, one key of each class.
 SHORT = 11
+
+# So often is a braid word made shorter, each time by other random relations.
+BRAIDS = 4
 
 # Searches, the cheapest first: one in order, and walks of `seek` alone, since numbers are compared before.
 DECIDE = ("decide", "--spare=1", "--budget=20000")
@@ -58,7 +66,9 @@ class Caller:
     def stop(self, *_):
         """Ends what runs, and this process."""
         if self.child:
-            os.kill(self.child, signal.SIGKILL)
+            # It may have ended just now.
+            with contextlib.suppress(ProcessLookupError):
+                os.kill(self.child, signal.SIGKILL)
         os._exit(1)
 
 
@@ -78,7 +88,7 @@ class Worker:
         self.listed, self.short = ("".join(f"quandle {block}" for block in some) for some in (blocks, blocks[:SHORT]))
         self.knot, self.seek, self.table, self.conventions = knot, seek, table, conventions
         use(knot=knot, seek=seek)
-        self.caller, self.reducer = Caller(), Reducer()
+        self.caller, self.reducer = Caller(), Reducer(*(functools.partial(self.led_to, job) for job in ("simplify", "least")))
 
     def answered(self, path, words, text, also=()):
         """The status and output of a call whose status is 0 or one of some others. Fault where it is none."""
@@ -87,6 +97,13 @@ class Worker:
             how = f"ended by signal {-status}" if status < 0 else f"ended with status {status}"
             raise Fault(f"{os.path.basename(path)} {words[0]} {how}{': ' + said.strip() if said.strip() else ''}")
         return status, said
+
+    def led_to(self, job, grid):
+        """The grid that a job of knot leads to, and the moves."""
+        _, said = self.answered(self.knot, [job], grid.text)
+        lines = Lines(said)
+        there = grid_of(read_diagram(lines))
+        return there, read_moves(lines)
 
     # ---- rows
 
@@ -159,26 +176,20 @@ class Worker:
         verdict, _ = read_verdict(Lines(said), first, second)
         return pair, tuple(verdict.moves) if isinstance(verdict, Equal) else said
 
-    # ---- certificates
+    # ---- classes
 
-    def check(self, asked):
-        """Of a name and a certificate: the name, the certificate, and what the checker says."""
-        name, text = asked
-        _, said = self.answered(self.knot, ["check"], text, also=(REJECTED,))
-        return name, text, said.strip()
-
-    def row_check(self, asked):
-        """As `check`, for a row: its grid, a turn and moves to a key, and a turn and moves from there to the diagram of its class."""
-        name, grid, turn, moves, further, to_class, aim = asked
-        here = turn.of(grid)
-        moves = turned(grid.size, moves, further.is_mirrored, further.is_reversed) + list(to_class)
-        return self.check((name, equal_text(further.of(here), aim, moves)))
+    def apart(self, asked):
+        """The text of what tells two grids apart, or None. Of a name, the grids and the words of seek."""
+        name, *pair = asked
+        _, found = self.join((None, *pair))
+        return name, found if isinstance(found, str) else None
 
     def name(self, asked):
-        """The name of the diagram of a class by the table, with moves to the table's diagram; or None."""
-        key, grid, row = asked
+        """The name of the first key of a class by the table, with the table's diagram and moves to it; or None three times."""
+        key, row = asked
+        grid = grid_of_form(key)
         if grid.size == UNKNOT.size:
-            return key, (), equal_text(grid, UNKNOT, ()) if grid == UNKNOT else None
+            return key, (), UNKNOT, shifts_between(grid, UNKNOT)
         known = table_at(self.table)
         candidates = known.candidates(row)
         for words in (DECIDE, *WALKS):
@@ -186,20 +197,47 @@ class Worker:
                 aim = known.grid(parts)
                 _, found = self.join((None, grid, aim, words))
                 if isinstance(found, tuple):
-                    return key, parts, equal_text(grid, aim, found)
-        return key, None, None
+                    return key, parts, aim, found
+        return key, None, None, None
+
+    def code(self, asked):
+        """The planar diagram code of a grid, in one entry. The name that comes with it is answered too."""
+        name, grid = asked
+        _, said = self.answered(self.knot, ["code"], grid.text)
+        return name, code_text([row.split(",") for row in re.findall(r"X\[([0-9,]+)\]", said)])
+
+    def braid(self, asked):
+        """A braid whose closure is the knot of a key after a turn, with a turn and moves that lead from the turned closure to the key. Or None
+        three times, where none is found that a certificate may have. Asked are a name, a key and a turn."""
+        name, key, base = asked
+        grid = base.of(grid_of_form(key))
+        _, said = self.answered(self.knot, ["braid"], grid.text + "quandle trivial 1\n")
+        words = said.splitlines()[0].split()
+        word = Braid(int(words[1]), [int(letter) for letter in words[2:]])
+        found = min((reduced(word, random.Random(seed)) for seed in range(BRAIDS)), key=lambda one: (one.strands, len(one.letters), one.letters))
+        if found.strands > MAX_STRANDS or len(found.letters) + 2 * found.strands > MAX_SIZE:
+            return name, None, None, None
+        closure = grid_of(found)
+        there = self.reducer.of_grid(closure)
+        if there.key == key:
+            return name, found, there.turn, there.moves
+        for words in (DECIDE, *WALKS):
+            _, moves = self.join((None, closure, grid, words))
+            if isinstance(moves, tuple):
+                return name, found, base, turned(closure.size, moves, *base)
+        return name, None, None, None
+
+    def check(self, path):
+        """What the checker says of a certificate in a file."""
+        with open(path, encoding="utf-8") as source:
+            _, said = self.answered(self.knot, ["check"], source.read(), also=(REJECTED,))
+        return path, said.strip()
 
 
 @functools.lru_cache(None)
 def table_at(path):
     """A table of knots, read once."""
     return KnotTable(path)
-
-
-def equal_text(first, second, moves):
-    """A certificate that moves join two grids."""
-    moves = tidied(first, moves)
-    return first.text + second.text + f"equal {len(moves)}\n" + "".join(f"{move_text(move)}\n" for move in moves)
 
 
 def serve():

@@ -1,11 +1,12 @@
-"""What tabulate.py writes of a sorted table: a line for each class, and names for its symmetries."""
+"""What tabulate.py writes of a sorted table for readers: a line for each class and one for each row."""
 import csv
 import io
 
-from knot_workbench.knot_tables import BOTH, MIRRORED, REVERSED, name_of
+from knot_workbench.knot_tables import BOTH, MIRRORED, REVERSED, SAME, name_of
 from lib.table_keys import grid_of_form
 
-COLUMNS = ("class", "name", "crossings", "pd_notation", "x", "o", "diagrams", "symmetry", "mirror", "reverse", "mirror_reverse", "mirror_partner", "first")
+COLUMNS = ("class", "name", "crossings", "pd_notation", "braid_notation", "x", "o", "diagrams", "symmetry", "mirror", "reverse", "mirror_reverse",
+           "mirror_partner", "certified", "first")
 
 SYMMETRIES = (("mirror", MIRRORED), ("reverse", REVERSED), ("mirror_reverse", BOTH))
 
@@ -15,16 +16,25 @@ TYPES = {(True, True, True): "fully amphicheiral", (True, False, False): "positi
 
 
 class Class:
-    """A class: its first key, its rows, and of these the first with fewest crossings, with its code."""
+    """A class: its first key, and of its rows how many there are, and the first of those with fewest crossings, with its code and its grid.
+
+    `base` is the turn that makes this row's knot of the key. `turns` are those of it that aren't one knot, `symmetry` has for each turn whether
+    it is the same, different or open, `parts` its name, and `braid` a braid of it.
+    """
 
     def __init__(self, key):
-        self.key, self.rows, self.crossings, self.first, self.code, self.parts, self.symmetry = key, 0, None, None, "", None, {}
+        self.key, self.rows, self.crossings, self.first, self.code, self.line, self.base = key, 0, None, None, "", "", SAME
+        self.turns, self.symmetry, self.parts, self.braid = [], {}, None, None
 
-    def add(self, name, crossings, code):
+    def add(self, name, crossings, code, line, base):
         """Adds a row."""
         self.rows += 1
         if self.crossings is None or crossings < self.crossings:
-            self.crossings, self.first, self.code = crossings, name, code
+            self.crossings, self.first, self.code, self.line, self.base = crossings, name, code, line, base
+
+    def grid(self, turn=SAME):
+        """The diagram that stands for it, after a turn."""
+        return self.base.then(turn).of(grid_of_form(self.key))
 
     @property
     def name(self):
@@ -45,18 +55,33 @@ class Class:
         return "open" if "open" in (self.symmetry["mirror"], self.symmetry["mirror_reverse"]) else f"{number} mirrored"
 
 
-def table_text(classes):
-    """The table of the classes, which are counted from 1."""
+def csv_text(rows):
+    """Rows as a text with commas."""
     out = io.StringIO(newline="")
-    lines = csv.writer(out, lineterminator="\n")
-    lines.writerow(COLUMNS)
-    for number, one in enumerate(classes, 1):
-        grid = grid_of_form(one.key)
-        lines.writerow([number, one.name, one.crossings, one.code, " ".join(map(str, grid.xs)), " ".join(map(str, grid.os)), one.rows, one.type,
-                        *(one.symmetry[word] for word, _ in SYMMETRIES), one.partner(number), one.first])
+    csv.writer(out, lineterminator="\n").writerows(rows)
     return out.getvalue()
+
+
+def marks(grid):
+    """The two lines of a grid without their letters."""
+    return " ".join(map(str, grid.xs)), " ".join(map(str, grid.os))
+
+
+def table_text(standings):
+    """The table of the classes, which are counted from 1. What certificates have of each is counted as there, from 0."""
+    rows = [COLUMNS]
+    for number, one in enumerate(standings.classes, 1):
+        certified = ", ".join(f"{standings.place[number - 1, turn]}{turn.words}" for turn in one.turns)
+        rows.append((number, one.name, one.crossings, one.code, braid_text(one.braid), *marks(one.grid()), one.rows, one.type,
+                     *(one.symmetry[word] for word, _ in SYMMETRIES), one.partner(number), certified, one.first))
+    return csv_text(rows)
 
 
 def code_text(rows):
     """A planar diagram code in one entry, as tables have it."""
     return f"PD[{','.join('[' + ','.join(map(str, row)) + ']' for row in rows)}]"
+
+
+def braid_text(braid):
+    """A braid word in one entry, with its strands, or nothing."""
+    return "" if braid is None else f"{{{braid.strands},{{{','.join(map(str, braid.letters))}}}}}"
