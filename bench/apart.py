@@ -3,21 +3,31 @@
 
     python3 bench/apart.py                   by the rows that stand beside the table to 12 crossings, without a program
     python3 bench/apart.py --list FILE       then what is left by this list of quandles, counted by `knot numbers`; it may stand several times
+    python3 bench/apart.py --book FILE       keeps what is counted there; called again, it goes on
     python3 bench/apart.py --table TABLE     another table
     python3 bench/apart.py --each            also names what is left at the end, a line each
+    python3 bench/apart.py --order           the blocks of the lists in the order of what they tell a millisecond, and no more
     python3 bench/apart.py --processes 2     so many counts at once
 
 Two knots are told apart where rows differ for each turn of the second: as it is, mirrored, reversed, or both. The rows of a knot and of its
 mirror image are compared, both at once. An entry that is too wide tells nothing. The program is that of KNOT, or the one that is built.
+
+By --order that block comes next which tells most a millisecond of the processor of what those before it leave: of pairs of knots, knots and
+their mirror images, and knots and their reverses. The cost is the mean of `knot numbers` over some knots, less that of a quandle of one
+colour. An entry that is too wide counts here as one of its own.
 """
 import argparse
 import collections
 import os
+import resource
 import sys
 import time
 from concurrent.futures import ThreadPoolExecutor
 
-sys.path.insert(0, os.path.join(os.path.dirname(os.path.dirname(os.path.abspath(__file__))), "python"))
+sys.path.insert(0, os.path.join(os.path.dirname(os.path.dirname(os.path.abspath(__file__))), "tools"))
+from lib.census_plan import blocks_of as plan_blocks
+from lib.table_book import Book
+from lib.table_further import labels_of, rows_by
 from knot_workbench import use
 from knot_workbench.knot_rows import blocks_of, may_be_one, opposite, row_of, text_of
 from knot_workbench.knot_tables import BOTH, MIRRORED, REVERSED, SAME, TURNS, KnotTable, default_table, text_in
@@ -95,32 +105,101 @@ def report(said, names, left, seconds):
           f"the mirror image {len(own[MIRRORED] | own[BOTH])}, from the reverse {len(own[REVERSED])} of {len(names)}; {seconds:.0f} s", flush=True)
 
 
-def counted(known, names, listed, processes):
-    """The rows of these knots and of their mirror images by a list's text."""
-    def both(name):
-        return tuple(row_of(grid, listed) for grid in (known.knots[name].grid, known.knots[name].grid.mirror()))
+# The order of blocks
 
-    with ThreadPoolExecutor(processes) as pool:
-        return Rows(blocks_of(listed), dict(zip(names, pool.map(both, names))))
+# The cost of a block is measured over one knot of so many.
+STRIDE = 60
+
+
+def cost_of(known, names, listed):
+    """The milliseconds of the processor that `knot numbers` takes of a knot by a list's text."""
+    def spent():
+        used = resource.getrusage(resource.RUSAGE_CHILDREN)
+        return used.ru_utime + used.ru_stime
+
+    before = spent()
+    for name in names:
+        row_of(known.knots[name].grid, listed)
+    return 1_000 * (spent() - before) / len(names)
+
+
+def marks_of(rows):
+    """For each knot and turn a number for each block, which two share where their entries and those of their mirror images agree."""
+    numbers = {}
+    return {name: [[numbers.setdefault(entries, len(numbers)) for entries in enumerate(zip(*rows.turned(name, turn)))] for turn in TURNS]
+            for name in rows.rows}
+
+
+def untold_by(marks, chosen):
+    """How many pairs of knots, of a knot and its mirror image, and of a knot and its reverse some blocks don't tell apart."""
+    classes, mirrored, reverse = collections.Counter(), 0, 0
+    for turns in marks.values():
+        same, other, back, both = (tuple(turn[block] for block in chosen) for turn in turns)
+        classes[min(same, other, back, both)] += 1
+        mirrored += same in (other, both)
+        reverse += same == back
+    return sum(count * (count - 1) // 2 for count in classes.values()), mirrored, reverse
+
+
+def say_order(known, lists, asked, book):
+    """Names the blocks of the table's list and of others, those first that tell most a millisecond."""
+    names, every = list(known.knots), {None: known.listed, **lists}
+    labels = [label for path, listed in every.items() for label in labels_of(listed, path)]
+    texts = [block.text for listed in every.values() for block in plan_blocks(listed)[1]]
+    rows = known_rows(known, names)
+    for listed in lists.values():
+        further = rows_by(known, names, listed, each_by(asked.processes), book)
+        rows = {name: tuple(one + other for one, other in zip(rows[name], further[name])) for name in names}
+    marks = marks_of(Rows([block for listed in every.values() for block in blocks_of(listed)], rows))
+    some = names[::STRIDE]
+    least = cost_of(known, some, "quandle trivial 1\n")
+    costs = [max(cost_of(known, some, text) - least, 0.01) for text in texts]
+    chosen, untold = [], untold_by(marks, [])
+    while len(chosen) < len(texts):
+        after = {block: untold_by(marks, [*chosen, block]) for block in range(len(texts)) if block not in chosen}
+        best = max(after, key=lambda block: ((sum(untold) - sum(after[block])) / costs[block], -costs[block]))
+        chosen.append(best)
+        untold = after[best]
+        print(f"{labels[best]}: {costs[best]:.2f} ms; left are {untold[0]} pairs, {untold[1]} mirror images, {untold[2]} reverses", flush=True)
+
+
+def known_rows(known, names):
+    """The rows that stand beside the table, of knots and of their mirror images."""
+    return {name: (known.row(name), known.row(name, MIRRORED)) for name in names}
+
+
+def each_by(processes):
+    """What maps a function over items, so many at once."""
+    def each(items, make):
+        with ThreadPoolExecutor(processes) as pool:
+            yield from pool.map(make, items)
+
+    return each
 
 
 def main():
     words = argparse.ArgumentParser(description=__doc__, formatter_class=argparse.RawDescriptionHelpFormatter)
     words.add_argument("--table", default=default_table())
     words.add_argument("--list", action="append", default=[], dest="lists", metavar="FILE")
+    words.add_argument("--book", metavar="FILE")
     words.add_argument("--each", action="store_true")
+    words.add_argument("--order", action="store_true")
     words.add_argument("--processes", type=int, default=os.cpu_count() or 1)
     asked = words.parse_args()
     use(knot=os.environ.get("KNOT") or PROGRAM)
     began = time.perf_counter()
-    known = KnotTable(asked.table)
+    known, book = KnotTable(asked.table), Book(asked.book) if asked.book else None
+    if asked.order:
+        say_order(known, {path: text_in(path) for path in asked.lists}, asked, book)
+        return
     names = list(known.knots)
-    left = left_by(Rows(known.blocks, {name: (known.row(name), known.row(name, MIRRORED)) for name in names}))
+    left = left_by(Rows(known.blocks, known_rows(known, names)))
     report("the rows of the table", names, left, time.perf_counter() - began)
     for path in asked.lists:
         began = time.perf_counter()
         due = sorted({name for one in left for name in one[:2]}, key=known.order.get)
-        rows = counted(known, due, text_in(path), asked.processes)
+        listed = text_in(path)
+        rows = Rows(blocks_of(listed), rows_by(known, due, listed, each_by(asked.processes), book))
         left = [one for one in left if rows.may_be(one)]
         report(path, names, left, time.perf_counter() - began)
     if asked.each:

@@ -5,6 +5,7 @@
     python3 bench/identify.py --disguised 60    so many; 0 leaves the part out
     python3 bench/identify.py --published 30 --errors 3
     python3 bench/identify.py --timed 20        so many diagrams of 12 crossings one by one
+    python3 bench/identify.py --rows 50         so many rows of such diagrams in one call
     python3 bench/identify.py --most 10         knots of at most so many crossings
     python3 bench/identify.py --folder FOLDER   keeps tables, answers and certificates there; called again, it goes on
     python3 bench/identify.py --seed 2          other knots and other disguises
@@ -13,14 +14,16 @@
 A disguised diagram is, by turns, the end of a walk of 3,000 moves in up to eight columns more than the table's grid; a braid word of it some
 relations and Markov moves away, where one fits; and its planar diagram code, with other numbers in another order. Each is mirrored or run
 through backwards by a throw of dice, and has a name that says nothing. Where a published identification is wrong, the diagram is that of
-another knot of as many crossings, or that of the mirror image. The programs are those of KNOT and SEEK, or those that are built. The exit
-status is 1 where a name is wrong, more than 2 % are open, a certificate isn't accepted, or other rows than the planted ones come back.
+another knot of as many crossings, or that of the mirror image. The programs are those of KNOT and SEEK, or those that are built. Seconds are
+those of the clock, and in brackets those of the processor. The exit status is 1 where a name is wrong, more than 2 % are open, a certificate
+isn't accepted, other rows than the planted ones come back, half of the diagrams of 12 crossings take over a second, or 100 rows over a minute.
 """
 import argparse
 import collections
 import csv
 import os
 import random
+import resource
 import statistics
 import subprocess
 import sys
@@ -33,7 +36,7 @@ from seek import SEEK, TOP, varied, walked
 
 sys.path.insert(0, os.path.join(TOP, "tools"))
 from lib.smaller import reduced
-from knot_workbench import Certificate, braid_word, identify, use
+from knot_workbench import Certificate, braid_word, identify
 from knot_workbench.diagrams import Braid, braid_fault
 from knot_workbench.knot_tables import MIRRORED, TURNS, KnotTable, default_table, name_of, records, text_in
 from knot_workbench.table_entries import nested
@@ -41,6 +44,8 @@ from knot_workbench.table_entries import nested
 COLUMNS_MORE = range(2, 9)
 RELATIONS = 40
 OPEN_SHARE = 0.02
+# How long one diagram of most crossings may take in the median, and a hundred rows of such.
+MEDIAN, HUNDRED = 1, 60
 
 
 # Disguises
@@ -100,9 +105,9 @@ def write_table(path, rows):
 
 def disguised_rows(known, count, most, seed):
     """Disguised knots, each with what it is."""
-    dice = random.Random(f"disguised {seed}")
+    dice, every = random.Random(f"disguised {seed}"), knots_of(known, most)
     for place in range(count):
-        knot, rows = dice.choice(knots_of(known, most))
+        knot, rows = dice.choice(every)
         turn = dice.choice(TURNS)
         yield f"d{place + 1:03}", name_of(((knot.name, turn),)), disguised(place, knot, rows, turn, dice)
 
@@ -125,22 +130,51 @@ def published_rows(known, count, errors, most, seed):
     return [(f"p{place:03}", said, entry, is_error) for place, (said, entry, is_error) in enumerate(found, 1)]
 
 
+def timed_grids(known, count, most, seed):
+    """Grids of knots of the most crossings that there are, each second one the end of a walk."""
+    dice = random.Random(f"timed {seed}")
+    highest = max(knot.crossings for knot, _ in knots_of(known, most))
+    every = [knot for knot, _ in knots_of(known, most) if knot.crossings == highest]
+    for place in range(count):
+        grid = dice.choice(every).grid
+        yield walked(grid, min(grid.size + 4, 46), dice) if place % 2 else grid
+
+
 # Trials
 
+class Clock:
+    """Seconds since it was made: by the clock, and of the processor, with those of the programs that were called and have ended."""
+
+    def __init__(self):
+        self.began, self.spent = time.perf_counter(), processor_seconds()
+
+    @property
+    def seconds(self):
+        return time.perf_counter() - self.began
+
+    def __str__(self):
+        return f"{self.seconds:.0f} s ({processor_seconds() - self.spent:.0f})"
+
+
+def processor_seconds():
+    """Seconds of the processor that this script and the programs that it called have taken."""
+    return sum(used.ru_utime + used.ru_stime for used in map(resource.getrusage, (resource.RUSAGE_SELF, resource.RUSAGE_CHILDREN)))
+
+
 def called(folder, name, words):
-    """Runs identify.py on a table of the folder: its rows, and how long it took."""
+    """Runs identify.py on a table of the folder: its rows, how many certificates were accepted, and how long the run took."""
     out, certificates = (os.path.join(folder, f"{name}{ending}") for ending in ("-answers.csv", "-certificates"))
     call = [sys.executable, os.path.join(TOP, "tools", "identify.py"), os.path.join(folder, f"{name}.csv"), "--diagram", "diagram", "--out", out,
             "--certificates", certificates, *words]
-    began = time.perf_counter()
+    clock = Clock()
     status = subprocess.run(call, check=False).returncode
-    seconds = time.perf_counter() - began
+    took, seconds = str(clock), clock.seconds
     if status not in (0, 1):
         sys.exit(f"identify.py ended with status {status}")
     with open(out, encoding="utf-8", newline="") as source:
         rows = list(csv.DictReader(source))
     accepted = sum(Certificate.load(os.path.join(certificates, row["certificate"])).check() for row in rows if row["certificate"])
-    return rows, accepted, seconds
+    return rows, accepted, took, seconds
 
 
 def is_right(known, hidden, answer):
@@ -156,7 +190,7 @@ def is_right(known, hidden, answer):
 def try_disguised(known, folder, asked):
     """Names disguised diagrams: whether that went as it should."""
     hidden = write_table(os.path.join(folder, "disguised.csv"), disguised_rows(known, asked.disguised, asked.most, asked.seed))
-    rows, accepted, seconds = called(folder, "disguised", asked.words)
+    rows, accepted, took, _ = called(folder, "disguised", asked.words)
     counts = collections.Counter()
     for row, truth in zip(rows, hidden):
         kind = row["answer"] if row["answer"] in ("open", "refused", "failed") else "right" if is_right(known, truth["is"], row["answer"]) else "wrong"
@@ -164,7 +198,7 @@ def try_disguised(known, folder, asked):
         if kind != "right":
             print(f"{row['name']}, {truth['is']}: {row['answer']} {row['said']}")
     said = ", ".join(f"{count} {kind}" for kind, count in counts.items())
-    print(f"{len(rows)} disguised diagrams: {said}; {accepted} certificates accepted; {seconds:.0f} s", flush=True)
+    print(f"{len(rows)} disguised diagrams: {said}; {accepted} certificates accepted; {took}", flush=True)
     return len(rows) == len(hidden) and counts["right"] == accepted == len(rows) - counts["open"] and counts["open"] <= OPEN_SHARE * len(rows)
 
 
@@ -172,34 +206,42 @@ def try_published(known, folder, asked):
     """Looks for planted errors: whether exactly these were found."""
     made = published_rows(known, asked.published, asked.errors, asked.most, asked.seed)
     write_table(os.path.join(folder, "published.csv"), [row[:3] for row in made])
-    rows, accepted, seconds = called(folder, "published", ["--expect", "is", *asked.words])
+    rows, accepted, took, _ = called(folder, "published", ["--expect", "is", *asked.words])
     planted, back = {row[0] for row in made if row[3]}, {row["name"] for row in rows if row["ruling"] != "right"}
     for row in rows:
         if row["ruling"] != "right" or row["name"] in planted:
             print(f"{row['name']}, {'planted' if row['name'] in planted else 'not planted'}: {row['expected']}: {row['ruling']} {row['said']}")
     print(f"{len(rows)} published identifications with {len(planted)} errors: {len(planted & back)} of these came back, and {len(back - planted)} others; "
-          f"{accepted} certificates accepted; {seconds:.0f} s")
+          f"{accepted} certificates accepted; {took}", flush=True)
     return len(rows) == len(made) and planted == back
 
 
+def try_rows(known, folder, asked):
+    """Times a table of diagrams of the most crossings in one call: whether a hundred of them would take at most a minute."""
+    grids = timed_grids(known, asked.rows, asked.most, asked.seed)
+    write_table(os.path.join(folder, "rows.csv"), [(f"r{place:03}", "", arcs_text(grid)) for place, grid in enumerate(grids, 1)])
+    rows, accepted, took, seconds = called(folder, "rows", asked.words)
+    named = sum(row["answer"] not in ("open", "refused", "failed") for row in rows)
+    print(f"{len(rows)} diagrams of most crossings in one call: {named} named; {accepted} certificates accepted; {took}", flush=True)
+    return accepted == named and seconds <= HUNDRED * len(rows) / 100
+
+
 def try_times(known, asked):
-    """Times diagrams of twelve crossings, or of the most there are, by their codes: whether half of them took at most a second."""
-    dice = random.Random(f"timed {asked.seed}")
-    most = max(knot.crossings for knot, _ in knots_of(known, asked.most))
-    seconds = []
-    for place in range(asked.timed):
-        knot, _ = dice.choice([one for one in knots_of(known, asked.most) if one[0].crossings == most])
-        grid = walked(knot.grid, min(knot.grid.size + 4, 46), dice) if place % 2 else knot.grid
-        began = time.perf_counter()
+    """Times such diagrams one by one: whether half of them took at most a second."""
+    seconds, spent = [], []
+    for grid in timed_grids(known, asked.timed, asked.most, asked.seed):
+        clock = Clock()
         identify(grid, known)
-        seconds.append(time.perf_counter() - began)
-    print(f"{len(seconds)} diagrams of {most} crossings one by one: median {statistics.median(seconds):.2f} s, longest {max(seconds):.2f} s")
-    return statistics.median(seconds) <= 1
+        seconds.append(clock.seconds)
+        spent.append(processor_seconds() - clock.spent)
+    print(f"{len(seconds)} diagrams of most crossings one by one: median {statistics.median(seconds):.2f} s ({statistics.median(spent):.2f}), "
+          f"longest {max(seconds):.2f} s ({max(spent):.2f})")
+    return statistics.median(seconds) <= MEDIAN
 
 
 def main():
     words = argparse.ArgumentParser(description=__doc__, formatter_class=argparse.RawDescriptionHelpFormatter)
-    for name, default in (("disguised", 500), ("published", 100), ("errors", 10), ("timed", 40), ("most", 12), ("seed", 1)):
+    for name, default in (("disguised", 500), ("published", 100), ("errors", 10), ("rows", 100), ("timed", 40), ("most", 12), ("seed", 1)):
         words.add_argument(f"--{name}", type=int, default=default)
     words.add_argument("--table", default=default_table())
     words.add_argument("--folder")
@@ -213,6 +255,7 @@ def main():
         os.makedirs(folder, exist_ok=True)
         wells = [try_disguised(known, folder, asked)] if asked.disguised else []
         wells += [try_published(known, folder, asked)] if asked.published else []
+        wells += [try_rows(known, folder, asked)] if asked.rows else []
         wells += [try_times(known, asked)] if asked.timed else []
     sys.exit(0 if all(wells) else 1)
 

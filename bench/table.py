@@ -59,7 +59,7 @@ def write_problems(folder, table, only):
 
 def names_of_tables(text):
     """The names of the quandles of a list that stand there as tables with a cocycle, by their orders and moduli."""
-    found = re.findall(r"^# (\w+): [^\n]*\nquandle table (\d+)\n(?:[\d ]+\n)+?weight (\d+)\n", text, re.MULTILINE)
+    found = re.findall(r"^# (\w+): [^\n]*\nquandle table (\d+)\n(?:[\d ]+\n)+?(?:weight|shadow) (\d+)\n", text, re.MULTILINE)
     return {(int(order), int(modulus)): name for name, order, modulus in found}
 
 

@@ -8,11 +8,16 @@
 
 Each line that differs is named on standard error, and the exit status is 1. --write puts what was made in the place of what stands there:
 the grids into the table, the numbers into TABLE without .csv and with .numbers.txt, the symmetries into .symmetry.csv. The numbers of a grid
-that has its line stay, and so do symmetries that are known: --all makes these anew too. --list FILE
-names another list of quandles than quandles/weights/list.txt. --certificates FOLDER keeps those of `names` and
-`symmetry`; else symmetries that the rows of numbers rule out are taken as ruled out by them.
+that has its line stay, and so do symmetries that are known: --all makes these anew too. --list FILE names another list of quandles than
+tables/list.txt. --certificates FOLDER keeps those of `names` and `symmetry`; else symmetries that rows of numbers rule out are
+taken as ruled out by them.
+
+`symmetry` takes what the table's rows tell, then what rows by each --further FILE tell, then walks, all short ones before longer ones. With
+--write it puts down what it knows every fifty knots. --book FILE keeps what was counted and walked, also in vain, so that a call that was
+stopped goes on where it was.
 """
 import argparse
+import collections
 import csv
 import io
 import os
@@ -23,18 +28,23 @@ from lib import calls
 from lib.census_plan import blocks_of as plan_blocks
 from lib.connected import is_connected
 from lib.identify_programs import add_program_words, use_programs
+from lib.table_book import Book
+from lib.table_further import labels_of, rows_by
 from lib.whole_files import write_whole
-from knot_workbench import Fault, seek
+from knot_workbench import Certificate, Fault, seek
 from knot_workbench.code_grids import Grids
 from knot_workbench.diagrams import Lines, diagram_text, grid_of, read_diagram, read_quandle
-from knot_workbench.identifying import smaller
-from knot_workbench.knot_rows import blocks_of, row_of, text_of
-from knot_workbench.knot_tables import SYMMETRIES, KnotTable, beside, default_list, digest, read_knots, records, rows_text, text_in
+from knot_workbench.identifying import ROUNDS, smaller, sought
+from knot_workbench.knot_rows import blocks_of, opposite, row_of, text_of
+from knot_workbench.knot_tables import (MIRRORED, SYMMETRIES, KnotTable, beside, default_list, digest, larger_quandles, read_knots, records, rows_text,
+                                        text_in)
 from knot_workbench.table_entries import Conventions, diagram_of
 
 BUDGET = 20_000
-# The steps of walks that join a knot to itself after a turn: before larger quandles are tried, and behind them.
+# The steps of walks that join a word to a grid: before larger quandles are tried, and behind them.
 SHORT, LONG = 300_000, 8_000_000
+# So many knots are tried before what is known of symmetries is put down.
+FIFTY = 50
 
 
 def arcs_text(grid):
@@ -153,12 +163,6 @@ def evidence_of(first, second, asked):
     return None
 
 
-def larger_quandles():
-    """The files of quandles of more than 32 colours."""
-    folder = os.path.join(os.path.dirname(os.path.dirname(default_list())), "larger")
-    return sorted(os.path.join(folder, name) for name in os.listdir(folder) if name.endswith(".txt"))
-
-
 def kept(asked, name, certificate):
     """Keeps a certificate in the folder that was asked for."""
     if asked.certificates and certificate is not None:
@@ -195,46 +199,123 @@ def symmetry_text(found):
 
 def symmetry(path, asked, work):
     """Joins each knot to itself after each turn, or tells it apart; what two turns show of the third is taken as shown."""
-    target = beside(path, ".symmetry.csv")
-    known = KnotTable(path, asked.list)
-    labels = labels_of(known.listed)
-    columns = ["name", *(column for column, _ in SYMMETRIES)]
-    old = {} if asked.all or not os.path.exists(target) else {row["name"]: row for _, row in records(target, text_in(target), columns)}
-
-    def shown(knot):
-        row = dict(old.get(knot.name) or {"name": knot.name})
-        for column, turn in (SYMMETRIES[1], SYMMETRIES[0], SYMMETRIES[2]):
-            if row.get(column, "open") == "open":
-                row[column] = symmetry_by(row, column) or (not asked.certificates and by_numbers(known, knot.name, turn, labels)) or sought(knot, column, turn)
-        return row
-
-    def sought(knot, column, turn):
-        if asked.numbers_alone:
-            return "open"
-        found = evidence_of(knot.grid, turn.of(knot.grid), asked)
-        kept(asked, f"{knot.name}-{column}", found)
-        return symmetry_text(found)
-
-    rows = list(work.each(list(known.knots.values()), shown))
-    for row in rows:
-        if row != old.get(row["name"]):
-            work.differs(f"{target}: {row['name']}: {', '.join(f'{column} {row[column]}' for column in columns[1:])}")
-    if asked.write and work.differing:
-        write_whole(target, table_text(columns, rows).encode())
+    found = Symmetries(path, asked)
+    found.by_rows(labels_of(found.known.listed), {name: (found.known.row(name), found.known.row(name, MIRRORED)) for name in found.rows}, asked.list)
+    for file in asked.further:
+        listed = text_in(file)
+        found.by_rows(labels_of(listed, file), rows_by(found.known, found.open_names(), listed, work.each, found.book), file)
+    for seed, steps in ROUNDS[:asked.rounds]:
+        due = found.open_names()
+        calls.note(f"{path}: walks of {steps} steps for {len(due)} knots")
+        for place, (name, said) in enumerate(zip(due, work.each(due, lambda name: found.walked(name, seed, steps))), 1):
+            found.take_all(name, said, seed, steps)
+            if place % FIFTY == 0:
+                found.put()
+    found.put()
+    for row in found.rows.values():
+        if row != found.old.get(row["name"]):
+            work.differs(f"{found.target}: {row['name']}: {', '.join(f'{column} {row[column]}' for column, _ in SYMMETRIES)}")
+    for kind, count in sorted(collections.Counter(map(kind_of, found.rows.values())).items()):
+        calls.note(f"{path}: {kind}: {count}")
 
 
-def labels_of(listed):
-    """What each block of a list is called."""
-    return [block.quandle.partition("\n")[0].removeprefix("quandle ") + (f" with a cocycle mod {read.weights}" if read.weights else "")
-            for block, read in zip(plan_blocks(listed)[1], blocks_of(listed))]
+# The turns that are tried first: most knots are told from their mirror images by rows, and most others are their own reverses.
+TRIED = (SYMMETRIES[1], SYMMETRIES[0], SYMMETRIES[2])
 
 
-def by_numbers(known, name, turn, labels):
-    """By which block of the list the rows of a knot and of the same after a turn differ, or None."""
-    for label, one, other in zip(labels, known.row(name), known.row(name, turn)):
-        if one is not None and other is not None and one != other:
-            return f"different by {label}"
-    return None
+class Symmetries:
+    """What is known of the symmetries of a table's knots: `rows` have it by names, and `old` what stands in the file."""
+
+    def __init__(self, path, asked):
+        self.asked, self.target = asked, beside(path, ".symmetry.csv")
+        self.known = KnotTable(path, asked.list)
+        self.columns = ["name", *(column for column, _ in SYMMETRIES)]
+        self.old = {row["name"]: row for _, row in records(self.target, text_in(self.target), self.columns)} if os.path.exists(self.target) else {}
+        kept = {} if asked.all else self.old
+        self.rows = {name: {**dict.fromkeys(self.columns, "open"), "name": name, **kept.get(name, {})} for name in self.known.knots}
+        self.book = Book(asked.book) if asked.book else None
+
+    def open_names(self):
+        """The knots of which some symmetry isn't known."""
+        return [name for name, row in self.rows.items() if "open" in row.values()]
+
+    def take(self, row, column, said):
+        """Takes what is known of one symmetry into a row, and what follows for the others."""
+        row[column] = said
+        for other, _ in SYMMETRIES:
+            if row[other] == "open":
+                row[other] = symmetry_by(row, other) or "open"
+
+    def by_rows(self, labels, rows, file):
+        """Takes what the rows of knots and of their mirror images tell by a list."""
+        blocks = blocks_of(text_in(file))
+        for name in set(rows).intersection(self.open_names()):
+            row, mirrored = rows[name]
+            turned = {"mirror": mirrored, "reverse": opposite(mirrored, blocks), "mirror_reverse": opposite(row, blocks)}
+            for column, turn in TRIED:
+                label = self.rows[name][column] == "open" and first_difference(labels, row, turned[column])
+                if label and self.is_kept(name, column, turn, file):
+                    self.take(self.rows[name], column, f"different by {label}")
+
+    def is_kept(self, name, column, turn, file):
+        """Whether the certificate of a difference is kept, where certificates are asked for."""
+        if not self.asked.certificates:
+            return True
+        grid = self.known.knots[name].grid
+        found = seek(grid, turn.of(grid), weights=[file], steps=0)
+        if found is not None:
+            found.check()
+            kept(self.asked, f"{name}-{column}", found)
+        return found is not None
+
+    def place(self, name, column, seed, steps):
+        """The name of a walk in the book."""
+        return f"{digest(diagram_text(self.known.knots[name].grid))} {column} {seed} {steps}"
+
+    def walked(self, name, seed, steps):
+        """What walks show of the open symmetries of a knot, by columns, `open` where nothing; certificates are checked, and kept where they are asked for."""
+        row, grid, found = dict(self.rows[name]), self.known.knots[name].grid, {}
+        for column, turn in TRIED:
+            if row[column] == "open":
+                before = self.book.lines.get(self.place(name, column, seed, steps)) if self.book else None
+                if before is None or (self.asked.certificates and before != ["open"]):
+                    verdict = sought(grid, turn.of(grid), seed, steps)
+                    certificate = None if verdict is None else Certificate(grid, turn.of(grid), verdict)
+                    if certificate is not None:
+                        certificate.check()
+                    kept(self.asked, f"{name}-{column}", certificate)
+                    before = [symmetry_text(certificate)]
+                found[column] = before[0]
+                self.take(row, column, before[0])
+        return found
+
+    def take_all(self, name, said, seed, steps):
+        """Takes what walks have shown of a knot, and notes it in the book."""
+        for column, text in said.items():
+            self.take(self.rows[name], column, text)
+            if self.book:
+                self.book.add(self.place(name, column, seed, steps), text)
+
+    def put(self):
+        """Puts what is known into the file, where that is asked for."""
+        if self.asked.write:
+            write_whole(self.target, table_text(self.columns, self.rows.values()).encode())
+
+
+def first_difference(labels, one, other):
+    """By which block of a list two rows differ, or None."""
+    return next((label for label, first, second in zip(labels, one, other) if first is not None and second is not None and first != second), None)
+
+
+def kind_of(row):
+    """What a knot is joined to, by its row."""
+    joined = [words for column, words in (("mirror", "mirror images"), ("reverse", "reverses"), ("mirror_reverse", "reversed mirror images"))
+              if row[column] == "equal"]
+    if len(joined) == 3:
+        return "their own mirror images and reverses"
+    if "open" in row.values():
+        return "open" + (f", but their own {joined[0]}" if joined else "")
+    return f"their own {joined[0]} alone" if joined else "told from all three"
 
 
 def symmetry_by(row, column):
@@ -252,7 +333,9 @@ def main():
     parser.add_argument("--write", action="store_true", help="put what was made in the place of what stands there")
     parser.add_argument("--all", action="store_true", help="make numbers and symmetries anew that stand there already")
     parser.add_argument("--certificates", metavar="FOLDER", help="keep the certificates of names and symmetries here")
-    parser.add_argument("--numbers-alone", action="store_true", help="symmetries by the rows of numbers alone, and no walks")
+    parser.add_argument("--further", action="append", default=[], metavar="FILE", help="a further list of quandles that may rule symmetries out")
+    parser.add_argument("--rounds", type=int, default=len(ROUNDS), metavar="N", help="how many rounds of walks for symmetries (default: %(default)s)")
+    parser.add_argument("--book", metavar="FILE", help="keep what was counted and walked for symmetries here")
     parser.add_argument("--list", metavar="FILE", help="the list of quandles by which is counted")
     add_program_words(parser)
     asked = parser.parse_args()

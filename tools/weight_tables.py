@@ -1,8 +1,9 @@
 #!/usr/bin/env python3
-"""Makes the ready tables of quandles/weights/, quandles with 2-cocycles that tell many knots from their mirror images.
+"""Makes the ready tables of quandles/weights/, quandles with cocycles that tell many knots from their mirror images or reverses.
 
-    tools/weight_tables.py [FOLDER]             writes T5, T7, M20a, M20b and M30, of at most 32 colours, and the list that seek tries
+    tools/weight_tables.py [FOLDER]             writes T5, T7, M20a, M20b, M30, F8 and F27, of at most 32 colours, and the list that seek tries
     tools/weight_tables.py --larger FOLDER      writes M42a, M42b, M42c and M56b, which only seek --weights and check take
+    tools/weight_tables.py --rows FOLDER        writes the shorter list by which rows of tables of knots are counted
 
 FOLDER is quandles/weights/ beside this folder where none is given. A table stands behind two diagrams, as the job weights reads it:
 
@@ -17,12 +18,18 @@ Jelsovsky, Kamada, Langford and Saito 2003). Another choice of s changes it by a
 T and a prime p: x0 is the transvection (1 1 / 0 1). A conjugate of it is a vector v of the plane mod p up to sign, that of
 w ↦ w + det(w, v) v, and x ▷ y = x + det(x, y) y; the torus is that of the powers of x0, up to sign. M and the number of colours: x0 is
 another matrix, with two eigenvalues in the field or with none.
+
+F and the number of colours, p³: the colours are the field, x ▷ y = t x + (1 − t) y, and a shadow cocycle mod p is the coefficient of 1 of
+(w − x) (x − y)^p y^(p²). Powers of p are sums' powers too, so both sides of its law differ by the factor 1 − t^(1 + p + p²) alone, and here
+t to this power is 1 (Mochizuki 2005).
 """
 import argparse
 import itertools
 import os
 from collections import namedtuple
 
+from large_quandles import classes
+from large_quandles import operation as class_table
 from lib import calls
 from knot_workbench.diagrams import quandle_of, quandle_text
 from lib.fields import Field
@@ -31,10 +38,13 @@ IDENTITY = ((1, 0), (0, 1))
 FOUR = (2, (1, 1))
 
 # What stands in the list: quandles of no cocycle, and then those with one, the fewest colours first. A number is the order of a dihedral
-# quandle with Mochizuki's shadow cocycle, a name one of the tables.
+# quandle with Mochizuki's shadow cocycle, a name one of the tables. Behind them stand quandles of more than 32 colours.
 LIST = "list"
 PLAIN = ("dihedral 3", "tetrahedral", "alexander 5 2", "alexander 7 2", "alexander 11 3", "alexander 17 10")
-WEIGHED = (3, 5, 7, 11, "T5", 13, 17, 19, "M20a", "M20b", 23, "T7", 29, "M30", 31)
+WEIGHED = (3, 5, 7, "F8", 11, "T5", 13, 17, 19, "M20a", "M20b", 23, "T7", "F27", 29, "M30", 31)
+LAST = ("M42a", "PGammaL2_8_84_a", "AGammaL1_16_120_a")
+# What isn't among those by which rows of tables of knots are counted.
+NOT_IN_ROWS = ("F8", "F27", *LAST)
 
 # The colours as matrices, the first of them x0; s(x) by colour; the logarithm of each element of the torus, and its order.
 Conjugates = namedtuple("Conjugates", "field colours sections logarithms modulus said")
@@ -128,8 +138,35 @@ def cocycle(found, table):
             for place, x in enumerate(colours)]
 
 
+# Shadow cocycles of fields
+
+def shadow(prime, coefficients, said):
+    """What the field of p³ elements is that t^3 + ... makes, and the lines of its quandle and its shadow cocycle."""
+    field = Field(prime, coefficients)
+    size, plus, minus, times = field.size, field.plus, field.minus, field.times
+    table = [[plus[times[prime][x]][times[plus[1][minus[prime]]][y]] for y in range(size)] for x in range(size)]
+    cubes = [power_of(field, x, prime) for x in range(size)]
+    lines = [[times[times[plus[w][minus[x]]][cubes[plus[x][minus[y]]]]][cubes[cubes[y]]] % prime for y in range(size)]
+             for w in range(size) for x in range(size)]
+    about = f"the field of {size}, {said}, x ▷ y = t x + (1 - t) y; a shadow cocycle mod {prime}"
+    rows = "".join(" ".join(map(str, row)) + "\n" for row in lines)
+    return about, quandle_text(quandle_of(f"table {size}", table)) + f"shadow {prime}\n{rows}"
+
+
+def power_of(field, element, exponent):
+    """A power of an element of a field."""
+    found = 1
+    for _ in range(exponent):
+        found = field.times[found][element]
+    return found
+
+
 # Tables
 
+SHADOWS = {
+    "F8": lambda: shadow(2, (1, 1, 0), "t^3 = t + 1"),
+    "F27": lambda: shadow(3, (2, 2, 2), "t^3 = t^2 + t + 1"),
+}
 READY = {
     "T5": lambda: transvections(5),
     "T7": lambda: transvections(7),
@@ -147,17 +184,21 @@ LARGER = {
 
 
 def parts_of(name):
-    """What one of the names in READY and LARGER is, and the lines of its quandle and its cocycle."""
+    """What one of the names in READY, SHADOWS and LARGER is, and the lines of its quandle and its cocycle."""
+    if name in SHADOWS:
+        about, lines = SHADOWS[name]()
+        return f"# {name}: {about}.\n", lines
     found = {**READY, **LARGER}[name]()
     table = operation(found)
     squares = "".join(" ".join(map(str, row)) + "\n" for row in cocycle(found, table))
-    return f"# {name}: {found.said}; a cocycle mod {found.modulus}.\n", quandle_text(quandle_of(f"table {len(table)}", table)) + f"weight {found.modulus}\n" + squares
+    lines = quandle_text(quandle_of(f"table {len(table)}", table)) + f"weight {found.modulus}\n" + squares
+    return f"# {name}: {found.said}; a cocycle mod {found.modulus}.\n", lines
 
 
 def text_of(name):
     """The whole file of one of these names."""
     said, lines = parts_of(name)
-    use = f"Append it to two diagrams: cat problem.txt quandles/weights/{name}.txt | ./knot weights" if name in READY else "seek takes it by --weights."
+    use = "seek takes it by --weights." if name in LARGER else f"Append it to two diagrams: cat problem.txt quandles/weights/{name}.txt | ./knot weights"
     return f"{said}# Made by tools/weight_tables.py. {use}\n{lines}"
 
 
@@ -165,29 +206,45 @@ def list_text():
     """The list that seek tries where its words name no other."""
     head = ("# Quandles, and quandles with a cocycle, by which seek counts colourings where its words name no file of --weights.\n"
             "# Made by tools/weight_tables.py.\n")
-    return head + "".join(f"quandle {name}\n" for name in PLAIN) + "".join(weighed_text(one) for one in WEIGHED)
+    return head + "".join(f"quandle {name}\n" for name in PLAIN) + "".join(map(listed_text, (*WEIGHED, *LAST)))
 
 
-def weighed_text(one):
-    """A quandle with a cocycle, as it stands in the list."""
-    return f"quandle dihedral {one}\nshadow mochizuki\n" if isinstance(one, int) else "".join(parts_of(one))
+def rows_text():
+    """The list by which rows of tables of knots are counted."""
+    head = ("# Quandles, and quandles with a cocycle, by which the rows of numbers of these tables were counted.\n"
+            "# Made by tools/weight_tables.py --rows.\n")
+    kept = (one for one in (*WEIGHED, *LAST) if one not in NOT_IN_ROWS)
+    return head + "".join(f"quandle {name}\n" for name in PLAIN) + "".join(map(listed_text, kept))
+
+
+def listed_text(one):
+    """A quandle, mostly with a cocycle, as it stands in a list."""
+    if isinstance(one, int):
+        return f"quandle dihedral {one}\nshadow mochizuki\n"
+    for name, said, generators, element in classes() if one in LAST else ():
+        if name == one:
+            table = class_table(generators, element)
+            return f"# {name}: {said}.\n" + quandle_text(quandle_of(f"table {len(table)}", table))
+    return "".join(parts_of(one))
 
 
 def main():
     parser = argparse.ArgumentParser(description=__doc__, formatter_class=argparse.RawDescriptionHelpFormatter)
     beside = os.path.join(os.path.dirname(os.path.dirname(os.path.abspath(__file__))), "quandles", "weights")
     parser.add_argument("folder", nargs="?", metavar="FOLDER", help="where the files NAME.txt are written")
-    parser.add_argument("--larger", action="store_true", help="the tables of more than 32 colours; FOLDER has to be given")
+    others = parser.add_mutually_exclusive_group()
+    others.add_argument("--larger", action="store_true", help="the tables of more than 32 colours; FOLDER has to be given")
+    others.add_argument("--rows", action="store_true", help="the list by which rows of tables of knots are counted; FOLDER has to be given")
     words = parser.parse_args()
-    if words.larger and words.folder is None:
-        parser.error("the larger tables want a FOLDER")
+    if (words.larger or words.rows) and words.folder is None:
+        parser.error("a FOLDER is due")
     folder = beside if words.folder is None else words.folder
     if not os.path.isdir(folder):
         parser.error(f"there is no folder {folder}")
-    for name in LARGER if words.larger else READY:
+    for name in LARGER if words.larger else () if words.rows else (*READY, *SHADOWS):
         calls.put(os.path.join(folder, f"{name}.txt"), text_of(name))
     if not words.larger:
-        calls.put(os.path.join(folder, f"{LIST}.txt"), list_text())
+        calls.put(os.path.join(folder, f"{LIST}.txt"), rows_text() if words.rows else list_text())
 
 
 if __name__ == "__main__":

@@ -104,10 +104,18 @@ def default_table() -> str:
 
 def default_list() -> str:
     """The path of the list of quandles by which rows are counted. Raises TableError where there is none."""
+    folder = data_folder("tables")
+    if folder is None:
+        raise TableError("there is no folder tables/ beside this module, by whose list rows are counted")
+    return os.path.join(folder, "list.txt")
+
+
+def larger_quandles() -> List[str]:
+    """The files of quandles of more than 32 colours. Raises TableError where there are none."""
     folder = data_folder("quandles")
     if folder is None:
-        raise TableError("there is no folder quandles/ beside this module, by whose list rows are counted")
-    return os.path.join(folder, "weights", "list.txt")
+        raise TableError("there is no folder quandles/ beside this module, with larger quandles")
+    return sorted(os.path.join(folder, "larger", name) for name in os.listdir(os.path.join(folder, "larger")) if name.endswith(".txt"))
 
 
 def digest(text: str) -> str:

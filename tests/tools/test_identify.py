@@ -299,7 +299,7 @@ class KnotTableScript(IdentifyTest):
         self.assertEqual(self.read("knots.numbers.txt"), MADE[0])
 
     def test_symmetries_that_numbers_rule_out(self):
-        self.assertEqual(self.make("symmetry", "--numbers-alone", "--write")[0], 0)
+        self.assertEqual(self.make("symmetry", "--rounds", "0", "--write")[0], 0)
         rows = {row["name"]: row for row in self.rows(os.path.join(self.folder, "knots.symmetry.csv"))}
         self.assertEqual(rows["3_1"]["mirror"], "different by dihedral 3 with a cocycle mod 3")
         self.assertEqual((rows["3_1"]["reverse"], rows["3_1"]["mirror_reverse"]), ("open", "different by dihedral 3 with a cocycle mod 3"))
@@ -320,7 +320,7 @@ class KnotTableScript(IdentifyTest):
 
 class Rows(unittest.TestCase):
     def setUp(self):
-        self.text = common.read("quandles", "weights", "list.txt")
+        self.text = common.read("tables", "list.txt")
         self.blocks = blocks_of(self.text)
 
     def test_blocks_are_those_of_the_list(self):
@@ -450,7 +450,7 @@ class WithThePrograms(IdentifyTest):
         self.assertEqual(self.identify("-", text=str(rows)), (1, "refused\n", "identify.py: its drawing takes 63 columns, and a grid has at most 48\n"))
 
     def test_a_small_trial(self):
-        words = ("--disguised", "9", "--published", "6", "--errors", "2", "--timed", "0", "--most", "7", "--", "--processes", "2")
+        words = ("--disguised", "9", "--published", "6", "--errors", "2", "--rows", "0", "--timed", "0", "--most", "7", "--", "--processes", "2")
         done = subprocess.run([sys.executable, "-B", os.path.join(common.ROOT, "bench", "identify.py"), *words], capture_output=True, text=True, check=False,
                               env={**os.environ, "KNOT": BUILT, "SEEK": BUILT_SEEK})
         self.assertEqual(done.returncode, 0, done.stdout + done.stderr)

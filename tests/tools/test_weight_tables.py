@@ -1,4 +1,4 @@
-"""The ready tables of quandles with cocycles: laws, files, and what they say of knots and their mirror images."""
+"""The ready tables of quandles with cocycles: laws, files, and what they say of knots, their mirror images and their reverses."""
 import os
 import tempfile
 import unittest
@@ -7,9 +7,14 @@ import common
 import cocycles
 import quandles
 import weight_tables
-from lib import diagrams, weighing
+from lib import diagrams
+from knot_workbench import weighing
 from lib.connected import is_connected
 from lib.fields import Field
+from knot_workbench.knot_tables import read_knots
+from knot_workbench.ready import ready
+from reader.items import Quandle as ReadQuandle
+from reader.weights import counts_by_weight
 
 # The numbers of colours and the moduli: the conjugates of a matrix are as many as the matrices of determinant 1, q³ − q, by its torus.
 SIZES = {"T5": (12, 5), "T7": (24, 7), "M20a": (20, 3), "M20b": (20, 6), "M30": (30, 4), "M42a": (42, 8), "M42b": (42, 8), "M42c": (42, 8), "M56b": (56, 6)}
@@ -29,6 +34,13 @@ def read_table(text):
 
 def weights(braid, quandle, modulus, cocycle):
     return cocycles.weights_line(cocycles.weights_of_braid(braid, quandle, [cocycle], modulus), [1], modulus)
+
+
+def counts_by_shadow(grid, quandle, cocycle):
+    """How many pairs of a colouring, with one colour on its lowest row, and an outer colour have each weight, by the independent reader."""
+    read = ReadQuandle("", quandle.over, True)
+    values = [[list(row) for row in square] for square in cocycle.values]
+    return counts_by_weight((grid.xs, grid.os), read, cocycle.modulus, values, list(weighing.colourings(grid, quandle, 0)))
 
 
 class Fields(unittest.TestCase):
@@ -52,8 +64,9 @@ class Tables(unittest.TestCase):
     def test_the_files_are_what_the_script_writes(self):
         with tempfile.TemporaryDirectory() as folder:
             self.assertEqual(common.run("weight_tables.py", folder), (0, "", ""))
-            self.assertEqual(sorted(os.listdir(folder)), sorted(f"{name}.txt" for name in (*weight_tables.READY, weight_tables.LIST)))
-            for name in (*weight_tables.READY, weight_tables.LIST):
+            names = (*weight_tables.READY, *weight_tables.SHADOWS, weight_tables.LIST)
+            self.assertEqual(sorted(os.listdir(folder)), sorted(f"{name}.txt" for name in names))
+            for name in names:
                 with open(os.path.join(folder, f"{name}.txt"), encoding="utf-8") as written:
                     self.assertEqual(written.read(), common.read("quandles", "weights", f"{name}.txt"), name)
 
@@ -64,6 +77,18 @@ class Tables(unittest.TestCase):
             for name in weight_tables.LARGER:
                 with open(os.path.join(folder, f"{name}.txt"), encoding="utf-8") as written:
                     self.assertEqual(written.read(), common.read("quandles", "larger", f"{name}.txt"), name)
+
+    def test_the_list_of_rows_is_what_the_script_writes(self):
+        with tempfile.TemporaryDirectory() as folder:
+            self.assertEqual(common.run("weight_tables.py", "--rows", folder), (0, "", ""))
+            with open(os.path.join(folder, "list.txt"), encoding="utf-8") as written:
+                self.assertEqual(written.read(), common.read("tables", "list.txt"))
+
+    def test_the_list_has_the_larger_quandles_of_the_tree(self):
+        listed = common.read("quandles", "weights", "list.txt")
+        for name in weight_tables.LAST:
+            text = common.read("quandles", "larger", f"{name}.txt")
+            self.assertIn(text[text.index("quandle table"):], listed, name)
 
     def test_each_is_a_connected_quandle_with_a_cocycle(self):
         self.assertEqual(sorted(SIZES), sorted([*weight_tables.READY, *weight_tables.LARGER]))
@@ -111,6 +136,15 @@ class Weights(unittest.TestCase):
         for name, wanted in (("5_1", {"M20a", "M20b", "M30"}), ("6_2", {"T7", "M20b"}), ("8_16", {"T7", "M20b"}), ("7_3", {"M20b"}), ("8_2", {"T7"}),
                              ("7_1", set()), ("7_5", set())):
             self.assertEqual(told[name], wanted, name)
+
+    def test_reverses_by_the_shadow_cocycles_of_fields(self):
+        # Reading them tests their laws.
+        knots = read_knots(os.path.join(common.ROOT, "tables", "prime-knots-to-10.csv"))
+        for name, knot, differs in (("F8", "10_80", True), ("F8", "8_20", False), ("F27", "9_33", True)):
+            quandle, cocycle = ready(name)
+            self.assertTrue(is_connected(quandle.over), name)
+            counts = [counts_by_shadow(grid, quandle, cocycle) for grid in (knots[knot].grid, knots[knot].grid.reverse())]
+            self.assertEqual(counts[0] != counts[1], differs, (name, knot, counts))
 
     def test_mirror_images_by_the_larger_tables(self):
         tables = {name: read_table(common.read("quandles", "larger", f"{name}.txt")) for name in weight_tables.LARGER}
