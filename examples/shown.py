@@ -5,9 +5,10 @@
     examples/shown.py FILE..       these
 
 A document's commands run one behind the other in one shell, in a copy of the tree without the crates, where ./knot and ./seek
-are the programs of this tree; so a file that one command makes is there for the next. A block begins at the top of the copy. A line
-`...` stands for lines that are left out, and where nothing is shown below a command, what it gives isn't compared. A command that needs
-Regina or Sage isn't tried where they aren't installed, and is named. Status 0 where all that was tried is as shown."""
+are the programs of this tree, or those that KNOT and SEEK name, as the launchers call them; so a file that one command makes is there for
+the next. A block begins at the top of the copy. A line `...` stands for lines that are left out, and where nothing is shown below a command,
+what it gives isn't compared. A command that needs Regina or Sage isn't tried where they aren't installed, and is named. Status 0 where all
+that was tried is as shown."""
 
 import os
 import re
@@ -15,6 +16,10 @@ import shutil
 import subprocess
 import sys
 import tempfile
+
+sys.path.insert(0, os.path.join(os.path.dirname(os.path.dirname(os.path.abspath(__file__))), "tests"))
+
+import launched
 
 # How it is seen whether another project's program is here, by a word of the commands that need it.
 OTHERS = {"regina": ["/usr/bin/python3", "-c", "import regina"], "sage": ["sage", "--version"]}
@@ -100,9 +105,12 @@ def main():
             for name in os.listdir(TOP):
                 if os.path.isdir(f"{TOP}/{name}") and name not in ("crates", ".git"):
                     shutil.copytree(f"{TOP}/{name}", f"{folder}/{name}")
-            for program in ("knot", "seek"):
-                os.symlink(f"{TOP}/{program}", f"{folder}/{program}")
-            named = {"KNOT": f"{TOP}/knot", "SEEK": f"{TOP}/seek", **os.environ}
+            if os.environ.get("KNOT") or os.environ.get("SEEK"):
+                launched.put_launchers(folder)
+            else:
+                for program in ("knot", "seek"):
+                    os.symlink(f"{TOP}/{program}", f"{folder}/{program}")
+            named = {**os.environ, "KNOT": f"{folder}/knot", "SEEK": f"{folder}/seek"}
             shell = subprocess.Popen(["sh"], cwd=folder, env=named, stdin=subprocess.PIPE, stdout=subprocess.PIPE,
                                      stderr=subprocess.STDOUT, text=True)
             for block in blocks(path):

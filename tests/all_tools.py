@@ -7,8 +7,9 @@
 
 The variables KNOT and SEEK name built programs; without them those of this tree are taken, if they are built. Standard output has a line for
 each file as it ends, with its seconds and what it passed over and why, and all that it wrote where it failed; the last lines name each test
-that failed. No test gets an input or a terminal. Since tests of signals and of time depend on how busy the machine is, a file that failed
-is run once more, when all others have ended; what then passes counts as passed. The exit status is 0 where all passed, and else 1.
+that failed. No test gets an input or a terminal. A signal that ends the script ends all that it began. Since tests of signals and of time
+depend on how busy the machine is, a file that failed is run once more, when all others have ended; what then passes counts as passed. The
+exit status is 0 where all passed, and else 1.
 """
 import argparse
 import concurrent.futures
@@ -24,7 +25,8 @@ HERE = os.path.dirname(os.path.realpath(__file__))
 FOLDERS = ("tools", "python", "launcher")
 
 # Those that take longest begin first.
-SLOW = ("test_tabulate", "test_census", "test_ways", "test_census_answers", "test_batch", "test_batch_examples", "test_batch_hosts", "test_quandles", "test_from_table", "test_launcher")
+SLOW = ("test_tabulate", "test_census", "test_ways", "test_census_answers", "test_table_certificate", "test_batch", "test_batch_examples", "test_batch_hosts",
+        "test_quandles", "test_from_table", "test_launcher")
 
 FAILED = re.compile(r"^(?:FAIL|ERROR): (.*)$", re.M)
 SKIPPED = re.compile(r"\.\.\. skipped (['\"])(.*)\1$", re.M)
@@ -41,6 +43,20 @@ def modules(names):
     return sorted(wanted, key=lambda one: SLOW.index(one[1]) if one[1] in SLOW else len(SLOW))
 
 
+# The processes that run, each the first of a group of its own.
+RUNNING = set()
+
+
+def stop(number, _):
+    """Ends all that runs, and this script with it: the threads that wait would go on else."""
+    for process in list(RUNNING):
+        try:
+            os.killpg(process.pid, signal.SIGKILL)
+        except ProcessLookupError:
+            pass
+    os._exit(128 + number)
+
+
 def default_signals():
     """Undoes what nohup or a shell's `&` has set: tests send these signals."""
     for number in (signal.SIGINT, signal.SIGTERM, signal.SIGHUP):
@@ -48,13 +64,14 @@ def default_signals():
 
 
 def run(folder, name, seconds):
-    """Runs a file of tests: its lines, what it wrote, and the tests that failed, which are none where it passed."""
+    """Runs a file of tests: its lines, what it wrote, the tests that failed, which are none where it passed, and how many were run and passed over."""
     began = time.monotonic()
     call = [sys.executable, "-B", "-m", "unittest", "discover", "-v", "-s", os.path.join(HERE, folder), "-p", name + ".py"]
     # A file and no pipe, which what a test has left behind could keep open.
     with tempfile.TemporaryFile() as said:
         process = subprocess.Popen(call, stdin=subprocess.DEVNULL, stdout=said, stderr=subprocess.STDOUT, start_new_session=True,
                                    cwd=os.path.dirname(HERE), preexec_fn=default_signals)
+        RUNNING.add(process)
         try:
             process.wait(timeout=seconds)
             end = "ok" if process.returncode == 0 else f"FAILED with status {process.returncode}"
@@ -62,6 +79,7 @@ def run(folder, name, seconds):
             os.killpg(process.pid, signal.SIGKILL)
             process.wait()
             end = f"FAILED: it took more than {seconds} seconds"
+        RUNNING.discard(process)
         said.seek(0)
         told = said.read().decode("utf-8", "replace")
     count = re.search("^Ran ([0-9]+) tests?", told, re.M)
@@ -71,7 +89,7 @@ def run(folder, name, seconds):
     reasons = [match[2] for match in SKIPPED.finditer(told)]
     lines = [line, *(f"    {reasons.count(reason)} passed over: {reason}" for reason in dict.fromkeys(reasons))]
     failed = list(dict.fromkeys(FAILED.findall(told)))
-    return lines, told, [] if end == "ok" else failed or [f"{folder}/{name}: {end}"]
+    return lines, told, [] if end == "ok" else failed or [f"{folder}/{name}: {end}"], (int(count[1]) if count else 0, len(reasons))
 
 
 def main():
@@ -80,20 +98,24 @@ def main():
     parser.add_argument("--processes", type=int, default=os.cpu_count() or 1, help="how many at once (default: as many as there are processors)")
     parser.add_argument("--seconds", type=int, default=1800, help="how long each may take (default: 1800)")
     options = parser.parse_args()
-    again, all_failed, began = [], [], time.monotonic()
+    for number in (signal.SIGINT, signal.SIGTERM, signal.SIGHUP):
+        signal.signal(number, stop)
+    again, all_failed, began, counts = [], [], time.monotonic(), []
     with concurrent.futures.ThreadPoolExecutor(options.processes) as pool:
         futures = {pool.submit(run, folder, name, options.seconds): (folder, name) for folder, name in modules(options.names)}
         for future in concurrent.futures.as_completed(futures):
-            lines, told, failed = future.result()
+            lines, told, failed, count = future.result()
             print("\n".join([told, *lines] if failed else lines), flush=True)
+            counts.append(count)
             if failed:
                 again.append(futures[future])
     for folder, name in again:
         print(f"{folder}/{name} is run once more, alone:", flush=True)
-        lines, told, failed = run(folder, name, options.seconds)
+        lines, told, failed, _ = run(folder, name, options.seconds)
         print("\n".join([told, *lines] if failed else lines), flush=True)
         all_failed += failed
-    print(f"all files of tests: {'FAILED' if all_failed else 'ok'}, in {time.monotonic() - began:.0f} s")
+    tests, passed_over = map(sum, zip(*counts))
+    print(f"all files of tests: {'FAILED' if all_failed else 'ok'}, {tests} tests, {passed_over} passed over, in {time.monotonic() - began:.0f} s")
     for name in all_failed:
         print(f"    failed: {name}")
     return 1 if all_failed else 0

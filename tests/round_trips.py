@@ -6,7 +6,8 @@
 
 KNOT names the program; else it is the one that the launcher built. Random grids have 2 to 30 columns. Their codes are compared by the
 independent reader, and the drawing never has more columns than the grid had. Regina compares knots by their signatures, without reflection
-and reversal, and links by crossings, writhe and Jones polynomial. The exit status is 0 where nothing differs, and 2 where Regina isn't there.
+and reversal, and links by crossings, writhe and Jones polynomial. The exit status is 0 where nothing differs, and 2 where Regina or the
+program isn't there.
 """
 import argparse
 import os
@@ -121,6 +122,9 @@ def main():
     parser.add_argument("--grids", type=int, default=200, help="how many random grids")
     parser.add_argument("--regina", action="store_true", help="the links of Regina, in place of random grids")
     options = parser.parse_args()
+    if not os.access(PROGRAM, os.X_OK):
+        print(f"round_trips.py: there is no program {PROGRAM}: tools/build.py builds it, or KNOT names one", file=sys.stderr)
+        return 2
     random.seed(options.seed)
     wrong = try_regina() if options.regina else try_grids(options.grids)
     if wrong is None:

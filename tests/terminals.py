@@ -7,9 +7,10 @@ import tty
 
 
 def run(command, given, folder=None, timeout=None):
-    """Runs a command on these bytes, and answers its status, its standard output, and what the terminal took, byte for byte."""
+    """Runs a command on these bytes, or on an open file, and answers its status, its standard output, and what the terminal took, byte for
+    byte."""
     reader, terminal = pty.openpty()
-    taken = []
+    taken, is_text = [], isinstance(given, bytes)
 
     def take():
         while True:
@@ -25,13 +26,13 @@ def run(command, given, folder=None, timeout=None):
     try:
         # else a line feed would come as two bytes
         tty.setraw(terminal)
-        with subprocess.Popen(command, stdin=subprocess.PIPE, stdout=subprocess.PIPE, stderr=terminal, cwd=folder) as process:
+        with subprocess.Popen(command, stdin=subprocess.PIPE if is_text else given, stdout=subprocess.PIPE, stderr=terminal, cwd=folder) as process:
             os.close(terminal)
             terminal = None
             thread = threading.Thread(target=take)
             thread.start()
             try:
-                text, _ = process.communicate(given, timeout=timeout)
+                text, _ = process.communicate(given if is_text else None, timeout=timeout)
             except subprocess.TimeoutExpired:
                 process.kill()
                 raise

@@ -163,6 +163,14 @@ class Answers(Case):
         with self.says(0, TREFOIL.text + "moves 0\nspent 50\n"):
             self.assertEqual(kw.simplify(TREFOIL), (TREFOIL, (), False))
 
+    def test_least_diagrams(self):
+        with self.says(0, common.read("examples", "least", "trefoil.out")):
+            found = kw.least(TREFOIL, budget=50)
+        self.assertEqual(self.got(), ("least --budget=50", TREFOIL.text))
+        self.assertEqual(found, (kw.Grid([0, 4, 3, 2, 1], [3, 2, 1, 0, 4]), (("shift", "rows", 4),), True))
+        with self.says(0, TREFOIL.text + "moves 0\nspent 50\n"):
+            self.assertEqual(kw.least(TREFOIL), (TREFOIL, (), False))
+
     def test_numbers_of_colourings(self):
         weight = kw.cocycle("tetrahedral", 2, [[0, 1, 1, 0], [1, 0, 1, 0], [1, 1, 0, 0], [0, 0, 0, 0]])
         table = kw.quandle([[0, 2, 1], [2, 1, 0], [1, 0, 2]])
@@ -417,6 +425,9 @@ class Built(unittest.TestCase):
         simple = kw.simplify(kw.Braid(2, [1]))
         self.assertEqual((simple.grid.size, simple.is_irreducible), (2, True))
         self.assertEqual(kw.replay(kw.Braid(2, [1]), simple.moves).grid, simple.grid)
+        first = kw.least(TREFOIL)
+        self.assertEqual((kw.replay(TREFOIL, first.moves).grid, first.is_whole), (first.grid, True))
+        self.assertEqual(kw.least(kw.Grid([0, 4, 3, 2, 1], [3, 2, 1, 0, 4])).grid, first.grid)
         fault = None
         try:
             kw.decide(kw.Grid(range(50), [*range(1, 50), 0]), UNKNOT)

@@ -10,7 +10,9 @@ import sys
 
 sys.path[:0] = [os.path.join(os.path.dirname(os.path.realpath(__file__)), *parts) for parts in (("..",), ("..", "..", "tools"))]
 
+import plain_orbits
 import reader
+from reader.answers import Least
 from lib.diagrams import Grid, Lines, grid_of, grid_text, move_text, read_diagram
 from lib.moves import Illegal, made, tidied
 
@@ -66,6 +68,9 @@ def answered(words, text):
     found = reader.answer([word.encode() for word in words], text.encode())
     if isinstance(found, reader.Searched):
         return searched(text)
+    if isinstance(found, Least):
+        grid, moves = plain_orbits.least(Grid(*found.grid))
+        return 0, grid_text(grid) + moves_text("moves", moves) + "whole\n"
     if isinstance(found, reader.Simplified):
         grid, moves = simplified(Grid(*found.grid))
         return 0, grid_text(grid) + moves_text("moves", moves) + ("irreducible\n" if len(grid.xs) < 7 else "spent 20000\n")

@@ -11,7 +11,8 @@ import knot_invariants
 import quandles
 import reader
 import weight_tables
-from lib import cohomology, connected, crossing_codes, diagrams, linear, weighing
+from lib import cohomology, connected, crossing_codes, diagrams, linear
+from knot_workbench import weighing
 from knot_workbench.moves import carried, made
 
 TETRAHEDRAL = diagrams.tetrahedral()
@@ -142,7 +143,7 @@ class Weights(unittest.TestCase):
             self.assertEqual(sorted(os.listdir(folder)), ["3_1-mirror-3_1.txt", "knots.csv"])
 
     def test_the_stored_problems_say_what_their_heads_say(self):
-        blocks = {"list.txt", *(f"{name}.txt" for name in weight_tables.READY)}
+        blocks = {"list.txt", *(f"{name}.txt" for name in (*weight_tables.READY, *weight_tables.SHADOWS))}
         names = sorted(set(os.listdir(os.path.join(common.LISTS, "weights"))) - blocks)
         self.assertTrue(names)
         for name in names:
@@ -206,6 +207,20 @@ class Find(unittest.TestCase):
         self.assertEqual((status, out), (1, ""))
         self.assertIn("tried in vain: 4 quandles of orders up to 24", said)
         self.assertTrue(said.endswith("cocycles.py: nothing found, which says nothing of the two\n"))
+
+    def test_the_problem_may_be_a_file(self):
+        path, table = os.path.join(common.scratch(self), "problem.txt"), os.path.join(common.LISTS, "weights", "T5.txt")
+        with open(path, "w", encoding="utf-8") as out:
+            out.write(self.RIGHT_AND_LEFT)
+        for words in (["find", path, table], ["find", table, path], ["weights", path, table]):
+            status, out, _ = common.run("cocycles.py", *words)
+            self.assertEqual(status, 0, words)
+            self.assertIn("12 60 0 0 0", out)
+        for words, said in ((["find", path, path + "x"], f"{path}x: No such file or directory"),
+                            (["find", path, path], f"{path}: {path} begins with a diagram too: both diagrams stand in one file"),
+                            (["weights", path], "weights takes a LIST of quandles"),
+                            (["find", table], "standard input: line 1: a diagram is due where the text ends")):
+            self.assertEqual(common.run("cocycles.py", *words), (1, "", f"cocycles.py: {said}\n"))
 
     def test_quandles_that_do_not_fit_are_counted(self):
         table = os.path.join(common.LISTS, "weights", "T7.txt")

@@ -152,9 +152,9 @@ class Installed(unittest.TestCase):
                      "share/bash-completion/completions/knot", "share/zsh/site-functions/_seek", "share/fish/vendor_completions.d/knot.fish",
                      "share/knot-workbench/quandles/list-64.txt", "share/knot-workbench/tables/prime-knots-to-12.csv", "share/knot-workbench/quandles/weights/T5.txt",
                      "share/knot-workbench/quandles/weights/list.txt", "share/knot-workbench/installed.txt", "share/knot-workbench/tools/batch.py",
-                     "share/knot-workbench/tools/lib/page.css", "share/knot-workbench/tools/stages.txt", "share/doc/knot-workbench/docs/GUIDE.md",
+                     "share/knot-workbench/tools/lib/calls.py", "share/knot-workbench/tools/stages.txt", "share/doc/knot-workbench/docs/GUIDE.md",
                      "share/doc/knot-workbench/examples/check/unknot-shifted.txt", "bin/knot-batch", "bin/knot-census", "bin/knot-table", "bin/knot-identify",
-                     "bin/knot-draw", "bin/knot-page", "bin/knot-code", "bin/knot-turn", "bin/knot-join", "bin/knot-cocycles", "bin/knot-pieces"):
+                     "bin/knot-draw", "bin/knot-page", "bin/knot-invariants", "bin/knot-code", "bin/knot-turn", "bin/knot-join", "bin/knot-cocycles", "bin/knot-pieces"):
             self.assertIn(path, files)
         self.assertEqual(self.called("--uninstall"), (0, f"{len(files) - 1} files removed from {self.prefix}\n", ""))
         self.assertFalse(os.path.exists(self.prefix))
@@ -179,7 +179,7 @@ class Installed(unittest.TestCase):
         self.assertEqual((done.returncode, done.stdout), (0, "crossings 0\nloops 1\n"))
         self.assertEqual(common.call([knot, "nojob"], text="").returncode, 2)
         done = common.call([knot, "check", "--budget", "5"], text=UNKNOT)
-        self.assertEqual((done.returncode, done.stderr), (2, "knot: --budget does nothing for check: it is an option of decide and simplify\n"))
+        self.assertEqual((done.returncode, done.stderr), (2, "knot: --budget does nothing for check: it is an option of decide, simplify and least\n"))
 
     def test_seek_is_given_the_installed_list(self):
         with open(self.program, "w", encoding="utf-8") as out:

@@ -13,7 +13,8 @@ SMALL = os.path.join(common.LISTS, "connected-04.txt")
 FULL = os.strerror(errno.ENOSPC)
 
 # Calls that read standard input, and what they read.
-READERS = (("draw.py", [], TREFOIL), ("show.py", [], TREFOIL + TREFOIL + "equal 0\n"), ("turn.py", ["--mirror"], TREFOIL), ("to_regina.py", ["--print"], CODE), ("to_sage.py", ["--print"], CODE),
+READERS = (("draw.py", [], TREFOIL), ("show.py", [], TREFOIL + TREFOIL + "equal 0\n"), ("turn.py", ["--mirror"], TREFOIL), ("to_regina.py", ["--print"], CODE),
+           ("to_sage.py", ["--print"], CODE), ("invariants.py", [], TREFOIL),
            ("to_snappy.py", ["--print"], CODE), ("cocycles.py", ["weights", SMALL, "--moduli", "2"], TREFOIL + TREFOIL),
            ("cocycles.py", ["find", os.path.join(common.LISTS, "weights", "T5.txt")], TREFOIL + "braid 2 -1 -1 -1\n"))
 # Calls that write to standard output, and what they read.
@@ -38,7 +39,7 @@ class Programs(unittest.TestCase):
     def test_the_library_has_no_program(self):
         folder = os.path.join(common.TOOLS, "lib")
         modules = [name for name in os.listdir(folder) if name.endswith(".py")]
-        self.assertIn("weighing.py", modules)
+        self.assertIn("linear.py", modules)
         for name in modules:
             self.assertFalse(os.stat(os.path.join(folder, name)).st_mode & stat.S_IXUSR, name)
             self.assertNotIn("__main__", common.read("tools", "lib", name))
@@ -100,13 +101,20 @@ class Streams(unittest.TestCase):
         with open(path, "wb") as out:
             out.write(b"x 0 1\n\xff\n")
         self.assertEqual(common.run("turn.py", "--mirror", path), (1, "", f"turn.py: {path}: not UTF-8 at byte 6\n"))
+        with open(path, "w", encoding="utf-16") as out:
+            out.write(TREFOIL)
+        said = "the text is UTF-16, and not UTF-8: iconv -f UTF-16 -t UTF-8 turns it\n"
+        self.assertEqual(common.run("turn.py", "--mirror", path), (1, "", f"turn.py: {path}: {said}"))
+        with open(path, "rb") as given:
+            done = common.call([sys.executable, os.path.join(common.TOOLS, "turn.py"), "--mirror"], stdin=given)
+        self.assertEqual((done.returncode, done.stderr), (1, f"turn.py: standard input: {said}"))
 
 
 class OldPython(unittest.TestCase):
     def test_an_older_python_is_named(self):
         script = "import runpy, sys; sys.version_info = (3, 8, 18); sys.argv = sys.argv[1:]; runpy.run_path(sys.argv[0], run_name='__main__')"
         for name in ("draw.py", "turn.py", "join.py", "cocycles.py", "quandles.py", "weight_tables.py", "large_quandles.py", "to_regina.py",
-                     "to_sage.py", "to_snappy.py", "against_regina.py", "show.py", "man.py", "completions.py"):
+                     "to_sage.py", "to_snappy.py", "against_regina.py", "show.py", "invariants.py", "man.py", "completions.py"):
             path = os.path.join(common.TOOLS, name)
             done = common.call([sys.executable, "-c", script, path, "--help"], env={**os.environ, "PYTHONPATH": common.TOOLS})
             self.assertEqual((done.returncode, done.stdout, done.stderr), (1, "", f"{name}: Python 3.9 or newer is needed, and this is Python 3.8\n"))

@@ -10,6 +10,8 @@ from html.parser import HTMLParser
 
 import common
 
+import knot_workbench
+
 SAME = common.read("examples", "check", "right-trefoil-reversed.txt")
 APART = common.read("examples", "check", "trefoil-unknot-different.txt")
 WEIGHED = common.read("examples", "weights", "two-trefoils-twelve-colours.txt")
@@ -57,6 +59,20 @@ def read(text):
 
 
 class Pages(unittest.TestCase):
+    def test_the_module_makes_the_same_page(self):
+        for text, choices, words in ((SAME, {"title": "A title", "quandle": "dihedral 5", "frames": "0,2"}, ["--title", "A title", "--quandle", "dihedral 5", "--frames", "0,2"]),
+                                     (APART, {}, []), (WEIGHED, {}, [])):
+            self.assertEqual(knot_workbench.page(text, **choices), page(text, *words))
+        self.assertEqual(knot_workbench.page(knot_workbench.Certificate.parse(APART)), page(knot_workbench.Certificate.parse(APART).text))
+        for wrong, fault in ((7, knot_workbench.BadText), ("x", knot_workbench.BadText)):
+            with self.assertRaises(fault):
+                knot_workbench.page(wrong)
+        for choices in ({"frames": "1,,"}, {"frames": "99"}):
+            with self.assertRaises(knot_workbench.NoJob):
+                knot_workbench.page(SAME, **choices)
+        with self.assertRaises(knot_workbench.NoJob):
+            knot_workbench.page(WEIGHED, check=True)
+
     def test_a_page_stands_alone_and_is_well_formed(self):
         for text in (SAME, APART, WEIGHED, common.read("examples", "replay", "trefoil-word-coloured.txt")):
             out = page(text)
@@ -162,7 +178,7 @@ class Pages(unittest.TestCase):
         text = "x 0 1\no 1 0\nmoves 20000\n" + 20000 * "shift rows 1\n"
         status, out, said = common.run("show.py", text=text)
         self.assertEqual((status, out), (1, ""))
-        self.assertIn("there are 20000 moves, and a page takes 20,000 frames: choose some by --frames, as 0,20,..", said)
+        self.assertIn("there are 20000 moves, and a page takes 20,000 frames: choose some by frames, as 0,20,..", said)
 
     def test_a_checked_page_says_so(self):
         stand_in = os.path.join(common.ROOT, "tests", "python", "stand_in.py")
