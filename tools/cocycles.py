@@ -1,7 +1,7 @@
 #!/usr/bin/env python3
 """Finds 2-cocycles of quandles mod 2, 3, 4 and 5, and knots that the weights of colourings tell apart.
 
-    tools/cocycles.py find [LIST ...] < PROBLEM finds, for two diagrams, the first cocycle by which their weights differ, and writes the
+    tools/cocycles.py find [PROBLEM] [LIST ...] finds, for two diagrams, the first cocycle by which their weights differ, and writes the
                                                 input of the job `weights` that tells them apart
 
     tools/cocycles.py classes LIST ...          prints, for each quandle of the files, cocycles that give all others by sums,
@@ -9,9 +9,9 @@
     tools/cocycles.py search KNOTS LIST ...     lists the pairs of the table, mirror images too, that no quandle of the files tells
                                                 apart by its number of colourings and that some cocycle does by weights
                                                 (--write FOLDER writes an input of `weights` for each)
-    tools/cocycles.py weights LIST < PROBLEM    prints the weights of two diagrams by each cocycle that `classes` prints
+    tools/cocycles.py weights [PROBLEM] LIST .. prints the weights of two diagrams by each cocycle that `classes` prints
 
-A LIST has quandles as in quandles/; for `find` and `weights` a cocycle may stand behind a quandle, as in the ready tables of
+PROBLEM is a file that begins with two diagrams, or standard input where no file begins with a diagram. A LIST has quandles as in quandles/; for `find` and `weights` a cocycle may stand behind a quandle, as in the ready tables of
 quandles/weights/. `find` takes the cheapest first: those that leave the fewest colourings to try, and few equations where the cocycles
 have to be found. Without a LIST it takes the ready tables, and all connected quandles up to order 16, or that of --largest. It says what it tried,
 and ends with 1 where nothing tells the two apart.
@@ -27,11 +27,12 @@ import sys
 from collections import Counter, namedtuple
 
 import quandles
-from lib import calls, linear, weighing
+from lib import calls, linear
 from lib.cohomology import classes_of_cocycles
 from lib.connected import is_connected
 from knot_workbench.diagrams import Lines, bottoms, diagram_text, fits, fixed_points, grid_of, mirror_braid, quandle_text, read_diagram, read_quandles
-from lib.weighing import cocycle_text
+from knot_workbench import weighing
+from knot_workbench.weighing import cocycle_text
 
 MODULI = (2, 3, 4, 5)
 
@@ -226,8 +227,27 @@ def read_pair(text):
     return pair
 
 
+def is_problem(path):
+    """Whether a file begins with a diagram."""
+    with calls.naming(path):
+        return Lines(calls.text_of(path)).peek() in ("x", "o", "braid")
+
+
+def pair_and_lists(paths):
+    """The two diagrams, of the file that begins with a diagram or else of standard input, and the other files."""
+    problems = [path for path in paths if is_problem(path)]
+    if len(problems) > 1:
+        raise calls.Fault(f"{problems[1]}: {problems[0]} begins with a diagram too: both diagrams stand in one file")
+    text = calls.text_of(*problems)
+    with calls.naming(problems[0] if problems else "standard input"):
+        return read_pair(text), [path for path in paths if path not in problems]
+
+
 def say_weights(paths, moduli):
-    grids = [grid_of(diagram) for diagram in read_pair(calls.text_of())]
+    pair, paths = pair_and_lists(paths)
+    if not paths:
+        raise calls.Fault("weights takes a LIST of quandles")
+    grids = [grid_of(diagram) for diagram in pair]
     say_apart(filter(None, (weights_text(grids, candidate, moduli) for candidate in candidates_of(paths))))
 
 
@@ -246,9 +266,9 @@ def weights_text(grids, candidate, moduli):
 
 
 def default_lists(largest):
-    """The ready tables and the connected quandles of quandles/, up to an order."""
+    """The ready tables with a 2-cocycle and the connected quandles of quandles/, up to an order."""
     folder = os.path.join(os.path.dirname(os.path.dirname(os.path.realpath(__file__))), "quandles")
-    ready = [os.path.join(folder, "weights", name) for name in sorted(os.listdir(os.path.join(folder, "weights"))) if re.fullmatch(r"[A-Z]\w*\.txt", name)]
+    ready = [os.path.join(folder, "weights", name) for name in sorted(os.listdir(os.path.join(folder, "weights"))) if re.fullmatch(r"[MT]\w*\.txt", name)]
     lists = [os.path.join(folder, name) for name in sorted(os.listdir(folder)) if re.fullmatch(r"connected-\d+\.txt", name)]
     return ready + [path for path in lists if int(re.search(r"\d+", os.path.basename(path))[0]) <= largest]
 
@@ -284,11 +304,11 @@ def note(said):
     calls.note(f"cocycles.py: {said}")
 
 
-def say_find(paths, moduli, out):
+def say_find(paths, largest, moduli, out):
     """Writes what tells two diagrams apart, and says what was tried; ends with 1 where nothing was found."""
-    pair = read_pair(calls.text_of())
+    pair, lists = pair_and_lists(paths)
     grids = [grid_of(diagram) for diagram in pair]
-    every = candidates_of(paths)
+    every = candidates_of(lists or default_lists(largest))
     fitting = sorted((one for one in every if all(fits(one.quandle, grid) for grid in grids)), key=lambda one: cost(one, grids))
     cocycles_tried, found, in_vain = 0, None, []
     for candidate in fitting:
@@ -346,7 +366,8 @@ def main():
         if name == "find":
             job.add_argument("--largest", type=int, default=16, metavar="N", help="the largest order of connected quandles, where no LIST is given, to 32 (16)")
             job.add_argument("--out", metavar="FILE", help="where the input of `weights` goes; standard output where none is given")
-        job.add_argument("lists", nargs="*" if name == "find" else "+", metavar="LIST")
+        job.add_argument("lists", nargs="*" if name == "find" else "+", metavar="FILE" if name in ("find", "weights") else "LIST",
+                         help="the problem, else standard input; and lists of quandles" if name in ("find", "weights") else "lists of quandles")
     words = parser.parse_args()
     if words.job == "classes":
         say_classes(words.lists, words.moduli)
@@ -355,7 +376,7 @@ def main():
     elif words.job == "weights":
         say_weights(words.lists, words.moduli)
     else:
-        say_find(words.lists or default_lists(words.largest), words.moduli, words.out)
+        say_find(words.lists, words.largest, words.moduli, words.out)
 
 
 if __name__ == "__main__":

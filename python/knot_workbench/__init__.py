@@ -13,11 +13,11 @@ this module, or on PATH. Nothing in this module is proved: a certificate's `chec
 Diagrams      Grid, Braid, diagram, from_pd, from_dt, from_gauss, from_code, from_table, from_sage, from_regina, from_snappy
 Quandles      quandle, Quandle, cocycle, Cocycle, ShadowCocycle, built_in_list
 Searches      seek, decide, which answer a Certificate; or None, or an Unknown
-One diagram   colour, numbers, code, simplify, braid_word, replay
+One diagram   colour, numbers, code, simplify, least, braid_word, replay
 Two diagrams  linking, weights
 Certificates  Certificate, check
-Which knot    identify, by a KnotTable
-Pictures      draw; in a notebook diagrams and certificates show themselves
+Which knot    identify, by a KnotTable; invariants, for the eye; census, which sorts a folder of diagrams into classes
+Pictures      draw, page; in a notebook diagrams and certificates show themselves
 Errors        each one is a Fault; the module faults has them all
 
 It needs Python 3.9 or later and nothing else.
@@ -36,18 +36,22 @@ from .faults import (BadAnswer, BadCode, BadDiagram, BadText, Failed, Fault, Ill
                      TimedOut, Wide)
 from .given import diagram
 from .identifying import Identified, identify
-from .jobs import (Colourings, Compared, Numbers, Replayed, Simplified, braid_word, cocycle, code, colour, decide, from_code, from_dt, from_gauss,
-                   from_pd, linking, numbers, quandle, replay, seek, simplify, weights)
+from .jobs import (Colourings, Compared, Least, Numbers, Replayed, Simplified, braid_word, cocycle, code, colour, decide, from_code, from_dt,
+                   from_gauss, from_pd, least, linking, numbers, quandle, replay, seek, simplify, weights)
 from .knot_tables import KnotTable, Turn
+from .pages import page
+from .polynomials import Invariants, invariants
 from .programs import path_of, use
+from .sorting import Census, census
 from .sources import from_regina, from_sage, from_snappy, from_table
 from .table_entries import EntryError
 from .table_rows import TableError
 
-__all__ = ("BadAnswer", "BadCode", "BadDiagram", "BadText", "Braid", "Certificate", "Cocycle", "Code", "Colourings", "Compared", "Counted",
-           "Diagram", "Different", "DifferentLinking", "DifferentNumbers", "EntryError", "Equal", "Failed", "Fault", "Grid", "Identified",
-           "Illegal", "KnotTable", "Linked", "Malformed", "Move", "NoFile", "NoJob", "NoProgram", "Numbers", "OverLimit", "Quandle",
-           "Rejected", "Replayed", "ShadowCocycle", "Simplified", "TableError", "TimedOut", "Turn", "Unknown", "Wide", "braid_word",
-           "built_in_list", "check", "cocycle", "code", "colour", "decide", "diagram", "draw", "from_code", "from_dt", "from_gauss",
-           "from_pd", "from_regina", "from_sage", "from_snappy", "from_table", "identify", "linking", "move_text", "numbers", "path_of",
-           "quandle", "read_code", "replay", "seek", "simplify", "use", "weights")
+__all__ = ("BadAnswer", "BadCode", "BadDiagram", "BadText", "Braid", "Census", "Certificate", "Cocycle", "Code", "Colourings", "Compared",
+           "Counted", "Diagram", "Different", "DifferentLinking", "DifferentNumbers", "EntryError", "Equal", "Failed", "Fault", "Grid",
+           "Identified", "Illegal", "Invariants", "KnotTable", "Least", "Linked", "Malformed", "Move", "NoFile", "NoJob", "NoProgram",
+           "Numbers", "OverLimit", "Quandle", "Rejected", "Replayed", "ShadowCocycle", "Simplified", "TableError", "TimedOut", "Turn",
+           "Unknown", "Wide", "braid_word", "built_in_list", "census", "check", "cocycle", "code", "colour", "decide", "diagram", "draw",
+           "from_code", "from_dt", "from_gauss", "from_pd", "from_regina", "from_sage", "from_snappy", "from_table", "identify",
+           "invariants", "least", "linking", "move_text", "numbers", "page", "path_of", "quandle", "read_code", "replay", "seek",
+           "simplify", "use", "weights")

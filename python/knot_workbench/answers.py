@@ -68,6 +68,15 @@ class Simplified(NamedTuple):
     is_irreducible: bool
 
 
+class Least(NamedTuple):
+    """A diagram to which shifts and exchanges lead. Where `is_whole`, it is the least one that they reach, a name for all that they join;
+    else the budget was spent, and it is the least of those that were listed."""
+
+    grid: Grid
+    moves: Tuple[Move, ...]
+    is_whole: bool
+
+
 class Counts(NamedTuple):
     """Of each quandle in turn how many colourings there are, by weight where it has a cocycle; None where the quandle is too large."""
 
@@ -120,7 +129,7 @@ class Answer(NamedTuple):
 
     def value(self) -> Any:
         """The answer as a value: Equal, Different, DifferentNumbers, DifferentLinking or Unknown of a search; Nothing, Accepted, Turned or
-        Refused; Compared or TooWide; Simplified; Counts; a Braid of `braid`; a Grid of `grid` and `replay`; else the text. None where the
+        Refused; Compared or TooWide; Simplified; Least; Counts; a Braid of `braid`; a Grid of `grid` and `replay`; else the text. None where the
         status says that there is no answer. Raises BadAnswer where the text has another form than is due."""
         if self.status not in WITH_ANSWER:
             return None
@@ -162,7 +171,9 @@ def value_of(job: str, lines: Lines, text: str) -> Any:
     if job == "numbers":
         return read_counts(lines)
     if job in ("simplify", "lower"):
-        return read_simplified(lines)
+        return Simplified(*read_led(lines, "irreducible"))
+    if job == "least":
+        return Least(*read_led(lines, "whole"))
     if job in ("braid", "reduce"):
         return read_word(lines)
     return read_grid(lines) if job in ("grid", "replay") else text
@@ -196,14 +207,15 @@ def read_counts(lines: Lines) -> Counts:
     return Counts(tuple(found))
 
 
-def read_simplified(lines: Lines) -> Simplified:
-    """A grid, moves, and `irreducible` or `spent`."""
+def read_led(lines: Lines, end: str) -> Tuple[Grid, Tuple[Move, ...], bool]:
+    """A grid, the moves that lead to it, and whether this word stands behind them, and not `spent`."""
     grid, moves = read_grid(lines), read_moves(lines)
-    line, tokens = lines.take("the line 'irreducible' or 'spent'")
-    if tokens != ["irreducible"] and tokens[0] != "spent":
-        raise BadText("the line 'irreducible' or 'spent' is due", line)
+    due = f"the line '{end}' or 'spent'"
+    line, tokens = lines.take(due)
+    if tokens != [end] and tokens[0] != "spent":
+        raise BadText(f"{due} is due", line)
     lines.done()
-    return Simplified(grid, tuple(moves), tokens == ["irreducible"])
+    return grid, tuple(moves), tokens == [end]
 
 
 def read_word(lines: Lines) -> Braid:

@@ -5,7 +5,7 @@ from typing import List, NamedTuple, Optional, Sequence, Tuple, Union
 from .cocycles import Cocycle, ShadowCocycle, read_cocycle, read_shadow
 from .diagrams import (MAX_LARGE_ORDER, Braid, Diagram, Grid, Lines, Move, Quandle, Rows, diagram_text, grid_of, move_text, number_of, quandle_named, quandle_text,
                        read_diagram, read_moves, read_quandle, read_quandles)
-from .faults import BadDiagram, BadText, Fault, Illegal, NoFile, Rejected
+from .faults import BadDiagram, BadText, Fault, Illegal, NoFile, Rejected, not_utf8
 from .moves import carried, made
 from .programs import answered
 
@@ -119,7 +119,7 @@ class Certificate:
             with open(path, encoding="utf-8") as source:
                 return cls.parse(source.read())
         except UnicodeDecodeError as error:
-            raise BadText(f"not UTF-8 at byte {error.start}") from None
+            raise BadText(not_utf8(error)) from None
         except OSError as error:
             raise NoFile(f"{os.fspath(path)}: {error.strerror}") from error
 

@@ -84,3 +84,10 @@ class TimedOut(Fault):
 
 class BadAnswer(Fault):
     """The program wrote a text of another form than docs/FORMATS.md has."""
+
+
+def not_utf8(error: UnicodeDecodeError) -> str:
+    """What is wrong with a text that isn't UTF-8. One that begins with the mark of UTF-16 is such a text, as Windows writes it."""
+    if error.start == 0 and error.object[:2] in (b"\xff\xfe", b"\xfe\xff"):
+        return "the text is UTF-16, and not UTF-8: iconv -f UTF-16 -t UTF-8 turns it"
+    return f"not UTF-8 at byte {error.start}"

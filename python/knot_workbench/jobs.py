@@ -6,7 +6,7 @@ refuses the words; Failed where it gives no answer; and BadAnswer where its answ
 import os
 from typing import Any, Iterable, List, NamedTuple, Optional, Sequence, Tuple, Union
 
-from .answers import Answer, Compared, Simplified, TooWide, reading
+from .answers import Answer, Compared, Least, Simplified, TooWide, reading
 from .certificates import Certificate, Unknown, numbers_behind, read_list, read_verdict
 from .cocycles import MAX_MODULUS, Cocycle, ShadowCocycle, cocycle_fault, read_shadow
 from .code_texts import kind_of_text, lists_in, of_signed, plain, read_lists, read_text, unwrapped, unwrapped_components
@@ -235,6 +235,11 @@ def code(diagram: DiagramLike) -> Code:
 def simplify(diagram: DiagramLike, *, budget: Optional[int] = None) -> Simplified:
     """Makes a diagram smaller by moves that never make it larger, by `knot simplify`."""
     return value_by("simplify", diagram_text(diagram_given(diagram)), options_of(budget=budget))
+
+
+def least(diagram: DiagramLike, *, budget: Optional[int] = None) -> Least:
+    """The least diagram that shifts and exchanges reach, by `knot least`: one for all diagrams that they join."""
+    return value_by("least", diagram_text(diagram_given(diagram)), options_of(budget=budget))
 
 
 def braid_word(diagram: DiagramLike) -> Braid:

@@ -5,11 +5,12 @@ read or written, is full or is closed; with 130 where it is interrupted; and wit
 Of batch.py and from_table.py the call answers a status of its own, and `ended` sees to the streams alone.
 """
 import argparse
+import io
 import os
 import sys
 from contextlib import contextmanager
 
-from knot_workbench.faults import Fault
+from knot_workbench.faults import Fault, not_utf8
 
 OLDEST = (3, 9)
 
@@ -76,11 +77,12 @@ def text_of(path=None):
     name = path or "standard input"
     try:
         if not path:
-            return sys.stdin.read()
+            # Python's own decoding of it takes any bytes where the locale is that of C.
+            return io.TextIOWrapper(io.BytesIO(sys.stdin.buffer.read()), encoding="utf-8").read()
         with open(path, encoding="utf-8") as source:
             return source.read()
     except UnicodeDecodeError as fault:
-        raise Fault(f"{name}: not UTF-8 at byte {fault.start}") from None
+        raise Fault(f"{name}: {not_utf8(fault)}") from None
     except OSError as fault:
         raise Fault(f"{name}: {fault.strerror}") from None
 

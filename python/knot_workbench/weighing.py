@@ -4,8 +4,8 @@ A cocycle φ mod k is a square of numbers: line x has φ(x, 0), φ(x, 1), and so
 """
 from collections import Counter
 
-from knot_workbench.cocycles import MAX_MODULUS, cocycle_fault, cocycle_text, read_cocycle, read_weighed_quandles
-from knot_workbench.diagrams import covers, ends, is_up, walk
+from .cocycles import MAX_MODULUS, cocycle_fault, cocycle_text, read_cocycle, read_weighed_quandles
+from .diagrams import covers, ends, is_up, walk
 
 __all__ = ("MAX_MODULUS", "all_met", "cocycle_fault", "cocycle_text", "colourings", "pairs_met", "read_cocycle", "read_weighed_quandles", "rows_from_below",
            "weights")

@@ -1,0 +1,414 @@
+"""Pages of certificates: one HTML file each, which stands alone and is opened in any browser. tools/show.py is the command.
+
+Each move is made and each listed colouring is tried here, but only `knot check` rules on a certificate.
+"""
+import base64
+import json
+import os
+from html import escape
+from typing import NamedTuple, Optional, Union
+
+from . import certificates, cocycles, drawing, jobs, weighing
+from .certificates import Certificate
+from .diagrams import (MAX_COLOURINGS, BadText, Lines, bottoms, built_in_list, diagram_text, fits, grid_of, is_colouring, read_diagram, read_moves,
+                       read_quandle, read_quandles)
+from .faults import Fault, NoJob
+
+HERE = os.path.dirname(os.path.realpath(__file__))
+
+# A page of so many frames has some megabytes, which browsers still take.
+MOST_FRAMES = 20_000
+# So many lines of a list of colourings stand in the page at most.
+MOST_LINES = 65_536
+
+
+class Choices(NamedTuple):
+    """What a page is made with: the name of a quandle for the colours along moves, or none of them; the frames, and whether those behind
+    shifts are left out."""
+
+    quandle: Optional[str] = None
+    plain: bool = False
+    frames: Optional[str] = None
+    no_shifts: bool = False
+
+
+class Page:
+    """What a page shows.
+
+    `kind` is `equal`, `different`, `numbers`, `linking`, `weights` or `moves`; `diagrams` has for each diagram given its name, the diagram and
+    its grid; `frames` those of drawing.py with their places; `quandle` and `lists` the colourings of each diagram, each with its weight or None;
+    `verdict` that of version 3.
+    """
+
+    def __init__(self, kind, diagrams, frames=(), quandle=None, lists=(), cocycle=None, verdict=None):
+        self.kind, self.diagrams, self.frames, self.quandle, self.lists = kind, diagrams, frames, quandle, lists
+        self.cocycle, self.verdict = cocycle, verdict
+
+    def colours_of(self, number, grid):
+        """A colouring that a diagram is drawn in where no list is there, or None."""
+        if self.frames:
+            return self.frames[-1 if number else 0][1].colours
+        return some_colouring(grid, [self.quandle])[1] if self.verdict and self.quandle else None
+
+
+# Reading
+
+def read_page(text, choices):
+    """The page of a text."""
+    lines = Lines(text)
+    first = read_diagram(lines)
+    if lines.peek() not in ("x", "braid"):
+        return walk_of(lines, first, choices)
+    second, quandles = read_diagram(lines), read_quandles(lines)
+    named = [("the first diagram", first, grid_of(first)), ("the second diagram", second, grid_of(second))]
+    if lines.peek() == "weight":
+        return weighed(lines, named, quandles)
+    if lines.peek() == "shadow":
+        raise BadText("weights by regions are shown of a certificate alone", lines.take("a verdict")[0])
+    verdict, _ = certificates.read_verdict(lines, named[0][2], named[1][2])
+    if isinstance(verdict, certificates.Unknown):
+        raise BadText("the verdict is 'unknown', which has no evidence to be shown")
+    refuse_alike(verdict)
+    if isinstance(verdict, certificates.DifferentLinking):
+        return Page("linking", named, verdict=verdict)
+    if isinstance(verdict, certificates.DifferentNumbers):
+        return Page("numbers", named, quandle=verdict.quandle, cocycle=verdict.cocycle, verdict=verdict)
+    if isinstance(verdict, certificates.Different):
+        for (name, _, grid), listed in zip(named, verdict[1:]):
+            for place, colours in enumerate(listed):
+                if not is_colouring(grid, verdict.quandle, colours):
+                    raise BadText(f"line {place} of the list of {name}, counted from 0, is no colouring")
+        return Page("different", named, quandle=verdict.quandle, lists=[[(colours, None) for colours in listed] for listed in verdict[1:]])
+    quandle, colours = colours_by(choices, named[0][2], quandles)
+    frames = drawing.along(named[0][2], list(verdict.moves), quandle, colours)
+    if frames[-1].grid != named[1][2]:
+        raise BadText("the moves don't lead to the second diagram")
+    return Page("equal", named, drawing.chosen(limited(frames, choices), choices.frames, choices.no_shifts), quandle)
+
+
+def refuse_alike(verdict):
+    """Refuses a verdict `different` whose own numbers are alike."""
+    if isinstance(verdict, certificates.Different) and len(verdict.first) == len(verdict.second):
+        raise BadText(f"both lists have {len(verdict.first)} colourings, which shows nothing")
+    if isinstance(verdict, certificates.DifferentNumbers) and verdict.first.numbers == verdict.second.numbers:
+        raise BadText("the numbers of both diagrams agree, which shows nothing")
+    if isinstance(verdict, certificates.DifferentLinking) and verdict.first.numbers == verdict.second.numbers:
+        raise BadText("the linking numbers of both diagrams agree, which shows nothing")
+
+
+def walk_of(lines, diagram, choices):
+    """The page of a diagram and moves, perhaps with a quandle and colours."""
+    if lines.peek() != "moves":
+        raise BadText("behind a diagram moves or a second diagram are due", lines.take("a second diagram")[0])
+    moves, grid = read_moves(lines), grid_of(diagram)
+    quandle = colours = None
+    if lines.peek() == "quandle":
+        quandle = read_quandle(lines)
+        colours = drawing.read_colours(lines, grid, quandle)
+    lines.done()
+    if not quandle:
+        quandle, colours = colours_by(choices, grid)
+    frames = drawing.along(grid, moves, quandle, colours)
+    return Page("moves", [("the diagram", diagram, grid)], drawing.chosen(limited(frames, choices), choices.frames, choices.no_shifts), quandle)
+
+
+def weighed(lines, named, quandles):
+    """The page of an input of `weights`."""
+    if len(quandles) != 1:
+        raise BadText("before a cocycle one quandle is due")
+    modulus, values = cocycles.read_cocycle(lines, quandles[0])
+    lines.done()
+    lists = []
+    for name, _, grid in named:
+        if not fits(quandles[0], grid):
+            raise BadText(f"the quandle is too large for {name}")
+        found = sorted(weighing.colourings(grid, quandles[0]))
+        lists.append([(colours, sum(times * values[x][y] for (x, y), times in weighing.pairs_met(grid, quandles[0], colours).items()) % modulus)
+                      for colours in found])
+    return Page("weights", named, quandle=quandles[0], lists=lists, cocycle=cocycles.Cocycle(modulus, values))
+
+
+def colours_by(choices, grid, quandles=()):
+    """A quandle and a colouring of a grid by it, by what is chosen: the one that is named, or one of these or of the built-in list."""
+    if choices.plain:
+        return None, None
+    return some_colouring(grid, [jobs.quandle(choices.quandle)] if choices.quandle else [*quandles, *built_in_list()])
+
+
+def some_colouring(grid, quandles):
+    """The first quandle that colours a grid by two colours or more, and such a colouring; else none. `trivial` ones colour components.
+
+    So that it doesn't take long, no more colours of bottoms are tried in all than `check` tries of one quandle."""
+    left = MAX_COLOURINGS
+    for quandle in quandles:
+        tries = quandle.order ** bottoms(grid)
+        if tries <= left:
+            left -= tries
+            for colours in weighing.colourings(grid, quandle):
+                if len(set(colours)) > 1:
+                    return quandle, colours
+    return None, None
+
+
+def limited(frames, choices):
+    """The frames, where a page takes so many."""
+    if len(frames) > MOST_FRAMES and not choices.frames:
+        raise Fault(f"there are {len(frames) - 1} moves, and a page takes {MOST_FRAMES:,} frames: choose some by frames, as 0,{len(frames) // 1000},..")
+    return frames
+
+
+# Writing
+
+def still(grid, colours, quandle, name, number, room):
+    """A picture of a grid that needs no script, at the scale of one of `room` columns, but no smaller than half as wide as it may be."""
+    text = drawing.picture([(0, drawing.Frame(grid, colours, quandle))], False, 24, 1, False, f"{name}, of {len(grid.xs)} columns")
+    wide = f"{max(100 * (len(grid.xs) + 1) / (room + 1), 50):.0f}%"
+    return text.replace('role="img"', f'role="img" id="picture-{number}" style="width:{wide};margin:0 auto"')
+
+
+def band_of(move, before, after):
+    """Which columns and rows of the grid a move led to it changed: first column, how many, first row, how many; or None."""
+    size = len(after.xs)
+    word = move[0]
+    if word in ("shift", "exchange", "slide"):
+        first, count = (size - move[2], move[2]) if word == "shift" else (move[2], 2)
+        return [first, count, 0, size] if move[1] == "columns" else [0, size, first, count]
+    if word == "stabilise":
+        return [move[1], 2, (before.xs if move[2] == "x" else before.os)[move[1]], 2]
+    return [move[1], 1, move[2], 1]
+
+
+def move_in(caption):
+    """The move that a frame's caption names, or None."""
+    tokens = caption.removeprefix("... ").split()
+    return tuple(int(token) if token.isdigit() else token for token in tokens) if tokens else None
+
+
+def frames_data(page):
+    """The frames for the script: place, words, Xs, Os, colours, and what the move changed."""
+    found, before = [], None
+    for place, frame in page.frames:
+        move = move_in(frame.caption)
+        has_neighbour = before is not None and not frame.caption.startswith("... ")
+        band = band_of(move, before, frame.grid) if move and has_neighbour else None
+        found.append([place, frame.caption, frame.grid.xs, frame.grid.os, frame.colours, band])
+        before = frame.grid
+    return found
+
+
+def data_of(page):
+    """All that the script needs."""
+    lists = [[[*colours, *([] if weight is None else [weight])] for colours, weight in listed] for listed in page.lists]
+    over, back = (page.quandle.over, page.quandle.back) if page.quandle else (None, None)
+    return {"kind": page.kind, "palette": drawing.PALETTE, "over": over, "back": back,
+            "frames": frames_data(page), "grids": [[grid.xs, grid.os] for _, _, grid in page.diagrams], "lists": lists, "weighs": page.kind == "weights"}
+
+
+def sentence_of(page, checked):
+    """What the page says in words."""
+    if page.kind == "equal":
+        return f"<p>These two are the same: {count_of_moves(page)} from the first diagram to the second.</p>" + ruled(checked, None)
+    if page.kind == "different":
+        return counted_apart(page, *map(len, page.lists)) + ruled(checked, "Whether both lists are complete")
+    if page.kind == "weights":
+        rows = [counts_of(listed, page.cocycle.modulus) for listed in page.lists]
+        said = "These two differ: moves keep these numbers, so no moves join them." if rows[0] != rows[1] else "The numbers agree, which says nothing of the two."
+        return f"<p>{said}</p>" + weights_table(page, rows)
+    if page.kind == "numbers":
+        return numbers_sentence(page, checked)
+    if page.kind == "linking":
+        return "<p>These two differ: moves keep linking numbers, so no moves join them.</p>" + linking_table(page) + ruled(checked, "Whether these numbers are right")
+    return f"<p>A walk of {page.frames[-1][0]} moves.</p>"
+
+
+def ruled(checked, unless):
+    """That the program has ruled, or what it hasn't ruled on."""
+    if checked:
+        return "<p class=\"ruled\"><code>knot check</code> accepted this certificate.</p>"
+    return f"<p>{unless}, <code>knot check</code> says.</p>" if unless else ""
+
+
+def count_of_moves(page):
+    count = page.frames[-1][0]
+    return "one move leads" if count == 1 else f"{count} moves lead"
+
+
+def counted_apart(page, first, second):
+    """That the diagrams have so many colourings."""
+    return (f"<p>These two differ: by the quandle <strong>{escape(page.quandle.name)}</strong> the first diagram has <strong>{first}</strong> colourings, and the "
+            f"second <strong>{second}</strong>. Moves keep this number, so no moves join them.</p>")
+
+
+def numbers_sentence(page, checked):
+    """The numbers of colourings of version 3, and their seeds."""
+    both = (page.verdict.first, page.verdict.second)
+    if page.cocycle:
+        said = "<p>These two differ: moves keep these numbers, so no moves join them.</p>" + weights_table(page, [counted.numbers for counted in both])
+    else:
+        said = counted_apart(page, *(counted.numbers[0] for counted in both))
+    for (name, _, _), counted in zip(page.diagrams, both):
+        said += f"<p>The colours of the columns {' '.join(map(str, counted.seeds))} decide a colouring of {name}.</p>"
+    return said + ruled(checked, "Whether these numbers are right")
+
+
+def linking_table(page):
+    """The linking numbers of both diagrams."""
+    cells = "".join(f"<tr><th scope=\"row\">{name}</th><td>{linked.components}</td><td>{' '.join(map(str, linked.numbers)) or 'none'}</td></tr>"
+                    for (name, _, _), linked in zip(page.diagrams, (page.verdict.first, page.verdict.second)))
+    return ("<div class=\"wide\"><table><caption>Linking numbers of all ordered pairs of components</caption>"
+            f"<tr><td></td><th scope=\"col\">components</th><th scope=\"col\">numbers</th></tr>{cells}</table></div>")
+
+
+def weights_table(page, rows):
+    """How many colourings of each diagram have each weight, or by a shadow cocycle how many pairs."""
+    heads = "".join(f"<th scope=\"col\">{weight}</th>" for weight in range(page.cocycle.modulus))
+    cells = "".join(f"<tr><th scope=\"row\">{name}</th>{''.join(f'<td>{count}</td>' for count in row)}</tr>" for (name, _, _), row in zip(page.diagrams, rows))
+    counted = "pairs of a colouring and an outer colour" if isinstance(page.cocycle, cocycles.ShadowCocycle) else "colourings"
+    return (f"<div class=\"wide\"><table><caption>How many {counted} by the quandle {escape(page.quandle.name)} have each weight mod {page.cocycle.modulus}"
+            f"</caption><tr><th scope=\"col\">weight</th>{heads}</tr>{cells}</table></div>")
+
+
+def counts_of(listed, modulus):
+    """How many colourings have each weight."""
+    return [sum(weight == wanted for _, weight in listed) for wanted in range(modulus)]
+
+
+def table_of(square, caption, corner):
+    """A square of numbers as a table."""
+    heads = "".join(f"<th scope=\"col\">{place}</th>" for place in range(len(square)))
+    rows = "".join(f"<tr><th scope=\"row\">{place}</th>{''.join(f'<td>{value}</td>' for value in row)}</tr>" for place, row in enumerate(square))
+    return (f"<details><summary>{caption}</summary><div class=\"wide\"><table><tr><th scope=\"col\">{corner}</th>{heads}</tr>{rows}</table></div></details>")
+
+
+def figures_of(page):
+    """Each diagram given: its picture, its text, and its list of colourings."""
+    found = []
+    room = max(len(grid.xs) for _, _, grid in page.diagrams)
+    for number, (name, diagram, grid) in enumerate(page.diagrams):
+        listed = page.lists[number] if page.lists else []
+        shown = max(range(len(listed)), key=lambda place: len(set(listed[place][0])), default=None)
+        colours = listed[shown][0] if listed else page.colours_of(number, grid)
+        count = f": {len(listed)} colourings" if page.lists else ""
+        below = f"<pre>{escape(diagram_text(diagram))}</pre>"
+        if listed:
+            lines = "\n".join(" ".join(map(str, colours)) + ("" if weight is None else f"   weight {weight}") for colours, weight in listed[:MOST_LINES])
+            below += (f'<label class="needs">Colouring <output id="which-{number}">{shown + 1}</output> of {len(listed)}'
+                      f'<input type="range" id="list-{number}" min="1" max="{len(listed)}" value="{shown + 1}"></label>'
+                      f'<p id="said-{number}" class="said" aria-live="polite"></p>'
+                      f'<details><summary>All {len(listed)} colourings, by column</summary><pre class="list">{lines}</pre></details>')
+        picture = still(grid, colours, page.quandle if colours else None, name.capitalize(), number, room)
+        found.append(f"<figure><figcaption>{name.capitalize()}{count}</figcaption>{picture}{below}</figure>")
+    return f'<div class="figures">{"".join(found)}</div>'
+
+
+def walk_section(page):
+    """The slider through the moves, and all moves in words."""
+    last = len(page.frames) - 1
+    items = "".join(f'<li value="{place}"><button type="button" data-place="{number}">{escape(frame.caption)}</button></li>'
+                    for number, (place, frame) in enumerate(page.frames) if frame.caption)
+    buttons = "".join(f'<button type="button" id="{name}" title="{title}" aria-label="{title}">{sign}</button>' for name, title, sign in (
+        ("first", "First frame (Home)", "|&lt;"), ("back", "One back (left arrow)", "&lt;"), ("play", "Play or pause (space bar)", "Play"),
+        ("on", "One on (right arrow)", "&gt;"), ("last", "Last frame (End)", "&gt;|")))
+    return (f'<section aria-labelledby="moves-head"><h2 id="moves-head">The moves</h2><noscript><p>The slider needs scripts; all moves stand below.</p></noscript>'
+            f'<div class="needs"><div class="walk"><svg id="walk" role="img" aria-labelledby="now"></svg></div>'
+            f'<p id="now" class="said" aria-live="polite"></p><label>Frame<input type="range" id="frame" min="0" max="{last}" value="0"></label>'
+            f'<div class="buttons">{buttons}</div></div>'
+            f'<details{" open" if last <= 30 else ""}><summary>All moves in words</summary><ol>{items}</ol></details></section>')
+
+
+def cocycle_part(cocycle):
+    """A cocycle's table; a shadow cocycle's is one for each region."""
+    if not isinstance(cocycle, cocycles.ShadowCocycle):
+        return table_of(cocycle.values, f"The cocycle mod {cocycle.modulus}: φ(x, y), line x and column y", "φ")
+    if cocycle.values is None:
+        return f"<p>The shadow cocycle is that of Mochizuki's formula, mod {cocycle.modulus}.</p>"
+    return "".join(table_of(square, f"The shadow cocycle mod {cocycle.modulus}: θ({region}, x, y), line x and column y", "θ")
+                   for region, square in enumerate(cocycle.values))
+
+
+def certificate_part(text, ruler):
+    """The text that the page was made of, to be read and to be kept, and how it is ruled on."""
+    kept = base64.b64encode(text.encode()).decode()
+    return (f'<p class="foot">Verticals pass over horizontals. Keep <a download="certificate.txt" href="data:text/plain;charset=utf-8;base64,{kept}">certificate.txt</a>, '
+            f"and have it ruled on: <code>{ruler} &lt; certificate.txt</code>. The separate checker <code>knot_check</code> is a part of the sources of "
+            f"knot, and is built alone by <code>tools/build.py knot_check</code>.</p>\n"
+            f"<details><summary>The certificate</summary><pre>{escape(text)}</pre></details>")
+
+
+def page_text(page, title, checked, text):
+    """The whole file."""
+    parts = [sentence_of(page, checked), figures_of(page)]
+    if page.frames:
+        parts.append(walk_section(page))
+        if page.quandle:
+            parts.append(f"<p>The colours are a colouring by the quandle {escape(page.quandle.name)}, carried along the moves; their numbers stand below "
+                         "the columns.</p>")
+    if page.quandle:
+        parts.append(table_of(page.quandle.over, f"The quandle {escape(page.quandle.name)}: x ▷ y, line x and column y", "▷"))
+    if page.cocycle:
+        parts.append(cocycle_part(page.cocycle))
+    ruler = {"weights": "knot weights", "moves": "knot replay"}.get(page.kind, "knot check")
+    data = json.dumps(data_of(page), separators=(",", ":")).replace("<", "\\u003c")
+    style, script = (beside(f"page.{kind}") for kind in ("css", "js"))
+    return f"""<!DOCTYPE html>
+<html lang="en">
+<head>
+<meta charset="utf-8">
+<meta name="viewport" content="width=device-width, initial-scale=1">
+<title>{escape(title)}</title>
+<style>
+{style}</style>
+</head>
+<body>
+<main>
+<h1>{escape(title)}</h1>
+{"".join(parts)}
+{certificate_part(text, ruler)}
+</main>
+<script type="application/json" id="data">{data}</script>
+<script>
+{script}</script>
+</body>
+</html>
+"""
+
+
+def title_of(page):
+    """A title where none is given."""
+    titles = {"equal": "Two diagrams that are the same", "weights": "Two diagrams and their weights", "moves": "A walk of moves"}
+    return titles.get(page.kind, "Two diagrams that differ")
+
+
+def beside(name):
+    """The text of a file that lies beside this one."""
+    with open(os.path.join(HERE, name), encoding="utf-8") as source:
+        return source.read()
+
+
+def page(of: Union[Certificate, str], title: Optional[str] = None, *, quandle: Optional[str] = None, plain: bool = False,
+         frames: Optional[str] = None, no_shifts: bool = False, check: bool = False) -> str:
+    """A page of a certificate, or of another text that tools/show.py takes, as the text of an HTML file.
+
+    `title`      the page's title
+    `quandle`    the name of the quandle whose colours are carried along moves; `plain` leaves colours out
+    `frames`     only these frames, counted from 0: as "0,5,9" or "3..7" or "0,10,.."; `no_shifts` leaves out those behind shifts
+    `check`      has `knot check` rule on it first, and the page says so
+
+    Raises BadText where it can't be shown, NoJob where `frames` names none or `check` can't be asked, and with `check` Rejected.
+    """
+    text = of.text if isinstance(of, Certificate) else of
+    if not isinstance(text, str):
+        raise BadText(f"{text!r:.40} is neither a certificate nor the text of one")
+    try:
+        shown = read_page(text, Choices(quandle, plain, frames, no_shifts))
+    except Fault:
+        raise
+    except ValueError:
+        raise NoJob(f"frames {frames} names no places") from None
+    if check and shown.kind in ("weights", "moves"):
+        raise NoJob("check is for certificates 'equal' and 'different'")
+    if check:
+        certificates.check(text)
+    if shown.kind in ("equal", "moves") and not shown.frames:
+        raise NoJob(f"frames {frames} names none of the frames")
+    return page_text(shown, title or title_of(shown), check, text)
