@@ -148,8 +148,6 @@ def input_of(cell):
         return b""
     if match := re.fullmatch(r"`([^`]*)` and (\d+) lines `([^`]*)`", cell):
         return input_of(f"`{match[1]}`") + f"\n{match[3]}".encode() * int(match[2])
-    if match := re.fullmatch(r"`x 0 1 2` and so on to `(\d+)`", cell):
-        return ("x " + " ".join(str(number) for number in range(int(match[1]) + 1))).encode()
     match = re.fullmatch(r"`([^`]*)`", cell)
     if not match:
         raise ValueError(f"an input of the table that can't be read: {cell}")
@@ -445,13 +443,21 @@ def windows():
         yield Case("memory", f"a check: {size} KB", [b"check"], SHIFTED + b"equal 0\n", way="memory", need=size * KIBIBYTE)
 
 
+def in_stack(name, words_, data, size):
+    """A call with so many kilobytes of stack for its first thread. The call and each worker run in threads whose stacks have stated sizes, but the
+    separate checker works in its first thread."""
+    enough = 384 if words_[:1] == [b"check"] else 64
+    return Case("stack", f"{name}: {size} KB", words_, data, way="stack" if size >= enough else "tiny stack", need=size * KIBIBYTE)
+
+
 def stack():
     for name, words_, data in wanting():
-        # Of the same limit a worker's thread has less for itself than the first thread. How many there are makes no difference.
-        enough = 640 if any(word.startswith(b"--workers=") for word in words_) else 384
         for size in (4, 16, 64, 128, 256, 384, 512, 640, 768, 1024, 2048, 4096, 8192):
-            way = "stack" if size >= enough else "tiny stack"
-            yield Case("stack", f"{name}: {size} KB", words_, data, way=way, need=size * KIBIBYTE)
+            yield in_stack(name, words_, data, size)
+    for size in range(64, 4 * 1024 + 1, 64):
+        for workers in (1, 2, 8, 64):
+            yield in_stack(f"each stack, {workers} workers", [b"decide", b"--spare=3", b"--workers=%d" % workers], MIRRORED + TREFOIL, size)
+        yield in_stack("each stack, a check", [b"check"], SHIFTED + b"equal 0\n", size)
 
 
 def file_size():

@@ -19,14 +19,18 @@ use std::marker::Brand;
 use std::sync::Wait;
 use std::sync::ledger::{Blank, Ledger};
 use std::thread;
-use std::thread::Threads;
+use std::thread::{Builder, Threads};
 
 /// The greatest number of workers.
 pub const MAX_WORKERS: u32 = 64;
 
-/// Searches with 1 to `MAX_WORKERS` workers at one book, until each of them has seen its end. There are at most as many
-/// threads as workers; where no thread can be started for some of them, they work in the threads that there are, one
-/// after the other. What is asked of the problem is as for `alone`. Want of memory for the book or for the seats is the one error.
+/// How many bytes the stack of a worker's thread has: several times what the deepest call takes, most of which is for the offers of four
+/// entries.
+const STACK: usize = 4_194_304;
+
+/// Searches with 1 to `MAX_WORKERS` workers at one book, until each of them has seen its end. Each has a thread of
+/// its own; those for which none can be started work in the calling thread, one after the other, once the threads have
+/// ended. What is asked of the problem is as for `alone`. Want of memory for the book or for the seats is the one error.
 pub fn pool<R: Threads + Wait + Sync, G: Gate + Sync>(
     rt: &R,
     alloc: Global,
@@ -84,23 +88,54 @@ fn run_workers<
     let (shared, mut seats): (SharedBook<L, M, K>, Vec<Seat<L, M>>) = SharedBook::new(
         alloc, book, workers, made_blank, end_blank,
     )?;
-    work_all(rt, &shared, seats.as_mut_slice(), workers, gate);
+    work_all(rt, &shared, seats.as_mut_slice(), gate);
     Ok(shared.close(seats))
 }
 
-/// Each seat's worker works until it has seen the end, in at most as many threads as there are workers.
+/// Each seat's worker works until it has seen the end.
 fn work_all<
     L: Ledger + Send + Sync,
     M: Ledger + Send + Sync,
     K: OfProblem + Send + Sync,
     R: Threads + Wait + Sync,
     G: Gate + Sync,
->(rt: &R, shared: &SharedBook<L, M, K>, seats: &mut [Seat<L, M>], workers: u32, gate: &G)
-    requires { 1 ≤ workers }
+>(rt: &R, shared: &SharedBook<L, M, K>, seats: &mut [Seat<L, M>], gate: &G)
     ensures { All (λ s. s.saw_end ≡ true) seats.new }
 {
-    let run = |_at: usize, seat: &mut Seat<L, M>|
-        ensures { seat.exit.now.saw_end ≡ true }
-    { shared.work(rt, seat, gate) };
-    thread::for_each_mut(rt, seats, workers as usize, &run);
+    work_in_threads(rt, shared, seats, gate);
+    for seat in seats.iter_mut() {
+        see_end(rt, shared, seat, gate);
+    }
+}
+
+/// Each seat's worker works in a thread of its own, if one can be started; the calling thread waits for them. No clause says what a
+/// thread makes of a seat.
+fn work_in_threads<
+    L: Ledger + Send + Sync,
+    M: Ledger + Send + Sync,
+    K: OfProblem + Send + Sync,
+    R: Threads + Wait + Sync,
+    G: Gate + Sync,
+>(rt: &R, shared: &SharedBook<L, M, K>, seats: &mut [Seat<L, M>], gate: &G) {
+    thread::scope(thread::scope_env(), rt, |scope| {
+        for seat in seats.iter_mut() {
+            let _thread = Builder::new()
+                .stack_size(STACK)
+                .spawn_scoped(scope, move || shared.work(rt, seat, gate));
+        }
+    })
+}
+
+/// The seat's worker works until it has seen the end, unless it has.
+fn see_end<L: Ledger, M: Ledger, K: OfProblem, R: Wait, G: Gate>(
+    rt: &R,
+    shared: &SharedBook<L, M, K>,
+    seat: &mut Seat<L, M>,
+    gate: &G,
+)
+    ensures { seat.new.saw_end ≡ true }
+{
+    if !seat.saw_end() {
+        shared.work(rt, seat, gate);
+    }
 }
