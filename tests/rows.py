@@ -32,6 +32,7 @@ A file has a subject, and is read by people. A row is a name, a call, and parts.
   link NAME to OTHER        a symbolic link that lies there, with this text as its target
   pipe NAME                 a named pipe that lies there; what stands in the part is written into it, and where it is empty, it is read
   memory N                  the call has N kilobytes of address space; where the program was built with a sanitizer, the row is passed over
+  full output               standard output is a full device, so that each write fails
   each of                   so many cases: each line stands in turn in the place of the line `...` above, up to the next `each of`
   answer STATUS             the exit status, and standard output
   front STATUS              the exit status, and what standard output begins with
@@ -56,7 +57,7 @@ Each line of a part ends with a line feed, but where it ends with a backslash. W
 \\{MAX_SIZE + 1} for a number, \\{0 to MAX_SIZE} for numbers with blanks between, and \\{" 1" x MAX_SIZE - 4} for so many copies of a text.
 The constants are those of the crates. Lines that begin with # are remarks, and empty lines between parts say nothing.
 
-Each difference is printed, and last a line with the counts. There are some 1,600 calls.
+Each difference is printed, and last a line with the counts. There are some 3,900 calls.
 
 exit status:
   0  each row has what it must
@@ -91,7 +92,7 @@ MARGIN = "    "
 ONE_BYTE = {"\\": b"\\", "t": b"\t", "r": b"\r", "n": b"\n", "0": b"\0"}
 ESCAPE = re.compile(r"\\(?:\{(?P<sum>[^}]*)\}|x(?P<byte>[0-9a-f]{2})|(?P<one>.))")
 NUMBER = re.compile(r"(?P<front>\w+)(?: (?P<sign>[+-]) (?P<rest>[0-9]+))?")
-PART = re.compile(r"input|unreadable input|input is (?P<input>\S+)|word (?P<word>.+)|file (?P<file>\S+)|each of"
+PART = re.compile(r"input|unreadable input|full output|input is (?P<input>\S+)|word (?P<word>.+)|file (?P<file>\S+)|each of"
                   r"|link (?P<link>\S+ to \S+)|pipe (?P<pipe>\S+)|memory (?P<memory>[0-9]+)"
                   r"|(?:answer|front) (?P<status>[0-9]+)|error|taken|whole|accepted behind it"
                   r"|(?:simplified to|equal within|drawn in) (?P<columns>[0-9]+) columns|lists of (?P<lists>[0-9]+(?: [0-9]+)*)"
@@ -114,6 +115,7 @@ class Case:
     links: dict = field(default_factory=dict)
     pipes: dict = field(default_factory=dict)
     memory: int = None
+    is_full: bool = False
 
 
 @dataclass
@@ -242,6 +244,8 @@ def cases_of(name, blocks, known):
             frame.given = lines
         elif line == "unreadable input":
             frame.given = None
+        elif line == "full output":
+            frame.is_full = True
         elif part["input"]:
             frame.input = part["input"]
         elif part["word"]:
@@ -283,7 +287,7 @@ def one_case(frame, other, place, known):
     given = None if frame.given is None else put(frame.given)
     name = frame.name if other is None else f"{frame.name}, {place}: {other}"
     return Case(name, frame.words, given, {path: put(lines) for path, lines in frame.files.items()}, frame.wanted, frame.input, frame.links,
-                {path: put(lines) for path, lines in frame.pipes.items()}, frame.memory)
+                {path: put(lines) for path, lines in frame.pipes.items()}, frame.memory, frame.is_full)
 
 
 def all_cases(names):
@@ -387,11 +391,21 @@ class Runner:
                               check=False)
         return Ended(done.returncode, done.stdout, done.stderr)
 
+    def call_full(self, case):
+        """A call whose output is a full device."""
+        next(self.counter)
+        with open("/dev/full", "wb") as full:
+            done = subprocess.run([self.programs[case.words[0]], *case.words[1:]], input=case.given, stdout=full, stderr=subprocess.PIPE, timeout=PATIENCE,
+                                  check=False)
+        return Ended(done.returncode, b"", done.stderr)
+
     def problems(self, case):
         """What differs in a case."""
         try:
             if case.memory is not None:
                 return [] if is_sanitized(self.programs[case.words[0]]) else self.differences(case, self.call_within(case))
+            if case.is_full:
+                return self.differences(case, self.call_full(case))
             if not (case.files or case.links or case.pipes) and not any(isinstance(detail, str) for _, detail, _ in case.wanted):
                 return self.differences(case, self.call(case.words, case.given))
             with tempfile.TemporaryDirectory(prefix="knot-rows.") as folder:

@@ -85,3 +85,8 @@ begins_none text x read = by text.lines refl (starts_table text.lines) refl
 
 pub pair_read_so : (bytes : List ℕ) (x : ProblemText × Said) → said_of bytes ≡ Ok x → certificate_of bytes ≡ Ok (inl x)
 pair_read_so bytes x read = let none = begins_none (text_of bytes) x read in rw none (ap as_pair read)
+
+-- ---- so is all that begins as no table, and it fails so
+
+pub others_read_so : (bytes : List ℕ) → begins_table bytes ≡ false → certificate_of bytes ≡ as_pair (said_of bytes)
+others_read_so bytes begins = rw begins refl

@@ -27,8 +27,7 @@ pub record IsTruePair (bytes : List ℕ) : Type 0 where
   pub read : said_of bytes ≡ Ok (problem, said)
   pub is_true : IsTrueSaid problem said
 
--- what a certificate says is true: of the two diagrams of a problem, or of a table, that two rows of one class are joined by moves, and no list
--- of moves joins two rows of two classes, unless these are left open
+-- what a certificate says is true, of the two diagrams of a problem or of the rows and classes of a table
 abbrev pub IsTrueCertificate : Certificate → Type 0
 IsTrueCertificate (inl pair) = IsTrueSaid pair.0 pair.1
 IsTrueCertificate (inr table) = IsTrueTable table

@@ -38,6 +38,13 @@ abbrev pub IsOfRefusal : Sentence → Type 0
 IsOfRefusal (told.Refused why) = Unit {0}
 IsOfRefusal other = ⊥
 
+-- it is told of a planar diagram code: of a line of it, of a drawing that takes too many columns, or of why no diagram is answered
+abbrev pub IsOfCode : Sentence → Type 0
+IsOfCode (told.CodeLine line limit) = Unit {0}
+IsOfCode (told.Wide columns) = Unit {0}
+IsOfCode (told.Refused why) = Unit {0}
+IsOfCode other = ⊥
+
 -- the words ask for the diagram of a code
 abbrev pub AsksToDraw : List (List ℕ) → Type 0
 AsksToDraw words = (asked : Asked) × Asks words asked × (asked.job ≡ job.Plain plain.Grid)

@@ -4,7 +4,7 @@ ghost use Rattle.knot_ports.specs.Status.{IsOfAnswer};
 ghost use Rattle.knot_ports.specs.declared.status.Status.TheVariants as kind;
 ghost use Rattle.knot_words.specs.Numbers.{texts_of};
 ghost use Rattle.knot_words.specs.Words.{Asks};
-ghost use Rattle.knot_tells.specs.Told.{AsksToDraw, IsOf, IsOfInput, IsOfRefusal};
+ghost use Rattle.knot_tells.specs.Told.{AsksToDraw, IsOf, IsOfCode, IsOfInput, IsOfRefusal};
 
 use crate::jobs::Jobs;
 use crate::lines::{Named, begins_table, has_line, named_in};
@@ -66,7 +66,7 @@ pub fn sentence_of<'a, R: Read + Drop, W: Write + Drop>(
 ) -> Option<Sentence<'a>>
     ensures told { IfSome result (λ s. IsOf status s) }
     ensures silent { (status ≡ kind.Done) ⊎ (status ≡ kind.Unknown) → result ≡ None }
-    ensures drawn { IfSome result (λ s. status ≡ kind.Rejected → AsksToDraw (texts_of words.entry.now)) }
+    ensures drawn { IfSome result (λ s. IsOfCode s → AsksToDraw (texts_of words.entry.now)) }
     ensures some { (IsOfAnswer status → ⊥) → IsSome result }
 {
     match status {
@@ -93,10 +93,21 @@ pub fn sentence_of<'a, R: Read + Drop, W: Write + Drop>(
 /// What is told where an input was rejected: of a code, why no diagram of it is answered.
 fn refused_sentence<'a, W: Write + Drop>(job: Job, sink: &StdSink<W>) -> Option<Sentence<'a>>
     ensures told { IfSome result (λ s. IsOfRefusal s) }
-    ensures drawn { IfSome result (λ s. job ≡ Job.Plain PlainJob.Grid) }
+    ensures drawn { IfSome result (λ s. IsOfCode s → job ≡ Job.Plain PlainJob.Grid) }
 {
     match job {
         Job::Plain(PlainJob::Grid) => Some(Sentence::Refused(refusal_in(sink.front())?)),
+        _ => None,
+    }
+}
+
+/// What is told of the columns of a drawing, which exceed a limit.
+fn wide_sentence<'a>(job: Job, is_limit: bool, columns: usize) -> Option<Sentence<'a>>
+    ensures told { IfSome result (λ s. IsOfInput is_limit s) }
+    ensures drawn { IfSome result (λ s. IsOfCode s → job ≡ Job.Plain PlainJob.Grid) }
+{
+    match job {
+        Job::Plain(PlainJob::Grid) if is_limit => Some(Sentence::Wide { columns }),
         _ => None,
     }
 }
@@ -108,12 +119,13 @@ fn line_sentence<'a, R: Read + Drop, W: Write + Drop>(
     source: &'a StdSource<R>,
     sink: &StdSink<W>,
 ) -> Option<Sentence<'a>>
-    ensures { IfSome result (λ s. IsOfInput is_limit s) }
+    requires reads { job ≢ Job.Sample }
+    ensures told { IfSome result (λ s. IsOfInput is_limit s) }
+    ensures drawn { IfSome result (λ s. IsOfCode s → job ≡ Job.Plain PlainJob.Grid) }
 {
     let line = match named_in(sink.front())? {
         Named::Bytes => return Some(Sentence::Long),
-        Named::Columns(columns) if is_limit => return Some(Sentence::Wide { columns }),
-        Named::Columns(_) => return None,
+        Named::Columns(columns) => return wide_sentence(job, is_limit, columns),
         Named::Line(line) => line,
     };
     let Some(shape) = shape_of(job) else {

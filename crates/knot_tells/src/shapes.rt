@@ -1,4 +1,5 @@
 //! The shape of each job's input.
+ghost use Rattle.std.specs.Prelude.{◌≡◌, ◌⊎◌, IsNone};
 
 use knot_words::{Job, PlainJob};
 use seek_faults::{PROBLEM, Part, Shape, Then};
@@ -11,7 +12,9 @@ const DIAGRAM: Shape = Shape {
 };
 
 /// What the input of a job is made of; None where it has none, and for a code.
-pub(crate) fn shape_of(job: Job) -> Option<Shape> {
+pub(crate) fn shape_of(job: Job) -> Option<Shape>
+    ensures none { IsNone result → (job ≡ Job.Sample) ⊎ (job ≡ Job.Plain PlainJob.Grid) }
+{
     match job {
         Job::Decide => Some(PROBLEM),
         Job::Simplify | Job::Least => Some(DIAGRAM),
@@ -21,7 +24,9 @@ pub(crate) fn shape_of(job: Job) -> Option<Shape> {
 }
 
 /// What the input of a plain job is made of; None for a code.
-fn plain_shape_of(job: PlainJob) -> Option<Shape> {
+fn plain_shape_of(job: PlainJob) -> Option<Shape>
+    ensures none { IsNone result → job ≡ PlainJob.Grid }
+{
     let (are_two, are_braids, then) = match job {
         PlainJob::Check => (true, false, Then::QuandlesAnd(Part::Verdict)),
         PlainJob::Replay => (false, false, Then::Only(Part::Moves)),

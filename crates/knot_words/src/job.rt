@@ -23,7 +23,7 @@ pub enum Job {
 /// A job that needs no search and takes no option.
 #[derive(Clone, Copy, Debug, PartialEq, Eq)]
 pub enum PlainJob {
-    /// Rules on evidence about two diagrams.
+    /// Rules on evidence about two diagrams, or on a table of knots.
     Check,
     /// Makes moves on a diagram.
     Replay,

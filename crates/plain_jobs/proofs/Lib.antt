@@ -8,4 +8,5 @@ mod Along
 mod Grids
 mod TableGrids
 mod TableFails
+mod NumbersFail
 pub mod Replies

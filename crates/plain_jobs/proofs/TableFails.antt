@@ -62,7 +62,7 @@ flat_line : {A B : Type 0} (r : Result (NumberedLine × Text) TextFault) (g : Nu
 flat_line (Ok line) g k = flat_rest (g line.0) line.1 k
 flat_line (Err e) g k = refl
 
-line_fails : {A B : Type 0} (g : NumberedLine → Result A TextFault) (k : A → Text → Result B TextFault) → ((line : NumberedLine) → At line.number (g line))
+pub line_fails : {A B : Type 0} (g : NumberedLine → Result A TextFault) (k : A → Text → Result B TextFault) → ((line : NumberedLine) → At line.number (g line))
     → ((a : A) → FailsFirst (k a)) → FailsFirst (λ text. next_line text >>= λ line. g line.0 >>= λ x. k x line.1)
 line_fails g k at fails =
     let first = λ (text : Text). next_line text >>= λ line. g line.0 >>= λ x. given x line.1 in
@@ -153,7 +153,7 @@ quandle_then_fails q k fails =
     (λ s. fails (block_with q (Some (Regions s)))))
     (fails (block_with q None)))
 
-block_fails : {B : Type 0} (most : ℕ) (k : Block → Text → Result B TextFault) → ((b : Block) → FailsFirst (k b))
+pub block_fails : {B : Type 0} (most : ℕ) (k : Block → Text → Result B TextFault) → ((b : Block) → FailsFirst (k b))
     → FailsFirst (λ text. block_item most text >>= λ b. k b.0 b.1)
 unfolding block_item
 block_fails most k fails =

@@ -1,5 +1,5 @@
 //! Laws of single jobs, over the definitions alone.
-ghost use Rattle.std.specs.Prelude.{◌≡◌, ℕ, List, Ok};
+ghost use Rattle.std.specs.Prelude.{◌≡◌, ℕ, List, Ok, false};
 ghost use Rattle.grid_core.specs.Diagram.{Diagram};
 ghost use Rattle.grid_moves.specs.Joining.{Joins};
 ghost use Rattle.quandle_core.specs.Quandle.{Table, IsQuandle};
@@ -11,7 +11,9 @@ ghost use Rattle.verdict_core.specs.declared.problem.ProblemText.{ProblemText};
 ghost use Rattle.knot_text.specs.FirstBadLine.{FailsFirst};
 ghost use Rattle.certificate_text.specs.declared.said.Said.{Said};
 ghost use Rattle.certificate_text.specs.Said.{said_of};
-ghost use Rattle.table_text.specs.Tables.{table_in};
+ghost use Rattle.block_text.specs.Blocks.{blocks_in};
+ghost use Rattle.block_text.specs.Numbered.{numbers_in};
+ghost use Rattle.table_text.specs.Tables.{begins_table, table_in};
 ghost use Rattle.check_job.specs.Input.{as_pair, certificate_in, certificate_of};
 ghost use Rattle.plain_jobs.specs.Jobs.Replay.{Carries};
 ghost use Rattle.plain_jobs.specs.EquallyMany.{HaveEquallyMany};
@@ -39,7 +41,15 @@ pub fn a_certificate_fails_at_its_first_bad_line()
     ensures certificate { FailsFirst certificate_in }
 {}
 
-/// What is read as a problem with what is said of its two diagrams, in one of the first three versions, is read so beside tables.
+/// The text of a diagram and blocks, and one of blocks alone, fails at its first bad line, or where something is due at its end.
+pub fn a_text_of_blocks_fails_at_its_first_bad_line()
+    ensures numbers { FailsFirst numbers_in }
+    ensures blocks { FailsFirst blocks_in }
+{}
+
+/// What is read as a problem with what is said of its two diagrams, in one of the first three versions, is read so beside tables. A text whose
+/// first line isn't `certificate 4` is read so, or fails so.
 pub fn earlier_certificates_are_read_as_before()
-    ensures { (bytes : List ℕ) (x : ProblemText × Said) → said_of bytes ≡ Ok x → certificate_of bytes ≡ as_pair (Ok x) }
+    ensures read { (bytes : List ℕ) (x : ProblemText × Said) → said_of bytes ≡ Ok x → certificate_of bytes ≡ as_pair (Ok x) }
+    ensures others { (bytes : List ℕ) → begins_table bytes ≡ false → certificate_of bytes ≡ as_pair (said_of bytes) }
 {}

@@ -99,8 +99,9 @@ impl fmt::Display for Limits {
                 )?;
                 write!(
                     f,
-                    "by a table in evidence by numbers at most {MAX_LARGE_ORDER} without `shadow`, a number of a move is at most {MAX_BYTE}, "
-                )
+                    "by a table in evidence by numbers at most {MAX_LARGE_ORDER} without `shadow`, seeds are at most {MAX_SIZE}, "
+                )?;
+                write!(f, "a modulus or a number of a move is at most {MAX_BYTE}, ")
             }
             Part::Moves => write!(
                 f,

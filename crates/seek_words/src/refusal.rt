@@ -14,8 +14,9 @@ const TIP: &str = "  tip: ";
 /// With what one begins that names an option like it.
 const LIKE: &str = "  tip: a similar argument exists: '-";
 
-/// What is said of a number below 0 behind an option.
-const BELOW_ZERO: &str = "no option takes a number below 0";
+/// What is said of a number below 0 behind an option, or of a braid without quotes.
+const BELOW_ZERO: &str =
+    "no option takes a number below 0, and a braid stands in quotes, as --braid \"2 -1 -1\"";
 
 /// What is said of words that are refused, in lines. Of the tips of `clap` no other is among them than an option that begins with the same
 /// letter as the one that there isn't.

@@ -14,7 +14,7 @@ use Rattle.number_check.proofs.Rulings.{numbers_apart}
 use Rattle.table_text.specs.declared.classes.Class.{Class}
 use Rattle.table_text.specs.declared.rows.Row.{Row}
 use Rattle.table_text.specs.declared.tables.KnotTable.{KnotTable}
-use Rattle.table_check.specs.Holds.{numbers_at, counted, IsShown, ClassHolds, Differ, AreToldApart, Holds, RowsJoined, RowsApart}
+use Rattle.table_check.specs.Holds.{numbers_at, counted, IsShown, ClassHolds, Differ, AreToldApart, Holds, RowsJoined, ClassesApart, RowsApart}
 
 -- each place of a list has an element
 element : {X : Type 0} (xs : List X) (i : ℕ) → i < length xs → (x : X) × (slice_get xs i ≡ Some x)
@@ -48,7 +48,7 @@ rows_joined t holds = record {
       (s.moves, row_joined t holds s c among_s (ap (λ (k : ℕ). slice_get t.classes k) same ∙ known)));
 }
 
--- ---- rows of two classes
+-- ---- two classes, and rows of them
 
 abbrev pub AreLawful : List Block → Type 0
 AreLawful blocks = All (λ (b : Block). IsQuandle b.listed.table) blocks × All (λ (b : Block). IsCocycleOrNone b.cocycle) blocks
@@ -62,14 +62,31 @@ numbers_apart_by b c d (Some one) (Some two) quandle cocycle first second differ
     numbers_apart (grid_of c.diagram) (grid_of d.diagram) b (counted c one) (counted d two) quandle cocycle
     (record { first = first; second = second; differ = differ }) joined
 
-classes_apart : (blocks : List Block) (c d : Class) → AreLawful blocks → ClassHolds blocks c → ClassHolds blocks d → AreToldApart blocks c d
+told_apart : (blocks : List Block) (c d : Class) → AreLawful blocks → ClassHolds blocks c → ClassHolds blocks d → AreToldApart blocks c d
     → Equivalent (grid_of c.diagram) (grid_of d.diagram) → ⊥
-classes_apart blocks c d lawful one two told joined =
+told_apart blocks c d lawful one two told joined =
     let block = element blocks told.at told.within in
     numbers_apart_by block.0 c d (numbers_at c told.at) (numbers_at d told.at)
     (of_each (λ (b : Block). IsQuandle b.listed.table) blocks told.at block.0 lawful.0 block.1)
     (of_each (λ (b : Block). IsCocycleOrNone b.cocycle) blocks told.at block.0 lawful.1 block.1)
     (one.shown told.at told.within block.0 block.1) (two.shown told.at told.within block.0 block.1) told.differ joined
+
+pub classes_apart : (t : KnotTable) → AreLawful t.blocks → Holds t → ClassesApart t
+classes_apart t lawful holds = λ one two c d here there other closed joined.
+    let first = slice_get_within t.classes one c here in
+    let second = slice_get_within t.classes two d there in
+    let hold_one = holds.classes one first c here in
+    let hold_two = holds.classes two second d there in
+    elim (cases_lt one two) [
+      | inl less ↦ elim (holds.pairs one first two second c d here there less) [
+        | inl left ↦ closed (inl left)
+        | inr told ↦ told_apart t.blocks c d lawful hold_one hold_two told joined
+      ]
+      | inr more ↦ elim (holds.pairs two second one first d c there here (omega (arith, more, other))) [
+        | inl left ↦ closed (inr left)
+        | inr told ↦ told_apart t.blocks d c lawful hold_two hold_one told (equivalent_back (grid_of c.diagram) (grid_of d.diagram) joined)
+      ]
+    ]
 
 pub rows_apart : (t : KnotTable) → AreLawful t.blocks → Holds t → RowsApart t
 rows_apart t lawful holds = λ r s among_r among_s known_r known_s other closed joined.
@@ -77,20 +94,9 @@ rows_apart t lawful holds = λ r s among_r among_s known_r known_s other closed 
     let two = element t.classes s.class known_s in
     let c = one.0 in
     let d = two.0 in
-    let hold_one = holds.classes r.class known_r c one.1 in
-    let hold_two = holds.classes s.class known_s d two.1 in
     let to_one : Equivalent (grid_of r.diagram) (grid_of c.diagram) = (r.moves, row_joined t holds r c among_r one.1) in
     let to_two : Equivalent (grid_of s.diagram) (grid_of d.diagram) = (s.moves, row_joined t holds s d among_s two.1) in
     let same : Equivalent (grid_of c.diagram) (grid_of d.diagram) =
     equivalent_after (grid_of c.diagram) (grid_of r.diagram) (grid_of d.diagram) (equivalent_back (grid_of r.diagram) (grid_of c.diagram) to_one)
     (equivalent_after (grid_of r.diagram) (grid_of s.diagram) (grid_of d.diagram) joined to_two) in
-    elim (cases_lt r.class s.class) [
-      | inl less ↦ elim (holds.pairs r.class known_r s.class known_s c d one.1 two.1 less) [
-        | inl left ↦ closed (inl left)
-        | inr told ↦ classes_apart t.blocks c d lawful hold_one hold_two told same
-      ]
-      | inr more ↦ elim (holds.pairs s.class known_s r.class known_r d c two.1 one.1 (omega (arith, more, other))) [
-        | inl left ↦ closed (inr left)
-        | inr told ↦ classes_apart t.blocks d c lawful hold_two hold_one told (equivalent_back (grid_of c.diagram) (grid_of d.diagram) same)
-      ]
-    ]
+    classes_apart t lawful holds r.class s.class c d one.1 two.1 other closed same

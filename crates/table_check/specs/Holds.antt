@@ -103,7 +103,12 @@ pub record RowsJoined (t : KnotTable) : Type 0 where
 abbrev pub AreOpen : KnotTable → ℕ → ℕ → Type 0
 AreOpen t one two = Contains t.left (record { first = one; second = two }) ⊎ Contains t.left (record { first = two; second = one })
 
--- no list of moves joins rows of two classes of the table, unless these are left open
+-- no list of moves joins the diagrams of two classes of the table, unless these are left open
+abbrev pub ClassesApart : KnotTable → Type 0
+ClassesApart t = (one two : ℕ) (c d : Class) → slice_get t.classes one ≡ Some c → slice_get t.classes two ≡ Some d → one ≢ two
+    → (AreOpen t one two → ⊥) → Equivalent (grid_of c.diagram) (grid_of d.diagram) → ⊥
+
+-- nor does one join rows of two such classes
 abbrev pub RowsApart : KnotTable → Type 0
 RowsApart t = (r s : Row) → Contains t.rows r → Contains t.rows s → r.class < length t.classes → s.class < length t.classes → r.class ≢ s.class
     → (AreOpen t r.class s.class → ⊥) → Equivalent (grid_of r.diagram) (grid_of s.diagram) → ⊥

@@ -4,7 +4,7 @@ ghost use Rattle.std.specs.List.{All};
 ghost use Rattle.quandle_core.specs.Quandle.{IsQuandle};
 ghost use Rattle.colour_numbers.specs.Numbers.{IsCocycleOrNone};
 ghost use Rattle.evidence_core.specs.declared.blocks.Block.{Block};
-ghost use Rattle.table_check.specs.Holds.{Holds, RowsJoined, RowsApart};
+ghost use Rattle.table_check.specs.Holds.{Holds, RowsJoined, ClassesApart, RowsApart};
 ghost use Rattle.table_check.specs.Ruling.{RulesOn};
 
 use crate::cause::TableRuling;
@@ -22,14 +22,15 @@ use table_text::KnotTable;
 ///
 /// A class holds where its seeds settle its diagram, and its numbers by each block are shown by them to be the diagram's own. A pair of
 /// classes holds where it's left open, or some block has numbers of both that differ. A row holds where its moves lead from its diagram
-/// to that of its class. Where a table is accepted, rows of one class are equivalent, and no list of moves joins rows of two classes,
-/// unless these are left open.
+/// to that of its class. Where a table is accepted, rows of one class are equivalent, and no list of moves joins the diagrams of two
+/// classes, or rows of them, unless these are left open.
 ///
 /// The colourings of each class by each block are counted once, and each move is made once.
 pub fn rule(alloc: Global, table: &KnotTable) -> Result<TableRuling, OutOfMemory>
     ensures ruling { IfOk result (λ r. RulesOn table.now r) }
     ensures accepted { IfOk result (λ r. (r ≡ TableRuling.Accepted) ↔ Holds table.now) }
     ensures joined { IfOk result (λ r. r ≡ TableRuling.Accepted → RowsJoined table.now) }
+    ensures classes { IfOk result (λ r. r ≡ TableRuling.Accepted → ClassesApart table.now) }
     ensures apart { IfOk result (λ r. r ≡ TableRuling.Accepted → RowsApart table.now) }
 {
     laws_of_each(table.blocks.as_slice());

@@ -14,7 +14,7 @@ ghost use Rattle.plain_jobs.specs.Truth.{IsTrueWeighing};
 
 use crate::comparison::push_comparison;
 use block_text::{WeighedText, Weighing, read_weighed};
-use certificates::push_number_line;
+use certificates::push_labelled_line;
 use cocycle_core::Cocycle;
 use colour_list::{ListFault, fits};
 use colour_weights::weights;
@@ -96,8 +96,8 @@ fn weighed_text(
     let one = counts(alloc, first, cocycle)?;
     let two = counts(alloc, second, cocycle)?;
     let mut out = Vec::new(alloc);
-    push_number_line(&mut out, b"weights", one.as_slice())?;
-    push_number_line(&mut out, b"weights", two.as_slice())?;
+    push_labelled_line(&mut out, b"weights", one.as_slice())?;
+    push_labelled_line(&mut out, b"weights", two.as_slice())?;
     push_comparison(&mut out, one.as_slice() == two.as_slice())?;
     Ok(out)
 }

@@ -16,4 +16,9 @@ pub returns-in-Ok-clause-claim : goal.returns-in-Ok-clause-claim
 returns-in-Ok-clause-claim c =
     IfOk-weaker c.answer_ruling.result _ _ (λ reply is done.
     let accepted = accepted_where_done c.in-Ok.ruling (sym (ap (λ (r : PlainReply). r.status) is) ∙ done) in
-    record { joined = c.in-Ok.ensures.joined accepted; apart = c.in-Ok.ensures.apart accepted }) c.answer_ruling.ensures
+    record {
+      known = c.requires.known;
+      joined = c.in-Ok.ensures.joined accepted;
+      classes = c.in-Ok.ensures.classes accepted;
+      apart = c.in-Ok.ensures.apart accepted;
+    }) c.answer_ruling.ensures

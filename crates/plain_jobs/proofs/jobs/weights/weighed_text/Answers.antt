@@ -9,4 +9,4 @@ returns-clause-apart c = λ ends same.
     let one = c.as_slice-3.ensures.value ∙ c.in_ok-one.ensures in
     let two = c.as_slice-4.ensures.value ∙ c.in_ok-two.ensures in
     let equal : c.eq.result ≡ true = c.eq.ensures ∙ (bytes_eq-Decides c.as_slice-3.result.now c.as_slice-4.result.now).1 (one ∙ same ∙ sym two) in
-    true≢false (sym equal ∙ told_apart c.push_number_line-2.new.out.items c.push_comparison.new.out.items c.eq.result c.in_ok-push_comparison.ensures ends)
+    true≢false (sym equal ∙ told_apart c.push_labelled_line-2.new.out.items c.push_comparison.new.out.items c.eq.result c.in_ok-push_comparison.ensures ends)
