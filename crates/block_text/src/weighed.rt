@@ -40,7 +40,7 @@ fn cocycle_due(alloc: Global, quandle: &Quandle, lines: &mut Lines) -> Result<We
     if lines.begins(b"shadow") {
         return Ok(Weighing::Regions(shadow_due(alloc, quandle, lines)?));
     }
-    Ok(Weighing::Strands(cocycle_item(quandle, lines)?))
+    Ok(Weighing::Strands(cocycle_item(alloc, quandle, lines)?))
 }
 
 /// A shadow cocycle of a quandle.
@@ -65,7 +65,7 @@ pub fn read_weighed(alloc: Global, bytes: &[u8]) -> Result<WeighedText, TextFaul
     let mut lines = Lines::new(bytes);
     let first = diagram_item(alloc, &mut lines)?;
     let second = diagram_item(alloc, &mut lines)?;
-    let listed = quandle_item(&mut lines)?;
+    let listed = quandle_item(alloc, &mut lines)?;
     let cocycle = cocycle_due(alloc, listed.quandle(), &mut lines)?;
     text_end(&mut lines)?;
     Ok(WeighedText {

@@ -33,7 +33,7 @@ use Rattle.number_check.specs.Holds as numbers
 use Rattle.number_check.proofs.Rulings.{numbers_apart}
 use Rattle.linking_check.proofs.LinksOfGrids.{linking_apart}
 use Rattle.check_job.specs.Truth.{IsTrueSaid}
-use Rattle.decision_core.specs.Decision.{put_behind, IsByWrittenQuandle, IsDecisionByVerdict}
+use Rattle.decision_core.specs.VerdictDecision.{put_behind, IsByWrittenQuandle, IsDecisionByVerdict}
 use Rattle.decision_core.proofs.HeldVerdicts.{true_of}
 use Rattle.certificate_check.specs.Decision.{IsFindingOf, IsAccepted, IsDecision}
 use Rattle.certificate_check.proofs.BlocksSay.{HasBlock, said_block}

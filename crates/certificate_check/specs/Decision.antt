@@ -20,7 +20,7 @@ use Rattle.certificates.specs.Printed.{HasBlockText, HasEvidenceText}
 use Rattle.certificates.specs.Said.{said_text}
 use Rattle.check_job.specs.Truth.{IsTrueSaid}
 use Rattle.knot_ports.specs.declared.limits.TheConstants.{MAX_CERTIFICATE}
-use Rattle.decision_core.specs.Decision.{put_behind, IsByWrittenQuandle}
+use Rattle.decision_core.specs.VerdictDecision.{put_behind, IsByWrittenQuandle}
 
 -- ---- what holds
 

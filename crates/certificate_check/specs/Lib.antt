@@ -10,4 +10,4 @@ pub use Rattle.certificates.specs.Said as SaidTexts
 pub use Rattle.number_check.specs.Holds
 pub use Rattle.number_check.specs.Ruling
 pub use Rattle.check_job.specs.Truth
-pub use Rattle.decision_core.specs.Decision as VerdictDecision
+pub use Rattle.decision_core.specs.VerdictDecision

@@ -14,7 +14,7 @@ ghost use Rattle.certificates.specs.Printed.{HasBlockText, HasEvidenceText};
 ghost use Rattle.certificates.specs.Said.{said_text};
 ghost use Rattle.number_check.specs.Holds.{Holds};
 ghost use Rattle.check_job.specs.Truth.{IsTrueSaid};
-ghost use Rattle.decision_core.specs.Decision.{IsDecisionByVerdict};
+ghost use Rattle.decision_core.specs.VerdictDecision.{IsDecisionByVerdict};
 ghost use Rattle.certificate_check.specs.Decision.{IsFindingOf, IsByWrittenBlock, IsAccepted, IsDecision};
 
 use decision_core::laws::a_verdict_that_holds_is_a_decision;

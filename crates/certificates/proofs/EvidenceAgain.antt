@@ -24,7 +24,7 @@ use Rattle.knot_text.proofs.CocycleAgain.{cocycle_again}
 use Rattle.evidence_core.specs.declared.shadows.Spelling.{Spelling}
 use Rattle.evidence_core.specs.declared.shadows.Spelling.TheVariants as spelling
 use Rattle.evidence_core.specs.declared.shadows.SpelledShadow.{SpelledShadow}
-use Rattle.certificates.specs.Shadows.{lines_of, shadow_lines, HasShadowText}
+use Rattle.certificates.specs.Shadows.{shadow_lines_by, shadow_lines, HasShadowText}
 use Rattle.certificates.proofs.ShadowAgain.{shadow_again}
 use Rattle.evidence_core.specs.declared.blocks.LargeWeighing.{LargeWeighing}
 use Rattle.evidence_core.specs.declared.blocks.LargeWeighing.TheVariants.{Strands, Regions}
@@ -79,8 +79,8 @@ counted_again due n c text has =
 
 -- the first line of a shadow cocycle begins with its word, and with no other
 shadow_begins : (said : Spelling) (t : ShadowCochain) (n : ℕ) (text : Text)
-    → (begins (codes "weight") (lines_before (numbered n (lines_of said t)) text) ≡ false)
-    × (begins (codes "shadow") (lines_before (numbered n (lines_of said t)) text) ≡ true)
+    → (begins (codes "weight") (lines_before (numbered n (shadow_lines_by said t)) text) ≡ false)
+    × (begins (codes "shadow") (lines_before (numbered n (shadow_lines_by said t)) text) ≡ true)
 shadow_begins spelling.Mochizuki t n text = (refl, refl)
 shadow_begins spelling.Table t n text = (refl, refl)
 

@@ -11,7 +11,7 @@ use Rattle.text_items.specs.declared.fault.TextFault.{TextFault}
 use Rattle.text_items.specs.Reading.{◌>>=◌, text_end}
 use Rattle.verdict_core.specs.declared.problem.ProblemText.{ProblemText}
 use Rattle.verdict_text.specs.Problems.{problem_item, problem_in, problem_of}
-use Rattle.knot_text.specs.FirstBadLine.{lines_then, put_behind}
+use Rattle.knot_text.specs.FirstBadLine.{lines_then, with_lines_behind}
 use Rattle.knot_text.proofs.ReadBack.{no_lines, at_end}
 use Rattle.knot_text.proofs.Steady.{bind_ok, ok_is}
 use Rattle.knot_text.proofs.StepsAgain.{lines_before}
@@ -93,9 +93,9 @@ evidence_behind bytes problem evidence whole is has =
     let none = no_lines rest e.0 e.1 in
     let m = 0 + line_count bytes in
     let tail = text_from m (third_text evidence) in
-    let text : text_of all ≡ put_behind (text_of bytes) tail.lines tail.ending =
+    let text : text_of all ≡ with_lines_behind (text_of bytes) tail.lines tail.ending =
     ap₂ lines_then (text_lines_parted 0 bytes (third_text evidence) whole) (text_ending_parted 0 bytes (third_text evidence) whole) in
-    let behind : put_behind rest tail.lines tail.ending ≡ tail = ap (λ (ls : List NumberedLine). lines_then (ls ++ tail.lines) tail.ending) none in
+    let behind : with_lines_behind rest tail.lines tail.ending ≡ tail = ap (λ (ls : List NumberedLine). lines_then (ls ++ tail.lines) tail.ending) none in
     let item : problem_item (text_of all) ≡ Ok (problem, tail) =
     ap problem_item text ∙ problem_stable (text_of bytes) q.0.0 rest q.1 tail.lines tail.ending (no_quandle m evidence has)
     ∙ ap₂ (λ (x : ProblemText) (t : Text). Ok (x, t)) same behind in

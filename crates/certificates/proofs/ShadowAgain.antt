@@ -36,7 +36,7 @@ use Rattle.evidence_core.specs.declared.shadows.Spelling.TheVariants as spelling
 use Rattle.evidence_core.specs.declared.shadows.SpelledShadow.{SpelledShadow}
 use Rattle.shadow_text.specs.declared.shadows.Head.TheVariants as head
 use Rattle.shadow_text.specs.Shadows.{spelled, cochain, head_at, cochain_item, shadow_item}
-use Rattle.certificates.specs.Shadows.{rows_of, value_lines, lines_of, shadow_lines, shadow_text, Spells, HasShadowText}
+use Rattle.certificates.specs.Shadows.{shadow_rows, shadow_value_lines, shadow_lines_by, shadow_lines, shadow_text, Spells, HasShadowText}
 use Rattle.certificates.proofs.ValueRows.{AreWithin, value_row_below, value_rows_last}
 
 -- ---- the lines of a table
@@ -75,20 +75,20 @@ abbrev tested : Table → ℕ → List ℕ → ℕ → Text → Result (SpelledS
 tested q k entries n text =
     cond (is_none (first_fault (cochain q k entries))) (Ok (spelled spelling.Table (cochain q k entries), text)) (Err (Malformed n))
 
-within_of : (t : ShadowCochain) → IsShadowCocycle t → AreWithin (rows_of t) (t.quandle.order * t.quandle.order) t.modulus
+within_of : (t : ShadowCochain) → IsShadowCocycle t → AreWithin (shadow_rows t) (t.quandle.order * t.quandle.order) t.modulus
 within_of t is = λ x y lx ly.
     let q : ℕ = t.quandle.order in
     let some : 0 < t.quandle.order = omega (arith, is.quandle.least) in
-    subst (λ (k : ℕ). over (rows_of t) k y < t.modulus) (div-add-mod' x t.quandle.order)
+    subst (λ (k : ℕ). over (shadow_rows t) k y < t.modulus) (div-add-mod' x t.quandle.order)
     (is.within (x / t.quandle.order) (x % t.quandle.order) y (div_below x t.quandle.order t.quandle.order some lx) (mod_below x t.quandle.order some) ly)
 
 cochain_by : (t : ShadowCochain) (n j : ℕ) (text : Text) → IsShadowCocycle t → t.modulus ≤ MAX_MODULUS → t.quandle.order * t.quandle.order ≡ suc j
-    → cochain_item t.quandle t.modulus (lines_before (numbered n (value_lines t)) text) ≡ Ok (spelled spelling.Table t, text)
+    → cochain_item t.quandle t.modulus (lines_before (numbered n (shadow_value_lines t)) text) ≡ Ok (spelled spelling.Table t, text)
 unfolding cochain_item next_line
 cochain_by t n j text is few size =
     let q = t.quandle in
     let k = t.modulus in
-    let rows : Table = rows_of t in
+    let rows : Table = shadow_rows t in
     let many = q.order * q.order in
     let within = within_of t is in
     let front = flat_map (row rows) (range_with_len 0 j) in
@@ -141,7 +141,7 @@ name_again q n small formula = rw (word_again (codes "shadow") n (codes "mochizu
 -- ---- the whole
 
 table_again : (t : ShadowCochain) (n : ℕ) (text : Text) → IsShadowCocycle t → t.quandle.order ≤ MAX_ORDER → t.modulus ≤ MAX_MODULUS
-    → shadow_item t.quandle (lines_before (numbered n (lines_of spelling.Table t)) text) ≡ Ok (spelled spelling.Table t, text)
+    → shadow_item t.quandle (lines_before (numbered n (shadow_lines_by spelling.Table t)) text) ≡ Ok (spelled spelling.Table t, text)
 unfolding shadow_item next_line
 table_again t n text is small few =
     let some : 0 < t.quandle.order * t.quandle.order = mul-pos (omega (arith, is.quandle.least)) (omega (arith, is.quandle.least)) in
@@ -149,13 +149,13 @@ table_again t n text is small few =
     rw (modulus_again t.quandle t.modulus (n + 1) small is.least few) (cochain_by t (n + 1) (t.quandle.order * t.quandle.order - 1) text is few size)
 
 formula_again : (q : Table) (n : ℕ) (text : Text) → q.order ≤ MAX_ORDER → has_formula q ≡ true
-    → shadow_item q (lines_before (numbered n (lines_of spelling.Mochizuki (mochizuki q.order))) text)
+    → shadow_item q (lines_before (numbered n (shadow_lines_by spelling.Mochizuki (mochizuki q.order))) text)
     ≡ Ok (spelled spelling.Mochizuki (mochizuki q.order), text)
 unfolding shadow_item next_line
 formula_again q n text small formula = rw (name_again q (n + 1) small formula) refl
 
 by_spelling : (said : Spelling) (t : ShadowCochain) (n : ℕ) (text : Text) → IsShadowCocycle t → t.quandle.order ≤ MAX_ORDER → Spells said t
-    → shadow_item t.quandle (lines_before (numbered n (lines_of said t)) text) ≡ Ok (spelled said t, text)
+    → shadow_item t.quandle (lines_before (numbered n (shadow_lines_by said t)) text) ≡ Ok (spelled said t, text)
 by_spelling spelling.Mochizuki t n text is small spells =
     formula_again t.quandle n text small spells.0 ∙ ap (λ (w : ShadowCochain). Ok (spelled spelling.Mochizuki w, text)) (sym spells.1)
 by_spelling spelling.Table t n text is small spells = table_again t n text is small spells
@@ -169,9 +169,9 @@ shadow_again q s n text has =
 -- ---- lines of words
 
 value_line_words : (t : ShadowCochain) (x : ℕ) → IsShadowCocycle t → t.modulus ≤ MAX_MODULUS → x < t.quandle.order * t.quandle.order
-    → is_line (row_tokens (rows_of t) x) ≡ true
+    → is_line (row_tokens (shadow_rows t) x) ≡ true
 value_line_words t x is few lt =
-    let rows : Table = rows_of t in
+    let rows : Table = shadow_rows t in
     let some : 0 < t.quandle.order = omega (arith, is.quandle.least) in
     let short = all_short t.modulus (row rows x) (omega (arith, few))
     (value_row_below rows (t.quandle.order * t.quandle.order) t.modulus x (within_of t is) lt) in
@@ -181,13 +181,13 @@ value_line_words t x is few lt =
     subst (λ (tokens : List (List ℕ)). is_line tokens ≡ true) (map_decimals (over rows x) (range_with_len 0 t.quandle.order)) line
 
 values_words : (t : ShadowCochain) (a n : ℕ) → IsShadowCocycle t → t.modulus ≤ MAX_MODULUS → a + n ≤ t.quandle.order * t.quandle.order
-    → list_all is_line (map (row_tokens (rows_of t)) (range_with_len a n)) ≡ true
+    → list_all is_line (map (row_tokens (shadow_rows t)) (range_with_len a n)) ≡ true
 values_words t a zero is few fits = refl
 values_words t a (suc n) is few fits =
-    and_from (is_line (row_tokens (rows_of t) a)) (list_all is_line (map (row_tokens (rows_of t)) (range_with_len (a + 1) n)))
+    and_from (is_line (row_tokens (shadow_rows t) a)) (list_all is_line (map (row_tokens (shadow_rows t)) (range_with_len (a + 1) n)))
     (value_line_words t a is few (omega (arith, fits))) (values_words t (a + 1) n is few (omega (arith, fits)))
 
-words_by : (said : Spelling) (t : ShadowCochain) → IsShadowCocycle t → Spells said t → list_all is_line (lines_of said t) ≡ true
+words_by : (said : Spelling) (t : ShadowCochain) → IsShadowCocycle t → Spells said t → list_all is_line (shadow_lines_by said t) ≡ true
 words_by spelling.Mochizuki t is spells = refl
 words_by spelling.Table t is spells =
     rw (decimal_word t.modulus (omega (arith, spells)), values_words t 0 (t.quandle.order * t.quandle.order) is spells (omega arith)) refl

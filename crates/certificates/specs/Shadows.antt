@@ -14,19 +14,19 @@ use Rattle.evidence_core.specs.declared.shadows.SpelledShadow.{SpelledShadow}
 use Rattle.shadow_formula.specs.Mochizuki.{has_formula, mochizuki}
 
 -- the table as rows of q numbers, of which row w q + x has θ(w, x, 0) to θ(w, x, q-1)
-abbrev pub rows_of : ShadowCochain → Table
-rows_of t = record { order = t.quandle.order; entries = t.entries }
+abbrev pub shadow_rows : ShadowCochain → Table
+shadow_rows t = record { order = t.quandle.order; entries = t.entries }
 
-abbrev pub value_lines : ShadowCochain → List (List (List ℕ))
-value_lines t = map (row_tokens (rows_of t)) (range_with_len 0 (t.quandle.order * t.quandle.order))
+abbrev pub shadow_value_lines : ShadowCochain → List (List (List ℕ))
+shadow_value_lines t = map (row_tokens (shadow_rows t)) (range_with_len 0 (t.quandle.order * t.quandle.order))
 
 -- the name of the formula; or the modulus, and the table
-abbrev pub lines_of : Spelling → ShadowCochain → List (List (List ℕ))
-lines_of spelling.Mochizuki t = (codes "shadow" ∷ codes "mochizuki" ∷ []) ∷ []
-lines_of spelling.Table t = (codes "shadow" ∷ decimal t.modulus ∷ []) ∷ value_lines t
+abbrev pub shadow_lines_by : Spelling → ShadowCochain → List (List (List ℕ))
+shadow_lines_by spelling.Mochizuki t = (codes "shadow" ∷ codes "mochizuki" ∷ []) ∷ []
+shadow_lines_by spelling.Table t = (codes "shadow" ∷ decimal t.modulus ∷ []) ∷ shadow_value_lines t
 
 abbrev pub shadow_lines : SpelledShadow → List (List (List ℕ))
-shadow_lines s = lines_of s.spelling s.cocycle
+shadow_lines s = shadow_lines_by s.spelling s.cocycle
 
 abbrev pub shadow_text : SpelledShadow → List ℕ
 shadow_text s = lines_text (shadow_lines s)

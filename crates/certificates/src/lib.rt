@@ -7,6 +7,6 @@ mod printed;
 mod said;
 mod shadows;
 
-pub use lines::{numbers_text, push_number_line};
+pub use lines::{numbers_text, push_labelled_line};
 pub use printed::print_evidence;
 pub use said::print_said;

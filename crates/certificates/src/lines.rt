@@ -71,14 +71,14 @@ fn push_counted_line(
 {
     let quandle = block.listed.operations();
     match numbers(alloc, grid, &quandle, &block.cocycle, seeding) {
-        Ok(list) => push_number_line(out, b"numbers", list.as_slice()),
+        Ok(list) => push_labelled_line(out, b"numbers", list.as_slice()),
         Err(CountFault::TooWide) => push_counted(out, b"wide ", seeding.seeds().len() as u64),
         Err(CountFault::OutOfMemory) => Err(AllocError),
     }
 }
 
 /// Appends a line of a word and numbers.
-pub fn push_number_line(out: &mut Vec<u8>, word: &[u8], numbers: &[u32]) -> Result<(), AllocError>
+pub fn push_labelled_line(out: &mut Vec<u8>, word: &[u8], numbers: &[u32]) -> Result<(), AllocError>
     ensures { OnOk result (out.new.items ≡ out.old.items ++ line_text (word.now ∷ map decimal numbers.now)) }
 {
     out.extend_from_slice(word)?;

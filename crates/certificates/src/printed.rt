@@ -9,7 +9,7 @@ ghost use Rattle.knot_text.specs.WrittenThere.{cocycle_lines, value_lines, value
 ghost use Rattle.evidence_core.specs.declared.evidence.Evidence.TheVariants.{Numbers, Linking};
 ghost use Rattle.certificates.specs.Printed.{perhaps_cocycle, counted_lines, linked_lines, evidence_lines, third_text};
 
-use crate::lines::push_number_line;
+use crate::lines::push_labelled_line;
 use crate::shadows::push_shadow;
 use arrayvec::ArrayVec;
 use cocycle_core::Values;
@@ -17,7 +17,7 @@ use knot_text::push_large;
 use number_text::{Block, Counted, Evidence, LargeWeighing, Linked, THIRD_VERSION};
 use quandle_core::MAX_LARGE_ORDER;
 use std::alloc::{AllocError, Global};
-use text_lines::{push_counted, push_number, push_word_line};
+use text_lines::{push_counted, push_number, push_number_line, push_word_line};
 
 /// The text of evidence by numbers, behind the line `certificate 3`.
 pub fn print_evidence(alloc: Global, evidence: &Evidence) -> Result<Vec<u8>, AllocError>
@@ -92,7 +92,7 @@ fn push_values(out: &mut Vec<u8>, cocycle: &Values) -> Result<(), AllocError>
 {
     let _modulus = cocycle.modulus();
     for x in 0..cocycle.quandle().order() {
-        text_lines::push_number_line(out, values_of(cocycle, x).as_slice())?;
+        push_number_line(out, values_of(cocycle, x).as_slice())?;
     }
     Ok(())
 }
@@ -114,7 +114,7 @@ fn push_counts(out: &mut Vec<u8>, counted: &Counted) -> Result<(), AllocError>
     ensures { OnOk result (out.new.items ≡ out.old.items ++ lines_text (counted_lines counted.now)) }
 {
     push_word_line(out, b"seeds", counted.seeds.as_slice())?;
-    push_number_line(out, b"numbers", counted.numbers.as_slice())
+    push_labelled_line(out, b"numbers", counted.numbers.as_slice())
 }
 
 /// Appends how many components a link has, and its linking numbers.

@@ -3,7 +3,7 @@ ghost use Rattle.std.specs.Prelude.{◌≡◌, ◌<◌, ◌*◌, ◌++◌, ◌/�
 ghost use Rattle.std.specs.List.{range_with_len};
 ghost use Rattle.text_lines.specs.Spelled.{lines_text};
 ghost use Rattle.shadow_cocycles.specs.Cocycle.{value};
-ghost use Rattle.certificates.specs.Shadows.{value_lines, shadow_text};
+ghost use Rattle.certificates.specs.Shadows.{shadow_value_lines, shadow_text};
 
 use arrayvec::ArrayVec;
 use quandle_core::MAX_ORDER;
@@ -27,7 +27,7 @@ pub fn push_shadow(out: &mut Vec<u8>, shadow: &SpelledShadow) -> Result<(), Allo
 
 /// Appends a line for each colour of a region and each colour of a strand.
 fn push_values(out: &mut Vec<u8>, cocycle: &ShadowCocycle) -> Result<(), AllocError>
-    ensures { OnOk result (out.new.items ≡ out.old.items ++ lines_text (value_lines cocycle.now)) }
+    ensures { OnOk result (out.new.items ≡ out.old.items ++ lines_text (shadow_value_lines cocycle.now)) }
 {
     let _modulus = cocycle.modulus();
     let order = cocycle.quandle().order() as usize;

@@ -23,7 +23,7 @@ use Rattle.shadow_weights.specs.WalkSum.{stepped, row_weight, weight_by_rows}
 use Rattle.shadow_weights.proofs.RowCounts.{add_mod}
 use Rattle.cocycle_numbers.specs.declared.lane.Lane.{Lane}
 use Rattle.cocycle_numbers.specs.Lanes.{covering, lane, region_left, region_start, walked, lane_weight, weight_of}
-use Rattle.cocycle_numbers.specs.Weighing.{IsWithin}
+use Rattle.cocycle_numbers.specs.Weighing.{LaneFits}
 
 -- one column more
 pub covering_more : (d : Diagram) (r from to : ℕ) → from ≤ to → covering d r from (to + 1) ≡ covering d r from to ++ cond (covers d to r) (pass_of d to ∷ []) []
@@ -51,7 +51,7 @@ covering_below d r from to n le =
     All-map (λ (p : Pass). p.column < n) (pass_of d) (filter (λ c. covers d c r) (range_with_len from (to - from)))
     (All-filter (λ c. covers d c r) (λ c. c < n) (range_with_len from (to - from)) between)
 
-pub lane_within : (d : Diagram) → IsGrid d → (r : ℕ) → r < size d → IsWithin (size d) (lane d r)
+pub lane_within : (d : Diagram) → IsGrid d → (r : ℕ) → r < size d → LaneFits (size d) (lane d r)
 lane_within d grid r lt =
     let e = has_ends d grid r lt in
     record {
@@ -60,11 +60,11 @@ lane_within d grid r lt =
       passed = covering_below d r ((ends d r).low + 1) (ends d r).high (size d) (omega (arith, e.within));
     }
 
-pub lanes_within : (d : Diagram) → IsGrid d → (lanes : List Lane) → lanes ≡ map (lane d) (range_with_len 0 (size d)) → All (IsWithin (size d)) lanes
+pub lanes_within : (d : Diagram) → IsGrid d → (lanes : List Lane) → lanes ≡ map (lane d) (range_with_len 0 (size d)) → All (LaneFits (size d)) lanes
 lanes_within d grid lanes are =
-    subst (All (IsWithin (size d))) (sym are) (λ i e at.
+    subst (All (LaneFits (size d))) (sym are) (λ i e at.
     let lt : i < size d = omega (arith, at, length-map-range_with_len (lane d) 0 (size d)) in
-    subst (IsWithin (size d)) (sym (get_or-map-range_with_len (lane d) 0 (size d) i i e lt (omega arith))) (lane_within d grid i lt))
+    subst (LaneFits (size d)) (sym (get_or-map-range_with_len (lane d) 0 (size d) i i e lt (omega arith))) (lane_within d grid i lt))
 
 -- one of the lanes
 pub lane_there : (d : Diagram) (lanes : List Lane) (r : ℕ) (x : Lane) → lanes ≡ map (lane d) (range_with_len 0 (size d)) → r < size d

@@ -10,7 +10,7 @@ use Rattle.quandle_core.specs.Quandle.{Table}
 use Rattle.colour_list.specs.Level.{spread}
 use Rattle.colour_seeds.specs.declared.progress.Step.{Step}
 use Rattle.colour_seeds.specs.declared.counting.TheConstants.{MAX_CANDIDATES}
-use Rattle.colour_seeds.specs.Fits.{fits}
+use Rattle.colour_seeds.specs.Fits.{few_ways}
 use Rattle.colour_seeds.specs.Plan.{seeds_in}
 use Rattle.colour_seeds.specs.Leaves.{leaves}
 use Rattle.colour_seeds.proofs.Settlings.{one_times}
@@ -95,8 +95,8 @@ from_nothing m often zeros level are =
 
 -- ---- few choices
 
-pub whether_fits : (t q : Table) (n s : ℕ) (b : Bool) → b ≡ fits t n → t ≡ q → n ≡ s → b ≡ fits q s
-whether_fits t q n s b is same long = is ∙ (ap (λ (t : Table). fits t n) same ∙ ap (fits q) long)
+pub whether_fits : (t q : Table) (n s : ℕ) (b : Bool) → b ≡ few_ways t n → t ≡ q → n ≡ s → b ≡ few_ways q s
+whether_fits t q n s b is same long = is ∙ (ap (λ (t : Table). few_ways t n) same ∙ ap (few_ways q) long)
 
-pub few_choices : (q : Table) (s : ℕ) (b : Bool) → b ≡ fits q s → b ≡ true → q.order ^ s ≤ MAX_CANDIDATES
+pub few_choices : (q : Table) (s : ℕ) (b : Bool) → b ≡ few_ways q s → b ≡ true → q.order ^ s ≤ MAX_CANDIDATES
 few_choices q s b is fine = leb-true (q.order ^ s) MAX_CANDIDATES (sym is ∙ fine)

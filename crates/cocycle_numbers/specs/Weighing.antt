@@ -7,7 +7,7 @@ use Rattle.cocycle_numbers.specs.declared.lane.Lane.{Lane}
 use Rattle.cocycle_numbers.specs.declared.lane_weight.Standing.{Standing}
 
 -- each column of the lane has a colour in a list of this length
-pub record IsWithin (n : ℕ) (l : Lane) : Type 0 where
+pub record LaneFits (n : ℕ) (l : Lane) : Type 0 where
   pub left : l.row.left_end < n
   pub before : All (λ (p : Pass). p.column < n) l.before.items
   pub passed : All (λ (p : Pass). p.column < n) l.passed.items

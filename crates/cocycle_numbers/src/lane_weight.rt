@@ -3,7 +3,7 @@ ghost use Rattle.std.specs.Prelude.{◌≡◌, ◌<◌, true, false, length};
 ghost use Rattle.std.specs.List.{All};
 ghost use Rattle.shadow_weights.specs.WalkSum.{stepped};
 ghost use Rattle.cocycle_numbers.specs.Lanes.{region_left, region_start, walked, lane_weight, weight_of};
-ghost use Rattle.cocycle_numbers.specs.Weighing.{IsWithin, walker_of};
+ghost use Rattle.cocycle_numbers.specs.Weighing.{LaneFits, walker_of};
 
 use crate::lane::Lane;
 use colour_rows::passed_rightward;
@@ -21,7 +21,7 @@ pub struct Standing {
 
 /// The sum of the weights of lanes, mod the modulus, under a list of colours and a colour of the outer region.
 pub(crate) fn weight_of(cocycle: &ShadowCocycle, lanes: &[Lane], colours: &[u8], outer: u8) -> u8
-    requires within { All (IsWithin (length colours.now)) lanes.now }
+    requires within { All (LaneFits (length colours.now)) lanes.now }
     requires below { All (λ y. y < cocycle.now.quandle.order) colours.now }
     requires outer { outer < cocycle.now.quandle.order }
     ensures weight { result ≡ weight_of cocycle.now lanes.now colours.now outer }
@@ -37,7 +37,7 @@ pub(crate) fn weight_of(cocycle: &ShadowCocycle, lanes: &[Lane], colours: &[u8],
 
 /// The weight of a lane.
 fn lane_weight(cocycle: &ShadowCocycle, lane: &Lane, colours: &[u8], outer: u8) -> u8
-    requires within { IsWithin (length colours.now) lane.now }
+    requires within { LaneFits (length colours.now) lane.now }
     requires below { All (λ y. y < cocycle.now.quandle.order) colours.now }
     requires outer { outer < cocycle.now.quandle.order }
     ensures weight { result ≡ lane_weight cocycle.now lane.now colours.now outer }
@@ -53,7 +53,7 @@ fn lane_weight(cocycle: &ShadowCocycle, lane: &Lane, colours: &[u8], outer: u8) 
 
 /// The walk of a lane from its left end to its right end.
 fn walked(cocycle: &ShadowCocycle, lane: &Lane, colours: &[u8], outer: u8) -> Standing
-    requires within { IsWithin (length colours.now) lane.now }
+    requires within { LaneFits (length colours.now) lane.now }
     requires below { All (λ y. y < cocycle.now.quandle.order) colours.now }
     requires outer { outer < cocycle.now.quandle.order }
     ensures walked { walker_of result ≡ walked cocycle.now lane.now colours.now outer }
@@ -76,7 +76,7 @@ fn walked(cocycle: &ShadowCocycle, lane: &Lane, colours: &[u8], outer: u8) -> St
 
 /// The colour of the region on the right-hand side of the left end of a lane: behind an up column, before a down one.
 fn region_start(quandle: &Quandle, lane: &Lane, colours: &[u8], outer: u8) -> u8
-    requires within { IsWithin (length colours.now) lane.now }
+    requires within { LaneFits (length colours.now) lane.now }
     requires below { All (λ y. y < quandle.now.order) colours.now }
     requires outer { outer < quandle.now.order }
     ensures region { result ≡ region_start quandle.now lane.now colours.now outer }
@@ -93,7 +93,7 @@ fn region_start(quandle: &Quandle, lane: &Lane, colours: &[u8], outer: u8) -> u8
 
 /// The colour of the region left of the left end of a lane.
 fn region_left(quandle: &Quandle, lane: &Lane, colours: &[u8], outer: u8) -> u8
-    requires within { IsWithin (length colours.now) lane.now }
+    requires within { LaneFits (length colours.now) lane.now }
     requires below { All (λ y. y < quandle.now.order) colours.now }
     requires outer { outer < quandle.now.order }
     ensures region { result ≡ region_left quandle.now lane.now colours.now outer }

@@ -2,7 +2,7 @@
 ghost use Rattle.std.specs.Prelude.{◌≡◌, ◌+◌, ◌⊎◌, Err, IfErr, IfOk, false};
 ghost use Rattle.shadow_weights.specs.Weights.{shadow_weights};
 ghost use Rattle.colour_seeds.specs.declared.counting.CountFault.TheVariants as fault;
-ghost use Rattle.colour_seeds.specs.Fits.{fits};
+ghost use Rattle.colour_seeds.specs.Fits.{few_ways};
 ghost use Rattle.colour_seeds.specs.Plan.{IsPlan, seeds_in};
 
 use crate::lane::{Lane, lanes_of};
@@ -29,8 +29,8 @@ pub fn shadow_weights_by_seeds(
 ) -> Result<Vec<u32>, CountFault>
     requires plan { IsPlan grid.now seeding.now }
     ensures weights { IfOk result (λ v. v.items ≡ shadow_weights cocycle.now grid.now) }
-    ensures wide { fits cocycle.now.quandle (seeds_in seeding.now + 1) ≡ false → result ≡ Err (fault.TooWide) }
-    ensures fault { IfErr result (λ e. e ≡ fault.OutOfMemory ⊎ (fits cocycle.now.quandle (seeds_in seeding.now + 1) ≡ false) × (e ≡ fault.TooWide)) }
+    ensures wide { few_ways cocycle.now.quandle (seeds_in seeding.now + 1) ≡ false → result ≡ Err (fault.TooWide) }
+    ensures fault { IfErr result (λ e. e ≡ fault.OutOfMemory ⊎ (few_ways cocycle.now.quandle (seeds_in seeding.now + 1) ≡ false) × (e ≡ fault.TooWide)) }
 {
     let _size = grid.size();
     let _modulus = cocycle.modulus();

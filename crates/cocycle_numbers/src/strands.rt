@@ -2,7 +2,7 @@
 ghost use Rattle.std.specs.Prelude.{◌≡◌, ◌⊎◌, Err, IfErr, IfOk, false};
 ghost use Rattle.colour_weights.specs.Weights.{weights};
 ghost use Rattle.colour_seeds.specs.declared.counting.CountFault.TheVariants as fault;
-ghost use Rattle.colour_seeds.specs.Fits.{fits};
+ghost use Rattle.colour_seeds.specs.Fits.{few_ways};
 ghost use Rattle.colour_seeds.specs.Plan.{IsPlan, seeds_in};
 
 use crate::tally::tally_all;
@@ -26,8 +26,8 @@ pub fn weights_by_seeds(
 ) -> Result<Vec<u32>, CountFault>
     requires plan { IsPlan grid.now seeding.now }
     ensures weights { IfOk result (λ v. v.items ≡ weights cocycle.now grid.now) }
-    ensures wide { fits cocycle.now.quandle (seeds_in seeding.now) ≡ false → result ≡ Err (fault.TooWide) }
-    ensures fault { IfErr result (λ e. e ≡ fault.OutOfMemory ⊎ (fits cocycle.now.quandle (seeds_in seeding.now) ≡ false) × (e ≡ fault.TooWide)) }
+    ensures wide { few_ways cocycle.now.quandle (seeds_in seeding.now) ≡ false → result ≡ Err (fault.TooWide) }
+    ensures fault { IfErr result (λ e. e ≡ fault.OutOfMemory ⊎ (few_ways cocycle.now.quandle (seeds_in seeding.now) ≡ false) × (e ≡ fault.TooWide)) }
 {
     let _size = grid.size();
     let _modulus = cocycle.modulus();

@@ -24,7 +24,7 @@ use Rattle.code_rows.specs.declared.row_signs.Tie.{Tie}
 use Rattle.code_rows.specs.Rows.{all_names, name_of, numbered, row_of, IsCodeOf}
 use Rattle.code_rows.specs.RowsFault.{ends_of, unpaired}
 use Rattle.code_rows.specs.Refused.{IsClash}
-use Rattle.code_rows.specs.RowSigns.{turned_by, value_of, tie_of, chosen_values, with_signs, AreBest, IsBest, IsJoining, JoinsEnds, Reached}
+use Rattle.code_rows.specs.RowSigns.{turned_by, value_of, tie_of, chosen_values, with_signs, AreBest, IsBest, JoinsIfTwo, JoinsEnds, Reached}
 use Rattle.code_rows.proofs.InRange.{names_long, only_two_faults}
 use Rattle.code_rows.proofs.Signed.{crossings_back}
 use Rattle.code_rows.proofs.Joining.{joined_is, joined_twice}
@@ -216,7 +216,7 @@ step_none rows before after m old ne same =
           (λ signs long all. absurd (ne (joined_twice rows signs (m + 1) (all m (omega (arith, is))))))
     ]
 
-pub step : (rows : List Row) (before after : List Tie) (m : ℕ) → Reached rows before m → IsJoining (all_names rows) (m + 1) before after
+pub step : (rows : List Row) (before after : List Tie) (m : ℕ) → Reached rows before m → JoinsIfTwo (all_names rows) (m + 1) before after
     → Reached rows after (m + 1)
 step rows before after m old joining = elim joining [
   | inl j ↦ by j ((tie_of before j.one).root == (tie_of before j.two).root) refl

@@ -10,7 +10,7 @@ use Rattle.grid_core.specs.Fault.{lowest}
 use Rattle.grid_core.proofs.Accepted.{lowest_some, none_lowest}
 use Rattle.crossing_codes.specs.declared.crossing.Crossing.{Crossing}
 use Rattle.code_rows.specs.CodeMap.{darts, in_slot, no_crossing, edge_at, is_other_end, twin, twins}
-use Rattle.code_rows.specs.Chains.{HasEdge, ShareAnEdge, IsChain, OfOnePart, HaveOtherEnds, part_number}
+use Rattle.code_rows.specs.Chains.{HasEdge, ShareAnEdge, IsPartChain, OfOnePart, HaveOtherEnds, part_number}
 use Rattle.code_rows.proofs.PartNumbers.{RunBetween, JoinsDarts, number_le, number_joined, related}
 
 -- the lowest number that passes, where one does
@@ -94,8 +94,8 @@ edge_of : (xs : List Crossing) (d : ℕ) → d < darts xs → HasEdge xs (d / 4)
 edge_of xs d lt = record { within = omega (arith, lt); slot = d % 4; four = omega arith; is = refl }
 
 -- chains
-chain_onward : (xs : List Crossing) (i j k : ℕ) (one two : List ℕ) → IsChain xs i one j → IsChain xs j two k → IsChain xs i (one ++ two) k
-chain_onward xs i j k [] two here rest = subst (λ (a : ℕ). IsChain xs a two k) (sym here.1) rest
+chain_onward : (xs : List Crossing) (i j k : ℕ) (one two : List ℕ) → IsPartChain xs i one j → IsPartChain xs j two k → IsPartChain xs i (one ++ two) k
+chain_onward xs i j k [] two here rest = subst (λ (a : ℕ). IsPartChain xs a two k) (sym here.1) rest
 chain_onward xs i j k (a ∷ one) two link rest = (link.0, chain_onward xs a j k one two link.1 rest)
 
 part_onward : (xs : List Crossing) (i j k : ℕ) → OfOnePart xs i j → OfOnePart xs j k → OfOnePart xs i k
@@ -104,7 +104,7 @@ part_onward xs i j k one two = (one.0 ++ two.0, chain_onward xs i j k one.0 two.
 part_once : (xs : List Crossing) (j k : ℕ) → ShareAnEdge xs j k → OfOnePart xs j k
 part_once xs j k share = (k ∷ [], (share, (share.of_second.within, refl)))
 
-chain_back : (xs : List Crossing) (j k : ℕ) (chain : List ℕ) → IsChain xs j chain k → OfOnePart xs k j
+chain_back : (xs : List Crossing) (j k : ℕ) (chain : List ℕ) → IsPartChain xs j chain k → OfOnePart xs k j
 chain_back xs j k [] here = ([], (omega (arith, here.0, here.1), sym here.1))
 chain_back xs j k (i ∷ chain) link =
     part_onward xs k i j (chain_back xs i k chain link.1)
@@ -128,7 +128,7 @@ chains_join xs have = record {
       }));
 }
 
-chain_number : (xs : List Crossing) → HaveOtherEnds xs → (j k : ℕ) (chain : List ℕ) → IsChain xs j chain k → part_number xs j ≡ part_number xs k
+chain_number : (xs : List Crossing) → HaveOtherEnds xs → (j k : ℕ) (chain : List ℕ) → IsPartChain xs j chain k → part_number xs j ≡ part_number xs k
 chain_number xs have j k [] here = ap (part_number xs) here.1
 chain_number xs have j k (i ∷ chain) link = shared_number xs have j i link.0 ∙ chain_number xs have i k chain link.1
 
@@ -146,7 +146,7 @@ pub joined_same_number : (xs : List Crossing) → HaveOtherEnds xs → (j k : �
 joined_same_number xs have j k joined = chain_number xs have j k joined.0 joined.1
 
 -- a chain begins at a crossing
-chain_begins : (xs : List Crossing) (j k : ℕ) (chain : List ℕ) → IsChain xs j chain k → j < length xs
+chain_begins : (xs : List Crossing) (j k : ℕ) (chain : List ℕ) → IsPartChain xs j chain k → j < length xs
 chain_begins xs j k [] here = here.0
 chain_begins xs j k (i ∷ chain) link = link.0.of_first.within
 

@@ -17,13 +17,13 @@ pub record ShareAnEdge (xs : List Crossing) (j k : ℕ) : Type 0 where
   pub of_second : HasEdge xs k edge
 
 -- the crossings of the chain lead from j to k
-abbrev pub IsChain : List Crossing → ℕ → List ℕ → ℕ → Type 0
-IsChain xs j [] k = (j < length xs) × (j ≡ k)
-IsChain xs j (i ∷ chain) k = ShareAnEdge xs j i × IsChain xs i chain k
+abbrev pub IsPartChain : List Crossing → ℕ → List ℕ → ℕ → Type 0
+IsPartChain xs j [] k = (j < length xs) × (j ≡ k)
+IsPartChain xs j (i ∷ chain) k = ShareAnEdge xs j i × IsPartChain xs i chain k
 
 -- a chain leads from one to the other
 abbrev pub OfOnePart : List Crossing → ℕ → ℕ → Type 0
-OfOnePart xs j k = (chain : List ℕ) × IsChain xs j chain k
+OfOnePart xs j k = (chain : List ℕ) × IsPartChain xs j chain k
 
 -- each end of an edge has another one, as in a code whose edges join passages
 abbrev pub HaveOtherEnds : List Crossing → Type 0

@@ -73,8 +73,8 @@ pub record JoinsEnds (names : List ℕ) (edge : ℕ) (before after : List Tie) :
   pub is : after ≡ tied (tie_of before one) (tie_of before two) before
 
 -- so where there are two; else nothing changes
-abbrev pub IsJoining : List ℕ → ℕ → List Tie → List Tie → Type 0
-IsJoining names edge before after = JoinsEnds names edge before after ⊎ ((ends_of names edge ≢ 2) × (after ≡ before))
+abbrev pub JoinsIfTwo : List ℕ → ℕ → List Tie → List Tie → Type 0
+JoinsIfTwo names edge before after = JoinsEnds names edge before after ⊎ ((ends_of names edge ≢ 2) × (after ≡ before))
 
 -- ties behind the first so many edges: by any values these are joined, up to one with which no signs join them; as long as there is none,
 -- all signs that join them are values of the ties

@@ -3,7 +3,7 @@ ghost use Rattle.std.specs.Prelude.{◌≡◌, ◌<◌, ◌≤◌, ◌*◌, ◌/
 ghost use Rattle.std.specs.List.{range_with_len};
 ghost use Rattle.code_rows.specs.declared.code_fault.TheConstants.{MAX_CROSSINGS};
 ghost use Rattle.code_rows.specs.Rows.{all_names};
-ghost use Rattle.code_rows.specs.RowSigns.{turned_by, value_of, tie_of, tied, replaced, chosen_values, IsJoining, Reached, AreBest};
+ghost use Rattle.code_rows.specs.RowSigns.{turned_by, value_of, tie_of, tied, replaced, chosen_values, JoinsIfTwo, Reached, AreBest};
 
 use crate::numbers::names_of;
 use crate::row::Row;
@@ -62,7 +62,7 @@ fn free_ties(alloc: Global, count: usize) -> Result<Vec<Tie>, AllocError>
 /// Makes the strand of an edge with two ends leave one and come to the other, where it can.
 fn join(ties: &mut [Tie], names: &[u32], edge: u32)
     requires { length names.now ≡ 4 * length ties.old }
-    ensures { IsJoining names.now edge ties.old ties.new }
+    ensures { JoinsIfTwo names.now edge ties.old ties.new }
 {
     if ends_of(names, edge) != 2 {
         return;

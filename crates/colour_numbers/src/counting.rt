@@ -2,7 +2,7 @@
 ghost use Rattle.std.specs.Prelude.{◌≡◌, ◌<◌, ◌-◌, ◌^◌, ◌⊎◌, ◌∷◌, [], Err, IfOk, IfErr, false, length};
 ghost use Rattle.colour_list.specs.Listing.{colourings};
 ghost use Rattle.colour_weights.specs.Weights.{weights};
-ghost use Rattle.colour_seeds.specs.Fits.{fits};
+ghost use Rattle.colour_seeds.specs.Fits.{few_ways};
 ghost use Rattle.colour_seeds.specs.Plan.{IsPlan, seeds_in};
 ghost use Rattle.colour_seeds.specs.declared.counting.CountFault.TheVariants as fault;
 ghost use Rattle.colour_numbers.specs.Numbers.{choices_of, coloured_by, fits_by, numbers};
@@ -37,7 +37,7 @@ pub fn fits_by(quandle: &Operations, cocycle: &Option<LargeWeighing>, seeding: &
 
 /// Whether so many colours can be chosen in at most `MAX_CANDIDATES` ways. A cocycle has its own quandle.
 fn so_many_fit(quandle: &Operations, cocycle: &Option<LargeWeighing>, choices: usize) -> bool
-    ensures { result ≡ fits (coloured_by quandle.now cocycle.now) choices }
+    ensures { result ≡ few_ways (coloured_by quandle.now cocycle.now) choices }
 {
     match cocycle {
         None => fits(quandle, choices),
@@ -86,8 +86,8 @@ fn strand_weights(
 ) -> Result<Vec<u32>, CountFault>
     requires plan { IsPlan grid.now seeding.now }
     ensures weights { IfOk result (λ v. v.items ≡ weights cocycle.now grid.now) }
-    ensures wide { fits cocycle.now.quandle (seeds_in seeding.now) ≡ false → result ≡ Err (fault.TooWide) }
-    ensures fault { IfErr result (λ e. e ≡ fault.OutOfMemory ⊎ (fits cocycle.now.quandle (seeds_in seeding.now) ≡ false) × (e ≡ fault.TooWide)) }
+    ensures wide { few_ways cocycle.now.quandle (seeds_in seeding.now) ≡ false → result ≡ Err (fault.TooWide) }
+    ensures fault { IfErr result (λ e. e ≡ fault.OutOfMemory ⊎ (few_ways cocycle.now.quandle (seeds_in seeding.now) ≡ false) × (e ≡ fault.TooWide)) }
 {
     let values = cocycle.values();
     weights_by_seeds(alloc, grid, &values, seeding)

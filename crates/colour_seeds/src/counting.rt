@@ -8,7 +8,7 @@ ghost use Rattle.colour_rows.specs.Equation.{equation};
 ghost use Rattle.colour_list.specs.Level.{spread};
 ghost use Rattle.colour_seeds.specs.declared.counting.TheConstants.{MAX_CANDIDATES};
 ghost use Rattle.colour_seeds.specs.Plan.{IsPlan, seeds_in};
-ghost use Rattle.colour_seeds.specs.Fits.{fits};
+ghost use Rattle.colour_seeds.specs.Fits.{few_ways};
 ghost use Rattle.colour_seeds.specs.declared.counting.CountFault.TheVariants as fault;
 ghost use Rattle.colour_list.specs.Listing.{colourings};
 ghost use Rattle.colour_seeds.specs.Leaves.{IsInside, leaves};
@@ -56,7 +56,7 @@ impl From<AllocFailed<u32>> for CountFault {
 
 /// Whether so many colours can be chosen in at most `MAX_CANDIDATES` ways: the order of the quandle to the power of their number. Takes no memory.
 pub fn fits(quandle: &Operations, choices: usize) -> bool
-    ensures { result ≡ fits quandle.now choices }
+    ensures { result ≡ few_ways quandle.now choices }
 {
     let _order = quandle.order();
     let choices = choices.min(64) as u32;
@@ -74,8 +74,8 @@ pub fn count(
 ) -> Result<u32, CountFault>
     requires plan { IsPlan grid.now seeding.now }
     ensures count { IfOk result (λ n. n ≡ length (colourings quandle.now grid.now)) }
-    ensures wide { fits quandle.now (seeds_in seeding.now) ≡ false → result ≡ Err (fault.TooWide) }
-    ensures fault { IfErr result (λ e. e ≡ fault.OutOfMemory ⊎ (fits quandle.now (seeds_in seeding.now) ≡ false) × (e ≡ fault.TooWide)) }
+    ensures wide { few_ways quandle.now (seeds_in seeding.now) ≡ false → result ≡ Err (fault.TooWide) }
+    ensures fault { IfErr result (λ e. e ≡ fault.OutOfMemory ⊎ (few_ways quandle.now (seeds_in seeding.now) ≡ false) × (e ≡ fault.TooWide)) }
 {
     let _size = grid.size();
     let _order = quandle.order();

@@ -19,7 +19,7 @@ use Rattle.knot_text.proofs.ShapesSay.{problem_in_says}
 use Rattle.knot_text.proofs.ReadBack.{verdict_behind}
 use Rattle.knot_text.proofs.FeedBetween.{verdict_behind_feed}
 use Rattle.knot_ports.specs.declared.limits.TheConstants.{MAX_CERTIFICATE}
-use Rattle.decision_core.specs.Decision.{put_behind, IsAcceptedVerdict, IsShort}
+use Rattle.decision_core.specs.VerdictDecision.{put_behind, IsAcceptedVerdict, HasFewMoves}
 
 -- ---- the quandles of a problem have texts
 
@@ -60,7 +60,7 @@ lines_length (line ∷ lines) =
     omega (arith, rest, all, one, feed)
 
 -- a text that fits into an input has few moves
-pub short : (bytes : List ℕ) (v : Verdict) → length (put_behind bytes (version_text Tidy v)) ≤ MAX_CERTIFICATE → IsShort v
+pub short : (bytes : List ℕ) (v : Verdict) → length (put_behind bytes (version_text Tidy v)) ≤ MAX_CERTIFICATE → HasFewMoves v
 short bytes (Equal moves) fits = by (are_whole_lines bytes) fits
   where
     by : (t : Bool) → length (if t then bytes ++ version_text Tidy (Equal moves) else bytes ++ (codes "\n" ++ version_text Tidy (Equal moves))) ≤ MAX_CERTIFICATE
@@ -89,7 +89,7 @@ by_lines bytes p v true whole is text = verdict_behind Tidy bytes p v whole is t
 by_lines bytes p v false lacks is text = verdict_behind_feed Tidy bytes p v lacks is text
 
 pub accepted_behind : (bytes : List ℕ) (p : ProblemText) (v : Verdict) → problem_of bytes ≡ Ok p
-    → (IsShort v → HasVersionText Tidy (columns p.first) (columns p.second) v) → Holds (grid_of p.first) (grid_of p.second) v
+    → (HasFewMoves v → HasVersionText Tidy (columns p.first) (columns p.second) v) → Holds (grid_of p.first) (grid_of p.second) v
     → length (put_behind bytes (version_text Tidy v)) ≤ MAX_CERTIFICATE → IsAcceptedVerdict (put_behind bytes (version_text Tidy v)) p v
 accepted_behind bytes p v is text holds fits = record {
   read = by_lines bytes p v (are_whole_lines bytes) refl is (text (short bytes v fits));

@@ -12,7 +12,7 @@ use Rattle.cert_check.proofs.ToldApart.{told_apart}
 use Rattle.knot_text.specs.Printed.{version_text}
 use Rattle.verdict_text.specs.declared.verdicts.Version.TheVariants.{Tidy}
 use Rattle.verdict_text.specs.Problems.{problem_of}
-use Rattle.decision_core.specs.Decision.{IsDecisionByVerdict, IsByWrittenQuandle}
+use Rattle.decision_core.specs.VerdictDecision.{IsDecisionByVerdict, IsByWrittenQuandle}
 use Rattle.decision_core.proofs.Grids.{grids_of_problem}
 use Rattle.decision_core.proofs.PrintedVerdicts.{FewColourings, held_text}
 use Rattle.decision_core.proofs.AcceptedBehind.{accepted_behind}

@@ -24,7 +24,7 @@ use Rattle.verdict_core.specs.Evidence.{Holds, TellsApart}
 use Rattle.named_quandles.proofs.Named.{named_is}
 use Rattle.text_items.specs.declared.reading.TheConstants.{MAX_NUMBER}
 use Rattle.knot_text.specs.Printed.{HasMoveText, HaveMovesText, HasListText, HasQuandleText, HasVerdictText}
-use Rattle.decision_core.specs.Decision.{IsByWrittenQuandle, IsShort}
+use Rattle.decision_core.specs.VerdictDecision.{IsByWrittenQuandle, HasFewMoves}
 
 -- ---- moves
 
@@ -101,7 +101,7 @@ told_text few d e q one two first second named told =
     (named, lists_text q.table d one told.first of_first, lists_text q.table e two told.second of_second)
 
 -- a verdict that holds, and whose moves, if any, are few
-pub held_text : FewColourings → (d e : Diagram) (v : Verdict) → IsGrid d → IsGrid e → IsByWrittenQuandle v → Holds d e v → IsShort v
+pub held_text : FewColourings → (d e : Diagram) (v : Verdict) → IsGrid d → IsGrid e → IsByWrittenQuandle v → Holds d e v → HasFewMoves v
     → HasVerdictText (size d) (size e) v
 held_text few d e (Equal moves) first second written holds short = moves_text moves d e holds short
 held_text few d e (Different q one two) first second named told short = told_text few d e q one two first second named told

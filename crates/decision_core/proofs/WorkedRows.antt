@@ -1,7 +1,7 @@
 -- The limits by their numbers, which stand here alone beside the constants, and a text behind an input.
 use Rattle.std.proofs.Common.{◌≡◌, refl, codes}
 use Rattle.knot_ports.specs.declared.limits.TheConstants.{MAX_INPUT, MAX_CERTIFICATE}
-use Rattle.decision_core.specs.Decision.{put_behind}
+use Rattle.decision_core.specs.VerdictDecision.{put_behind}
 
 most_of_an_input : MAX_INPUT ≡ 1048576
 most_of_an_input = refl

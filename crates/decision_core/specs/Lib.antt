@@ -1,4 +1,4 @@
-pub mod Decision
+pub mod VerdictDecision
 pub use Rattle.grid_moves.specs.Joining
 pub use Rattle.verdict_core.specs.Diagrams
 pub use Rattle.verdict_core.specs.Evidence

@@ -7,7 +7,7 @@ ghost use Rattle.verdict_core.specs.Diagrams.{grid_of};
 ghost use Rattle.verdict_core.specs.Evidence.{Holds, IsTidyVerdict};
 ghost use Rattle.knot_text.specs.Printed.{HasQuandleText, version_text};
 ghost use Rattle.verdict_text.specs.Problems.{problem_of};
-ghost use Rattle.decision_core.specs.Decision.{IsDecisionByVerdict, IsByWrittenQuandle};
+ghost use Rattle.decision_core.specs.VerdictDecision.{IsDecisionByVerdict, IsByWrittenQuandle};
 
 use knot_text::Version;
 use quandle_laws::lists::no_more_colourings_than_choices;

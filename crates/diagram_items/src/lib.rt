@@ -4,8 +4,10 @@
 
 mod cocycles;
 mod diagrams;
+mod large_cocycles;
 mod moves;
 
 pub use cocycles::cocycle_item;
 pub use diagrams::diagram_item;
+pub use large_cocycles::large_cocycle_item;
 pub use moves::{last_place, move_lines, moves_item, tidy_moves};

@@ -31,7 +31,7 @@ const USAGE: &[u8] = b"usage: knot JOB [--workers W] [--budget B] [--spare S] [-
 /// answers it: `Done`, `Unknown` where `decide` finds no evidence, `Rejected`, or `Limit` where `grid` has a code that no diagram of
 /// at most `MAX_SIZE` columns was drawn for. The whole answer is made before the first write, so `ReadFault` and `OutOfMemory` write nothing;
 /// `WriteFault` has written a front of what was due. Faults come only where the source's or sink's own count of faults rose. Where
-/// `decide` or `check` ends with `Done`, what the verdict says is true, and evidence by numbers or linking numbers holds; where
+/// `decide` or `check` ends with `Done`, what the verdict, the evidence by numbers or the table says is true; where
 /// `linking` or `weights` writes `different`, no list of moves joins the two; and where `braidcheck` ends with `Done`, no quandle
 /// tells the closures of the two braids apart by how many colourings they have.
 ///

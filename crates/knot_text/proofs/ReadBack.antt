@@ -25,7 +25,7 @@ use Rattle.verdict_core.specs.Diagrams.{grid_of, columns}
 use Rattle.diagram_items.specs.Diagrams.{diagram_item}
 use Rattle.verdict_text.specs.Problems.{problem_item, problem_in, check_in, problem_of, check_of}
 use Rattle.knot_text.specs.Printed.{grid_lines, grid_text, move_tokens, moves_lines, moves_text, HaveMovesText, version_lines, version_text, HasVersionText}
-use Rattle.knot_text.specs.FirstBadLine.{lines_then, put_behind}
+use Rattle.knot_text.specs.FirstBadLine.{lines_then, with_lines_behind}
 use Rattle.knot_text.proofs.Steady.{bind_ok, ok_is}
 use Rattle.knot_text.proofs.GridsRead.{problem_grids}
 use Rattle.knot_text.proofs.StepsAgain.{lines_before}
@@ -116,9 +116,9 @@ verdict_behind version bytes p v whole is fits =
     let m = 0 + line_count bytes in
     let tail = text_from m (version_text version v) in
     let other = text_other version m (columns p.first) (columns p.second) v some also fits in
-    let text : text_of (bytes ++ version_text version v) ≡ put_behind (text_of bytes) tail.lines tail.ending =
+    let text : text_of (bytes ++ version_text version v) ≡ with_lines_behind (text_of bytes) tail.lines tail.ending =
     ap₂ lines_then (text_lines_parted 0 bytes (version_text version v) whole) (text_ending_parted 0 bytes (version_text version v) whole) in
-    let behind : put_behind rest tail.lines tail.ending ≡ tail = ap (λ (ls : List NumberedLine). lines_then (ls ++ tail.lines) tail.ending) none in
+    let behind : with_lines_behind rest tail.lines tail.ending ≡ tail = ap (λ (ls : List NumberedLine). lines_then (ls ++ tail.lines) tail.ending) none in
     let item : problem_item (text_of (bytes ++ version_text version v)) ≡ Ok (p, tail) =
     ap problem_item text ∙ problem_stable (text_of bytes) q.0.0 rest q.1 tail.lines tail.ending other
     ∙ ap₂ (λ (x : ProblemText) (t : Text). Ok (x, t)) same behind in

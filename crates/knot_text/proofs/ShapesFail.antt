@@ -19,7 +19,7 @@ use Rattle.verdict_text.specs.Problems.{problem_item, problem_in, check_in}
 use Rattle.knot_text.specs.Shapes.{replay_in, colour_in}
 use Rattle.knot_text.specs.Shapes.{close_in, lone_diagram_in}
 use Rattle.knot_text.specs.Pairs.{pair_in}
-use Rattle.knot_text.specs.FirstBadLine.{lines_then, put_behind, FailsFirst}
+use Rattle.knot_text.specs.FirstBadLine.{lines_then, with_lines_behind, FailsFirst}
 use Rattle.knot_text.proofs.Steady.{Anywhere, Steady, then_read, then_steady, regroup}
 use Rattle.knot_text.proofs.ItemsSteady.{grid_steady, braid_steady, moves_steady, coloured_steady, verdict_steady}
 use Rattle.knot_text.proofs.FirstFault.{anywhere_seen, then_fails, end_fails}
@@ -142,7 +142,7 @@ pair_fails =
 -- ---- a problem, and lines behind it that begin with no `quandle`
 
 pub problem_stable : (text : Text) (p : ProblemText) (rest : Text) → problem_item text ≡ Ok (p, rest) → (more : List NumberedLine) (ending : ℕ)
-    → AtOther more → problem_item (put_behind text more ending) ≡ Ok (p, put_behind rest more ending)
+    → AtOther more → problem_item (with_lines_behind text more ending) ≡ Ok (p, with_lines_behind rest more ending)
 problem_stable text p rest is more ending other =
     let t = problem_steady.took text p rest is in
     ap (λ (ls : List NumberedLine). problem_item (lines_then (ls ++ more) ending)) t.lines

@@ -8,14 +8,14 @@ abbrev pub lines_then : List NumberedLine → ℕ → Text
 lines_then lines ending = record { lines = lines; ending = ending }
 
 -- the text with further lines behind it, and where it then ends
-abbrev pub put_behind : Text → List NumberedLine → ℕ → Text
-put_behind text more ending = lines_then (text.lines ++ more) ending
+abbrev pub with_lines_behind : Text → List NumberedLine → ℕ → Text
+with_lines_behind text more ending = lines_then (text.lines ++ more) ending
 
 -- what is read is read whatever lines stand behind, and these are left too
 abbrev pub IsStable : {A : Type 0} → (Text → Result (A × Text) TextFault) → Type 0
 IsStable {A} read =
     (text : Text) (value : A) (rest : Text) → read text ≡ Ok (value, rest) → (more : List NumberedLine) (ending : ℕ)
-    → read (put_behind text more ending) ≡ Ok (value, put_behind rest more ending)
+    → read (with_lines_behind text more ending) ≡ Ok (value, with_lines_behind rest more ending)
 
 -- the fault names line n
 abbrev pub NamesLine : TextFault → ℕ → Type 0

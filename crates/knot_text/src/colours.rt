@@ -5,6 +5,7 @@ ghost use Rattle.colour_rows.specs.Colouring.{are_colours};
 ghost use Rattle.knot_text.specs.Colours.{colours_at, colours_item, coloured_item, coloured};
 
 use colour_rows::Colouring;
+use std::alloc::Global;
 use text_items::numbers::{all_below, numbers_behind};
 use text_items::reading::next_line;
 use text_items::{TextFault, quandle_item};
@@ -42,22 +43,30 @@ fn colours_item(width: u8, order: u8, lines: &mut Lines) -> Result<Colouring, Te
 
 /// A quandle, and colours below its order.
 #[tactic(auto, unfolding(crate::specs::Colours::coloured_item))]
-fn coloured_item(width: u8, lines: &mut Lines) -> Result<(Listed, Colouring), TextFault>
+fn coloured_item(
+    alloc: Global,
+    width: u8,
+    lines: &mut Lines,
+) -> Result<(Listed, Colouring), TextFault>
     ensures { Gives (λ q. (q, lines.new)) result (coloured_item width lines.old) }
 {
-    let listed = quandle_item(lines)?;
+    let listed = quandle_item(alloc, lines)?;
     let order = listed.quandle().order();
     let colours = colours_item(width, order, lines)?;
     Ok((listed, colours))
 }
 
-/// A quandle and colours where a line that begins with `quandle` is next, else nothing. Takes no memory.
+/// A quandle and colours where a line that begins with `quandle` is next, else nothing.
 #[tactic(auto, unfolding(crate::specs::Colours::coloured))]
-pub fn coloured(width: u8, lines: &mut Lines) -> Result<Option<(Listed, Colouring)>, TextFault>
+pub fn coloured(
+    alloc: Global,
+    width: u8,
+    lines: &mut Lines,
+) -> Result<Option<(Listed, Colouring)>, TextFault>
     ensures { Gives (λ q. (q, lines.new)) result (coloured width lines.old) }
 {
     if !lines.begins(b"quandle") {
         return Ok(None);
     }
-    Ok(Some(coloured_item(width, lines)?))
+    Ok(Some(coloured_item(alloc, width, lines)?))
 }

@@ -47,7 +47,7 @@ pub fn read_replay(alloc: Global, bytes: &[u8]) -> Result<ReplayText, TextFault>
     let mut lines = Lines::new(bytes);
     let diagram = diagram_item(alloc, &mut lines)?;
     let moves = moves_item(alloc, &mut lines)?;
-    let colours = coloured(diagram.columns(), &mut lines)?;
+    let colours = coloured(alloc, diagram.columns(), &mut lines)?;
     text_end(&mut lines)?;
     Ok(ReplayText {
         diagram,

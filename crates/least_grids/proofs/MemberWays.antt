@@ -14,14 +14,14 @@ use Rattle.grid_keys.proofs.Keys.{key_once}
 use Rattle.next_moves.specs.Offers.{Leads}
 use Rattle.mono_simplify.specs.declared.class.Origin.{Origin}
 use Rattle.mono_simplify.specs.ExchangeClass.{is_shift_or_exchange}
-use Rattle.mono_simplify.specs.Ways.{Member, keys_in, AreWays}
+use Rattle.mono_simplify.specs.Ways.{Member, keys_in, AreLinked}
 use Rattle.mono_simplify.proofs.Ways.{trails_end, parent_before}
 
 -- the shifts to the form are the way to the first member
 pub first_way : (d : Diagram) (members : List Member) (place : ℕ) (form : LeastForm) (none moves : List Move) (key : Packed) (member : Diagram)
     → IsGrid d
     → place ≡ 0
-    → AreWays d members
+    → AreLinked d members
     → IsLeastForm d form
     → none ≡ []
     → moves ≡ none ++ shift_moves form.columns form.rows
@@ -39,14 +39,14 @@ first_way d members place form none moves key member grid first ways least empty
 pub later_parent : (d : Diagram) (members : List Member) (place : ℕ) (origin : Origin) (key : Packed)
     → 0 < place
     → place < length members
-    → AreWays d members
+    → AreLinked d members
     → slice_get members place ≡ Some (key, origin)
     → origin.parent < length members
 later_parent d members place origin key above below ways stands = omega (arith, parent_before d members place origin key above ways stands, below)
 
 pub later_exchange : (d : Diagram) (members : List Member) (place : ℕ) (origin : Origin) (key : Packed)
     → 0 < place
-    → AreWays d members
+    → AreLinked d members
     → slice_get members place ≡ Some (key, origin)
     → is_shift_or_exchange origin.link.step ≡ true
 later_exchange d members zero origin key above ways stands = absurd (omega (arith, above))
@@ -55,7 +55,7 @@ later_exchange d members (suc place) origin key above ways stands = (ways.child 
 -- the way to a parent and the link from there are the way to another member
 pub later_way : (d : Diagram) (members : List Member) (place : ℕ) (origin : Origin) (name key : Packed) (moves : List Move) (member : Diagram)
     → 0 < place
-    → AreWays d members
+    → AreLinked d members
     → slice_get members place ≡ Some (name, origin)
     → slice_get (keys_in members) place ≡ Some key
     → IsKeyOf key member

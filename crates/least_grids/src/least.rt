@@ -5,7 +5,7 @@ ghost use Rattle.grid_moves.specs.Joining.{JoinsWithin};
 ghost use Rattle.grid_keys.specs.declared.key.Packed.{Packed};
 ghost use Rattle.grid_keys.specs.Key.{IsKeyOf};
 ghost use Rattle.mono_simplify.specs.ExchangeClass.{AreShiftsAndExchanges};
-ghost use Rattle.mono_simplify.specs.Ways.{keys_in, AreWays};
+ghost use Rattle.mono_simplify.specs.Ways.{keys_in, AreLinked};
 ghost use Rattle.least_grids.specs.Least.{FindsLeast};
 
 use crate::listing::list_class;
@@ -81,7 +81,7 @@ fn way_to_member(
     place: usize,
 ) -> Result<Vec<Move>, OutOfMemory>
     requires place { place < length class.now }
-    requires ways { AreWays grid.now class.now }
+    requires ways { AreLinked grid.now class.now }
     ensures exchanges { IfOk result (λ moves. AreShiftsAndExchanges moves.items) }
     ensures joined { IfOk result (λ moves. (key : Packed) (member : Diagram)
         → slice_get (keys_in class.now) place ≡ Some key

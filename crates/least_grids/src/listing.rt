@@ -1,6 +1,6 @@
 //! A class, listed up to a budget.
 ghost use Rattle.std.specs.Prelude.{◌<◌, ◌≤◌, length, IfOk};
-ghost use Rattle.mono_simplify.specs.Ways.{keys_in, AreWays};
+ghost use Rattle.mono_simplify.specs.Ways.{keys_in, AreLinked};
 ghost use Rattle.least_grids.specs.Seen.{IsSeen};
 
 use crate::least::LeastEnd;
@@ -29,7 +29,7 @@ pub fn list_class(
 ) -> Result<Seen, OutOfMemory>
     requires { 1 ≤ budget }
     ensures some { IfOk result (λ s. 0 < length s.class) }
-    ensures ways { IfOk result (λ s. AreWays grid.now s.class) }
+    ensures ways { IfOk result (λ s. AreLinked grid.now s.class) }
     ensures seen { IfOk result (λ s. IsSeen grid.now budget (keys_in s.class) s.end) }
 {
     let size = grid.size();

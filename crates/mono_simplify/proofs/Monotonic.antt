@@ -15,7 +15,7 @@ use Rattle.mono_simplify.specs.declared.class.Origin.{Origin}
 use Rattle.mono_simplify.specs.ExchangeClass.{is_shift_or_exchange}
 use Rattle.grid_moves.specs.Kinds.{is_destabilisation}
 use Rattle.mono_simplify.specs.Simplified.{is_monotonic, AreMonotonic}
-use Rattle.mono_simplify.specs.Ways.{Member, AreWays}
+use Rattle.mono_simplify.specs.Ways.{Member, AreLinked}
 
 pub monotonic_destabilisation : (move : Move) → is_destabilisation move ≡ true → is_monotonic move ≡ true
 monotonic_destabilisation move is = or_right (is_shift_or_exchange move) (is_destabilisation move) is
@@ -83,7 +83,7 @@ module _ (kind : Move → Bool) (has : HasExchanges kind) where
 
   pub all_on : (d : Diagram) (members : List Member) (here : ℕ) (origin : Origin) (key : Packed) (back after : List Move)
       → 0 < here
-      → AreWays d members
+      → AreLinked d members
       → slice_get members here ≡ Some (key, origin)
       → after ≡ back ++ reverse (link_moves origin.link)
       → AreAll kind back

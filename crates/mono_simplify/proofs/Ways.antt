@@ -27,16 +27,16 @@ use Rattle.next_moves.proofs.Linked.{link_joined_within}
 use Rattle.mono_simplify.specs.declared.class.Origin.{Origin}
 use Rattle.mono_simplify.specs.Listing.{IsExchangeList, has_key, with_keys}
 use Rattle.mono_simplify.proofs.Keys.{more_new}
-use Rattle.mono_simplify.specs.Ways.{Member, keys_in, IsLinked, AreWays, IsOffered, Extends}
+use Rattle.mono_simplify.specs.Ways.{Member, keys_in, IsExchangeLink, AreLinked, IsOffered, Admits}
 use Rattle.mono_simplify.proofs.Moved.{exchange_led}
 
 -- no offer yet, and one more
-pub extends_none : (place : ℕ) (offers : List Offer) (members : List Member) → Extends place offers members members
+pub extends_none : (place : ℕ) (offers : List Offer) (members : List Member) → Admits place offers members members
 extends_none place offers members = record { more = []; is = sym (append-nil members); offered = λ k d lt. absurd (omega (arith, lt)) }
 
 pub extends_more : (place i : ℕ) (offers : List Offer) (d : Offer) (old now new : List Member) → i < length offers
-    → is_exchange (get_or offers i d).link.step ≡ true → Extends place (exchanges_among offers) old now
-    → new ≡ now ++ ((get_or offers i d).key, record { parent = place; link = (get_or offers i d).link }) ∷ [] → Extends place (exchanges_among offers) old new
+    → is_exchange (get_or offers i d).link.step ≡ true → Admits place (exchanges_among offers) old now
+    → new ≡ now ++ ((get_or offers i d).key, record { parent = place; link = (get_or offers i d).link }) ∷ [] → Admits place (exchanges_among offers) old new
 extends_more place i offers d old now new lt exchange is pushed =
     let m : Member = ((get_or offers i d).key, record { parent = place; link = (get_or offers i d).link }) in
     let among = contains_filter (λ (o : Offer). is_exchange o.link.step) offers (get_or offers i d) (Contains-get_or offers i d lt) exchange in
@@ -49,7 +49,7 @@ extends_more place i offers d old now new lt exchange is pushed =
 -- what stands after some of the offers
 abbrev pub IsAdmitted : ℕ → ℕ → List Offer → List Offer → List Member → List Member → Type 0
 IsAdmitted place b offers front old now =
-    (keys_in now ≡ with_keys (keys_in old) (exchanges_among front)) × (length now ≤ b) × Extends place (exchanges_among offers) old now
+    (keys_in now ≡ with_keys (keys_in old) (exchanges_among front)) × (length now ≤ b) × Admits place (exchanges_among offers) old now
 
 pub admitted : (offers : List Offer) (place b i n : ℕ) (d : Offer) (old now new : List Member) → i < length offers → n ≡ length now → n ≢ b
     → IsAdmitted place b offers (take i offers) old now → is_exchange (get_or offers i d).link.step ≡ true
@@ -63,7 +63,7 @@ admitted offers place b i n d old now new lt is room known exchange absent pushe
       extends_more place i offers d old now new lt exchange known.2 pushed,
     )
 
-pub extended_keys : (place : ℕ) (offers : List Offer) (old new : List Member) → Extends place offers old new
+pub extended_keys : (place : ℕ) (offers : List Offer) (old new : List Member) → Admits place offers old new
     → (more : List Packed) × (keys_in new ≡ keys_in old ++ more)
 extended_keys place offers old new is = (keys_in is.more, ap keys_in is.is ∙ map-append (λ (m : Member). m.0) old is.more)
 
@@ -97,8 +97,8 @@ member_stands [] i key is = absurd cc
 member_stands (x ∷ members) zero key is = let same : x.0 ≡ key = cc in (x, (refl, same))
 member_stands (x ∷ members) (suc i) key is = member_stands members i key is
 
-linked_later : (d : Diagram) (keys more : List Packed) (place : ℕ) (key : Packed) (origin : Origin) → IsLinked d keys place key origin
-    → IsLinked d (keys ++ more) place key origin
+linked_later : (d : Diagram) (keys more : List Packed) (place : ℕ) (key : Packed) (origin : Origin) → IsExchangeLink d keys place key origin
+    → IsExchangeLink d (keys ++ more) place key origin
 linked_later d keys more place key origin is = record {
   lower = is.lower;
   parent = is.parent;
@@ -113,16 +113,16 @@ linked_later d keys more place key origin is = record {
   exchanges = is.exchanges;
 }
 
-pub ways_start : (d f : Diagram) (origin : Origin) (members : List Member) → IsCanonicalForm d f → members ≡ (key_of f, origin) ∷ [] → AreWays d members
-ways_start d f origin members form is = subst (λ (ms : List Member). AreWays d ms) (sym is) (record {
+pub ways_start : (d f : Diagram) (origin : Origin) (members : List Member) → IsCanonicalForm d f → members ≡ (key_of f, origin) ∷ [] → AreLinked d members
+ways_start d f origin members form is = subst (λ (ms : List Member). AreLinked d ms) (sym is) (record {
   root = λ m stands. let same : (key_of f, origin) ≡ m = cc in (f, (form, ap (λ (y : Member). y.0) same));
   child = λ place m stands. absurd (let past : slice_get ((key_of f, origin) ∷ [])
       (suc place) ≡ Some m = stands in let none : slice_get {X = Member} [] place ≡ Some m = past in cc);
 })
 
-pub ways_more : (d : Diagram) (place : ℕ) (key : Packed) (member : Diagram) (offers : List Offer) (old new : List Member) → AreWays d old
-    → Extends place offers old new → slice_get (keys_in old) place ≡ Some key → IsKeyOf key member → size member ≡ size d → IsExchangeList member offers
-    → AreWays d new
+pub ways_more : (d : Diagram) (place : ℕ) (key : Packed) (member : Diagram) (offers : List Offer) (old new : List Member) → AreLinked d old
+    → Admits place offers old new → slice_get (keys_in old) place ≡ Some key → IsKeyOf key member → size member ≡ size d → IsExchangeList member offers
+    → AreLinked d new
 ways_more d place key member offers old new ways is stands names same list =
     let below : place < length old = omega (arith, slice_get_within (keys_in old) place key stands, length-map old (λ (m : Member). m.0)) in
     let keys : keys_in new ≡ keys_in old ++ keys_in is.more = ap keys_in is.is ∙ map-append (λ (m : Member). m.0) old is.more in
@@ -133,7 +133,7 @@ ways_more d place key member offers old new ways is stands names same list =
             | inr later ↦ absurd (omega (arith, later.0, below))
           ];
       child = λ p m at.
-          subst (λ (ks : List Packed). IsLinked d ks (suc p) m.0 m.1) (sym keys)
+          subst (λ (ks : List Packed). IsExchangeLink d ks (suc p) m.0 m.1) (sym keys)
           (elim (stands_cases old is.more (suc p) m (subst (λ (ms : List Member). slice_get ms (suc p) ≡ Some m) is.is at)) [
             | inl here ↦ linked_later d (keys_in old) (keys_in is.more) (suc p) m.0 m.1 (ways.child p m here)
             | inr later ↦ linked_new (suc p) m (omega (arith, later.0, below)) (All-at is.more (suc p - length old) m later.1 is.offered)
@@ -143,7 +143,7 @@ ways_more d place key member offers old new ways is stands names same list =
     All-at : (ms : List Member) (i : ℕ) (m : Member) → slice_get ms i ≡ Some m → All (IsOffered place offers) ms → IsOffered place offers m
     All-at ms i m at all = subst (λ (y : Member). IsOffered place offers y) (get_or_from_slice_get ms i m m at) (all i m (slice_get_within ms i m at))
 
-    linked_new : (p : ℕ) (m : Member) → place < p → IsOffered place offers m → IsLinked d (keys_in old ++ keys_in is.more) p m.0 m.1
+    linked_new : (p : ℕ) (m : Member) → place < p → IsOffered place offers m → IsExchangeLink d (keys_in old ++ keys_in is.more) p m.0 m.1
     linked_new p m lower offered =
         let led = exchange_led member offers (record { key = m.0; link = m.1.link }) names.grid list offered.1 in
         record {
@@ -187,7 +187,7 @@ trails_start d members place back after last key member to empty is stands names
 }
 
 pub trails_more : (d : Diagram) (members : List Member) (here : ℕ) (origin : Origin) (key : Packed) (back after : List Move) (to : Diagram) → 0 < here
-    → AreWays d members → slice_get members here ≡ Some (key, origin) → after ≡ back ++ reverse (link_moves origin.link) → Trails d members here back to
+    → AreLinked d members → slice_get members here ≡ Some (key, origin) → after ≡ back ++ reverse (link_moves origin.link) → Trails d members here back to
     → Trails d members origin.parent after to
 trails_more d members zero origin key back after to lt ways stands is trails = absurd (omega (arith, lt))
 trails_more d members (suc here) origin key back after to lt ways stands is trails =
@@ -210,13 +210,13 @@ trails_more d members (suc here) origin key back after to lt ways stands is trai
           (within_append (size d) (link_moves origin.link) (reverse back) linked.from trails.member to first trails.joined);
     }
 
-pub parent_before : (d : Diagram) (members : List Member) (here : ℕ) (origin : Origin) (key : Packed) → 0 < here → AreWays d members
+pub parent_before : (d : Diagram) (members : List Member) (here : ℕ) (origin : Origin) (key : Packed) → 0 < here → AreLinked d members
     → slice_get members here ≡ Some (key, origin) → origin.parent < here
 parent_before d members zero origin key lt ways stands = absurd (omega (arith, lt))
 parent_before d members (suc here) origin key lt ways stands = (ways.child here (key, origin) stands).lower
 
 pub trails_end : (d : Diagram) (members : List Member) (here : ℕ) (form : LeastForm) (back after : List Move) (to : Diagram) → IsGrid d → here ≡ 0
-    → AreWays d members → IsLeastForm d form → after ≡ back ++ reverse (shift_moves form.columns form.rows) → Trails d members here back to
+    → AreLinked d members → IsLeastForm d form → after ≡ back ++ reverse (shift_moves form.columns form.rows) → Trails d members here back to
     → JoinsWithin (size d) d (reverse after) to
 trails_end d members here form back after to grid first ways least is trails =
     let stands : slice_get (keys_in members) 0 ≡ Some trails.key = subst (λ (n : ℕ). slice_get (keys_in members) n ≡ Some trails.key) first trails.stands in

@@ -18,9 +18,9 @@ abbrev pub AreMonotonic : List Move → Type 0
 AreMonotonic moves = All (λ move. is_monotonic move ≡ true) moves
 
 -- why no more was done at e with a budget of b members
-abbrev pub EndsAt : Diagram → ℕ → SimpleEnd → Type 0
-EndsAt e b Irreducible = HasAtMost e b × IsIrreducible e
-EndsAt e b (Spent members) = (members ≡ b) × HasMoreAndNoneSmaller e b
+abbrev pub EndsSimplified : Diagram → ℕ → SimpleEnd → Type 0
+EndsSimplified e b Irreducible = HasAtMost e b × IsIrreducible e
+EndsSimplified e b (Spent members) = (members ≡ b) × HasMoreAndNoneSmaller e b
 
 -- d was simplified to e, with a budget of b members for each listing
 pub record Simplifies (d : Diagram) (b : ℕ) (e : Diagram) (moves : List Move) (why : SimpleEnd) : Type 0 where
@@ -30,4 +30,4 @@ pub record Simplifies (d : Diagram) (b : ℕ) (e : Diagram) (moves : List Move) 
   pub kept : AreMonotonic moves
   -- where none of them destabilises, nothing was done
   pub given : list_any is_destabilisation moves ≡ false → (e ≡ d) × (moves ≡ [])
-  pub end : EndsAt e b why
+  pub end : EndsSimplified e b why

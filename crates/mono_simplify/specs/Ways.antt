@@ -23,7 +23,7 @@ abbrev pub keys_in : List Member → List Packed
 keys_in members = map (λ (m : Member). m.0) members
 
 -- the link leads by an exchange from the diagram of the parent's key to that of the key, at the size of d
-pub record IsLinked (d : Diagram) (keys : List Packed) (place : ℕ) (key : Packed) (origin : Origin) : Type 0 where
+pub record IsExchangeLink (d : Diagram) (keys : List Packed) (place : ℕ) (key : Packed) (origin : Origin) : Type 0 where
   pub lower : origin.parent < place
   pub parent : Packed
   pub stands : slice_get keys origin.parent ≡ Some parent
@@ -37,16 +37,16 @@ pub record IsLinked (d : Diagram) (keys : List Packed) (place : ℕ) (key : Pack
   pub exchanges : is_shift_or_exchange origin.link.step ≡ true
 
 -- the first member is the form of d, and each other one is linked to an earlier one
-pub record AreWays (d : Diagram) (members : List Member) : Type 0 where
+pub record AreLinked (d : Diagram) (members : List Member) : Type 0 where
   pub root : (m : Member) → slice_get members 0 ≡ Some m → (f : Diagram) × (IsCanonicalForm d f × (key_of f ≡ m.0))
-  pub child : (place : ℕ) (m : Member) → slice_get members (suc place) ≡ Some m → IsLinked d (keys_in members) (suc place) m.0 m.1
+  pub child : (place : ℕ) (m : Member) → slice_get members (suc place) ≡ Some m → IsExchangeLink d (keys_in members) (suc place) m.0 m.1
 
 -- a member that one of these offers, made at the member of this place, reached
 abbrev pub IsOffered : ℕ → List Offer → Member → Type 0
 IsOffered place offers m = (m.1.parent ≡ place) × Contains offers (record { key = m.0; link = m.1.link })
 
 -- the members are the old ones and then some that these offers reached
-pub record Extends (place : ℕ) (offers : List Offer) (old new : List Member) : Type 0 where
+pub record Admits (place : ℕ) (offers : List Offer) (old new : List Member) : Type 0 where
   pub more : List Member
   pub is : new ≡ old ++ more
   pub offered : All (IsOffered place offers) more

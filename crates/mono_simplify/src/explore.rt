@@ -4,7 +4,7 @@ ghost use Rattle.std.specs.List.{All, Contains};
 ghost use Rattle.grid_moves.specs.Kinds.{is_exchange, is_destabilisation};
 ghost use Rattle.next_moves.specs.Offers.{exchanges_among};
 ghost use Rattle.mono_simplify.specs.Listing.{with_keys};
-ghost use Rattle.mono_simplify.specs.Ways.{keys_in, Extends, IsExploredAfter, IsExploredTo};
+ghost use Rattle.mono_simplify.specs.Ways.{keys_in, Admits, IsExploredAfter, IsExploredTo};
 
 use crate::class::{Class, Origin};
 use crate::way::way_to;
@@ -88,7 +88,7 @@ fn turn(
     requires few { length class.old ≤ budget }
     ensures listed { IfOk result (λ after.
         IsExploredAfter budget place (exchanges_among offers.now) (keys_in class.old) over (keys_in class.new) after) }
-    ensures ways { IfOk result (λ _. Extends place (exchanges_among offers.now) class.old class.new) }
+    ensures ways { IfOk result (λ _. Admits place (exchanges_among offers.now) class.old class.new) }
     ensures few { IfOk result (λ _. length class.new ≤ budget) }
 {
     if over {
@@ -109,7 +109,7 @@ pub fn admit_all(
     requires { length class.old ≤ budget }
     ensures keys { IfOk result (λ _. keys_in class.new ≡ take budget (with_keys (keys_in class.old) (exchanges_among offers.now))) }
     ensures over { IfOk result (λ over. over ≡ nat_lt budget (length (with_keys (keys_in class.old) (exchanges_among offers.now)))) }
-    ensures ways { IfOk result (λ _. Extends place (exchanges_among offers.now) class.old class.new) }
+    ensures ways { IfOk result (λ _. Admits place (exchanges_among offers.now) class.old class.new) }
 {
     for offer in offers {
         if !is_exchange(offer.link.step) {

@@ -8,7 +8,7 @@ ghost use Rattle.grid_keys.specs.Key.{IsKeyOf};
 ghost use Rattle.next_moves.specs.Offers.{Leads};
 ghost use Rattle.mono_simplify.specs.ExchangeClass.{is_shift_or_exchange, AreShiftsAndExchanges};
 ghost use Rattle.mono_simplify.specs.Simplified.{is_monotonic, AreMonotonic};
-ghost use Rattle.mono_simplify.specs.Ways.{keys_in, AreWays};
+ghost use Rattle.mono_simplify.specs.Ways.{keys_in, AreLinked};
 
 use crate::class::Class;
 use grid_canon::canonical;
@@ -29,7 +29,7 @@ pub fn way_to(
     last: Link,
 ) -> Result<Vec<Move>, OutOfMemory>
     requires place { place < length class.now }
-    requires ways { AreWays grid.now class.now }
+    requires ways { AreLinked grid.now class.now }
     ensures last { IfOk result (λ moves. Contains moves.items last.step) }
     ensures kept { IfOk result (λ moves. is_monotonic last.step ≡ true → AreMonotonic moves.items) }
     ensures exchanges { IfOk result (λ moves. is_shift_or_exchange last.step ≡ true → AreShiftsAndExchanges moves.items) }

@@ -3,8 +3,8 @@ ghost use Rattle.std.specs.Prelude.{◌≡◌};
 ghost use Rattle.text_items.specs.Reading.{Gives};
 ghost use Rattle.number_text.specs.Blocks.{cocycle_or_none};
 
+use diagram_items::large_cocycle_item;
 use evidence_core::LargeWeighing;
-use large_tables::large_cocycle_item;
 use quandle_core::Operations;
 use shadow_text::shadow_item;
 use std::alloc::Global;

@@ -6,11 +6,10 @@ ghost use Rattle.number_text.specs.Evidence.{numbers_evidence, linking_evidence,
 use crate::blocks::perhaps_cocycle;
 use crate::number_lines::{counted_item, linked_item};
 use evidence_core::{Block, Evidence, LargeWeighing};
-use large_tables::large_quandle_at;
 use quandle_core::MAX_LARGE_ORDER;
 use std::alloc::Global;
-use text_items::TextFault;
 use text_items::reading::{last_count, line_end, next_line, next_token, word};
+use text_items::{TextFault, large_quandle_at};
 use text_lines::{Line, Lines};
 
 /// The number in the head line of evidence by numbers.

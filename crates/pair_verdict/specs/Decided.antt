@@ -29,7 +29,7 @@ pub record IsToldApart (p : Problem) (quandles : List NamedQuandle) (v : Verdict
 
 -- the list of a book whose sides have met joins the simplified diagrams, and with it the whole one the diagrams of the problem; the
 -- verdict has the whole one tidied
-pub record IsEqualBy (p : Problem) (one two : Simplified) (s : State) (v : Verdict) : Type 0 where
+pub record IsEqualByBook (p : Problem) (one two : Simplified) (s : State) (v : Verdict) : Type 0 where
   pub between : List Move
   pub list : List Move
   pub verdict : v ≡ Equal (tidied (size p.first) 0 0 list)
@@ -38,7 +38,7 @@ pub record IsEqualBy (p : Problem) (one two : Simplified) (s : State) (v : Verdi
 
 -- what the end of a book of the simplified diagrams comes to
 abbrev pub IsVerdictAt : Problem → Simplified → Simplified → State → Option End → Verdict → Type 0
-IsVerdictAt p one two s (Some (Met meeting)) v = IsEqualBy p one two s v
+IsVerdictAt p one two s (Some (Met meeting)) v = IsEqualByBook p one two s v
 IsVerdictAt p one two s (Some (Spent refused)) v = v ≡ UnknownBudget p.budget
 IsVerdictAt p one two s (Some Exhausted) v = v ≡ UnknownExhausted p.cap (length s.entries)
 IsVerdictAt p one two s None v = ⊥

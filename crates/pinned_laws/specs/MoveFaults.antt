@@ -70,10 +70,10 @@ IsFull d (Stabilise c kind corner) = MAX_SIZE ≤ size d
 IsFull d other = ⊥
 
 -- the two neighbours of a slide have no common row or column
-abbrev pub AreApart : Diagram → Move → Type 0
-AreApart d (SlideColumns c) = OfColumns HaveOneEnd d c → ⊥
-AreApart d (SlideRows r) = OfRows HaveOneEnd d r → ⊥
-AreApart d other = ⊥
+abbrev pub HaveNoCommonEnd : Diagram → Move → Type 0
+HaveNoCommonEnd d (SlideColumns c) = OfColumns HaveOneEnd d c → ⊥
+HaveNoCommonEnd d (SlideRows r) = OfRows HaveOneEnd d r → ⊥
+HaveNoCommonEnd d other = ⊥
 
 -- the law fails for this case
 abbrev pub IsMoveFault : Diagram → Move → MoveFault → Type 0
@@ -82,7 +82,7 @@ IsMoveFault d move Touching = AreTouching d move
 IsMoveFault d move Interleaved = AreInterleaved d move
 IsMoveFault d move (Block marks) = HasBlockOf d marks move
 IsMoveFault d move Full = IsFull d move
-IsMoveFault d move Apart = AreApart d move
+IsMoveFault d move Apart = HaveNoCommonEnd d move
 
 abbrev pub move_rank : MoveFault → ℕ
 move_rank Range = 0

@@ -23,7 +23,7 @@ use Rattle.knot_text.proofs.ReadBack.{grid_read}
 use Rattle.knot_text.proofs.Steady.{ok_is}
 use Rattle.reply_text.specs.declared.reply.PlainReply.{PlainReply}
 use Rattle.reply_text.specs.Reply.{done}
-use Rattle.search_jobs.specs.Least.{end_line, AnswersLeast, TellsWhole}
+use Rattle.search_jobs.specs.Least.{least_end_line, AnswersLeast, TellsWhole}
 
 -- ---- the last line
 
@@ -39,17 +39,17 @@ last_digit =
     decimal_by_steps (λ (m : ℕ) (ds : List ℕ). LastDigit ds) (λ m l. record { front = []; last = m; small = l; is = refl })
     (λ m ds l h. record { front = ds; last = m % 10; small = omega arith; is = refl })
 
-spent_line : (n : ℕ) → end_line (Spent n) ≡ codes "spent " ++ (decimal n ++ codes "\n")
+spent_line : (n : ℕ) → least_end_line (Spent n) ≡ codes "spent " ++ (decimal n ++ codes "\n")
 spent_line n =
     ap (λ (ds : List ℕ). (codes "spent" ++ ds) ++ codes "\n") (flat_map-cons spaced (decimal n) [] ∙ append-nil (spaced (decimal n)))
 
 -- a line that ends with a number is not `whole`
-number_ends : (front behind : List ℕ) (n : ℕ) → n < 2 ^ 64 → front ++ end_line (Spent n) ≡ behind ++ codes "whole\n" → ⊥
+number_ends : (front behind : List ℕ) (n : ℕ) → n < 2 ^ 64 → front ++ least_end_line (Spent n) ≡ behind ++ codes "whole\n" → ⊥
 number_ends front behind n small same =
     let d = last_digit n small in
     let ending : List ℕ = (48 + d.last) ∷ codes "\n" in
     let words : List ℕ = codes "spent " ++ d.front in
-    let line : end_line (Spent n) ≡ words ++ ending =
+    let line : least_end_line (Spent n) ≡ words ++ ending =
     spent_line n ∙ ap (λ (ds : List ℕ). codes "spent " ++ (ds ++ codes "\n")) d.is
     ∙ ap (λ (ds : List ℕ). codes "spent " ++ ds) (append_assoc d.front ((48 + d.last) ∷ []) (codes "\n")) in
     let all : (front ++ words) ++ ending ≡ behind ++ codes "whole\n" =
@@ -62,13 +62,13 @@ number_ends front behind n small same =
 -- ---- a text that ends with `whole`
 
 answered : (d : Diagram) (text : List ℕ) (budget : ℕ) (a : AnswersLeast budget d (done text))
-    → text ≡ grid_text a.least.grid ++ (moves_text a.least.moves ++ end_line a.least.end)
+    → text ≡ grid_text a.least.grid ++ (moves_text a.least.moves ++ least_end_line a.least.end)
 answered d text budget a = ap (λ (r : PlainReply). r.text) a.is
 
 begun : (d : Diagram) (text : List ℕ) (g : Marks) → IsGrid (grid_of d) → (t : TellsWhole d text g) → g ≡ t.answer.least.grid
 begun d text g grid t =
     let l : LeastGrid = t.answer.least in
-    let more : List ℕ = moves_text l.moves ++ end_line l.end in
+    let more : List ℕ = moves_text l.moves ++ least_end_line l.end in
     let joined = within_joins (size (grid_of d)) l.moves (grid_of d) l.grid t.answer.finds.joined in
     let here : IsGrid l.grid = joins_grid l.moves (grid_of d) l.grid grid joined in
     let read : grid_item (text_of text) ≡ Ok (l.grid, text_from (0 + 2) more) =
@@ -79,12 +79,12 @@ ended : (d : Diagram) (text : List ℕ) (g : Marks) (t : TellsWhole d text g) �
 ended d text g t =
     let l : LeastGrid = t.answer.least in
     by l.end t.answer.finds.end
-    (answered d text t.budget t.answer ∙ sym (append_assoc (grid_text l.grid) (moves_text l.moves) (end_line l.end)))
+    (answered d text t.budget t.answer ∙ sym (append_assoc (grid_text l.grid) (moves_text l.moves) (least_end_line l.end)))
   where
     front : List ℕ
     front = grid_text t.answer.least.grid ++ moves_text t.answer.least.moves
 
-    by : (e : LeastEnd) → EndsAt (grid_of d) t.budget t.answer.least.grid e → text ≡ front ++ end_line e → e ≡ Whole
+    by : (e : LeastEnd) → EndsAt (grid_of d) t.budget t.answer.least.grid e → text ≡ front ++ least_end_line e → e ≡ Whole
     by Whole at is = refl
     by (Spent members) at is =
         let same = at.0 in

@@ -20,7 +20,7 @@ use Rattle.pair_verdict.specs.Searched.{searched}
 use Rattle.pair_verdict.specs.Decided.{Decides, IsTrueWithin}
 use Rattle.pair_verdict.proofs.AnswerKinds.{tidy_where_decided}
 use Rattle.pair_verdict.proofs.FirstFound.{find_passes, holds_by}
-use Rattle.decision_core.specs.Decision.{IsShort}
+use Rattle.decision_core.specs.VerdictDecision.{HasFewMoves}
 use Rattle.decision_core.proofs.PrintedVerdicts.{FewColourings, moves_text, told_text, found}
 
 -- ---- verdicts
@@ -34,7 +34,7 @@ different_text few d e q v first second named is lists =
     subst (HasVerdictText (size d) (size e)) (sym lists.verdict) (told_text few d e q lists.one lists.two first second named told)
 
 -- of a search
-searched_text : (p : Problem) (v : Verdict) → p.cap ≤ MAX_SIZE → p.budget ≤ MAX_BUDGET → IsTrueWithin p v → IsShort v
+searched_text : (p : Problem) (v : Verdict) → p.cap ≤ MAX_SIZE → p.budget ≤ MAX_BUDGET → IsTrueWithin p v → HasFewMoves v
     → HasVerdictText (size p.first) (size p.second) v
 searched_text p (Equal moves) small most is short = moves_text moves p.first p.second (within_joins p.cap moves p.first p.second is) short
 searched_text p (Different listed one two) small most is short = absurd is
@@ -46,7 +46,7 @@ searched_text p (UnknownExhausted cap k) small most is short =
 
 -- of a decision
 pub decided_text : FewColourings → (p : Problem) (qs : List NamedQuandle) (workers : ℕ) (v : Verdict) (kept : Option Finding) → IsGrid p.first → IsGrid p.second
-    → AllByRecursion HasQuandleText qs → Decides p qs workers v kept → IsShort v → HasVersionText Tidy (size p.first) (size p.second) v
+    → AllByRecursion HasQuandleText qs → Decides p qs workers v kept → HasFewMoves v → HasVersionText Tidy (size p.first) (size p.second) v
 decided_text few p qs workers v kept first second named decides short = (plain, tidy_where_decided p qs workers v kept decides)
   where
     separated : Problem → NamedQuandle → Bool

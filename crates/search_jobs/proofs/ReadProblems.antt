@@ -12,7 +12,7 @@ use Rattle.verdict_text.specs.Problems.{problem_of}
 use Rattle.search_book.specs.declared.problem.Problem.{Problem}
 use Rattle.search_pool.specs.declared.finding.Finding.{Finding}
 use Rattle.pair_verdict.specs.Decided.{Decides}
-use Rattle.decision_core.specs.Decision.{IsShort}
+use Rattle.decision_core.specs.VerdictDecision.{HasFewMoves}
 use Rattle.decision_core.proofs.Grids.{grids_of_problem}
 use Rattle.decision_core.proofs.AcceptedBehind.{quandles_text}
 use Rattle.knot_words.specs.declared.words.Asked.{Asked}
@@ -21,12 +21,12 @@ use Rattle.search_jobs.specs.Decide.{problem_for}
 -- the law that a decision has a text
 abbrev pub HaveTexts : Type 0
 HaveTexts = (p : Problem) (quandles : List NamedQuandle) (workers : ℕ) (v : Verdict) (kept : Option Finding) → IsGrid p.first → IsGrid p.second
-    → AllByRecursion HasQuandleText quandles → Decides p quandles workers v kept → IsShort v → HasVersionText Tidy (size p.first) (size p.second) v
+    → AllByRecursion HasQuandleText quandles → Decides p quandles workers v kept → HasFewMoves v → HasVersionText Tidy (size p.first) (size p.second) v
 
 pub has_text : HaveTexts → (bytes : List ℕ) (asked : Asked) (input : ProblemText) (workers : ℕ) (v : Verdict) (kept : Option Finding)
     → problem_of bytes ≡ Ok input
     → Decides (problem_for asked (grid_of input.first) (grid_of input.second)) input.quandles workers v kept
-    → IsShort v → HasVersionText Tidy (columns input.first) (columns input.second) v
+    → HasFewMoves v → HasVersionText Tidy (columns input.first) (columns input.second) v
 has_text texts bytes asked input workers v kept read decides short =
     let p = problem_for asked (grid_of input.first) (grid_of input.second) in
     let grids = grids_of_problem bytes input read in

@@ -18,13 +18,13 @@ use Rattle.reply_text.specs.Reply.{done}
 use Rattle.knot_words.specs.declared.words.TheConstants.{MAX_BUDGET}
 
 -- the whole class was seen; or the budget was spent, which is this number of members
-abbrev pub end_line : LeastEnd → List ℕ
-end_line Whole = line_text (codes "whole" ∷ [])
-end_line (Spent members) = line_text (codes "spent" ∷ decimal members ∷ [])
+abbrev pub least_end_line : LeastEnd → List ℕ
+least_end_line Whole = line_text (codes "whole" ∷ [])
+least_end_line (Spent members) = line_text (codes "spent" ∷ decimal members ∷ [])
 
 -- the least diagram, the moves that lead to it, and whether the whole class was seen
 abbrev pub least_text : LeastGrid → List ℕ
-least_text l = grid_text l.grid ++ (moves_text l.moves ++ end_line l.end)
+least_text l = grid_text l.grid ++ (moves_text l.moves ++ least_end_line l.end)
 
 -- the least of the diagram's class, with this budget
 pub record AnswersLeast (budget : ℕ) (input : Diagram) (reply : PlainReply) : Type 0 where

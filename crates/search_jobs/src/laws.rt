@@ -12,7 +12,7 @@ ghost use Rattle.search_book.specs.declared.problem.Problem.{Problem};
 ghost use Rattle.search_book.specs.declared.problem.TheConstants.{MAX_BUDGET};
 ghost use Rattle.search_pool.specs.declared.finding.Finding.{Finding};
 ghost use Rattle.pair_verdict.specs.Decided.{Decides};
-ghost use Rattle.decision_core.specs.Decision.{IsShort};
+ghost use Rattle.decision_core.specs.VerdictDecision.{HasFewMoves};
 ghost use Rattle.knot_words.specs.declared.words.TheConstants as words;
 ghost use Rattle.mono_simplify.specs.ExchangeClass.{JoinedByExchanges};
 ghost use Rattle.least_grids.specs.Least.{IsLeastReached};
@@ -44,7 +44,7 @@ pub fn a_decision_has_a_text()
         → IsGrid p.second
         → AllByRecursion HasQuandleText quandles
         → Decides p quandles workers v kept
-        → IsShort v
+        → HasFewMoves v
         → HasVersionText Version.Tidy (size p.first) (size p.second) v }
 {
     no_more_colourings_than_choices();

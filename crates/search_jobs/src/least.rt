@@ -3,7 +3,7 @@ ghost use Rattle.std.specs.Prelude.{◌≡◌, ◌++◌, IfOk, OnOk};
 ghost use Rattle.knot_text.specs.Shapes.{lone_diagram_of};
 ghost use Rattle.knot_words.specs.Words.{IsWithinBounds};
 ghost use Rattle.reply_text.specs.Reply.{AnswersRead};
-ghost use Rattle.search_jobs.specs.Least.{end_line, least_text, AnswersLeast};
+ghost use Rattle.search_jobs.specs.Least.{least_end_line, least_text, AnswersLeast};
 
 use knot_ports::Status;
 use knot_text::{Diagram, print_grid, print_moves, read_diagram};
@@ -53,7 +53,7 @@ fn least_text(alloc: Global, least: &LeastGrid) -> Result<Vec<u8>, OutOfMemory>
 
 /// Appends whether the whole class was seen.
 fn push_end(out: &mut Vec<u8>, end: LeastEnd) -> Result<(), AllocError>
-    ensures { OnOk result (out.new.items ≡ out.old.items ++ end_line end) }
+    ensures { OnOk result (out.new.items ≡ out.old.items ++ least_end_line end) }
 {
     match end {
         LeastEnd::Whole => out.extend_from_slice(b"whole\n"),

@@ -19,7 +19,7 @@ use Rattle.knot_words.specs.Numbers.{texts_of}
 use Rattle.seek_words.specs.Words.{Asks, AsksNothing, AskForText}
 use Rattle.seek_parts.specs.declared.fault.PartFault.{PartFault}
 use Rattle.seek_parts.specs.Parts.{Told, ArePartsOf, all_due}
-use Rattle.seek_parts.specs.Clash.{FilesAt, Clashes, AreApart}
+use Rattle.seek_parts.specs.Clash.{FilesAt, Clashes, IsOutUnread}
 use Rattle.seek_parts.specs.Fault.{IsFaultOf, fault_status}
 use Rattle.evidence_core.specs.declared.blocks.Block.{Block}
 use Rattle.seek.specs.declared.failure.Failure.{Failure}
@@ -106,7 +106,7 @@ pub record EndsClashing (at : FilesAt) (asked : Asked) (old new : Outside) (s : 
 
 -- it is another one than those that are read
 pub record EndsApart (files : FilesTold) (asked : Asked) (old new : Outside) (s : Status) : Type 0 where
-  pub apart : AreApart files.at asked
+  pub apart : IsOutUnread files.at asked
   pub ends : EndsBy files.bytes asked old new s
 
 abbrev pub EndsDoing : FilesTold → Asked → Outside → Outside → Status → Type 0

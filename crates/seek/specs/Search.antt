@@ -10,7 +10,7 @@ use Rattle.seek_core.specs.declared.ending.Ending.{Ending}
 use Rattle.evidence_core.specs.declared.blocks.Block.{Block}
 use Rattle.seek_core.specs.declared.answer.Tried.{Tried}
 use Rattle.seek_core.specs.declared.ending.Ending.TheVariants.{NotFound, WriteFault}
-use Rattle.seek_core.specs.Answers.{Ends, WritesDecision, BlocksTriedInVain, IsTooLong, ending_status}
+use Rattle.seek_core.specs.Answers.{Ends, WritesDecision, BlocksTriedInVain, EndsTooLong, ending_status}
 
 -- what a sink holds, as far as it is told, and how many faults it counts
 pub record Held : Type 0 where
@@ -34,7 +34,7 @@ unseen = record { bytes = None; faults = 0 }
 pub record EndsSearch (bytes : List ℕ) (blocks : List Block) (before after : Held) (ending : Ending) : Type 0 where
   pub ends : Ends bytes before.bytes after.bytes ending
   pub vain : (tried : Tried) → ending ≡ NotFound tried → BlocksTriedInVain bytes blocks tried
-  pub long : MAX_INPUT < length bytes → IsTooLong ending
+  pub long : MAX_INPUT < length bytes → EndsTooLong ending
   pub fault : ending ≡ WriteFault → Rose before.faults after.faults
 
 -- the status is that of an ending by which the search ended

@@ -12,7 +12,7 @@ use Rattle.knot_text.specs.Printed.{HasQuandleText}
 use Rattle.verdict_text.specs.Problems.{problem_of}
 use Rattle.pair_verdict.specs.Separates.{separates, first_separating}
 use Rattle.pair_verdict.proofs.FirstFound.{find_passes, holds_by}
-use Rattle.decision_core.specs.Decision.{IsByWrittenQuandle}
+use Rattle.decision_core.specs.VerdictDecision.{IsByWrittenQuandle}
 use Rattle.decision_core.proofs.PrintedVerdicts.{found}
 use Rattle.evidence_core.specs.declared.blocks.Block.{Block}
 use Rattle.evidence_core.specs.declared.evidence.Evidence.{Evidence}

@@ -67,8 +67,8 @@ Ends bytes before after ending.WriteFault = (text : List ℕ) × (IsDecision byt
 Ends bytes before after ending.OutOfMemory = Keeps before after
 
 -- what a call comes to whose input is too long
-abbrev pub IsTooLong : Ending → Type 0
-IsTooLong e = (e ≡ ending.TooLong) ⊎ (e ≡ ending.OutOfMemory)
+abbrev pub EndsTooLong : Ending → Type 0
+EndsTooLong e = (e ≡ ending.TooLong) ⊎ (e ≡ ending.OutOfMemory)
 
 -- the exit status of the program, which has the number of knot's status of that name
 abbrev pub ending_status : Ending → Status

@@ -15,7 +15,7 @@ pub use Rattle.verdict_core.specs.Evidence
 pub use Rattle.knot_text.specs.Printed
 pub use Rattle.knot_text.specs.Shapes
 pub use Rattle.pair_verdict.specs.Separates
-pub use Rattle.decision_core.specs.Decision
+pub use Rattle.decision_core.specs.VerdictDecision
 pub use Rattle.text_items.specs.Reading
 pub use Rattle.number_text.specs.Blocks
 pub use Rattle.certificates.specs.Printed as EvidenceTexts

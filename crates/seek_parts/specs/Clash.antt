@@ -17,8 +17,8 @@ abbrev pub FilesAt : Type 0
 FilesAt = List ℕ → Option (Option FileId)
 
 -- this file stands at the path, as far as it is told
-abbrev pub StandsAt : FilesAt → FileId → List ℕ → Type 0
-StandsAt at file path = IfSome (at path) (λ found. found ≡ Some file)
+abbrev pub IsFileAt : FilesAt → FileId → List ℕ → Type 0
+IsFileAt at file path = IfSome (at path) (λ found. found ≡ Some file)
 
 -- another one does, or none
 abbrev pub IsElsewhere : FilesAt → FileId → List ℕ → Type 0
@@ -26,9 +26,9 @@ IsElsewhere at file path = IfSome (at path) (λ found. found ≢ Some file)
 
 -- it is read as a diagram
 abbrev pub IsGivenAs : FilesAt → FileId → Given → Type 0
-IsGivenAs at file (File path) = StandsAt at file path.now
+IsGivenAs at file (File path) = IsFileAt at file path.now
 IsGivenAs at file (Braid word) = ⊥
-IsGivenAs at file (Code path) = StandsAt at file path.now
+IsGivenAs at file (Code path) = IsFileAt at file path.now
 
 abbrev pub IsNotGivenAs : FilesAt → FileId → Given → Type 0
 IsNotGivenAs at file (File path) = IsElsewhere at file path.now
@@ -45,15 +45,15 @@ IsNoDiagram at file (Pair first second) = IsNotGivenAs at file first × IsNotGiv
 
 -- it stands at one of the paths
 abbrev pub IsAmongPaths : FilesAt → FileId → List (Bor (List ℕ)) → Type 0
-IsAmongPaths at file paths = (path : Bor (List ℕ)) × (Contains paths path × StandsAt at file path.now)
+IsAmongPaths at file paths = (path : Bor (List ℕ)) × (Contains paths path × IsFileAt at file path.now)
 
 -- it stands at none of them
 abbrev pub IsAtNone : FilesAt → FileId → List (Bor (List ℕ)) → Type 0
 IsAtNone at file paths = All (λ path. IsElsewhere at file path.now) paths
 
 -- it is read: as a diagram, for quandles, or for blocks
-abbrev pub IsRead : FilesAt → FileId → Asked → Type 0
-IsRead at file asked =
+abbrev pub IsReadFile : FilesAt → FileId → Asked → Type 0
+IsReadFile at file asked =
     IsAmongDiagrams at file asked.diagrams ⊎ (IsAmongPaths at file asked.quandles.items ⊎ IsAmongPaths at file asked.weights.items)
 
 abbrev pub IsUnreadFile : FilesAt → FileId → Asked → Type 0
@@ -65,9 +65,9 @@ pub record Clashes (at : FilesAt) (asked : Asked) : Type 0 where
   pub out : Bor (List ℕ)
   pub is : asked.out ≡ Some out
   pub file : FileId
-  pub stands : StandsAt at file out.now
-  pub read : IsRead at file asked
+  pub stands : IsFileAt at file out.now
+  pub read : IsReadFile at file asked
 
 -- no file that would be written is read
-abbrev pub AreApart : FilesAt → Asked → Type 0
-AreApart at asked = (out : Bor (List ℕ)) (file : FileId) → asked.out ≡ Some out → at out.now ≡ Some (Some file) → IsUnreadFile at file asked
+abbrev pub IsOutUnread : FilesAt → Asked → Type 0
+IsOutUnread at asked = (out : Bor (List ℕ)) (file : FileId) → asked.out ≡ Some out → at out.now ≡ Some (Some file) → IsUnreadFile at file asked

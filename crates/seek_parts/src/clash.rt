@@ -1,7 +1,7 @@
 //! Whether a file that is read is written too.
 ghost use Rattle.std.specs.Prelude.{◌≡◌, ◌≢◌, Some, true, false, IfSome, IfNone};
-ghost use Rattle.seek_parts.specs.Clash.{StandsAt, IsElsewhere, IsGivenAs, IsNotGivenAs, IsAmongDiagrams, IsNoDiagram, IsAmongPaths, IsAtNone};
-ghost use Rattle.seek_parts.specs.Clash.{IsRead, IsUnreadFile, Clashes, AreApart};
+ghost use Rattle.seek_parts.specs.Clash.{IsFileAt, IsElsewhere, IsGivenAs, IsNotGivenAs, IsAmongDiagrams, IsNoDiagram, IsAmongPaths, IsAtNone};
+ghost use Rattle.seek_parts.specs.Clash.{IsReadFile, IsUnreadFile, Clashes, IsOutUnread};
 
 use crate::texts::Texts;
 use seek_words::{Asked, Diagrams, Given};
@@ -9,7 +9,7 @@ use seek_words::{Asked, Diagrams, Given};
 /// A path that is read, at which the file stands that is written, under whichever names; None without one. Devices and pipes may be both.
 pub fn read_and_written<'a, F: Texts>(files: &F, asked: &Asked<'a>) -> Option<&'a str>
     ensures clashes { IfSome result (λ name. Clashes (F.named files.now) asked.now) }
-    ensures apart { IfNone result (AreApart (F.named files.now) asked.now) }
+    ensures apart { IfNone result (IsOutUnread (F.named files.now) asked.now) }
 {
     let Some(out) = asked.out else {
         return None;
@@ -22,7 +22,7 @@ pub fn read_and_written<'a, F: Texts>(files: &F, asked: &Asked<'a>) -> Option<&'
 
 /// A path that is read, at which this file stands; None without one.
 fn read_at<'a, F: Texts>(files: &F, asked: &Asked<'a>, file: (u64, u64)) -> Option<&'a str>
-    ensures read { IfSome result (λ name. IsRead (F.named files.now) file asked.now) }
+    ensures read { IfSome result (λ name. IsReadFile (F.named files.now) file asked.now) }
     ensures none { IfNone result (IsUnreadFile (F.named files.now) file asked.now) }
 {
     if let Some(path) = diagram_at(files, asked.diagrams, file) {
@@ -74,7 +74,7 @@ fn path_at<'a, F: Texts>(files: &F, paths: &[&'a str], file: (u64, u64)) -> Opti
 
 /// Whether this file stands at a path.
 fn stands_at<F: Texts>(files: &F, path: &str, file: (u64, u64)) -> bool
-    ensures yes { result ≡ true → StandsAt (F.named files.now) file path.now }
+    ensures yes { result ≡ true → IsFileAt (F.named files.now) file path.now }
     ensures none { result ≡ false → IsElsewhere (F.named files.now) file path.now }
 {
     match files.file_at(path) {

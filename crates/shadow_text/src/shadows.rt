@@ -10,9 +10,8 @@ use quandle_core::{MAX_ORDER, Operations, Quandle};
 use shadow_cocycles::ShadowCocycle;
 use shadow_formula::{has_formula, mochizuki};
 use std::alloc::{AllocFailed, Global};
-use text_items::numbers::numbers_below;
 use text_items::reading::{line_end, next_line, next_token, word};
-use text_items::rows::table_rows;
+use text_items::rows::{numbers_below, table_rows};
 use text_items::{MAX_MODULUS, TextFault};
 use text_lines::{Line, Lines};
 
@@ -181,7 +180,7 @@ fn cochain_item(
     let mut entries = table_rows(alloc, order, modulus, front, lines)?;
     let mut line = next_line(lines)?;
     let at = line.number();
-    let row = numbers_below(order, modulus, &mut line)?;
+    let row = numbers_below(alloc, order, modulus, &mut line)?;
     entries.extend_from_slice(row.as_slice())?;
     match ShadowCocycle::new(quandle, modulus, entries) {
         Ok(cocycle) => Ok(SpelledShadow {

@@ -1,8 +1,6 @@
 -- The lines of a table read one behind the other, as a loop does.
-use Rattle.std.proofs.Common.{◌≡◌, ℕ, suc, ◌-◌, ◌+◌, ◌*◌, ◌≤◌, ◌<◌, List, ◌++◌, Result, Ok, Err, refl, sym, ap, ◌∙◌, append_assoc, arith}
+use Rattle.std.proofs.Common.{◌≡◌, ℕ, suc, ◌-◌, ◌+◌, ◌≤◌, ◌<◌, List, ◌++◌, Result, Ok, Err, refl, sym, ap, ◌∙◌, append_assoc, arith}
 use Rattle.std.proofs.lemmas.List.{append-nil}
-use Rattle.std.proofs.lemmas.Nat.{mul-le}
-use Rattle.quandle_core.specs.declared.quandle.TheConstants.{MAX_ORDER, MAX_TABLE}
 use Rattle.text_lines.specs.Lines.{Text}
 use Rattle.text_items.specs.declared.fault.TextFault.{TextFault}
 use Rattle.text_items.specs.declared.fault.TextFault.TheVariants as fault
@@ -46,16 +44,3 @@ rows_done front order bound count i text total le so_far =
     let k : count - i ≡ 0 = omega arith in
     let one : with_front front (table_rows order bound (count - i) text) ≡ Ok (front, text) = rw k (ap (λ ns. Ok (ns, text)) (append-nil front)) in
     sym so_far ∙ one
-
--- one row more
-row_counts : (k order : ℕ) → k * order + order ≡ (k + 1) * order
-row_counts k order = omega arith
-
--- it has room
-pub row_fits : (order k : ℕ) → order ≤ MAX_ORDER → k < order → k * order + order ≤ MAX_TABLE
-row_fits order k most lt = omega (arith, mul-le (k + 1) order MAX_ORDER MAX_ORDER (omega arith) most, row_counts k order)
-
-pub row_adds : (order i : ℕ) → 1 ≤ i → (i - 1) * order + order ≡ (i + 1 - 1) * order
-row_adds order i some =
-    let k : i - 1 + 1 ≡ i + 1 - 1 = omega arith in
-    row_counts (i - 1) order ∙ ap (λ (n : ℕ). n * order) k

@@ -5,6 +5,7 @@
 mod braids;
 mod fault;
 mod grids;
+mod large_quandles;
 mod modulus;
 mod number_lists;
 pub mod numbers;
@@ -15,9 +16,9 @@ pub mod rows;
 pub use braids::{braid_item, letter};
 pub use fault::TextFault;
 pub use grids::grid_item;
+pub use large_quandles::large_quandle_at;
 pub use modulus::{MAX_MODULUS, modulus_at};
 pub use number_lists::{any_long, number_list};
 pub use quandles::{
-    MAX_QUANDLES, Written, append, is_over, quandle_at, quandle_item, quandle_list, quandle_of,
-    table_front, written_at,
+    MAX_QUANDLES, Written, built_in, quandle_at, quandle_item, quandle_list, written_at,
 };

@@ -1,21 +1,17 @@
 //! Quandles by name or table.
-ghost use Rattle.std.specs.Prelude.{◌≡◌, ◌≤◌, ◌+◌, ◌-◌, ◌*◌, ◌++◌, false, is_none, is_some, length, IfOk, IfErr, IfSome};
-ghost use Rattle.arrayvec.specs.ArrayVec.{array_vec_len};
-ghost use Rattle.quandle_core.specs.declared.quandle.TheConstants.{MAX_TABLE};
+ghost use Rattle.std.specs.Prelude.{◌≡◌, ◌≤◌, false, is_none, is_some, IfOk, IfErr, IfSome};
 ghost use Rattle.quandle_core.specs.declared.quandle.TheConstants.{MAX_ORDER};
 ghost use Rattle.quandle_core.specs.Fault.{first_fault_within};
-ghost use Rattle.text_items.specs.Reading.{Gives, Fails};
-ghost use Rattle.text_items.specs.Quandles.{written_at, alexander_at, tetrahedral_at, is_over, meant, table_row, table_rows, table_item, quandle_of, quandle_at, quandle_item, surplus_quandle, quandles, quandle_list};
+ghost use Rattle.text_items.specs.Reading.{Gives};
+ghost use Rattle.text_items.specs.Quandles.{written_at, alexander_at, tetrahedral_at, is_over, meant, table_item, quandle_of, quandle_at, quandle_item, surplus_quandle, quandles, quandle_list};
 ghost use Rattle.text_items.specs.Quandles.{built_in};
 
 use crate::fault::TextFault;
-use crate::numbers::numbers_below;
 use crate::reading::{MAX_NUMBER, last_number, line_end, next_line, next_token, number, word};
-use arrayvec::ArrayVec;
-use grid_core::Rows;
+use crate::rows::{numbers_below, table_front};
 use memory_core::Items;
 use named_quandles::{Listed, QuandleName};
-use quandle_core::{MAX_ORDER, MAX_TABLE, Quandle};
+use quandle_core::{MAX_ORDER, Quandle};
 use std::alloc::Global;
 use text_lines::{Line, Lines};
 
@@ -75,7 +71,7 @@ pub fn written_at(line: &mut Line) -> Result<Written, TextFault>
 }
 
 /// Whether a name exceeds a limit: it has more than `MAX_ORDER` colours, or a factor above `MAX_NUMBER`.
-pub fn is_over(written: Written) -> bool
+pub(crate) fn is_over(written: Written) -> bool
     ensures { result ≡ is_over MAX_ORDER written }
 {
     match written {
@@ -101,54 +97,17 @@ fn meant(written: Written) -> Option<Listed>
     }
 }
 
-/// A line of a square table of numbers below the bound.
-#[tactic(auto, unfolding(crate::specs::Quandles::table_row))]
-fn table_row(order: u8, bound: u8, lines: &mut Lines) -> Result<Rows, TextFault>
-    requires { order ≤ MAX_ORDER }
-    ensures row { Gives (λ r. (r.items, lines.new)) result (table_row order bound lines.old) }
-    ensures len { IfOk result (λ r. array_vec_len r ≡ order) }
-{
-    let mut line = next_line(lines)?;
-    numbers_below(order, bound, &mut line)
-}
-
-/// Appends a line of a table to its entries.
-pub fn append(entries: &mut ArrayVec<u8, MAX_TABLE>, row: &[u8])
-    requires { array_vec_len entries.old + length row.now ≤ MAX_TABLE }
-    ensures { entries.new.items ≡ entries.old.items ++ row.now }
-{
-    entries.try_extend_from_slice(row).unwrap();
-}
-
-/// The entries of all lines of a square table but the last, each below the bound.
-pub fn table_front(
-    order: u8,
-    bound: u8,
-    lines: &mut Lines,
-) -> Result<ArrayVec<u8, MAX_TABLE>, TextFault>
-    requires { (1 ≤ order) × (order ≤ MAX_ORDER) }
-    ensures rows { Gives (λ v. (v.items, lines.new)) result (table_rows order bound (order - 1) lines.old) }
-    ensures len { IfOk result (λ v. array_vec_len v ≡ (order - 1) * order) }
-{
-    let mut entries = ArrayVec::new();
-    for _ in 1..order {
-        let row = table_row(order, bound, lines)?;
-        append(&mut entries, row.as_slice());
-    }
-    Ok(entries)
-}
-
 /// The lines of a table, which has the three laws of a quandle, or is malformed at its last line.
 #[tactic(auto, unfolding(crate::specs::Quandles::table_item))]
-fn table_item(order: u8, lines: &mut Lines) -> Result<Listed, TextFault>
+fn table_item(alloc: Global, order: u8, lines: &mut Lines) -> Result<Listed, TextFault>
     requires { (1 ≤ order) × (order ≤ MAX_ORDER) }
     ensures { Gives (λ q. (q, lines.new)) result (table_item order lines.old) }
 {
-    let mut entries = table_front(order, order, lines)?;
+    let mut entries = table_front(alloc, order, order, lines)?;
     let mut line = next_line(lines)?;
     let at = line.number();
-    let row = numbers_below(order, order, &mut line)?;
-    append(&mut entries, row.as_slice());
+    let row = numbers_below(alloc, order, order, &mut line)?;
+    entries.extend_from_slice(row.as_slice())?;
     match quandle_by(order, entries.as_slice()) {
         Some(quandle) => Ok(Listed::table(quandle)),
         None => Err(TextFault::Malformed { line: at }),
@@ -168,7 +127,12 @@ fn quandle_by(order: u8, table: &[u8]) -> Option<Quandle>
 }
 
 /// What a name in line `at` means, with the lines behind it that a table takes. The name exceeds no limit.
-pub fn quandle_of(at: usize, written: Written, lines: &mut Lines) -> Result<Listed, TextFault>
+pub(crate) fn quandle_of(
+    alloc: Global,
+    at: usize,
+    written: Written,
+    lines: &mut Lines,
+) -> Result<Listed, TextFault>
     requires { is_over MAX_ORDER written ≡ false }
     ensures { Gives (λ q. (q, lines.new)) result (quandle_of at written lines.old) }
 {
@@ -176,7 +140,7 @@ pub fn quandle_of(at: usize, written: Written, lines: &mut Lines) -> Result<List
         if order < 1 {
             return Err(TextFault::Malformed { line: at });
         }
-        return table_item(order as u8, lines);
+        return table_item(alloc, order as u8, lines);
     }
     match meant(written) {
         Some(listed) => Ok(listed),
@@ -186,7 +150,7 @@ pub fn quandle_of(at: usize, written: Written, lines: &mut Lines) -> Result<List
 
 /// A name at the end of a line, with the lines behind it that a table takes.
 #[tactic(auto, unfolding(crate::specs::Quandles::quandle_at))]
-pub fn quandle_at(line: &mut Line, lines: &mut Lines) -> Result<Listed, TextFault>
+pub fn quandle_at(alloc: Global, line: &mut Line, lines: &mut Lines) -> Result<Listed, TextFault>
     ensures { Gives (λ q. (q, lines.new)) result (quandle_at MAX_ORDER line.old lines.old) }
 {
     let written = written_at(line)?;
@@ -194,17 +158,17 @@ pub fn quandle_at(line: &mut Line, lines: &mut Lines) -> Result<Listed, TextFaul
     if is_over(written) {
         return Err(TextFault::Limit { line: at });
     }
-    quandle_of(at, written, lines)
+    quandle_of(alloc, at, written, lines)
 }
 
 /// A quandle item.
 #[tactic(auto, unfolding(crate::specs::Quandles::quandle_item))]
-pub fn quandle_item(lines: &mut Lines) -> Result<Listed, TextFault>
+pub fn quandle_item(alloc: Global, lines: &mut Lines) -> Result<Listed, TextFault>
     ensures { Gives (λ q. (q, lines.new)) result (quandle_item lines.old) }
 {
     let mut line = next_line(lines)?;
     word(&mut line, b"quandle")?;
-    quandle_at(&mut line, lines)
+    quandle_at(alloc, &mut line, lines)
 }
 
 /// The fault of one quandle more than a text may have.
@@ -229,7 +193,7 @@ fn quandles(alloc: Global, lines: &mut Lines) -> Result<Vec<Listed>, TextFault>
         if !lines.begins(b"quandle") {
             return Ok(listed);
         }
-        listed.push(quandle_item(lines)?)?;
+        listed.push(quandle_item(alloc, lines)?)?;
     }
     if lines.begins(b"quandle") {
         return surplus_quandle(lines);
@@ -246,8 +210,8 @@ const BUILT_IN: [QuandleName; 5] = [
     QuandleName::Dihedral(7),
 ];
 
-/// The quandles that stand for an empty list.
-fn built_in(alloc: Global) -> Result<Vec<Listed>, TextFault>
+/// The quandles that stand for an empty list. Want of memory is the only error.
+pub fn built_in(alloc: Global) -> Result<Vec<Listed>, TextFault>
     ensures ok { IfOk result (λ v. v.items ≡ built_in) }
     ensures err { IfErr result (λ e. e ≡ TextFault.OutOfMemory) }
 {

@@ -22,7 +22,7 @@ use Rattle.diagram_items.specs.Diagrams.{diagram_item}
 use Rattle.verdict_text.specs.Verdicts.{verdict_of, version_at, tidy_item, plain_item, versioned_item, verdict_item}
 use Rattle.diagram_items.specs.Cocycles.{cochain, cochain_item, cocycle_item}
 use Rattle.text_items.specs.Modulus.{modulus_at}
-use Rattle.text_laws.specs.LineKinds.{read_fault, fault_by, kind_fault, FailsByKind, worth, numbers_of, x_kind, o_kind, colours_kind, braid_kind, modulus_kind}
+use Rattle.text_laws.specs.LineKinds.{read_fault, fault_by, kind_fault, FailsByKind, worth, row_values, x_kind, o_kind, colours_kind, braid_kind, modulus_kind}
 use Rattle.text_laws.specs.LineKinds.{counted_kind, says_version, certificate_kind}
 use Rattle.text_laws.specs.FirstLines.{count, or_later, on_top, fault_among, lines_fault, rows_fault, BeginsBy, BeginsWith, BeginsElse}
 use Rattle.knot_text.proofs.StepsAgain.{line_of}
@@ -46,7 +46,7 @@ pub colours_begin : (width order : ℕ) → BeginsBy (colours_kind width order) 
 unfolding colours_item next_line
 colours_begin width order line text =
     ap (λ (read : Result (ArrayVec ℕ) TextFault). read_fault (read >>= made text)) (colours_read width order line)
-    ∙ fault_then (kind_fault (colours_kind width order) line) (record { items = numbers_of line.tokens }) (made text)
+    ∙ fault_then (kind_fault (colours_kind width order) line) (record { items = row_values line.tokens }) (made text)
 
 -- ---- the two lines of a grid
 
@@ -60,15 +60,15 @@ unfolding next_line
 second_by x [] ending = refl
 second_by x (line ∷ lines) ending =
     rw (o_read x line)
-    (fault_then (kind_fault (o_kind x) line) (record { x = x; o = numbers_of line.tokens }) (made (record { lines = lines; ending = ending })))
+    (fault_then (kind_fault (o_kind x) line) (record { x = x; o = row_values line.tokens }) (made (record { lines = lines; ending = ending })))
 
-pub grid_begins : BeginsBy x_kind (λ tokens text. lines_fault (o_kind (numbers_of tokens)) 1 text) grid_item
+pub grid_begins : BeginsBy x_kind (λ tokens text. lines_fault (o_kind (row_values tokens)) 1 text) grid_item
 unfolding grid_item next_line
 grid_begins line text =
     let behind = λ (x : List ℕ). second x text in
     ap (λ (read : Result (List ℕ) TextFault). read_fault (read >>= behind)) (x_read line)
-    ∙ fault_then (kind_fault x_kind line) (numbers_of line.tokens) behind
-    ∙ ap (λ (later : Option TextFault). or_later (kind_fault x_kind line) later) (second_by (numbers_of line.tokens) text.lines text.ending)
+    ∙ fault_then (kind_fault x_kind line) (row_values line.tokens) behind
+    ∙ ap (λ (later : Option TextFault). or_later (kind_fault x_kind line) later) (second_by (row_values line.tokens) text.lines text.ending)
 
 -- ---- either diagram
 
@@ -77,7 +77,7 @@ unfolding diagram_item
 braid_diagram_begins line text is =
     rw is (only_fault (braid_item (on_top line text)) (λ braid. (diagram.Braid braid.0, braid.1)) ∙ braid_begins line text)
 
-pub grid_diagram_begins : BeginsElse (codes "braid") x_kind (λ tokens text. lines_fault (o_kind (numbers_of tokens)) 1 text) diagram_item
+pub grid_diagram_begins : BeginsElse (codes "braid") x_kind (λ tokens text. lines_fault (o_kind (row_values tokens)) 1 text) diagram_item
 unfolding diagram_item
 grid_diagram_begins line text is =
     rw is (only_fault (grid_item (on_top line text)) (λ grid. (diagram.Grid grid.0, grid.1)) ∙ grid_begins line text)

@@ -14,7 +14,7 @@ use Rattle.text_items.specs.Reading.{◌>>=◌, in_turn, next_line, next_token, 
 use Rattle.diagram_items.specs.Moves.{move_lines, moves_item}
 use Rattle.knot_text.specs.BraidSteps.{step_lines, steps_item}
 use Rattle.verdict_text.specs.Verdicts.{moves_of, colour_line, list_item, equal_at, budget_at, exhausted_at, unknown_at, unknown_item, verdict_of}
-use Rattle.text_laws.specs.LineKinds.{read_fault, fault_by, kind_fault, worth, fits, is_above, counted_kind, unknown_kind}
+use Rattle.text_laws.specs.LineKinds.{read_fault, fault_by, kind_fault, worth, has_form, is_above, counted_kind, unknown_kind}
 use Rattle.text_laws.specs.FirstLines.{count, or_later, on_top, BeginsBy, BeginsWith}
 use Rattle.knot_text.proofs.StepsAgain.{line_of}
 use Rattle.text_laws.proofs.Worths.{kept, within, above_kept}
@@ -34,19 +34,19 @@ count_by most n items t false few is above = rw (most_by most (kept t), above_ke
 
 pub counted_fails : {A : Type 0} (most n : ℕ) (items : ℕ → Result A TextFault) (w : List ℕ) (rest : List (List ℕ)) → most ≤ MAX_NUMBER
     → read_fault (counted most items (line_of n rest))
-    ≡ or_later (fault_by (fits (is_number ∷ []) rest) (list_any (λ token. is_above most token) rest) true n) (read_fault (items (count (w ∷ rest))))
+    ≡ or_later (fault_by (has_form (is_number ∷ []) rest) (list_any (λ token. is_above most token) rest) true n) (read_fault (items (count (w ∷ rest))))
 unfolding last_number number next_token line_end
 counted_fails most n items w [] few = refl
 counted_fails most n items w (t ∷ []) few = by (is_number t) refl
   where
     by : (b : Bool) → is_number t ≡ b → read_fault (counted most items (line_of n (t ∷ [])))
-        ≡ or_later (fault_by (fits (is_number ∷ []) (t ∷ [])) (list_any (λ token. is_above most token) (t ∷ [])) true n) (read_fault (items (worth t)))
+        ≡ or_later (fault_by (has_form (is_number ∷ []) (t ∷ [])) (list_any (λ token. is_above most token) (t ∷ [])) true n) (read_fault (items (worth t)))
     by true is = rw is (count_by most n items t (nat_lt most (worth t)) few is refl)
     by false is = rw is refl
 counted_fails most n items w (t ∷ u ∷ more) few = by (is_number t) refl
   where
     by : (b : Bool) → is_number t ≡ b → read_fault (counted most items (line_of n (t ∷ u ∷ more)))
-        ≡ or_later (fault_by (fits (is_number ∷ []) (t ∷ u ∷ more)) (list_any (λ token. is_above most token) (t ∷ u ∷ more)) true n)
+        ≡ or_later (fault_by (has_form (is_number ∷ []) (t ∷ u ∷ more)) (list_any (λ token. is_above most token) (t ∷ u ∷ more)) true n)
         (read_fault (items (worth t)))
     by true is = rw is refl
     by false is = rw is refl
@@ -65,7 +65,7 @@ head_by w most n items m rest true is few plain =
     let none : is_number m ≡ false = chosen w m (λ u. is_number u ≡ false) is plain in
     rw (is, none) (counted_fails most n items m rest few
     ∙ ap (λ (b : Bool). or_later (fault_by b (list_any (λ token. is_above most token) rest) true n) (read_fault (items (count (m ∷ rest)))))
-    (or_none (fits (is_number ∷ []) rest)))
+    (or_none (has_form (is_number ∷ []) rest)))
 head_by w most n items m rest false is few plain = rw is refl
 
 pub head_fails : {A : Type 0} (w : List ℕ) (most n : ℕ) (items : ℕ → Result A TextFault) (tokens : List (List ℕ)) → most ≤ MAX_NUMBER → is_number w ≡ false
@@ -119,11 +119,11 @@ any_above ts = list_any (λ token. is_above MAX_NUMBER token) ts
 
 equal_head : (version : Version) (n : ℕ) (rest : List (List ℕ)) (text : Text)
     → read_fault (equal_at version (line_of n rest) text)
-    ≡ or_later (fault_by (fits (is_number ∷ []) rest || false) (any_above rest) true n) (read_fault (moves_of version (count (codes "equal" ∷ rest)) text))
+    ≡ or_later (fault_by (has_form (is_number ∷ []) rest || false) (any_above rest) true n) (read_fault (moves_of version (count (codes "equal" ∷ rest)) text))
 unfolding equal_at last_count
 equal_head version n rest text =
     let k = count (codes "equal" ∷ rest) in
-    let form = fits (is_number ∷ []) rest in
+    let form = has_form (is_number ∷ []) rest in
     counted_fails MAX_NUMBER n (λ k. moves_of version k text >>= λ moves. Ok (Equal moves.0, moves.1)) (codes "equal") rest (omega arith)
     ∙ ap (λ (later : Option TextFault). or_later (fault_by form (any_above rest) true n) later)
     (only_fault (moves_of version k text) (λ moves. (Equal moves.0, moves.1)))
@@ -144,15 +144,16 @@ pub equal_begins : (version : Version) (one two : ℕ) → BeginsWith (codes "eq
     (λ tokens text. read_fault (moves_of version (count tokens) text)) (verdict_of version one two)
 equal_begins version one two line text is = equal_by version one two line.number line.tokens text is
 
-budget_fails : (n : ℕ) (rest : List (List ℕ)) → read_fault (budget_at (line_of n rest)) ≡ fault_by (fits (is_number ∷ []) rest || false) (any_above rest) true n
+budget_fails : (n : ℕ) (rest : List (List ℕ)) → read_fault (budget_at (line_of n rest))
+    ≡ fault_by (has_form (is_number ∷ []) rest || false) (any_above rest) true n
 unfolding budget_at last_count
 budget_fails n rest =
     counted_fails MAX_NUMBER n (λ k. Ok (UnknownBudget k)) (codes "budget") rest (omega arith)
-    ∙ none_later (fault_by (fits (is_number ∷ []) rest) (any_above rest) true n)
-    ∙ ap (λ (b : Bool). fault_by b (any_above rest) true n) (or_none (fits (is_number ∷ []) rest))
+    ∙ none_later (fault_by (has_form (is_number ∷ []) rest) (any_above rest) true n)
+    ∙ ap (λ (b : Bool). fault_by b (any_above rest) true n) (or_none (has_form (is_number ∷ []) rest))
 
 abbrev Exhausts : ℕ → List (List ℕ) → Type 0
-Exhausts n rest = read_fault (exhausted_at (line_of n rest)) ≡ fault_by (fits (is_number ∷ is_number ∷ []) rest || false) (any_above rest) true n
+Exhausts n rest = read_fault (exhausted_at (line_of n rest)) ≡ fault_by (has_form (is_number ∷ is_number ∷ []) rest || false) (any_above rest) true n
 
 alone : (t : List ℕ) → is_number t ≡ true → nat_lt MAX_NUMBER (kept t) ≡ (nat_lt MAX_NUMBER (worth t) || false)
 alone t is = above_kept MAX_NUMBER t (omega arith) is ∙ or_none (nat_lt MAX_NUMBER (worth t))

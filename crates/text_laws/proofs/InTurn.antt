@@ -26,7 +26,7 @@ use Rattle.diagram_items.specs.Cocycles.{cochain, cochain_item}
 use Rattle.knot_text.specs.FirstBadLine.{lines_then}
 use Rattle.text_laws.specs.LineKinds.{LineKind, read_fault, fault_by, kind_fault, FailsByKind, worth, below_kind, move_kind, step_kind}
 use Rattle.text_laws.specs.LineKinds.{says_shift, says_shift_of, tidy_kind}
-use Rattle.text_laws.specs.FirstLines.{or_later, fault_among, lines_fault, tidy_among, tidy_fault, last_kind, rows_among, rows_fault}
+use Rattle.text_laws.specs.FirstLines.{or_later, fault_among, lines_fault, tidy_among, tidy_fault, last_kind, table_among, rows_fault}
 use Rattle.text_laws.proofs.HeadFaults.{only_fault}
 use Rattle.text_laws.proofs.LineFaults.{or_fault, below_read, below_fails}
 use Rattle.text_laws.proofs.MoveFaults.{move_fails}
@@ -261,7 +261,7 @@ rest_by width order test make entries count None row rest later more =
 rest_by width order test make entries count (Some fault) row rest later more = refl
 
 table_turns : {A : Type 0} (width order : ℕ) (test : List ℕ → Bool) (make : List ℕ → A) (entries : List ℕ) (count : ℕ) (lines : List NumberedLine) (ending : ℕ)
-    → read_fault (table_by width order test make entries count (lines_then lines ending)) ≡ rows_among width order test entries count lines ending
+    → read_fault (table_by width order test make entries count (lines_then lines ending)) ≡ table_among width order test entries count lines ending
 unfolding next_line table_rows table_row
 table_turns width order test make entries zero lines ending =
     last_fails width order test entries (λ row. make (entries ++ row)) lines ending

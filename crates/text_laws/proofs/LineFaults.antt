@@ -20,7 +20,7 @@ use Rattle.text_items.specs.Reading.{◌>>=◌, next_token, word, each_token}
 use Rattle.text_items.specs.Numbers.{is_long, numbers_behind, numbers_below}
 use Rattle.text_items.specs.Grids.{are_rows, x_at, o_at}
 use Rattle.knot_text.specs.Colours.{colours_at}
-use Rattle.text_laws.specs.LineKinds.{read_fault, fault_by, kind_fault, FailsByKind, is_overlong, worth, is_row, numbers_of, is_row_over}
+use Rattle.text_laws.specs.LineKinds.{read_fault, fault_by, kind_fault, FailsByKind, is_overlong, worth, is_row, row_values, is_row_over}
 use Rattle.text_laws.specs.FirstLines.{or_later}
 use Rattle.text_laws.proofs.Worths.{kept, short_kept}
 use Rattle.text_laws.specs.LineKinds.{x_kind, o_kind, colours_kind, below_kind}
@@ -77,7 +77,7 @@ abbrev kept_of : List (List ℕ) → List ℕ
 kept_of [] = []
 kept_of (t ∷ ts) = map kept ts
 
-all_kept : (ts : List (List ℕ)) → is_row_over ts ≡ false → kept_of ts ≡ numbers_of ts
+all_kept : (ts : List (List ℕ)) → is_row_over ts ≡ false → kept_of ts ≡ row_values ts
 all_kept [] within = refl
 all_kept (t ∷ ts) within = short_kept ts (or_parts (nat_lt MAX_SIZE (length ts)) (list_any is_overlong ts) within).1
 
@@ -129,38 +129,38 @@ judged n true false values numbers test make false same is = rw (same refl, is) 
 judged n false over values numbers test make good same is = refl
 
 -- the rows of the Xs as they are read, those of the Os, and colours
-pub x_read : (line : NumberedLine) → x_at line ≡ or_fault (kind_fault x_kind line) (numbers_of line.tokens)
+pub x_read : (line : NumberedLine) → x_at line ≡ or_fault (kind_fault x_kind line) (row_values line.tokens)
 unfolding x_at
 x_read line =
     rw (row_by (codes "x") line.number line.tokens)
-    (judged line.number (is_row (codes "x") line.tokens) (is_row_over line.tokens) (kept_of line.tokens) (numbers_of line.tokens)
+    (judged line.number (is_row (codes "x") line.tokens) (is_row_over line.tokens) (kept_of line.tokens) (row_values line.tokens)
     (λ rows. are_rows rows) (λ rows. rows) _ (all_kept line.tokens) refl)
 
-pub o_read : (x : List ℕ) (line : NumberedLine) → o_at x line ≡ or_fault (kind_fault (o_kind x) line) (record { x = x; o = numbers_of line.tokens })
+pub o_read : (x : List ℕ) (line : NumberedLine) → o_at x line ≡ or_fault (kind_fault (o_kind x) line) (record { x = x; o = row_values line.tokens })
 unfolding o_at
 o_read x line =
     rw (row_by (codes "o") line.number line.tokens)
-    (judged line.number (is_row (codes "o") line.tokens) (is_row_over line.tokens) (kept_of line.tokens) (numbers_of line.tokens)
+    (judged line.number (is_row (codes "o") line.tokens) (is_row_over line.tokens) (kept_of line.tokens) (row_values line.tokens)
     (λ rows. is_none (first_fault x rows)) (λ rows. record { x = x; o = rows }) _ (all_kept line.tokens) refl)
 
 pub colours_read : (width order : ℕ) (line : NumberedLine)
-    → colours_at width order line ≡ or_fault (kind_fault (colours_kind width order) line) (record { items = numbers_of line.tokens })
+    → colours_at width order line ≡ or_fault (kind_fault (colours_kind width order) line) (record { items = row_values line.tokens })
 unfolding colours_at
 colours_read width order line =
     rw (row_by (codes "colours") line.number line.tokens)
-    (judged line.number (is_row (codes "colours") line.tokens) (is_row_over line.tokens) (kept_of line.tokens) (numbers_of line.tokens)
+    (judged line.number (is_row (codes "colours") line.tokens) (is_row_over line.tokens) (kept_of line.tokens) (row_values line.tokens)
     (λ colours. are_colours width order colours) (λ colours. record { items = colours }) _ (all_kept line.tokens) refl)
 
 pub x_fails : FailsByKind x_kind x_at
-x_fails line = ap read_fault (x_read line) ∙ only_faults (kind_fault x_kind line) (numbers_of line.tokens)
+x_fails line = ap read_fault (x_read line) ∙ only_faults (kind_fault x_kind line) (row_values line.tokens)
 
 pub o_fails : (x : List ℕ) → FailsByKind (o_kind x) (o_at x)
-o_fails x line = ap read_fault (o_read x line) ∙ only_faults (kind_fault (o_kind x) line) (record { x = x; o = numbers_of line.tokens })
+o_fails x line = ap read_fault (o_read x line) ∙ only_faults (kind_fault (o_kind x) line) (record { x = x; o = row_values line.tokens })
 
 pub colours_fail : (width order : ℕ) → FailsByKind (colours_kind width order) (colours_at width order)
 colours_fail width order line =
     ap read_fault (colours_read width order line)
-    ∙ only_faults (kind_fault (colours_kind width order) line) (record { items = numbers_of line.tokens })
+    ∙ only_faults (kind_fault (colours_kind width order) line) (record { items = row_values line.tokens })
 
 -- ---- lines of numbers alone
 

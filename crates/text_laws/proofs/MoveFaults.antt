@@ -17,7 +17,7 @@ use Rattle.text_items.specs.declared.fault.TextFault.TheVariants.{Malformed}
 use Rattle.text_items.specs.declared.reading.TheConstants.{MAX_PLACE}
 use Rattle.text_items.specs.Reading.{◌>>=◌, next_token, line_end, number, last_number, at_most}
 use Rattle.diagram_items.specs.Moves.{last_place, one_place, on_axis, shift, exchange, slide, kind_at, corner_at, stabilise, destabilise, move_at}
-use Rattle.text_laws.specs.LineKinds.{read_fault, fault_by, kind_fault, FailsByKind, worth, Form, fits, one_of, is_above, is_axis, is_kind, is_corner, move_kind}
+use Rattle.text_laws.specs.LineKinds.{read_fault, fault_by, kind_fault, FailsByKind, worth, Form, has_form, one_of, is_above, is_axis, is_kind, is_corner, move_kind}
 use Rattle.knot_text.proofs.StepsAgain.{line_of}
 use Rattle.text_laws.proofs.Worths.{kept, above_kept}
 use Rattle.text_laws.proofs.StepFaults.{most_by, place_by, chosen, either}
@@ -49,28 +49,29 @@ alone t is = above_kept MAX_PLACE t (omega arith) is ∙ or_none (nat_lt MAX_PLA
 -- ---- moves that are told by one place
 
 place_end : (make : ℕ → Move) (n : ℕ) (rest : List (List ℕ))
-    → read_fault (one_place make (line_of n rest)) ≡ fault_by (fits (is_number ∷ []) rest) (any_above rest) true n
+    → read_fault (one_place make (line_of n rest)) ≡ fault_by (has_form (is_number ∷ []) rest) (any_above rest) true n
 unfolding last_place last_number number next_token line_end
 place_end make n [] = refl
 place_end make n (t ∷ []) = by (is_number t) refl
   where
-    by : (b : Bool) → is_number t ≡ b → read_fault (one_place make (line_of n (t ∷ []))) ≡ fault_by (fits (is_number ∷ []) (t ∷ [])) (any_above (t ∷ [])) true n
+    by : (b : Bool) → is_number t ≡ b
+        → read_fault (one_place make (line_of n (t ∷ []))) ≡ fault_by (has_form (is_number ∷ []) (t ∷ [])) (any_above (t ∷ [])) true n
     by true is = rw is (place_by make n (kept t) _ (alone t is))
     by false is = rw is refl
 place_end make n (t ∷ u ∷ more) = by (is_number t) refl
   where
     by : (b : Bool) → is_number t ≡ b
-        → read_fault (one_place make (line_of n (t ∷ u ∷ more))) ≡ fault_by (fits (is_number ∷ []) (t ∷ u ∷ more)) (any_above (t ∷ u ∷ more)) true n
+        → read_fault (one_place make (line_of n (t ∷ u ∷ more))) ≡ fault_by (has_form (is_number ∷ []) (t ∷ u ∷ more)) (any_above (t ∷ u ∷ more)) true n
     by true is = rw is refl
     by false is = rw is refl
 
 axis_fails : (columns rows : ℕ → Move) (n : ℕ) (rest : List (List ℕ))
-    → read_fault (on_axis columns rows (line_of n rest)) ≡ fault_by (fits (is_axis ∷ is_number ∷ []) rest) (any_above rest) true n
+    → read_fault (on_axis columns rows (line_of n rest)) ≡ fault_by (has_form (is_axis ∷ is_number ∷ []) rest) (any_above rest) true n
 unfolding next_token
 axis_fails columns rows n [] = refl
 axis_fails columns rows n (a ∷ more) =
     let left = line_of n more in
-    let fault = λ (w : List ℕ). fault_by (fits (is_axis ∷ is_number ∷ []) (w ∷ more)) (any_above (w ∷ more)) true n in
+    let fault = λ (w : List ℕ). fault_by (has_form (is_axis ∷ is_number ∷ []) (w ∷ more)) (any_above (w ∷ more)) true n in
     either (bytes_eq a (codes "columns")) (one_place columns left) (cond (bytes_eq a (codes "rows")) (one_place rows left) (Err (Malformed n))) (fault a)
     (λ is. chosen (codes "columns") a (λ w. read_fault (one_place columns left) ≡ fault w) is (place_end columns n more))
     (λ column. either (bytes_eq a (codes "rows")) (one_place rows left) (Err (Malformed n)) (fault a)
@@ -125,7 +126,7 @@ abbrev stabilise_form : Form
 stabilise_form = is_number ∷ is_kind ∷ is_corner ∷ []
 
 abbrev Stabilises : ℕ → List (List ℕ) → Type 0
-Stabilises n rest = read_fault (stabilise (line_of n rest)) ≡ fault_by (fits stabilise_form rest) (any_above rest) true n
+Stabilises n rest = read_fault (stabilise (line_of n rest)) ≡ fault_by (has_form stabilise_form rest) (any_above rest) true n
 
 kinds : (t : List ℕ) → is_kind t ≡ true → is_number t ≡ false
 kinds t is = word_no_number (codes "x" ∷ codes "o" ∷ []) t refl is
@@ -173,7 +174,7 @@ two_by make most n v w false true first second = rw (most_by most v, first, most
 two_by make most n v w false false first second = rw (most_by most v, first, most_by most w, second) refl
 
 abbrev Destabilises : ℕ → List (List ℕ) → Type 0
-Destabilises n rest = read_fault (destabilise (line_of n rest)) ≡ fault_by (fits (is_number ∷ is_number ∷ []) rest) (any_above rest) true n
+Destabilises n rest = read_fault (destabilise (line_of n rest)) ≡ fault_by (has_form (is_number ∷ is_number ∷ []) rest) (any_above rest) true n
 
 destabilise_fails : (n : ℕ) (rest : List (List ℕ)) → Destabilises n rest
 unfolding destabilise last_number number next_token line_end
@@ -223,9 +224,9 @@ abbrev from_exchange : List ℕ → NumberedLine → Result Move TextFault
 from_exchange t rest = cond (bytes_eq t (codes "exchange")) (exchange rest) (from_slide t rest)
 
 -- what is known of the tokens behind a name, said of the line
-named : (form : Form) (n : ℕ) (rest : List (List ℕ)) (read : Option TextFault) → read ≡ fault_by (fits form rest) (any_above rest) true n
-    → read ≡ fault_by (fits form rest || false) (any_above rest) true n
-named form n rest read is = is ∙ ap (λ (b : Bool). fault_by b (any_above rest) true n) (or_none (fits form rest))
+named : (form : Form) (n : ℕ) (rest : List (List ℕ)) (read : Option TextFault) → read ≡ fault_by (has_form form rest) (any_above rest) true n
+    → read ≡ fault_by (has_form form rest || false) (any_above rest) true n
+named form n rest read is = is ∙ ap (λ (b : Bool). fault_by b (any_above rest) true n) (or_none (has_form form rest))
 
 move_by : (n : ℕ) (name : List ℕ) (rest : List (List ℕ)) → read_fault (move_at (line_of n (name ∷ rest))) ≡ kind_fault move_kind (line_of n (name ∷ rest))
 unfolding move_at next_token shift exchange slide

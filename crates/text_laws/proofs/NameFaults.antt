@@ -17,7 +17,7 @@ use Rattle.text_items.specs.Quandles.{with_order, alexander_at, tetrahedral_at, 
 use Rattle.verdict_core.specs.declared.verdict.Verdict.TheVariants.{Different}
 use Rattle.verdict_text.specs.Verdicts.{list_item, different_at, verdict_of}
 use Rattle.verdict_text.specs.declared.verdicts.Version.{Version}
-use Rattle.text_laws.specs.LineKinds.{read_fault, fault_by, kind_fault, is_overlong, worth, fits}
+use Rattle.text_laws.specs.LineKinds.{read_fault, fault_by, kind_fault, is_overlong, worth, has_form}
 use Rattle.text_laws.specs.LineKinds.{is_name_over, says_quandle, name_kind, others, behind_word}
 use Rattle.text_laws.specs.FirstLines.{or_later, on_top, table_fault, BeginsBy, FailsWith, FailsElse}
 use Rattle.knot_text.proofs.StepsAgain.{line_of}
@@ -82,17 +82,17 @@ abbrev by_order : (ℕ → Written) → Text → NumberedLine → Result (NamedQ
 by_order make text line = with_order make line >>= λ name. judge text name
 
 order_fails : (family : List ℕ) (make : ℕ → Written) (n : ℕ) (rest : List (List ℕ)) (text : Text) → IsFamily family make
-    → Refuses (by_order make) (fits (is_number ∷ [])) family n rest text
+    → Refuses (by_order make) (has_form (is_number ∷ [])) family n rest text
 unfolding last_number number next_token line_end
 order_fails family make n [] text is = refl
 order_fails family make n (t ∷ []) text is = by (is_number t) refl
   where
-    by : (b : Bool) → is_number t ≡ b → Refuses (by_order make) (fits (is_number ∷ [])) family n (t ∷ []) text
+    by : (b : Bool) → is_number t ≡ b → Refuses (by_order make) (has_form (is_number ∷ [])) family n (t ∷ []) text
     by true number = rw number (one_order family make n t text (nat_lt MAX_ORDER (worth t)) is number refl)
     by false number = rw number refl
 order_fails family make n (t ∷ u ∷ more) text is = by (is_number t) refl
   where
-    by : (b : Bool) → is_number t ≡ b → Refuses (by_order make) (fits (is_number ∷ [])) family n (t ∷ u ∷ more) text
+    by : (b : Bool) → is_number t ≡ b → Refuses (by_order make) (has_form (is_number ∷ [])) family n (t ∷ u ∷ more) text
     by true number = rw number refl
     by false number = rw number refl
 
@@ -101,7 +101,7 @@ order_fails family make n (t ∷ u ∷ more) text is = by (is_number t) refl
 abbrev by_end : Text → NumberedLine → Result (NamedQuandle × Text) TextFault
 by_end text line = tetrahedral_at line >>= λ name. judge text name
 
-end_fails : (n : ℕ) (rest : List (List ℕ)) (text : Text) → Refuses by_end (fits []) (codes "tetrahedral") n rest text
+end_fails : (n : ℕ) (rest : List (List ℕ)) (text : Text) → Refuses by_end (has_form []) (codes "tetrahedral") n rest text
 unfolding tetrahedral_at line_end
 end_fails n [] text = refl
 end_fails n (t ∷ more) text = refl
@@ -136,25 +136,25 @@ none_later (Some fault) = refl
 abbrev by_factor : Text → NumberedLine → Result (NamedQuandle × Text) TextFault
 by_factor text line = alexander_at line >>= λ name. judge text name
 
-factor_fails : (n : ℕ) (rest : List (List ℕ)) (text : Text) → Refuses by_factor (fits (is_number ∷ is_number ∷ [])) (codes "alexander") n rest text
+factor_fails : (n : ℕ) (rest : List (List ℕ)) (text : Text) → Refuses by_factor (has_form (is_number ∷ is_number ∷ [])) (codes "alexander") n rest text
 unfolding alexander_at last_number number next_token line_end
 factor_fails n [] text = refl
 factor_fails n (t ∷ []) text = by (is_number t) refl
   where
-    by : (b : Bool) → is_number t ≡ b → Refuses by_factor (fits (is_number ∷ is_number ∷ [])) (codes "alexander") n (t ∷ []) text
+    by : (b : Bool) → is_number t ≡ b → Refuses by_factor (has_form (is_number ∷ is_number ∷ [])) (codes "alexander") n (t ∷ []) text
     by true first = rw first refl
     by false first = rw first refl
 factor_fails n (t ∷ u ∷ []) text = by (is_number t) (is_number u) refl refl
   where
     by : (b c : Bool) → is_number t ≡ b → is_number u ≡ c
-        → Refuses by_factor (fits (is_number ∷ is_number ∷ [])) (codes "alexander") n (t ∷ u ∷ []) text
+        → Refuses by_factor (has_form (is_number ∷ is_number ∷ [])) (codes "alexander") n (t ∷ u ∷ []) text
     by true true first second = rw (first, second) (two_by n t u text _ _ first second refl refl ∙ none_later _)
     by true false first second = rw (first, second) refl
     by false c first second = rw first refl
 factor_fails n (t ∷ u ∷ v ∷ more) text = by (is_number t) (is_number u) refl refl
   where
     by : (b c : Bool) → is_number t ≡ b → is_number u ≡ c
-        → Refuses by_factor (fits (is_number ∷ is_number ∷ [])) (codes "alexander") n (t ∷ u ∷ v ∷ more) text
+        → Refuses by_factor (has_form (is_number ∷ is_number ∷ [])) (codes "alexander") n (t ∷ u ∷ v ∷ more) text
     by true true first second = rw (first, second) refl
     by true false first second = rw (first, second) refl
     by false c first second = rw first refl

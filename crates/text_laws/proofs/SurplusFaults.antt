@@ -10,7 +10,7 @@ use Rattle.text_items.specs.declared.quandles.Written.{Written}
 use Rattle.text_items.specs.declared.quandles.Written.TheVariants as written
 use Rattle.text_items.specs.Reading.{◌>>=◌, next_line, next_token, line_end, word, number, last_number}
 use Rattle.text_items.specs.Quandles.{with_order, alexander_at, tetrahedral_at, written_at, surplus_quandle}
-use Rattle.text_laws.specs.LineKinds.{read_fault, fault_by, kind_fault, fits, is_name, surplus_kind}
+use Rattle.text_laws.specs.LineKinds.{read_fault, fault_by, kind_fault, has_form, is_name, surplus_kind}
 use Rattle.text_laws.specs.FirstLines.{or_later, BeginsBy}
 use Rattle.knot_text.proofs.StepsAgain.{line_of}
 use Rattle.text_laws.proofs.NameFaults.{ByFamily, by_family, IsOther}
@@ -21,42 +21,42 @@ past name = Err (Limit name.1.number)
 abbrev Refuses : (NumberedLine → Result (Written × NumberedLine) TextFault) → (List (List ℕ) → Bool) → ℕ → List (List ℕ) → Type 0
 Refuses read form n rest = read_fault (read (line_of n rest) >>= past) ≡ fault_by (form rest || false) true true n
 
-order_past : (make : ℕ → Written) (n : ℕ) (rest : List (List ℕ)) → Refuses (with_order make) (fits (is_number ∷ [])) n rest
+order_past : (make : ℕ → Written) (n : ℕ) (rest : List (List ℕ)) → Refuses (with_order make) (has_form (is_number ∷ [])) n rest
 unfolding last_number number next_token line_end
 order_past make n [] = refl
 order_past make n (t ∷ []) = by (is_number t) refl
   where
-    by : (b : Bool) → is_number t ≡ b → Refuses (with_order make) (fits (is_number ∷ [])) n (t ∷ [])
+    by : (b : Bool) → is_number t ≡ b → Refuses (with_order make) (has_form (is_number ∷ [])) n (t ∷ [])
     by true is = rw is refl
     by false is = rw is refl
 order_past make n (t ∷ u ∷ more) = by (is_number t) refl
   where
-    by : (b : Bool) → is_number t ≡ b → Refuses (with_order make) (fits (is_number ∷ [])) n (t ∷ u ∷ more)
+    by : (b : Bool) → is_number t ≡ b → Refuses (with_order make) (has_form (is_number ∷ [])) n (t ∷ u ∷ more)
     by true is = rw is refl
     by false is = rw is refl
 
-end_past : (n : ℕ) (rest : List (List ℕ)) → Refuses tetrahedral_at (fits []) n rest
+end_past : (n : ℕ) (rest : List (List ℕ)) → Refuses tetrahedral_at (has_form []) n rest
 unfolding tetrahedral_at line_end
 end_past n [] = refl
 end_past n (t ∷ more) = refl
 
-factor_past : (n : ℕ) (rest : List (List ℕ)) → Refuses alexander_at (fits (is_number ∷ is_number ∷ [])) n rest
+factor_past : (n : ℕ) (rest : List (List ℕ)) → Refuses alexander_at (has_form (is_number ∷ is_number ∷ [])) n rest
 unfolding alexander_at last_number number next_token line_end
 factor_past n [] = refl
 factor_past n (t ∷ []) = by (is_number t) refl
   where
-    by : (b : Bool) → is_number t ≡ b → Refuses alexander_at (fits (is_number ∷ is_number ∷ [])) n (t ∷ [])
+    by : (b : Bool) → is_number t ≡ b → Refuses alexander_at (has_form (is_number ∷ is_number ∷ [])) n (t ∷ [])
     by true is = rw is refl
     by false is = rw is refl
 factor_past n (t ∷ u ∷ []) = by (is_number t) (is_number u) refl refl
   where
-    by : (b c : Bool) → is_number t ≡ b → is_number u ≡ c → Refuses alexander_at (fits (is_number ∷ is_number ∷ [])) n (t ∷ u ∷ [])
+    by : (b c : Bool) → is_number t ≡ b → is_number u ≡ c → Refuses alexander_at (has_form (is_number ∷ is_number ∷ [])) n (t ∷ u ∷ [])
     by true true is factor = rw (is, factor) refl
     by true false is factor = rw (is, factor) refl
     by false c is factor = rw is refl
 factor_past n (t ∷ u ∷ v ∷ more) = by (is_number t) (is_number u) refl refl
   where
-    by : (b c : Bool) → is_number t ≡ b → is_number u ≡ c → Refuses alexander_at (fits (is_number ∷ is_number ∷ [])) n (t ∷ u ∷ v ∷ more)
+    by : (b c : Bool) → is_number t ≡ b → is_number u ≡ c → Refuses alexander_at (has_form (is_number ∷ is_number ∷ [])) n (t ∷ u ∷ v ∷ more)
     by true true is factor = rw (is, factor) refl
     by true false is factor = rw (is, factor) refl
     by false c is factor = rw is refl

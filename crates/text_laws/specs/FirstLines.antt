@@ -86,15 +86,15 @@ last_kind width order test entries = record {
 }
 
 -- the fault of so many lines, and one more, which is the last of the table
-abbrev pub rows_among : ℕ → ℕ → (List ℕ → Bool) → List ℕ → ℕ → List NumberedLine → ℕ → Option TextFault
-rows_among width order test entries zero lines ending = fault_among (last_kind width order test entries) 1 lines ending
-rows_among width order test entries (suc count) [] ending = Some (Malformed ending)
-rows_among width order test entries (suc count) (line ∷ lines) ending =
-    or_later (kind_fault (below_kind width order) line) (rows_among width order test (entries ++ map worth line.tokens) count lines ending)
+abbrev pub table_among : ℕ → ℕ → (List ℕ → Bool) → List ℕ → ℕ → List NumberedLine → ℕ → Option TextFault
+table_among width order test entries zero lines ending = fault_among (last_kind width order test entries) 1 lines ending
+table_among width order test entries (suc count) [] ending = Some (Malformed ending)
+table_among width order test entries (suc count) (line ∷ lines) ending =
+    or_later (kind_fault (below_kind width order) line) (table_among width order test (entries ++ map worth line.tokens) count lines ending)
 
 -- the fault of a table of so many lines, of as many numbers below the order; there is one line at least
 abbrev pub rows_fault : ℕ → ℕ → (List ℕ → Bool) → Text → Option TextFault
-rows_fault width order test text = rows_among width order test [] (width - 1) text.lines text.ending
+rows_fault width order test text = table_among width order test [] (width - 1) text.lines text.ending
 
 -- ---- one item behind the other
 

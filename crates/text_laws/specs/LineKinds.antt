@@ -58,9 +58,9 @@ is_row word [] = false
 is_row word (token ∷ tokens) = bytes_eq token word && list_all is_number tokens
 
 -- the numbers behind the word
-abbrev pub numbers_of : List (List ℕ) → List ℕ
-numbers_of [] = []
-numbers_of (token ∷ tokens) = map worth tokens
+abbrev pub row_values : List (List ℕ) → List ℕ
+row_values [] = []
+row_values (token ∷ tokens) = map worth tokens
 
 -- too many numbers, or one of too many digits
 abbrev pub is_row_over : List (List ℕ) → Bool
@@ -71,7 +71,7 @@ abbrev pub row_kind : List ℕ → (List ℕ → Bool) → LineKind
 row_kind word content = record {
   form = λ tokens. is_row word tokens;
   over = λ tokens. is_row_over tokens;
-  content = λ tokens. content (numbers_of tokens);
+  content = λ tokens. content (row_values tokens);
 }
 
 -- the rows of the Xs; those of the Os behind them; and the colours of a replay
@@ -98,10 +98,10 @@ below_kind width order = record {
 abbrev pub Form : Type 0
 Form = List (List ℕ → Bool)
 
-abbrev pub fits : Form → List (List ℕ) → Bool
-fits [] [] = true
-fits (test ∷ tests) (token ∷ tokens) = test token && fits tests tokens
-fits tests tokens = false
+abbrev pub has_form : Form → List (List ℕ) → Bool
+has_form [] [] = true
+has_form (test ∷ tests) (token ∷ tokens) = test token && has_form tests tokens
+has_form tests tokens = false
 
 -- one of these words
 abbrev pub one_of : List (List ℕ) → List ℕ → Bool
@@ -114,7 +114,7 @@ is_above most token = is_number token && nat_lt most (worth token)
 -- a line of one of these forms, no number of which may be larger than that; it has no content
 abbrev pub worded_kind : List Form → ℕ → LineKind
 worded_kind forms most = record {
-  form = λ tokens. list_any (λ form. fits form tokens) forms;
+  form = λ tokens. list_any (λ form. has_form form tokens) forms;
   over = λ tokens. list_any (λ token. is_above most token) tokens;
   content = λ tokens. true;
 }
@@ -227,7 +227,7 @@ name_forms =
     (one_of (codes "alexander" ∷ []) ∷ is_number ∷ is_number ∷ []) ∷ []
 
 abbrev pub is_name : List (List ℕ) → Bool
-is_name tokens = list_any (λ form. fits form tokens) name_forms
+is_name tokens = list_any (λ form. has_form form tokens) name_forms
 
 -- an order above the greatest, or a second number of too many digits
 abbrev pub is_name_over : List (List ℕ) → Bool

@@ -41,10 +41,10 @@ ghost use Rattle.knot_text.specs.Printed.{grid_lines, moves_lines, quandle_lines
 ghost use Rattle.knot_text.specs.Printed.{steps_text, HaveStepsText};
 ghost use Rattle.knot_text.specs.WrittenThere.{StandInFront, said_by, HasProblemText, problem_lines, IsProblemText, IsCheckText, HasReplayText, replay_lines, IsColourText, IsCloseText, IsPairText};
 ghost use Rattle.knot_text.specs.WrittenThere.{StepsInFront, IsBraidCheckText, HasWeightText, weight_lines};
-ghost use Rattle.text_laws.specs.LineKinds.{FailsByKind, x_kind, o_kind, colours_kind, below_kind, braid_kind, move_kind, step_kind, modulus_kind, certificate_kind, read_fault, numbers_of, counted_kind, unknown_kind, name_kind, others, behind_word, surplus_kind};
+ghost use Rattle.text_laws.specs.LineKinds.{FailsByKind, x_kind, o_kind, colours_kind, below_kind, braid_kind, move_kind, step_kind, modulus_kind, certificate_kind, read_fault, row_values, counted_kind, unknown_kind, name_kind, others, behind_word, surplus_kind};
 ghost use Rattle.text_laws.specs.FirstLines.{count, table_fault, on_top, BeginsBy, BeginsWith, BeginsElse, FailsWith, FailsElse};
 ghost use Rattle.text_laws.specs.FirstLines.{lines_fault, tidy_fault, rows_fault, item_then, end_fault, as_quandle};
-ghost use Rattle.knot_text.specs.FirstBadLine.{put_behind, IsStable, FailsFirst};
+ghost use Rattle.knot_text.specs.FirstBadLine.{with_lines_behind, IsStable, FailsFirst};
 
 use braid_moves::BraidMove;
 use grid_moves::Move;
@@ -160,10 +160,10 @@ pub fn rows_are_each_number_once()
 /// line of a grid, so many moves, steps or lines of colours, the lines of a table, or behind `certificate` the verdict. Its form,
 /// limits and content are those of `LineKinds`.
 pub fn an_item_fails_by_its_first_line_first()
-    ensures grid { BeginsBy x_kind (λ tokens text. lines_fault (o_kind (numbers_of tokens)) 1 text) grid_item }
+    ensures grid { BeginsBy x_kind (λ tokens text. lines_fault (o_kind (row_values tokens)) 1 text) grid_item }
     ensures braid { BeginsBy braid_kind (λ tokens text. None) braid_item }
     ensures braid_diagram { BeginsWith (codes "braid") braid_kind (λ tokens text. None) diagram_item }
-    ensures grid_diagram { BeginsElse (codes "braid") x_kind (λ tokens text. lines_fault (o_kind (numbers_of tokens)) 1 text) diagram_item }
+    ensures grid_diagram { BeginsElse (codes "braid") x_kind (λ tokens text. lines_fault (o_kind (row_values tokens)) 1 text) diagram_item }
     ensures colours { (width order : ℕ) → BeginsBy (colours_kind width order) (λ tokens text. None) (colours_item width order) }
     ensures cocycle { (q : Table) → BeginsBy modulus_kind
         (λ tokens text. rows_fault q.order (count tokens) (λ entries. is_none (cochain_fault (cochain q (count tokens) entries))) text) (cocycle_item q) }
@@ -247,7 +247,7 @@ pub fn items_are_read_whatever_stands_behind()
 pub fn a_problem_is_read_before_other_lines()
     ensures { (text : Text) (p : ProblemText) (rest : Text) → problem_item text ≡ Ok (p, rest)
         → (more : List NumberedLine) (ending : ℕ) → first_starts (codes "quandle") more ≡ false
-        → problem_item (put_behind text more ending) ≡ Ok (p, put_behind rest more ending) }
+        → problem_item (with_lines_behind text more ending) ≡ Ok (p, with_lines_behind rest more ending) }
 {}
 
 /// Each diagram that is read has a grid, which for a braid is its closure; the number of columns is the size of this grid,

@@ -126,7 +126,7 @@ fn different_at(
 ) -> Result<Verdict, TextFault>
     ensures { Gives (λ v. (v, lines.new)) result (different_at widths.first widths.second line.old lines.old) }
 {
-    let listed = quandle_at(line, lines)?;
+    let listed = quandle_at(alloc, line, lines)?;
     let order = listed.quandle().order();
     let first = list_item(alloc, widths.first, order, lines)?;
     let second = list_item(alloc, widths.second, order, lines)?;

@@ -17,7 +17,7 @@ use Rattle.colour_seeds.specs.declared.progress.Step.TheVariants.{Seed, Rightwar
 use Rattle.colour_seeds.specs.declared.progress.Progress.{Progress}
 use Rattle.colour_seeds.specs.Settled.{HasOvers, IsSettled}
 use Rattle.colour_seeds.specs.Plan.{Leads, IsPlan, after, is_known, is_read, next_step, nothing, seed_columns, seeds_in}
-use Rattle.colour_seeds.specs.Fits.{fits}
+use Rattle.colour_seeds.specs.Fits.{few_ways}
 use Rattle.colour_seeds.specs.Leaves.{leaves}
 
 -- a plan by tests that compute
@@ -94,10 +94,10 @@ abbrev so_many : ℕ → List Step
 so_many zero = []
 so_many (suc n) = Seed n ∷ so_many n
 
-most_fit : fits (trivial 2) (seeds_in (so_many 21)) ≡ true
+most_fit : few_ways (trivial 2) (seeds_in (so_many 21)) ≡ true
 most_fit = refl
 
-more_do_not : fits (trivial 2) (seeds_in (so_many 22)) ≡ false
+more_do_not : few_ways (trivial 2) (seeds_in (so_many 22)) ≡ false
 more_do_not = refl
 
 -- column 2 of the trefoil is settled by the columns 0 and 1: row 2 goes from column 0 to it, under column 1 alone

@@ -1,7 +1,7 @@
 use Rattle.std.proofs.Common.{◌≡◌, ◌+◌, ◌∙◌, ◌++◌, ℕ, List, length, take, drop, sym, ap, subst, arith}
 use Rattle.std.proofs.lemmas.List.{take_all, drop_all, append-nil}
 use Rattle.code_rows.specs.declared.row_signs.Tie.{Tie}
-use Rattle.code_rows.specs.RowSigns.{Reached, IsJoining}
+use Rattle.code_rows.specs.RowSigns.{Reached, JoinsIfTwo}
 use Rattle.code_rows.proofs.InRange.{names_long}
 use Rattle.code_rows.proofs.Best.{free_ties_reach, step}
 use Rattle.code_rows.proofs.row_signs.joined_ties.Goals as goal
@@ -32,9 +32,9 @@ loop-before-preserved c =
     let value = c.as_mut_slice.ensures.value in
     let items = ap length value in
     let len = c.as_mut_slice.ensures.len in
-    let joining = subst (λ (ts : List Tie). IsJoining c.args.names.now (m + 1) ts after) value c.join.ensures in
+    let joining = subst (λ (ts : List Tie). JoinsIfTwo c.args.names.now (m + 1) ts after) value c.join.ensures in
     let more : Reached rows after (m + 1) =
-    step rows old after m c.loop-before.invariant (subst (λ (ns : List ℕ). IsJoining ns (m + 1) old after) c.requires.names joining) in
+    step rows old after m c.loop-before.invariant (subst (λ (ns : List ℕ). JoinsIfTwo ns (m + 1) old after) c.requires.names joining) in
     let long = more.long in
     let was = c.loop-before.invariant.long in
     subst (λ (ts : List Tie). Reached rows ts (m + 1)) (sym (refilled c.loop-before.ties.len old after (omega arith) (omega arith))) more

@@ -8,7 +8,7 @@ use Rattle.shadow_weights.specs.WalkSum.{weight_by_rows}
 use Rattle.cocycle_numbers.specs.declared.lane.Lane.{Lane}
 use Rattle.cocycle_numbers.specs.Lanes.{weight_of}
 use Rattle.cocycle_numbers.specs.Shadows.{Shadows}
-use Rattle.cocycle_numbers.specs.Weighing.{IsWithin}
+use Rattle.cocycle_numbers.specs.Weighing.{LaneFits}
 use Rattle.cocycle_numbers.proofs.Lanes.{lanes_within, weight_is}
 use Rattle.cocycle_numbers.proofs.ShadowTallies.{partly_all, partly_more, partly_none, partly_room}
 use Rattle.cocycle_numbers.proofs.regions.RegionsWeigher.add.Goals as goal
@@ -21,8 +21,8 @@ weight_of-weight-requires-clause-within c =
     let d = c.self.inside.grid.now in
     let long : length (take c.size.result c.args.colours.now) ≡ size d =
     omega (arith, length-take c.size.result c.args.colours.now, c.size.ensures.size, c.requires.colours.0, c.size-size.ensures.grid.most) in
-    subst (λ (n : ℕ). All (IsWithin n) c.as_slice.result.now) (sym (ap (λ (xs : List ℕ). length xs) c.split_at.ensures.front ∙ long))
-    (subst (All (IsWithin (size d))) (sym c.as_slice.ensures.value) (lanes_within d c.size-size.ensures.grid c.self.inside.lanes.items c.self.invariant.1))
+    subst (λ (n : ℕ). All (LaneFits n) c.as_slice.result.now) (sym (ap (λ (xs : List ℕ). length xs) c.split_at.ensures.front ∙ long))
+    (subst (All (LaneFits (size d))) (sym c.as_slice.ensures.value) (lanes_within d c.size-size.ensures.grid c.self.inside.lanes.items c.self.invariant.1))
 
 pub loop-outer-preserved : goal.loop-outer-preserved
 loop-outer-preserved c =

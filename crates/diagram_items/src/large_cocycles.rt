@@ -11,7 +11,7 @@ use text_items::{TextFault, modulus_at};
 use text_lines::Lines;
 
 /// A cocycle of a quandle of up to `MAX_LARGE_ORDER` colours. Else the fault of the first bad line, or want of memory.
-#[tactic(auto, unfolding(diagram_items::specs::Cocycles::cocycle_item))]
+#[tactic(auto, unfolding(crate::specs::Cocycles::cocycle_item))]
 pub fn large_cocycle_item(
     alloc: Global,
     quandle: &Operations,
@@ -25,7 +25,7 @@ pub fn large_cocycle_item(
 }
 
 /// The lines of a table of numbers below the modulus, which has the laws of a cocycle, or is malformed at its last line.
-#[tactic(auto, unfolding(diagram_items::specs::Cocycles::cochain_item))]
+#[tactic(auto, unfolding(crate::specs::Cocycles::cochain_item))]
 fn cochain_item(
     alloc: Global,
     quandle: &Operations,

@@ -44,8 +44,8 @@ IsByWrittenQuandle (UnknownBudget budget) = Unit {0}
 IsByWrittenQuandle (UnknownExhausted cap admitted) = Unit {0}
 
 -- the moves of a verdict, if any, are not too many for a text
-abbrev pub IsShort : Verdict → Type 0
-IsShort (Equal moves) = length moves ≤ MAX_NUMBER
-IsShort (Different listed one two) = Unit {0}
-IsShort (UnknownBudget budget) = Unit {0}
-IsShort (UnknownExhausted cap admitted) = Unit {0}
+abbrev pub HasFewMoves : Verdict → Type 0
+HasFewMoves (Equal moves) = length moves ≤ MAX_NUMBER
+HasFewMoves (Different listed one two) = Unit {0}
+HasFewMoves (UnknownBudget budget) = Unit {0}
+HasFewMoves (UnknownExhausted cap admitted) = Unit {0}

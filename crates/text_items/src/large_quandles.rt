@@ -10,16 +10,17 @@ ghost use Rattle.text_items.specs.declared.quandles.Written.TheVariants as writt
 ghost use Rattle.text_items.specs.Reading.{Gives};
 ghost use Rattle.text_items.specs.Quandles.{table_item, judged, quandle_at};
 
+use crate::fault::TextFault;
+use crate::quandles::{Written, is_over, quandle_of, written_at};
+use crate::reading::next_line;
+use crate::rows::{numbers_below, table_front};
+use named_quandles::LargeListed;
 use quandle_core::{LargeFault, LargeQuandle};
 use std::alloc::Global;
-use text_items::reading::next_line;
-use text_items::rows::{numbers_below, table_front};
-use text_items::{TextFault, Written, is_over, quandle_of, written_at};
 use text_lines::{Line, Lines};
-use verdict_core::LargeListed;
 
 /// The lines of a table, which has the three laws of a quandle, or is malformed at its last line.
-#[tactic(auto, unfolding(text_items::specs::Quandles::table_item))]
+#[tactic(auto, unfolding(crate::specs::Quandles::table_item))]
 fn table_item(alloc: Global, order: u8, lines: &mut Lines) -> Result<LargeQuandle, TextFault>
     requires { (1 ≤ order) × (order ≤ MAX_LARGE_ORDER) }
     ensures { Gives (λ q. (called name.Table q, lines.new)) result (table_item order lines.old) }
@@ -53,7 +54,7 @@ fn quandle_by(alloc: Global, order: u8, table: &[u8]) -> Result<Option<LargeQuan
 /// A name at the end of a line, with the lines behind it that a table takes. A table has at most `most` colours, a name `MAX_ORDER`.
 ///
 /// Else the fault of the first bad line, or want of memory.
-#[tactic(auto, unfolding(text_items::specs::Quandles::quandle_at))]
+#[tactic(auto, unfolding(crate::specs::Quandles::quandle_at))]
 pub fn large_quandle_at(
     alloc: Global,
     most: usize,
@@ -121,6 +122,6 @@ fn name_written(
     if is_over(written) {
         return Err(TextFault::Limit { line: at });
     }
-    let listed = quandle_of(at, written, lines)?;
+    let listed = quandle_of(alloc, at, written, lines)?;
     Ok(LargeListed::listed(alloc, &listed)?)
 }
