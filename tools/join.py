@@ -1,5 +1,5 @@
 #!/usr/bin/env python3
-"""Joins what `simplify` wrote of two diagrams and what `decide` wrote of the simplified ones into one certificate of the given two.
+"""Joins what `simplify` wrote for two diagrams and what `decide` wrote for the simplified ones into one certificate of the given two.
 
     ./knot simplify < one.txt > one.simple
     ./knot simplify < two.txt > two.simple
@@ -8,12 +8,12 @@
     tools/join.py problem.txt one.simple two.simple verdict.txt > certificate.txt
     ./knot check < certificate.txt
 
-PROBLEM has the two given diagrams. FIRST and SECOND are what `simplify` wrote of them, or `least`: a grid, and the moves that lead there. VERDICT is
-`equal` with its moves, of either version, and may have its problem before it. The certificate is the problem with a verdict of version 2
-behind it: the moves of the first simplification, those of the verdict, and those of the second simplification undone, from the last to
-the first, with each run of shifts made into one of columns and one of rows at most. With --plain it is of version 1, and no shift is joined.
+PROBLEM has the two given diagrams. FIRST and SECOND are what `simplify` or `least` wrote for them: a grid, and the moves that lead there.
+VERDICT is `equal` with its moves, of either version, perhaps after its problem. The certificate is the problem followed by a verdict of
+version 2: the moves of the first simplification, those of the verdict, and those of the second simplification undone, from the last to the
+first, with each run of shifts made into one of columns and one of rows at most. With --plain it is of version 1, and no shift is joined.
 
-All moves are made here before anything is written: a list that isn't legal, or ends elsewhere, is said to be at fault by its file.
+All moves are made here before anything is written: the file of a list that isn't legal, or ends elsewhere, is named.
 """
 import argparse
 
@@ -92,7 +92,7 @@ def main():
     for name, said in (("problem", "the two given diagrams"), ("first", "what simplify or least wrote of the first one"),
                        ("second", "what simplify or least wrote of the second one"), ("verdict", "what decide wrote of the simplified ones")):
         parser.add_argument(name, metavar=name.upper(), help=said)
-    parser.add_argument("--out", metavar="FILE", help="where the certificate goes; standard output where none is given")
+    parser.add_argument("--out", metavar="FILE", help="where the certificate goes; standard output if none is given")
     parser.add_argument("--plain", action="store_true", help="version 1, with all moves as they are")
     words = parser.parse_args()
     first, second, quandles = read_problem(words.problem)

@@ -1,11 +1,11 @@
 #!/usr/bin/env python3
-"""Makes the ready tables of quandles/weights/, quandles with cocycles that tell many knots from their mirror images or reverses.
+"""Makes the ready tables of quandles/weights/, quandles with cocycles that distinguish many knots from their mirror images or reverses.
 
     tools/weight_tables.py [FOLDER]             writes T5, T7, M20a, M20b, M30, F8 and F27, of at most 32 colours, and the list that seek tries
-    tools/weight_tables.py --larger FOLDER      writes M42a, M42b, M42c and M56b, which only seek --weights and check take
+    tools/weight_tables.py --larger FOLDER      writes M42a, M42b, M42c, M56b, M56c, M72 and T11, which only seek --weights and check take
     tools/weight_tables.py --rows FOLDER        writes the shorter list by which rows of tables of knots are counted
 
-FOLDER is quandles/weights/ beside this folder where none is given. A table stands behind two diagrams, as the job weights reads it:
+FOLDER is quandles/weights/ beside this folder if none is given. Append a table to two diagrams for the job weights:
 
     cat problem.txt quandles/weights/T5.txt | ./knot weights
 
@@ -36,6 +36,7 @@ from lib.fields import Field
 
 IDENTITY = ((1, 0), (0, 1))
 FOUR = (2, (1, 1))
+EIGHT = (2, (1, 1, 0))
 
 # What stands in the list: quandles of no cocycle, and then those with one, the fewest colours first. A number is the order of a dihedral
 # quandle with Mochizuki's shadow cocycle, a name one of the tables. Behind them stand quandles of more than 32 colours.
@@ -118,7 +119,8 @@ def conjugates(field, start):
     if len(logarithms) != len(torus):
         raise ValueError(f"the torus of {start} is not cyclic")
     (a, b), (c, d) = start
-    named = f"mod {field.size}" if field.size != 4 else "over the field of 4, whose elements are 0, 1, t = 2 and t + 1 = 3"
+    named = {4: "over the field of 4, whose elements are 0, 1, t = 2 and t + 1 = 3",
+             8: "over the field of 8, t^3 = t + 1, where 2 is t and a + 2 b + 4 c is a + b t + c t^2"}.get(field.size, f"mod {field.size}")
     said = f"the class of the matrix ({a} {b} / {c} {d}) {named}, under the matrices of determinant 1"
     return Conjugates(field, [start] + sorted(set(sections) - {start}), sections, logarithms, len(torus), said)
 
@@ -180,6 +182,10 @@ LARGER = {
     "M42b": lambda: conjugates(Field(7), ((0, 1), (3, 1))),
     "M42c": lambda: conjugates(Field(7), ((0, 1), (1, 1))),
     "M56b": lambda: conjugates(Field(7), ((1, 0), (0, 2))),
+    # X² + X + 1 has no root in the field of 8.
+    "M56c": lambda: conjugates(Field(*EIGHT), ((0, 1), (1, 1))),
+    "M72": lambda: conjugates(Field(*EIGHT), ((1, 0), (0, 2))),
+    "T11": lambda: transvections(11),
 }
 
 

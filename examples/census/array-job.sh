@@ -1,10 +1,7 @@
 #!/bin/sh
 # An array job for the queue Slurm: sbatch examples/census/array-job.sh DIAGRAMS CENSUS
-# Each task runs its part of each round, and waits half an hour for the other parts. So where all tasks run at once, one job sorts the whole
-# folder: ask for no more tasks than do, by sbatch --array=1-N. Where they don't, each job ends some rounds more; send it again, one job after
-# the other, until the logs have no line `call again`:
-#   sbatch --dependency=singleton examples/census/array-job.sh DIAGRAMS CENSUS
-# Submit it at the top of the tree, with both programs built. At the end call tools/census.py sort DIAGRAMS CENSUS once.
+# Each task draws its part of the diagrams. Submit it at the top of the tree, with both programs built. At the end call
+# tools/census.py sort DIAGRAMS CENSUS once, which does the rest.
 #SBATCH --job-name=census
 #SBATCH --array=1-16
 #SBATCH --cpus-per-task=4
@@ -25,8 +22,4 @@ if [ $# -eq 2 ] && [ "${SLURM_ARRAY_TASK_MIN:-1}/${SLURM_ARRAY_TASK_MAX:-$parts}
     echo "array-job.sh: the array has no tasks 1 to N: say how many parts there are, as the third word" >&2
     exit 2
 fi
-tools/census.py sort --processes "${SLURM_CPUS_PER_TASK:-4}" --part "$task/$parts" "$1" "$2"
-status=$?
-# A round that waits is no failure of the task; anything else is.
-[ "$status" -eq 4 ] && status=0
-exit "$status"
+exec tools/census.py sort --processes "${SLURM_CPUS_PER_TASK:-4}" --part "$task/$parts" "$1" "$2"

@@ -1,6 +1,7 @@
 """Diagrams sorted into classes, each of one link, by the script tools/census.py."""
 import csv
 import os
+import re
 import subprocess
 import sys
 from typing import Any, Dict, List, Mapping, NamedTuple, Optional, Tuple, Union
@@ -11,6 +12,9 @@ from .faults import BadDiagram, Failed, NoFile, NoJob
 from .given import diagram as diagram_given
 from .knot_tables import data_folder
 from .programs import path_of
+
+# What the script says of how far it is.
+PROGRESS = re.compile(r"part [0-9]+ of [0-9]+, ")
 
 # The statuses of the script with which it has written what it found: all told, some pairs left open, some faults.
 TOLD, FAULTS = (0, 1, 3), 3
@@ -23,7 +27,7 @@ class Census(NamedTuple):
                  or "" where it is the same as the first
     `undecided`  pairs of classes that no evidence tells apart
     `faults`     of diagrams that can't be read, and of answers that didn't come, a line each
-    `folder`     where certificates, evidence and classes.html are
+    `folder`     where the certificates and classes.html are
     """
 
     classes: Dict[str, Dict[str, str]]
@@ -55,7 +59,8 @@ def census(diagrams: Union[Mapping[str, Any], str, "os.PathLike[str]"], folder: 
                               stdin=subprocess.DEVNULL, stdout=subprocess.DEVNULL, stderr=subprocess.PIPE, check=False)
     except OSError as error:
         raise Failed(f"census.py: {error.strerror}", 127) from None
-    said = tuple(line.replace("census.py: ", "", 1) for line in done.stderr.decode("utf-8", "replace").splitlines())
+    lines = [line.replace("census.py: ", "", 1) for line in done.stderr.decode("utf-8", "replace").splitlines()]
+    said = tuple(line for line in lines if not PROGRESS.match(line))
     if done.returncode == 2:
         raise NoJob(said[-1] if said else "census.py refuses its words")
     if done.returncode not in TOLD:

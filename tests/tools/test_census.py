@@ -14,9 +14,10 @@ import unittest
 import browser
 import common
 import reader
-from lib.census_plan import blocks_of
-from lib.diagrams import Braid, Grid, diagram_text, grid_text, mirror_image, reverse
+from lib.diagrams import Braid, Grid, diagram_text, mirror_image, reverse
+from lib.diagrams import Lines, grid_of, read_diagram
 from lib.moves import made
+from reader.items import read_table
 
 SCRIPT = os.path.join(common.TOOLS, "census.py")
 STAND_IN = os.path.join(common.ROOT, "tests", "tools", "small_knot.py")
@@ -27,6 +28,9 @@ TREFOIL = Grid((4, 3, 2, 1, 0), (2, 1, 0, 4, 3))
 UNKNOT = Grid((0, 1), (1, 0))
 # Two diagrams of the trefoil that exchanges join, and that the stand-in makes no smaller.
 LARGER, EXCHANGED = Grid((0, 5, 4, 3, 2, 1), (1, 3, 2, 0, 5, 4)), Grid((0, 1, 5, 4, 3, 2), (4, 2, 3, 1, 0, 5))
+# One that neither they nor destabilisations make smaller than six columns.
+SEVEN = Grid((3, 2, 1, 0, 4, 6, 5), (1, 4, 6, 3, 5, 2, 0))
+SORTED = "6 diagrams: 4 classes, 0 pairs of classes undecided; 4 of 4 certificates accepted\n"
 HOPF = Grid((0, 1, 2, 3), (2, 3, 0, 1))
 PLAN = """\
 # small quandles, since the stand-in is slow
@@ -117,37 +121,50 @@ class CensusTest(unittest.TestCase):
 class SortTest(CensusTest):
     def test_a_table_is_sorted_with_a_certificate_for_all_that_is_said(self):
         status, out, errors = self.put_sorted()
-        self.assertEqual((status, out), (0, "6 diagrams: 4 classes, 0 pairs of classes undecided; 12 of 12 certificates accepted\n"), errors)
+        self.assertEqual((status, out), (0, SORTED), errors)
         self.assertEqual(self.classes(), {"a": ("a", "", ""), "b": ("a", "", "accepted"), "c": ("c", "", ""), "d": ("c", "", "accepted"),
                                           "e": ("e", "", ""), "f": ("f", "", "")})
         apart = {(row["first"], row["second"]): (row["by"], row["check"]) for row in self.rows("apart.csv")}
-        self.assertEqual(apart, {("a", "c"): ("weights by table 6 of 3_1-mirror-3_1.txt", "different"), ("a", "e"): ("dihedral 3", "accepted"),
-                                 ("a", "f"): ("linking", "different"), ("c", "e"): ("dihedral 3", "accepted"), ("c", "f"): ("linking", "different"),
-                                 ("e", "f"): ("linking", "different")})
+        self.assertEqual(apart, {("a", "c"): ("weights by table 6 of 3_1-mirror-3_1.txt", "accepted"), ("a", "e"): ("dihedral 3", "accepted"),
+                                 ("a", "f"): ("linking", "accepted"), ("c", "e"): ("dihedral 3", "accepted"), ("c", "f"): ("linking", "accepted"),
+                                 ("e", "f"): ("linking", "accepted")})
         self.assertEqual(self.rows("undecided.csv"), [])
         # All evidence, by the independent reader, as somebody else would check it.
-        for folder in ("certificates", "smallest"):
-            for name in os.listdir(os.path.join(self.census, folder)):
-                with open(os.path.join(self.census, folder, name), "rb") as file:
-                    self.assertEqual(reader.answer([b"check"], file.read()).text, b"accepted\n")
-        for row in self.rows("apart.csv"):
-            with open(os.path.join(self.census, row["evidence"]), "rb") as file:
-                job = {"linking": b"linking", "weights": b"weights"}.get(row["by"].split()[0], b"check")
-                self.assertTrue(reader.answer([job], file.read()).text.endswith(b"accepted\n" if job == b"check" else b"different\n"))
+        files = {row["evidence"] for row in self.rows("apart.csv")}
+        self.assertEqual(sorted(files), ["apart/a--f.txt", "apart/c--f.txt", "apart/e--f.txt", "certificate-1.txt"])
+        for name in files:
+            with open(os.path.join(self.census, name), "rb") as file:
+                self.assertEqual(reader.answer([b"check"], file.read()).text, b"accepted\n")
+        self.rows_of_the_certificate()
+
+    def rows_of_the_certificate(self):
+        """Each diagram stands in the certificate as it was given, in a class of its own class alone; only those that linking numbers tell apart are
+        left open."""
+        with open(os.path.join(self.census, "certificate-1.txt"), "rb") as file:
+            _, _, left, told = read_table(reader.Lines(file.read()))
+        places = {}
+        for row in self.rows():
+            with open(os.path.join(self.diagrams, row["name"] + ".txt"), encoding="utf-8") as file:
+                grid, place, _ = told[int(row["row"])]
+                self.assertEqual(grid, tuple(grid_of(read_diagram(Lines(file.read())))))
+            places.setdefault(row["class"], set()).add(place)
+        self.assertEqual([len(found) for found in places.values()], [1] * 4)
+        numbers = {name: found.pop() for name, found in places.items()}
+        self.assertEqual(left, {tuple(sorted((numbers[name], numbers["f"]))) for name in "ace"})
 
     def test_again_nothing_is_run_and_a_new_diagram_joins_what_stands(self):
         self.put_sorted()
         before = self.classes()
         self.assertEqual(self.sort()[0], 0)
         # The programs were only tried before the first input.
-        self.assertEqual(self.calls_made(), ["decide --spare 0", "seek --steps 5", "numbers"])
+        self.assertEqual(self.calls_made(), ["decide --spare 0", "seek --steps 5"])
         self.assertEqual(self.classes(), before)
         # One that comes before all others by its name doesn't become the first of the class.
         self.diagram("0", made(TREFOIL, ("shift", "rows", 3)))
         self.assertEqual(self.sort()[0], 0)
         self.assertEqual(self.classes(), {**before, "0": ("a", "", "accepted")})
-        made_now = self.calls_made()
-        self.assertEqual((made_now.count("simplify"), made_now.count("decide --spare 0 --budget 2")), (1, 0))
+        # It is a translate, whose key is known.
+        self.assertEqual(self.calls_made(), ["decide --spare 0", "seek --steps 5", "check"])
 
     def test_mirror_images_and_reverses_by_option(self):
         self.put_trefoils()
@@ -158,54 +175,68 @@ class SortTest(CensusTest):
         self.assertEqual({name: row[0] for name, row in found.items()}, {"a": "a", "b": "a", "c": "a", "d": "a", "e": "e", "f": "f", "g": "a"})
         self.assertIn("mirror image", found["c"][1])
         self.assertEqual({row[2] for row in found.values()}, {"", "accepted"})
-        with open(os.path.join(self.census, "certificates", "c.txt"), encoding="utf-8") as file:
-            self.assertIn(f"# first: c, {found['c'][1]}\n", file.read())
         # Two classes are apart where each turn is told apart.
         self.assertEqual([row["as"] for row in self.rows("apart.csv") if (row["first"], row["second"]) == ("a", "e")],
                          ["", "mirror image", "reverse", "reversed mirror image"])
 
     def test_what_nothing_joins_is_undecided_with_what_was_tried(self):
-        self.diagram("a", LARGER)
-        self.diagram("b", EXCHANGED)
+        self.diagram("a", TREFOIL)
+        self.diagram("b", SEVEN)
         status, out, _ = self.sort(LONELY="1")
-        self.assertEqual((status, out), (1, "2 diagrams: 2 classes, 1 pairs of classes undecided; 2 of 2 certificates accepted\n"))
+        self.assertEqual((status, out), (1, "2 diagrams: 2 classes, 1 pairs of classes undecided; 1 of 1 certificates accepted\n"))
         row, = self.rows("undecided.csv")
         self.assertEqual((row["first"], row["second"]), ("a", "b"))
-        self.assertEqual(row["tried"], "4 numbers alike; quick: decide --spare 0: unknown budget 2; few: seek --steps 5: nothing found")
+        self.assertEqual(row["tried"], "3 numbers alike; quick: decide --spare 0: nothing found; few: seek --steps 5: nothing found")
 
     def test_translates_and_those_with_one_least_diagram_are_joined_without_a_search(self):
         self.diagram("a", LARGER)
         self.diagram("b", mirror_image(EXCHANGED))
         self.diagram("c", made(LARGER, ("shift", "rows", 2)))
         self.diagram("d", made(mirror_image(LARGER), ("shift", "rows", 3)))
-        self.plan = self.put("plan.txt", "linking linking\nkeys least\n")
         status, out, errors = self.sort("--mirror", LONELY="1")
-        self.assertEqual((status, out), (0, "4 diagrams: 1 classes, 0 pairs of classes undecided; 4 of 4 certificates accepted\n"), errors)
+        self.assertEqual((status, out), (0, "4 diagrams: 1 classes, 0 pairs of classes undecided; 1 of 1 certificates accepted\n"), errors)
         self.assertEqual({name: row[1] for name, row in self.classes().items()}, {"a": "", "b": "mirror image", "c": "", "d": "mirror image"})
-        # The translate, and the mirror image of one, were joined before any was asked; knots have no linking numbers.
+        # Nothing but keys was asked for, and of each translate once; knots have no linking numbers.
         made_now = self.calls_made()
-        self.assertEqual([made_now.count(job) for job in ("least", "linking", "decide --spare 0")], [1 + 4, 0, 0])
+        self.assertEqual([made_now.count(job) for job in ("linking", "numbers", "seek --quiet --steps 5 -")], [0, 0, 0])
 
     def test_evidence_on_demand(self):
         self.put_sorted()
-        for name in os.listdir(os.path.join(self.census, "rounds")):
-            if name.startswith("apart"):
-                shutil.rmtree(os.path.join(self.census, "rounds", name))
-        status, out, errors = self.sort("--no-apart")
-        self.assertEqual((status, out), (0, "6 diagrams: 4 classes, 0 pairs of classes undecided, 6 not asked for; 6 of 6 certificates accepted\n"), errors)
-        self.assertEqual(self.rows("apart.csv"), [])
-        status, out, errors = self.call("apart", self.census, "d", "b")
-        self.assertEqual((status, errors.splitlines()[-1]), (0, "census.py: a and c: weights by table 6 of 3_1-mirror-3_1.txt: different"))
-        self.assertTrue(reader.answer([b"weights"], out.encode()).text.endswith(b"different\n"))
-        status, out, errors = self.call("apart", self.census, "b", "e")
-        self.assertEqual(status, 0, errors)
-        self.assertEqual(reader.answer([b"check"], out.encode()).text, b"accepted\n")
-        self.assertEqual(self.call("apart", self.census, "c", "d")[::2], (1, "census.py: c and d are in one class, that of c\n"))
+        for names, due, said in ((("d", "b"), 0, "a and c: weights by table 6 of 3_1-mirror-3_1.txt: accepted"),
+                                 (("b", "e"), 0, "a and e: dihedral 3: accepted"),
+                                 (("f", "e"), 0, "e and f: linking: accepted"), (("c", "d"), 1, "c and d are in one class, that of c")):
+            status, out, errors = self.call("apart", self.census, *names)
+            self.assertEqual((status, errors.splitlines()[-1]), (due, f"census.py: {said}"))
+            self.assertEqual(reader.answer([b"check"], out.encode()).text, b"accepted\n")
+            if "f" not in names:
+                # It is of the two diagrams as they were given.
+                _, _, left, told = read_table(reader.Lines(out.encode()))
+                grids = []
+                for name in names:
+                    with open(os.path.join(self.diagrams, name + ".txt"), encoding="utf-8") as file:
+                        grids.append(tuple(grid_of(read_diagram(Lines(file.read())))))
+                self.assertEqual(([grid for grid, _, _ in told], len({place for _, place, _ in told}), left), (grids, 2 - due, set()))
         self.assertEqual(self.call("apart", self.census, "c", "nobody")[0], 2)
         self.assertEqual(self.call("apart", self.census, "c")[0], 2)
-        status, out, errors = self.call("apart", self.census)
-        self.assertEqual((status, out), (0, "6 diagrams: 4 classes, 0 pairs of classes undecided; 12 of 12 certificates accepted\n"), errors)
-        self.assertEqual(len(self.rows("apart.csv")), 6)
+        # What is new isn't sorted on the way.
+        self.diagram("g", LARGER)
+        status, out, errors = self.call("apart", self.census, "b", "e")
+        self.assertEqual((status, out), (2, ""))
+        self.assertIn("call `sort` first", errors)
+
+    def test_evidence_for_mirror_images_too(self):
+        self.diagram("a", TREFOIL)
+        self.diagram("b", UNKNOT)
+        self.diagram("c", mirror_image(TREFOIL))
+        self.assertEqual(self.sort("--mirror")[0], 0)
+        status, out, errors = self.call("apart", self.census, "b", "c")
+        self.assertEqual(status, 0, errors)
+        self.assertIn("census.py: a and b: dihedral 3: accepted\ncensus.py: a and b, mirror image: dihedral 3: accepted\n", errors)
+        self.assertEqual(reader.answer([b"check"], out.encode()).text, b"accepted\n")
+        self.assertEqual(len(read_table(reader.Lines(out.encode()))[3]), 3)
+        status, out, errors = self.call("apart", self.census, "a", "c")
+        self.assertEqual((status, reader.answer([b"check"], out.encode()).text), (1, b"accepted\n"), errors)
+        self.assertEqual(len({place for _, place, _ in read_table(reader.Lines(out.encode()))[3]}), 1)
 
     def test_a_diagram_that_is_none_is_named_and_the_others_are_sorted(self):
         self.diagram("a", TREFOIL)
@@ -213,7 +244,7 @@ class SortTest(CensusTest):
         self.diagram("c", made(TREFOIL, ("shift", "rows", 1)))
         os.mkdir(os.path.join(self.diagrams, "d.txt"))
         status, out, errors = self.sort()
-        self.assertEqual((status, out), (3, "2 diagrams: 1 classes, 0 pairs of classes undecided; 2 of 2 certificates accepted\n"))
+        self.assertEqual((status, out), (3, "2 diagrams: 1 classes, 0 pairs of classes undecided; 1 of 1 certificates accepted\n"))
         self.assertIn("b.txt: line 1: the Xs don't have each row", errors)
         self.assertIn("d.txt: it is a folder", errors)
 
@@ -228,43 +259,19 @@ class SortTest(CensusTest):
 
 
 class SpreadTest(CensusTest):
-    def test_parts_take_turns_until_all_is_sorted(self):
+    def test_parts_draw_and_a_last_call_sorts(self):
         self.put_trefoils()
-        ended = []
-        while len(ended) < 24 and not (ended and ended[-1][1]):
-            ended.append(self.sort("--wait", "0", "--part", f"{len(ended) % 2 + 1}/2"))
-        self.assertEqual(ended[0][:2], (4, ""))
-        self.assertIn("part 1/2: round simplify: 3 of 6 inputs have no answer yet; call again when all parts have ended\n", ended[0][2])
-        self.assertEqual(ended[-1][:2], (0, "6 diagrams: 4 classes, 0 pairs of classes undecided; 12 of 12 certificates accepted\n"))
-
-    def test_parts_at_once_wait_for_each_other_and_one_turn_is_enough(self):
-        self.put_sorted()
-        names = ("classes.csv", "apart.csv", "undecided.csv")
-        alone = [self.rows(name) for name in names]
-        shutil.rmtree(self.census)
-        words = ["sort", "--plan", self.plan, "--processes", "1", "--wait", "20"]
-        parts = [subprocess.Popen(self.words(*words, "--part", f"{part}/3", self.diagrams, self.census), env=self.environment(), stdout=subprocess.PIPE,
-                                  stderr=subprocess.PIPE, text=True) for part in (1, 2, 3)]
-        for part in parts:
-            out, errors = part.communicate(timeout=common.LONG)
-            self.assertEqual((part.returncode, out), (0, "6 diagrams: 4 classes, 0 pairs of classes undecided; 12 of 12 certificates accepted\n"), errors)
-        self.assertEqual([self.rows(name) for name in names], alone)
-        # Each certificate was checked by one part alone; four of the twelve are inputs that linking or weights rule on.
-        self.assertEqual(self.calls_made().count("check"), 8)
-
-    @unittest.skipUnless(shutil.which("parallel"), "GNU parallel is not installed")
-    def test_with_gnu_parallel_the_same_is_found(self):
-        self.put_trefoils()
-        status, out, errors = self.sort("--with", "parallel")
-        self.assertEqual((status, out), (0, "6 diagrams: 4 classes, 0 pairs of classes undecided; 12 of 12 certificates accepted\n"), errors)
-        self.assertTrue(os.path.exists(os.path.join(self.census, "rounds", "simplify", "jobs.log")))
+        ended = [self.sort("--part", f"{part}/2") for part in (1, 2)]
+        self.assertEqual([one[:2] for one in ended], [(0, f"part {part}/2: 3 of 3 diagrams are drawn\n") for part in (1, 2)])
+        self.assertEqual(sorted(os.listdir(self.census)), ["census.json", "names.txt", "work"])
+        self.assertEqual(self.sort()[:2], (0, SORTED))
 
     def test_stopped_at_any_point_it_goes_on(self):
         self.put_trefoils()
         words = self.words("sort", "--plan", self.plan, "--processes", "2", self.diagrams, self.census)
         for _ in range(3):
-            # Some calls after the three by which the programs are tried, so that it hears signals by then.
-            calls = len(self.logged()) + 7
+            # Some calls after the two by which the programs are tried, so that it hears signals by then.
+            calls = len(self.logged()) + 6
             with subprocess.Popen(words, env=self.environment(), stdout=subprocess.PIPE, stderr=subprocess.PIPE, text=True,
                                   preexec_fn=common.default_signals) as process:
                 while process.poll() is None and len(self.logged()) < calls:
@@ -275,32 +282,13 @@ class SpreadTest(CensusTest):
             self.assertIn("stopped by signal 15; called again, it goes on", errors)
         parts = [name for _, _, names in os.walk(self.census) for name in names if name.endswith(".part")]
         self.assertEqual(parts, [])
-        self.assertEqual(self.sort()[:2], (0, "6 diagrams: 4 classes, 0 pairs of classes undecided; 12 of 12 certificates accepted\n"))
+        self.assertEqual(self.sort()[:2], (0, SORTED))
 
     def logged(self):
         if not os.path.exists(self.log):
             return []
         with open(self.log, encoding="utf-8") as file:
             return file.read().splitlines()
-
-
-class Counting(CensusTest):
-    def test_numbers_of_colourings_and_of_weights(self):
-        with open(os.path.join(common.LISTS, "weights", "3_1-mirror-3_1.txt"), encoding="utf-8") as file:
-            block = blocks_of(file.read())[1][0]
-        text = grid_text(TREFOIL) + "quandle dihedral 3\n# a cocycle\n" + block.text + "quandle table 1\n0\n"
-        done = subprocess.run([sys.executable, "-B", os.path.join(common.TOOLS, "colour_numbers.py"), "numbers"], input=text, env=self.environment(),
-                              capture_output=True, text=True, check=False)
-        self.assertEqual((done.returncode, done.stderr), (0, ""))
-        self.assertEqual(done.stdout, f"quandle dihedral 3\nnumbers 9\n{block.quandle}numbers 6 24 0 0\nquandle table 1\n0\nnumbers 1\n")
-
-    def test_too_wide_and_faults(self):
-        five = "braid 5\n"
-        for text, status, said in ((five + "quandle dihedral 13\n", 0, "quandle dihedral 13\nwide 5\n"), ("", 3, "malformed line 1\n"),
-                                   (five + "quandle dihedral 33\n", 4, "limit line 2\n")):
-            done = subprocess.run([sys.executable, "-B", os.path.join(common.TOOLS, "colour_numbers.py")], input=text, env=self.environment(),
-                                  capture_output=True, text=True, check=False)
-            self.assertEqual((done.returncode, done.stdout), (status, said))
 
 
 class Elements(html.parser.HTMLParser):
@@ -344,8 +332,8 @@ class Page(CensusTest):
         page.close()
         self.assertEqual(page.open, [])
         self.assertEqual((page.seen.count("svg"), page.seen.count("tr")), (4, 5))
-        # Its only links lead to certificates beside it.
-        self.assertEqual(page.values, ["certificates/b.txt", "certificates/d.txt"])
+        # Its only links lead to the certificate beside it.
+        self.assertEqual(page.values, ["certificate-1.txt"] * 2)
 
     @unittest.skipUnless(browser.PROGRAM, "no browser is installed")
     def test_it_is_sorted_and_searched_by_keys_in_a_browser(self):
@@ -397,8 +385,10 @@ class BuiltTest(CensusTest):
                                           stdin=subprocess.DEVNULL, stdout=subprocess.PIPE, stderr=subprocess.PIPE, text=True, cwd=common.ROOT))
         for task in tasks:
             said, errors = task.communicate(timeout=common.LONG)
-            self.assertEqual((task.returncode, said), (0, out), errors)
-        for name in ("classes.csv", "apart.csv", "undecided.csv"):
+            self.assertEqual(task.returncode, 0, errors)
+            self.assertIn("diagrams are drawn", said)
+        self.assertEqual(self.call("sort", diagrams, self.census)[:2], (0, out))
+        for name in ("classes.csv", "apart.csv", "undecided.csv", "certificate-1.txt"):
             with open(os.path.join(alone, name), encoding="utf-8") as one, open(os.path.join(self.census, name), encoding="utf-8") as other:
                 self.assertEqual(other.read(), one.read())
 

@@ -1,30 +1,29 @@
 """Tests that tools/batch.py and tools/census.py read every kind of answer: those of all examples, each in the place of the job that it answers.
 
-Both scripts run in this process, and what they would call as well: a stand-in for knot and seek, and tools/smaller.py.
+Both scripts run in this process, the workers of the census too, and what they would call as well: a stand-in for knot and seek.
 """
 import contextlib
 import io
 import os
-import re
 import shutil
 import unittest
 from unittest import mock
 
 import common
+import plain_orbits
 import small_knot
-import smaller
 from knot_workbench.answers import Answer
-from knot_workbench.diagrams import Braid, Grid, Lines, diagram_text, grid_text, mirror_image, read_diagram
+from knot_workbench.diagrams import Braid, Grid, Lines, grid_of, grid_text, mirror_image, read_diagram
 from knot_workbench.faults import Fault
-from lib import batch_call, batch_programs, census_call
-from lib.census_plan import blocks_of
+from lib import batch_call, batch_programs, census_call, table_worker
+from lib.table_reduced import Reducer
 from test_census import HOPF, TREFOIL, UNKNOT, CensusTest
 
 EXAMPLES = os.path.join(common.ROOT, "examples")
 
-# Jobs that the rounds of a census ask.
-OF_CENSUS = ("braid", "check", "decide", "linking", "numbers", "seek", "simplify", "weights")
-JOBS = (*OF_CENSUS, "braidcheck", "close", "code", "colour", "grid", "replay")
+# Jobs that a census asks.
+OF_CENSUS = ("braid", "check", "decide", "least", "linking", "numbers", "seek", "simplify")
+JOBS = (*OF_CENSUS, "braidcheck", "close", "code", "colour", "grid", "replay", "weights")
 
 TREFOILS = grid_text(TREFOIL) + grid_text(mirror_image(TREFOIL))
 
@@ -74,11 +73,6 @@ def answered_in_place(job, status, out):
     def run(_, call, given, is_shown=False):
         """The answer of a call; of an empty input the line that is due is missing."""
         words, text = call[1:], given.decode()
-        if call[0].endswith("smaller.py"):
-            try:
-                return batch_programs.Ran(0, smaller.answer(words[0], text).encode())
-            except Fault:
-                return batch_programs.Ran(3, b"malformed line 1\n")
         is_seek = os.path.basename(call[0]) == "seek"
         if text and job == ("seek" if is_seek else words[0]):
             return batch_programs.Ran(status, out.encode())
@@ -88,11 +82,35 @@ def answered_in_place(job, status, out):
     return run
 
 
+class Here:
+    """Stands in place of the workers: one worker in this process."""
+
+    def __init__(self, _, words):
+        self.worker = table_worker.Worker(*words)
+
+    def __enter__(self):
+        return self
+
+    def __exit__(self, *_):
+        pass
+
+    def each(self, method, items, lot=1):
+        """The answers to all items."""
+        return map(getattr(self.worker, method), items)
+
+
+def called(_, path, words, text):
+    """What stands in place of a worker's call of a program."""
+    found = batch_programs.Runner.run(None, [path, *words], text.encode())
+    return found.status, found.body.decode()
+
+
 class AnswersTest(CensusTest):
     def main(self, script, words, given):
         """A call of a script, where a job has the answer that is given: its status and what it said."""
         out, errors = io.StringIO(), io.StringIO()
         with mock.patch.object(batch_programs.Runner, "run", answered_in_place(*given)), mock.patch.object(script, "on_signals", lambda: None), \
+                mock.patch.object(census_call, "Pool", Here), mock.patch.object(table_worker.Caller, "call", called), \
                 mock.patch.dict(os.environ, self.environment()), contextlib.redirect_stdout(out), contextlib.redirect_stderr(errors):
             status = script.main(words)
         return status, errors.getvalue()
@@ -139,6 +157,9 @@ class BatchReads(AnswersTest):
                 self.assert_status(status, {"none": 3, "malformed": 3, "limit": 3, "rejected": 3, "unknown": 1, "nothing": 1}.get(kind, 0), errors)
 
 
+# The most columns that short diagrams have which the stand-in is asked of.
+LARGEST = 7
+
 STEPS = "linking linking\nquick decide --spare 0\nfew seek --steps 5\nsmall numbers +one.txt\nagain seek --steps 6\n"
 
 
@@ -155,17 +176,17 @@ class CensusReads(AnswersTest):
         words = ["sort", "--plan", plan, "--processes", "1", *more, self.diagrams, self.census]
         status, errors = self.main(census_call, words, given)
         # It ended as its help says: with a result, or a fault in one line.
-        self.assertIn(status, (0, 1, 2, 3, 4), errors)
+        self.assertIn(status, (0, 1, 2, 3), errors)
         if status in (2, 3):
             self.assertRegex(errors, "(?m)^census.py: ")
         return status, errors
 
     def test_every_answer_of_every_example_of_the_jobs_it_asks(self):
-        count = 0
+        count, reducer = 0, Reducer(small_knot.simplified, plain_orbits.least)
         for job, name, text, due, out in example_answers():
             diagrams = diagrams_in(text) if job in OF_CENSUS else []
             # The stand-in is too slow for large ones.
-            if diagrams and all(len(diagram_text(one)) < 60 for one in diagrams):
+            if diagrams and all(len(reducer.short(grid_of(one))[0]) <= 2 * LARGEST for one in diagrams):
                 with self.subTest(job=job, name=name):
                     self.sort_given(diagrams, (job, due, out))
                     count += 1
@@ -176,45 +197,29 @@ class CensusReads(AnswersTest):
             with self.subTest(name):
                 status, errors = self.sort_given([TREFOIL, HOPF if "linking" in name else mirror_image(TREFOIL)], given)
                 if name.startswith("by "):
-                    # What seek or decide tells apart isn't tried again.
-                    self.assertTrue(status in (0, 1) or "the evidence is not accepted" in errors, errors)
-                    again = os.path.join(self.census, "rounds", "again", "answers")
-                    self.assertEqual(os.listdir(again) if os.path.isdir(again) else [], [], name)
+                    # What is told wrongly the checker finds.
+                    self.assertTrue(status in (0, 1) or "the checker says" in errors or "of another form than was due" in errors, errors)
                 elif name in ("half an answer", "no answer at all", "moves that are none", "other numbers"):
                     self.assertEqual(status, 3)
                     self.assertIn("wrote a text of another form than was due", errors)
 
-    def test_a_part_whose_own_inputs_fail_waits_for_nobody(self):
+    def test_a_search_without_an_answer_is_named_and_the_rest_goes_on(self):
         two = [TREFOIL, mirror_image(TREFOIL)]
-        status, errors = self.sort_given(two, ("seek", 7, ""), "--part", "1/1")
+        status, errors = self.sort_given(two, ("seek", 7, ""))
         self.assertEqual(status, 3, errors)
-        self.assertIn("round few: 1 inputs of this part have no answer", errors)
-        # The other part, which has no input in this round, gives up its turn; where all is done a part ends with 0, whatever is undecided.
-        self.assertEqual(self.sort_given(two, ("seek", 7, ""), "--part", "2/3", "--wait", "0")[0], 4)
-        self.assertEqual(self.sort_given(two, ("seek", 1, ""), "--part", "1/1")[0], 0)
+        self.assertIn("census.py: seek ended with status 7\n", errors)
+        self.assertEqual(len(self.rows()), 2)
         self.assertEqual(self.sort_given(two, ("seek", 1, ""))[0], 1)
 
-    def test_where_no_other_evidence_fits_the_certificate_of_seek_is_the_evidence(self):
+    def test_what_seek_tells_apart_has_its_numbers_in_the_certificate(self):
         # Colours of the dihedral quandle of order 33, by its table, which is too large for decide: the trefoil has 99, the unknot 33.
         table = "table 33\n" + "".join(" ".join(str((2 * y - x) % 33) for y in range(33)) + "\n" for x in range(33))
         text = f"certificate 3\ndifferent numbers {table}seeds 0 1\nnumbers 99\nseeds 0\nnumbers 33\n"
-        status, errors = self.sort_given([UNKNOT, TREFOIL], ("seek", 0, text), steps="few seek --steps 5\n")
+        status, errors = self.sort_given([TREFOIL, UNKNOT], ("seek", 0, text), steps="few seek --steps 5\n")
         self.assertEqual(status, 0, errors)
         row, = self.rows("apart.csv")
-        self.assertEqual((row["first"], row["second"], row["by"], row["check"]), ("a", "b", "the step few", "accepted"))
-        self.assertEqual(row["evidence"], "rounds/few/certificates/a--b.txt")
+        self.assertEqual((row["first"], row["second"], row["by"], row["evidence"], row["check"]), ("a", "b", "table 33", "certificate-1.txt", "accepted"))
         self.assertEqual(self.rows("undecided.csv"), [])
-
-    def test_what_seek_counts_has_the_key_of_the_same_count_of_a_step(self):
-        listed = common.read(os.path.join(common.LISTS, "weights", "list.txt"))
-        for block in blocks_of(listed)[1][:16]:
-            if not block.has_weight:
-                continue
-            modulus = re.search("^(?:weight|shadow) ([0-9]+)", block.text, re.M)
-            count = int(modulus[1]) if modulus else int(block.quandle.split()[2])
-            numbers = " ".join(["1"] * count)
-            found = Answer("seek", 0, NUMBERS.format(block.text.removeprefix("quandle "), numbers, numbers)).value()
-            self.assertEqual(found.quandle.text + found.cocycle.text, block.text)
 
 
 def diagrams_in(text):

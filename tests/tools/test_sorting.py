@@ -30,7 +30,8 @@ class Sorting(unittest.TestCase):
         place = os.path.join(self.folder, "census")
         found = kw.census({"one": TREFOIL, "two": UNKNOT, "three": SHIFTED}, place, plan=self.plan, processes=2)
         self.assertEqual(found, kw.Census({"one": {"one": "", "three": ""}, "two": {"two": ""}}, (), (), place))
-        self.assertTrue(kw.Certificate.load(os.path.join(place, "certificates", "three.txt")).is_equal)
+        with open(os.path.join(place, "certificate-1.txt"), encoding="utf-8") as source:
+            self.assertTrue(source.read().startswith("certificate 4\n"))
         # Called again it goes on, with the diagrams that are given now.
         found = kw.census({"one": TREFOIL, "two": UNKNOT}, place, plan=self.plan, processes=2)
         self.assertEqual(found.classes, {"one": {"one": ""}, "two": {"two": ""}})

@@ -228,10 +228,10 @@ class StandingsTest(unittest.TestCase):
         joins.told = {Pair(key, key, MIRROR): "told", Pair(key, key, BOTH): "told"}
         one = Class(key)
         one.add("a", 3, "", "", REVERSED)
-        standings = Standings([one], joins, ())
+        standings = Standings([one], joins)
         asked = []
 
-        def further(pairs):
+        def further(pairs, _):
             for pair in pairs:
                 asked.append(pair)
                 said = "".join(f"seeds 0 1\nnumbers {' '.join(map(str, numbers_of(tuple(grid), *blocks[2])))}\n" for grid in pair)

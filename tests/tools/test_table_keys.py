@@ -6,12 +6,14 @@ import unittest
 
 import common
 import plain_orbits
+import reader
 from lib.table_apart import blocks_in, seeds_of
 from lib.table_book import Book, BookError, in_lines, in_one_line, require_job
 from lib.table_choices import choices, diagrams_to, rows_of
 from lib.table_joins import Joins, Numbers, Pair, found_in, said_of
 from lib.table_keys import after, form_of, grid_of_form, shifts_between
-from lib.table_reduced import Reducer
+from lib.table_linear import block_between, block_text
+from lib.table_reduced import Reducer, short_place
 from lib.table_shadows import KNOWN, faces, is_one_curve, least, maps_to, shadows_to
 from knot_workbench.diagrams import Braid, Grid, closure
 from knot_workbench.identifying import components_of
@@ -19,6 +21,8 @@ from knot_workbench.knot_rows import Block
 from knot_workbench.knot_tables import SAME, TURNS
 from knot_workbench.moves import made
 from knot_workbench.pd_codes import components_of as components_of_code
+from reader.items import read_table
+from reader.numbers import numbers_of
 
 # Quadrangulations of the sphere without parallel edges, of 2 to 7 faces, as they are tabulated up to reflection.
 MAPS = {2: 1, 3: 1, 4: 2, 5: 3, 6: 9, 7: 18}
@@ -147,6 +151,23 @@ class KeysTest(unittest.TestCase):
         self.assertEqual([grid.size for grid in asked], [5])
 
 
+    def test_a_component_of_two_columns_stays_and_moves_lead_to_the_short_form_of_a_link(self):
+        reducer = plain_reducer()
+        for braid in (Braid(2, []), Braid(3, [1, 1, 1]), Braid(2, [1, 1]), Braid(4, [1, 1, 3, 3]), Braid(3, [1, -2, 1, -2, 1, 1])):
+            grid = closure(braid)[0]
+            form, moves = reducer.short(grid)
+            self.assertEqual(after(grid, moves), grid_of_form(form))
+            self.assertEqual(components_of(grid_of_form(form)), components_of(grid))
+            self.assertIsNone(short_place(form))
+        self.assertEqual(len(reducer.short(closure(Braid(2, []))[0])[0]), 8)
+
+    def test_a_key_without_turns_is_that_of_the_diagram_as_it_is(self):
+        reducer = Reducer(plain_orbits.simplified, plain_orbits.least, [SAME])
+        keys = {reducer.of_grid(turn.of(TREFOIL)).key for turn in TURNS}
+        self.assertEqual(len(keys), 4)
+        self.assertEqual(min(keys), plain_reducer().of_grid(TREFOIL).key)
+
+
 def plain_reducer():
     """A reducer that calls no program."""
     return Reducer(plain_orbits.simplified, plain_orbits.least)
@@ -160,6 +181,25 @@ class SeedsTest(unittest.TestCase):
     def test_blocks_are_cut_at_their_names(self):
         text = "# some\nquandle dihedral 3\nshadow mochizuki\n\nquandle table 1\n0\n"
         self.assertEqual(blocks_in(text), ["dihedral 3\nshadow mochizuki\n", "table 1\n0\n"])
+
+
+class LinearTest(unittest.TestCase):
+    """Linear quandles that Alexander polynomials name."""
+
+    def test_the_numbers_of_two_knots_differ(self):
+        unknot, eight = Grid((0, 1), (1, 0)), closure(Braid(3, [1, -2, 1, -2]))[0]
+        for first, second, due in ((TREFOIL, unknot, "alexander 3 2"), (unknot, eight, "alexander 5 4"), (TREFOIL, eight, "alexander 3 2")):
+            block = block_between(first, second)
+            self.assertEqual(block, f"{due}\n")
+            data = f"certificate 4\nblocks 1\nquandle {block}classes 0\nopen 0\nrows 0\n"
+            (read,), _, _, _ = read_table(reader.Lines(data.encode()))
+            numbers = [tuple(numbers_of(tuple(grid), *read)) for grid in (first, second)]
+            self.assertNotEqual(*numbers)
+        self.assertIsNone(block_between(TREFOIL, TREFOIL.mirror()))
+
+    def test_a_quandle_of_more_than_32_colours_has_a_table(self):
+        lines = block_text(37, 5).splitlines()
+        self.assertEqual((lines[0], len(lines), lines[1 + 3].split()[2]), ("table 37", 38, str((5 * 3 - 4 * 2) % 37)))
 
 
 class JoinsTest(unittest.TestCase):
@@ -186,7 +226,7 @@ class JoinsTest(unittest.TestCase):
         self.assertEqual(joins.way(large), (small, TURNS[1], [("shift", "rows", 1)]))
         # All is in the book: a second call asks nothing.
         again = Joins(joins.numbers, joins.book)
-        again.try_all(lambda questions: self.assertEqual(questions, []) or [], ["words"], with_symmetries=False)
+        again.try_all(lambda questions: self.fail(questions), ["words"], with_symmetries=False)
         self.assertEqual(again.above, joins.above)
 
     def test_what_a_try_found_is_read_as_it_was_written(self):

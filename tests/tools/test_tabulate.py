@@ -176,7 +176,7 @@ class InterruptTest(unittest.TestCase):
     def test_what_is_known_is_kept_and_the_table_is_the_same(self):
         whole, cut = common.scratch(self), common.scratch(self)
         self.assertEqual(call("4", whole, "--table", TO_10, timeout=common.LONG).returncode, 0)
-        for number, book in ((signal.SIGTERM, "rows.tsv"), (signal.SIGINT, "short_numbers.tsv"), (signal.SIGKILL, "numbers.tsv")):
+        for number, book in ((signal.SIGTERM, "rows.tsv"), (signal.SIGINT, "keys.tsv"), (signal.SIGKILL, "numbers.tsv")):
             self.interrupted(cut, number, os.path.join(cut, "work", book))
         before = read(cut, "work/numbers.tsv")
         done = call("4", cut, "--table", TO_10, timeout=common.LONG)

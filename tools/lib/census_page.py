@@ -1,7 +1,7 @@
 """The page of a census: one HTML file that stands alone, with a row and a picture for each class."""
 from html import escape
 
-from lib.census_classes import said_of
+from knot_workbench.identifying import components_of
 
 STYLE = """
 body { font: 1rem/1.45 system-ui, sans-serif; color: #1b1b1b; background: #ffffff; margin: 1.5rem auto; max-width: 72rem; padding: 0 1rem; }
@@ -57,43 +57,27 @@ find.addEventListener("input", () => {
 HEADS = ("class", "diagrams", "columns", "components", "undecided")
 
 
-def components(grid):
-    """How many components a grid has."""
-    left, count = set(range(len(grid.xs))), 0
-    while left:
-        column = left.pop()
-        count += 1
-        while True:
-            column = grid.xs.index(grid.os[column])
-            if column not in left:
-                break
-            left.remove(column)
-    return count
-
-
-def picture_of(kind):
-    """The picture of the smallest diagram of a class, an SVG element."""
+def picture_of(name, grid):
+    """The picture of the least diagram of a class, an SVG element."""
     # draw.py is a program beside lib.
     from draw import Frame, picture
-    return picture([(0, Frame(kind.small()))], False, 16, 1, False, f"The smallest diagram of the class of {kind.first}")
+    return picture([(0, Frame(grid))], False, 16, 1, False, f"The least diagram of the class of {name}")
 
 
-def members_of(kind, rows):
+def members_of(name, rows):
     """The members of a class as a list, each with how it is known."""
     items = []
     for row in rows:
-        said = f", as its {said_of(kind.members[row[0]])}" if kind.members[row[0]] else ""
-        how = escape(f"{row[0]}{said}: {row[4]}" + (f", {row[6]}" if row[6] else ""))
+        how = escape(f"{row[0]}{', as its ' + row[2] if row[2] else ''}: {row[4]}" + (f", {row[6]}" if row[6] else ""))
         items.append(f'<li><a href="{escape(row[5])}">{how}</a></li>' if row[5] else f"<li>{how}</li>")
-    return f"<details><summary>{escape(kind.first)}</summary><ul>{''.join(items)}</ul></details>"
+    return f"<details><summary>{escape(name)}</summary><ul>{''.join(items)}</ul></details>"
 
 
-def row_of(kind, rows, doubts):
+def row_of(name, grid, rows, doubts):
     """The row of a class."""
-    small = kind.small()
-    numbers = "".join(f'<td class="number" data-key="{number}">{number}</td>' for number in (len(rows), len(small.xs), components(small)))
+    numbers = "".join(f'<td class="number" data-key="{number}">{number}</td>' for number in (len(rows), grid.size, components_of(grid)))
     doubtful = "".join(f"<li>{escape(text)}</li>" for text in doubts)
-    return (f'<tr data-names="{escape(" ".join(kind.members))}"><td>{picture_of(kind)}</td><td>{members_of(kind, rows)}</td>{numbers}'
+    return (f'<tr data-names="{escape(" ".join(row[0] for row in rows))}"><td>{picture_of(name, grid)}</td><td>{members_of(name, rows)}</td>{numbers}'
             f'<td data-key="{len(doubts)}">{f"<ul>{doubtful}</ul>" if doubts else "none"}</td></tr>')
 
 
@@ -105,8 +89,8 @@ def page_text(results):
     for first, second, said, tried in results.undecided:
         for one, other in ((first, second), (second, first)):
             doubts.setdefault(one, []).append(f"{other}{', ' + said if said else ''}: {tried}")
-    body = "\n".join(row_of(kind, rows[kind.first], doubts.get(kind.first, [])) for kind in results.classes.kinds.values())
-    return whole_page("A census", results.count_line(), "Find a diagram", "smallest diagram", HEADS, body)
+    body = "\n".join(row_of(one.first, one.grid(), rows[one.first], doubts.get(one.first, [])) for one in results.classes)
+    return whole_page("A census", results.count_line(), "Find a diagram", "least diagram", HEADS, body)
 
 
 def whole_page(title, said, find, drawn, names, body):

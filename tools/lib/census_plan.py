@@ -5,16 +5,16 @@ import os
 from lib.batch_stages import BatchError, digest, rows_of
 from lib.diagrams import MAX_QUANDLES
 
-# kind: linking, least, numbers, decide or seek. words: the options of least, decide and seek. blocks: what `numbers` counts by.
+# kind: linking, numbers, linear, decide or seek. words: the options of decide and seek. blocks: what `numbers` counts by.
 Step = collections.namedtuple("Step", "name kind words blocks")
 
 # A quandle, with its cocycle, of either kind, where one stands behind it. quandle: the lines of the quandle alone. text: all lines. key: their digest.
 # source: the name of the file it came from.
 Block = collections.namedtuple("Block", "quandle text has_weight key source")
 
-KINDS = ("linking", "least", "numbers", "decide", "seek")
-WITH_OPTIONS = ("least", "decide", "seek")
-TAKES = {"numbers": "words +FILE, and one at least", "linking": "no words"}
+KINDS = ("linking", "numbers", "linear", "decide", "seek")
+WITH_OPTIONS = ("decide", "seek")
+TAKES = {"numbers": "words +FILE, and one at least", "linking": "no words", "linear": "no words"}
 
 
 def block_label(block):
@@ -22,12 +22,6 @@ def block_label(block):
     name = block.quandle.partition("\n")[0].removeprefix("quandle ")
     named = f"{name} of {block.source}" if name.startswith("table") and block.source else name
     return f"weights by {named}" if block.has_weight else named
-
-
-def order_of(block):
-    """The order of a quandle, by its line."""
-    words = block.quandle.partition("\n")[0].split()
-    return 4 if words[1] == "tetrahedral" else int(words[2])
 
 
 def block_of(lines, source=""):
@@ -81,7 +75,7 @@ def read_plan(path):
             raise BatchError(f"{path}:{line}: one of {', '.join(KINDS)} is due behind the name '{name}'")
         kind, words = words[0], words[1:]
         files = [word[1:] for word in words if word.startswith("+")]
-        if kind in WITH_OPTIONS and files or kind == "numbers" and (not files or len(files) < len(words)) or kind == "linking" and words:
+        if kind in WITH_OPTIONS and files or kind == "numbers" and (not files or len(files) < len(words)) or kind in ("linking", "linear") and words:
             raise BatchError(f"{path}:{line}: the step {kind} takes {TAKES.get(kind, 'options and no +FILE')}")
         blocks = read_blocks(path, line, files)
         if len(blocks) <= MAX_QUANDLES:

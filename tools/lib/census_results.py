@@ -1,115 +1,210 @@
 """What a census leaves behind: its certificates, checked, and its tables."""
-import csv
-import io
+import collections
+import hashlib
 import os
 
-from lib.batch_runs import remove, write_named
-from lib.batch_summary import names_in
-from lib.census_classes import said_of
-from lib.census_rounds import put_if_new
+from knot_workbench.certificates import DifferentLinking, Linked, third_text
+from knot_workbench.knot_tables import BOTH, MIRRORED, REVERSED, SAME
+from knot_workbench.moves import turned
+from lib.batch_runs import write_named
+from lib.census_plan import block_label, block_of
+from lib.table_book import grid_in
+from lib.table_certificate import Head, certificates, head_text, row_text
+from lib.table_standing import classes_of, moves_in
+from lib.table_telling import Telling
+from lib.table_written import csv_text
+from lib.whole_files import write_whole
 
-COLUMNS = ("name", "class", "as", "columns", "known", "certificate", "check")
+COLUMNS = ("name", "class", "as", "columns", "known", "certificate", "check", "row")
 APART_COLUMNS = ("first", "second", "as", "by", "evidence", "check")
 UNDECIDED_COLUMNS = ("first", "second", "as", "tried")
 
+# What a diagram after a turn is called.
+SAID = {SAME: "", MIRRORED: "mirror image", REVERSED: "reverse", BOTH: "reversed mirror image"}
+
+# The most letters of a file's name without its ending; longer ones are cut.
+MAX_FILE_NAME = 150
+
+# Two classes of a census and the turn of the second by which they are compared; where both stand in certificates.
+Compared = collections.namedtuple("Compared", "one other turn first second")
+
+
+def file_name(names, turn):
+    """The name of a file for two diagrams, the second after a turn. Where it is long, or could be that of others, a digest stands behind it."""
+    name = "--".join(names) + turn.words.replace(" ", "~")
+    is_plain = len(name) <= MAX_FILE_NAME and not any("~" in one or "--" in f"-{one}-" for one in names)
+    return name if is_plain else f"{name[:MAX_FILE_NAME - 40]}~{hashlib.sha256(repr((names, turn.words)).encode()).hexdigest()[:32]}"
+
+
+def digest_of(text):
+    """The SHA-256 of a diagram's text."""
+    return hashlib.sha256(text.encode("utf-8", "surrogateescape")).hexdigest()
+
 
 class Results:
-    """The classes of a census with the rulings on all evidence.
+    """The classes of a census with the rulings on all evidence: `rows`, `apart` and `undecided` are those of the files of these names. `given`
+    has the rows of the sorting by the names of the diagrams."""
 
-    rows: of classes.csv. apart, undecided: of the files of these names. checks: each ruling that was asked for.
-    """
+    def __init__(self, folder, sorting, steps, given, labels):
+        self.folder, self.sorting, self.steps, self.given, self.labels = folder, sorting, steps, given, labels
+        self.rows, self.apart, self.undecided, self.rulings = [], [], [], {}
+        for row in given.values():
+            # So the first diagram of a class stands for it.
+            row.crossings = 0
+        self.classes = classes_of(given, steps.joins, sorting.keys)
+        self.telling = Telling(folder, sorting, given, self.classes, steps.joins)
+        self.standings = self.telling.standings
+        self.head = self.telling.head()
 
-    def __init__(self, folder, steps):
-        self.folder, self.steps, self.classes = folder, steps, steps.classes
-        self.rows, self.apart, self.undecided, self.checks = [], [], [], []
-        # How many pairs of classes have other numbers, where their evidence isn't asked for.
-        self.unasked = 0
+    # ---- pairs of classes
 
-    def check_members(self):
-        """Writes the certificate of each member but the first and of each smallest diagram, and has them checked."""
-        texts = {"certificates": {}, "smallest": {}}
-        for kind in self.classes.kinds.values():
-            for name, text in self.classes.certificates(kind):
-                texts["certificates" if name else "smallest"][name or kind.first] = text
-        rulings = {folder: self.rulings_on(folder, found) for folder, found in texts.items()}
-        order = {name: place for place, name in enumerate(self.classes.member)}
-        for kind in self.classes.kinds.values():
-            for name in sorted(kind.members, key=order.get):
-                self.rows.append(self.row_of(kind, name, texts, rulings))
-        self.checks += [ruling for found in rulings.values() for ruling in found.values()]
+    def pairs(self, numbers=None):
+        """The pairs of classes, or one of their numbers, with each turn of the second."""
+        count = len(self.classes)
+        for one, other in [numbers] if numbers else ((one, other) for one in range(count) for other in range(one + 1, count)):
+            for turn in self.sorting.turns:
+                yield Compared(one, other, turn, self.standings.place[one, SAME], self.standings.place[other, turn])
 
-    def rulings_on(self, folder, texts):
-        """The rulings on certificates, by name, which are written into this folder of the census."""
-        full = os.path.join(self.folder, folder)
-        os.makedirs(full, exist_ok=True)
-        for name, text in texts.items():
-            put_if_new(os.path.join(full, name + ".txt"), text.encode())
-        for name in set(names_in(full)) - set(texts):
-            remove(os.path.join(full, name + ".txt"))
-        answers = self.steps.rounds.run(f"check-{folder}", "check", texts, problems=full)
-        return {name: answers[name].tried[-1].says if name in answers else "none" for name in texts}
+    def block_of(self, pair):
+        """The place in certificates of the block that tells a pair apart, or None."""
+        return shown_block(self.telling.shown, pair.first, pair.second)
 
-    def row_of(self, kind, name, texts, rulings):
-        """The row of a member in classes.csv."""
-        member = self.classes.member[name]
-        head = name, kind.first, said_of(kind.members[name]), len(member.grid.xs)
-        if name == kind.first:
-            return *head, "first", "", ""
-        text = texts["certificates"][name]
-        moves = text[text.index("\nequal ") + 1:].partition("\n")[0]
-        return *head, moves, os.path.join("certificates", name + ".txt"), rulings["certificates"][name]
+    def is_linked(self, pair):
+        """Whether the numbers of components, or linking numbers, tell a pair apart."""
+        one, other = (self.classes[number].key for number in (pair.one, pair.other))
+        turn = self.standings.keys[pair.first][1].then(self.standings.keys[pair.second][1])
+        return not self.steps.joins.numbers.may_be_linked(one, other, turn)
 
-    def tell_apart(self, wanted=None):
-        """Asks for the evidence of all pairs of classes, or of some, and has it checked."""
-        kinds = list(self.classes.kinds.values())
-        pairs = wanted if wanted is not None else [(kind, other) for place, kind in enumerate(kinds) for other in kinds[place + 1:]]
-        found = self.steps.apart(pairs)
-        for kind, other in pairs:
-            for turn in self.classes.turns:
-                evidence = found.get((kind.first, other.first, turn))
-                if evidence:
-                    by, path, ruling = evidence
-                    self.apart.append((kind.first, other.first, said_of(turn), by, os.path.relpath(path, self.folder), ruling))
-                    self.checks.append("accepted" if ruling == "different" else ruling)
-                else:
-                    self.undecided.append((kind.first, other.first, said_of(turn), self.tried_of(kind, other, turn)))
+    def linked_text(self, pair):
+        """The certificate that tells a pair apart by linking numbers."""
+        both = []
+        for place in (pair.first, pair.second):
+            key, turn = self.standings.keys[place]
+            count, numbers = self.steps.joins.numbers.linked[key]
+            both.append(Linked(count, tuple(sorted(-number for number in numbers)) if turn.is_mirrored else numbers))
+        names = (f"# {word}: {self.telling.shown.classes[place].said}\n{self.telling.shown.classes[place].grid.text}"
+                 for word, place in (("first", pair.first), ("second", pair.second)))
+        return "".join(names) + third_text(DifferentLinking(*both))
 
-    def tell_open(self):
-        """Only names the pairs that nothing known tells apart, and asks for no evidence."""
-        kinds = list(self.classes.kinds.values())
-        for place, kind in enumerate(kinds):
-            for other in kinds[place + 1:]:
-                left = [turn for turn in self.classes.turns if kind.may_be(other, turn)]
-                self.undecided += [(kind.first, other.first, said_of(turn), self.tried_of(kind, other, turn)) for turn in left]
-                self.unasked += not left
-
-    def tried_of(self, kind, other, turn):
+    def vain(self, pair):
         """What was asked of a pair in vain, in words."""
-        theirs = other.entries[turn]
-        alike = [key for key, value in kind.entries[""].items() if value is not None and theirs.get(key) == value]
-        differ = next(kind.differences(other, turn), None)
-        numbers = f"{len(alike)} numbers alike" if differ is None else "numbers differ, and no evidence fits both diagrams"
-        return "; ".join([numbers, *self.steps.tried.get((kind.first, other.first, turn), [])])
+        first, second = (self.steps.joins.numbers.row(*self.standings.keys[place]) for place in (pair.first, pair.second))
+        both = [(one, other) for one, other in zip(first, second) if one is not None and other is not None]
+        numbers = f"{len(both)} numbers alike" if all(one == other for one, other in both) else "numbers differ, and no evidence fits both diagrams"
+        return "; ".join([numbers, *self.steps.vain(self.standings.tries(pair.first, pair.second))])
+
+    # ---- all of them
+
+    def told(self):
+        """Writes the certificates, has them checked, and says of each diagram and each pair what they tell."""
+        found = self.telling.certified(self.head)
+        self.rulings.update(self.telling.rulings)
+        places = self.telling.places(found)
+        for (name, row), (path, number) in zip(self.given.items(), places):
+            one = self.classes[self.standings.places[self.standings.end(row.form)[0]].number]
+            turn, is_first = self.standings.turn(row), name == one.first
+            moves = len(self.standings.of_row(row)[1])
+            self.rows.append((name, one.first, SAID[turn], len(grid_in(row.line).xs), "first" if is_first else f"equal {moves}",
+                              "" if is_first else os.path.basename(path), "" if is_first else self.ruling(path), number))
+        order = {one.first: number for number, one in enumerate(self.classes)}
+        self.rows.sort(key=lambda row: order[row[1]])
+        self.tell_pairs([path for path, _ in found])
+
+    def ruling(self, path):
+        """The ruling on a certificate in a word."""
+        return "accepted" if self.rulings[path] else "not accepted"
+
+    def tell_pairs(self, paths):
+        """Says of each pair of classes what tells it apart."""
+        pairs = list(self.pairs())
+        blocks = {pair: self.block_of(pair) for pair in pairs}
+        by_links = [pair for pair in pairs if blocks[pair] is None and self.is_linked(pair)]
+        self.steps.link({self.classes[number].key for pair in by_links for number in pair[:2]})
+        files = {pair: os.path.join(self.folder, "apart", file_name([self.first(pair.one), self.first(pair.other)], pair.turn) + ".txt") for pair in by_links}
+        os.makedirs(os.path.join(self.folder, "apart"), exist_ok=True)
+        for name in set(os.listdir(os.path.join(self.folder, "apart"))) - {os.path.basename(path) for path in files.values()}:
+            os.unlink(os.path.join(self.folder, "apart", name))
+        digests = {}
+        for pair, path in files.items():
+            data = self.linked_text(pair).encode()
+            write_whole(path, data)
+            digests[path] = hashlib.sha256(data).hexdigest()
+        self.rulings.update(self.sorting.ruled(digests))
+        whole = "accepted" if all(self.rulings[path] for path in paths) else "not accepted"
+        for pair in pairs:
+            head = self.first(pair.one), self.first(pair.other), SAID[pair.turn]
+            if blocks[pair] is not None:
+                self.apart.append((*head, self.label(blocks[pair]), os.path.basename(paths[0]), whole))
+            elif pair in files:
+                self.apart.append((*head, "linking", os.path.relpath(files[pair], self.folder), self.ruling(files[pair])))
+            else:
+                self.undecided.append((*head, self.vain(pair)))
+
+    def first(self, number):
+        """The name of a class."""
+        return self.classes[number].first
+
+    def label(self, place):
+        """What a block of the certificates is called."""
+        text = self.telling.shown.blocks[place]
+        return block_label(self.labels.get(text) or block_of(f"quandle {text}".splitlines()))
 
     def write(self):
         """Writes the tables."""
         for name, columns, rows in (("classes.csv", COLUMNS, self.rows), ("apart.csv", APART_COLUMNS, self.apart),
                                     ("undecided.csv", UNDECIDED_COLUMNS, self.undecided)):
-            write_named(os.path.join(self.folder, name), table_bytes(columns, rows))
+            write_named(os.path.join(self.folder, name), csv_text([columns, *rows]).encode("utf-8", "surrogateescape"))
 
     def count_line(self):
         """How many diagrams and classes there are, and how much of what is claimed was accepted."""
-        accepted = self.checks.count("accepted")
         pairs = len({row[:2] for row in self.undecided})
-        unasked = f", {self.unasked} not asked for" if self.unasked else ""
-        return (f"{len(self.rows)} diagrams: {len(self.classes.kinds)} classes, {pairs} pairs of classes undecided{unasked}; "
-                f"{accepted} of {len(self.checks)} certificates accepted")
+        return (f"{len(self.rows)} diagrams: {len(self.classes)} classes, {pairs} pairs of classes undecided; "
+                f"{sum(self.rulings.values())} of {len(self.rulings)} certificates accepted")
+
+    # ---- two diagrams
+
+    def of_two(self, one, other):
+        """Of two diagrams, by their names, the texts of certificates that say what is known of them, and for each turn of the second the pair of
+        their classes and what tells it apart, or None. Of two in one class there is one pair."""
+        numbers = sorted(self.standings.places[self.standings.end(self.given[name].form)[0]].number for name in (one, other))
+        if numbers[0] == numbers[1]:
+            first, second = (self.standings.turn(self.given[name]) for name in (one, other))
+            return [self.part_text([(one, SAME), (other, first.then(second))])], []
+        pairs = list(self.pairs(numbers))
+        blocks = {pair: self.block_of(pair) for pair in pairs}
+        by_links = [pair for pair in pairs if blocks[pair] is None and self.is_linked(pair)]
+        self.steps.link({self.classes[number].key for pair in by_links for number in pair[:2]})
+        texts = [self.linked_text(pair) for pair in by_links]
+        if len(by_links) < len(pairs):
+            texts.insert(0, self.part_text([(one, SAME), *((other, turn) for turn in self.sorting.turns)]))
+        return texts, [(pair, "linking" if pair in by_links else None if blocks[pair] is None else self.label(blocks[pair])) for pair in pairs]
+
+    def part_text(self, given):
+        """The certificate that has of all only some diagrams, each after a turn, and the classes that these are in."""
+        shown, rows = self.telling.shown, []
+        for name, turn in given:
+            row = self.given[name]
+            grid, (key, more, line) = grid_in(row.line), self.sorting.keys[row.form]
+            moves = turned(grid.size, moves_in(row.moves), *more) + moves_in(line)
+            rows.append((f"{name}{', ' + SAID[turn] if turn != SAME else ''}", turn.of(grid), *self.standings.row(turn.of(grid), turn.then(more), key, moves)))
+        places = sorted({place for _, _, place, _ in rows})
+        kept = sorted({shown_block(shown, first, second) for first in places for second in places if first < second} - {None})
+        classes = [shown.classes[place]._replace(numbers=[shown.classes[place].numbers[block] for block in kept]) for place in places]
+        left = [(one, other) for other, second in enumerate(places) for one, first in enumerate(places[:other]) if shown_block(shown, first, second) is None]
+        head = head_text(Head([shown.blocks[block] for block in kept], classes, left))
+        (text, _), = certificates(head, [row_text(said, grid.text, places.index(place), moves) for said, grid, place, moves in rows])
+        return text
 
 
-def table_bytes(columns, rows):
-    """A table as a CSV file."""
-    out = io.StringIO(newline="")
-    writer = csv.writer(out, lineterminator="\n")
-    writer.writerow(columns)
-    writer.writerows(rows)
-    return out.getvalue().encode("utf-8", "surrogateescape")
+def shown_block(shown, first, second):
+    """The place of the block of fewest colours by which what stands before the rows tells two classes apart, or None."""
+    found = [(block_order(shown.blocks[place]), place)
+             for place, (one, other) in enumerate(zip(shown.classes[first].numbers, shown.classes[second].numbers))
+             if one is not None and other is not None and one != other]
+    return min(found)[1] if found else None
+
+
+def block_order(text):
+    """How many colours a block has."""
+    words = text.split()
+    return 4 if words[0] == "tetrahedral" else int(words[1])

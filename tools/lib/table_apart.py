@@ -1,11 +1,15 @@
 """What tells classes apart: numbers of colourings, with columns that settle a diagram, by which `knot check` counts them anew."""
 import itertools
+import math
 
 from knot_workbench.diagrams import covers, ends
 from lib.table_keys import grid_of_form
 
 # As many choices of colours at the seeds, and of the outer colour, does the checker try.
 MOST_CHOICES = 1 << 21
+
+# The fewest seeds are looked for among so many choices of columns; where there are more, few seeds will do.
+MOST_SEEDS = 50_000
 
 
 def blocks_in(text):
@@ -20,14 +24,23 @@ def blocks_in(text):
 
 
 def seeds_of(grid):
-    """The fewest columns whose colours settle those of all others."""
+    """The fewest columns whose colours settle those of all others; of a large grid few such columns."""
     rows = [(1 << left | 1 << right, sum(1 << column for column in range(left + 1, right) if covers(grid, column, row)))
             for row in range(grid.size) for left, right in (ends(grid, row),)]
+    tried = 0
     for count in range(1, grid.size + 1):
+        tried += math.comb(grid.size, count)
+        if tried > MOST_SEEDS:
+            break
         for seeds in itertools.combinations(range(grid.size), count):
             if settled(sum(1 << seed for seed in seeds), rows) == (1 << grid.size) - 1:
                 return seeds
-    raise AssertionError("all columns settle all columns")
+    known, found = 0, []
+    while known != (1 << grid.size) - 1:
+        found.append(max((column for column in range(grid.size) if not known >> column & 1),
+                         key=lambda column: bin(settled(known | 1 << column, rows)).count("1")))
+        known = settled(known | 1 << found[-1], rows)
+    return tuple(sorted(found))
 
 
 def settled(columns, rows):

@@ -4,9 +4,10 @@ A line has a name and fields, parted by tabs. The file `job` beside the books ha
 """
 import os
 
+from knot_workbench.diagrams import Grid
 from lib.whole_files import write_whole
 
-FORM = "tabulate 2"
+FORM = "tabulate 3"
 
 
 class BookError(Exception):
@@ -74,3 +75,8 @@ def in_one_line(text):
 def in_lines(line):
     """The text of such a line."""
     return line.replace(" / ", "\n") + "\n"
+
+
+def grid_in(line):
+    """The grid whose text such a line has."""
+    return Grid(*([int(word) for word in lines.split(" ")[1:]] for lines in line.split(" / ")))

@@ -12,13 +12,13 @@ ABOUT = "Makes inputs for knot and seek from a table of knots: one diagram a row
 EPILOG = """\
 The table has a row for each knot: a name, and a braid word as {1,1,-2,1,-2} or [1, 1, -2, 1, -2], with its strands in front
 as {3,{1,1,-2,1,-2}}, in a column of their own, or as few as the letters need; or an arc presentation as {{5,2},{1,3},...} or
-[[5,2],[1,3],...]; or a PD code as PD[X[1,5,2,4],...] or [[1,5,2,4],...]; or a DT code as {4,6,2} or {{4},{2}}. Which of these an
-entry is, is seen by the title of its column, by its first word, or by its brackets.
+[[5,2],[1,3],...]; or a PD code as PD[X[1,5,2,4],...] or [[1,5,2,4],...]; or a DT code as {4,6,2} or {{4},{2}}. The title of the
+column, the first word of an entry or its brackets show which of these it is.
 
-`knot grid` draws a PD code; its rows are counterclockwise, from the edge on which the strand below comes. Of a DT code a PD code is
-made, and drawn; the mirror image has the same DT code. Each file tells how its diagram was had. Gauss codes aren't read: a column is
-refused whose title says that it has them. Refused are also lists that are hardly words: each number once with either sign, or 2, 4
-and so on, each once, where nothing says what they are. A word that leaves letters out has a split closure, and a warning.
+`knot grid` draws a PD code; its rows are counterclockwise, from the edge on which the strand below comes. A DT code is made into a PD
+code, and drawn; the mirror image has the same DT code. Each file says how its diagram was made. Gauss codes aren't read: a column is
+refused whose title says that it has them, and so are lists that are hardly words (each number once with either sign, or 2, 4 and so
+on, each once, if nothing says what they are). A word that leaves letters out has a split closure, and gets a warning.
 
 Letter k of a braid is the positive crossing of strands k and k + 1, and -k the negative one, as in Sage. Pair k of an arc
 presentation is column k from the left, with the two rows of its ends counted from below, from 1; columns pass over rows, and
@@ -36,9 +36,9 @@ examples:
 
 exit status:
   0  all that was asked for is written
-  1  some entries can't be had, or some files are there already with another content; each is named on standard error
+  1  some entries can't be used, or some files already exist with another content; each is named on standard error
   2  the words are no call, or the table or its column can't be read, or `knot grid` can't be run; nothing is written
-  3  a file or standard output can't be written; the files before it are
+  3  a file or standard output can't be written; the files before it were written
 """
 
 
@@ -47,7 +47,7 @@ def parser():
     words = WordsParser(prog="from_table.py", description=ABOUT, epilog=EPILOG, allow_abbrev=False,
                         formatter_class=argparse.RawDescriptionHelpFormatter)
     words.add_argument("table", metavar="TABLE", help="a CSV or TSV file in UTF-8, or - for standard input")
-    words.add_argument("folder", metavar="FOLDER", help="where a file NAME.txt is written for each; made where it is missing")
+    words.add_argument("folder", metavar="FOLDER", help="where a file NAME.txt is written for each; made if it is missing")
     words.add_argument("--name", default="name", metavar="COLUMN", help="the column of names (default: name)")
     words.add_argument("--diagram", required=True, metavar="COLUMN", help="the column of braid words or arc presentations")
     words.add_argument("--strands", metavar="COLUMN", help="the column of the numbers of strands; an empty field there: as few as do")
@@ -58,7 +58,7 @@ def parser():
     words.add_argument("--only", action="append", metavar="NAMES",
                        help="only the rows of these names: one whole name, blanks and all, or names parted by blanks, or @FILE with one name "
                             "a line; it may be given again")
-    words.add_argument("--quandles", metavar="FILE", help="put this file's lines behind each input")
+    words.add_argument("--quandles", metavar="FILE", help="append this file's lines to each input")
     words.add_argument("--as", dest="as_kind", choices=("braid", "dt", "pd"),
                        help="take each list of numbers for a braid word, also where it looks like a code; or each entry for a DT or PD code")
     words.add_argument("--knot", metavar="PROGRAM", help="the program whose job `grid` draws codes (default: KNOT, or knot of this tree)")
@@ -66,9 +66,9 @@ def parser():
     words.add_argument("--mirror", nargs="?", const="both", choices=("diagram", "second", "both"),
                        help="take the mirror images, of the entries of one column or of both")
     words.add_argument("--reverse", nargs="?", const="both", choices=("diagram", "second", "both"), help="run through the diagrams backwards")
-    words.add_argument("--delimiter", metavar="MARK", help="what parts the fields (default: tab, |, ; or comma, by the file's name and first line)")
+    words.add_argument("--delimiter", metavar="MARK", help="what separates the fields (default: tab, |, ; or comma, by the file's name and first line)")
     words.add_argument("--no-header", action="store_true", help="the first line is a row like any other; columns have their numbers")
-    words.add_argument("--skip-rows", type=int, default=0, metavar="N", help="leave out N rows behind the header, as some tables have two")
+    words.add_argument("--skip-rows", type=int, default=0, metavar="N", help="leave out N rows after the header, as some tables have two")
     words.add_argument("--replace", action="store_true", help="write over files that are there with another content")
     return words
 
@@ -112,7 +112,7 @@ def quandle_lines(path):
 def count_line(rows, made, left, lost, absent, options):
     """How many inputs were asked for, and what became of them: as many were made, weren't written or can't be had."""
     kind = "problems" if options.second or options.all_pairs or options.neighbours else "diagrams"
-    parts = [f"{made} {kind} in {options.folder}", *([f"{left} not written"] if left else []), f"{lost} not to be had",
+    parts = [f"{made} {kind} in {options.folder}", *([f"{left} not written"] if left else []), f"{lost} couldn't be made",
              *([f"{absent} names that no row has"] if absent else [])]
     return f"{rows} rows: {', '.join(parts)}"
 

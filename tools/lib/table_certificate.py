@@ -51,7 +51,13 @@ def head_text(head: Head) -> str:
 
 def row_text(said: str, diagram: str, place: int, moves: Sequence[Move]) -> str:
     """The lines of a row: what a comment says of it, its diagram as a text, the number of its class, from 0, and moves to the diagram of this."""
-    return f"# {said}\n{diagram}class {place}\nmoves {len(moves)}\n" + "".join(f"{move_text(move)}\n" for move in moves)
+    return row_of_lines(said, diagram, place, [move_text(move) for move in moves])
+
+
+def row_of_lines(said: str, diagram: str, place: int, moves: Sequence[str]) -> str:
+    """As `row_text`, of the lines of the moves."""
+    said = said if said.isprintable() else ascii(said)
+    return f"# {said}\n{diagram}class {place}\nmoves {len(moves)}\n" + "".join(f"{move}\n" for move in moves)
 
 
 def certificates(head: str, rows: Iterable[str], most: int = MOST_BYTES) -> Iterator[Tuple[str, int]]:

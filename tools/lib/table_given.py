@@ -9,13 +9,14 @@ from lib.identify_inputs import TABLES, Given as Row, of_folder, of_table, text_
 from lib.table_book import in_lines
 from lib.table_call import read_bytes
 from lib.table_choices import diagrams_to
+from lib.table_written import code_text
 
 # The most crossings of which all diagrams are made.
 MOST_CROSSINGS = 12
 
 
 class Given:
-    """The rows of a call: each a name and a diagram, which is the rows of a planar diagram code, or what identify_inputs gives. `faults` has
+    """The rows of a call: each a name and a diagram, which is a planar diagram code as tables have it, or what identify_inputs gives. `faults` has
     what is to be said of rows that can't be taken. `places` says where a name stands."""
 
     def __init__(self, options):
@@ -26,7 +27,7 @@ class Given:
     def read(self):
         """All rows, in order. TableError where the folder or the table can't be read."""
         if self.most is not None:
-            return list(diagrams_to(self.most))
+            return [(name, code_text(rows)) for name, rows in diagrams_to(self.most)]
         path = self.options.what
         given = of_table(path, self.options) if path.endswith(TABLES) else of_lines(path) if os.path.isfile(path) else of_folder(path)
         found, seen = [], {}
@@ -39,10 +40,6 @@ class Given:
             else:
                 found.append((one.name, one))
         return found
-
-    def place(self, name):
-        """Where a row stands, for messages."""
-        return self.places.get(name, name)
 
     def digest(self, rows):
         """The SHA-256 of the rows."""

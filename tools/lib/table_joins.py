@@ -1,7 +1,10 @@
 """Keys joined to classes: walks are tried only between keys whose numbers agree after some turn. The same tries tell the symmetries of a class."""
 import collections
+import hashlib
 
+from knot_workbench.alexander import alexander_square
 from knot_workbench.diagrams import move_of, move_text
+from knot_workbench.identifying import components_of
 from knot_workbench.knot_rows import may_be_one, opposite
 from knot_workbench.knot_tables import SAME, TURNS
 from knot_workbench.moves import turned
@@ -13,10 +16,12 @@ Pair = collections.namedtuple("Pair", "key aim turn")
 
 
 class Numbers:
-    """The rows of numbers of keys after all turns: `rows` has for each key that of its diagram and that of the mirror image."""
+    """What is known of keys after some turns: `rows` has for each key the row of numbers of its diagram and, where there are turns, that of the
+    mirror image. `linked` has for each how many components it has, and their linking numbers in order, or None."""
 
-    def __init__(self, rows, blocks):
-        self.rows, self.blocks, self._kept = rows, blocks, {}
+    def __init__(self, rows, blocks, turns=TURNS):
+        self.rows, self.blocks, self.of_turns, self._kept, self._turns = dict(rows), list(blocks), turns, {}, {}
+        self.linked = {key: (components_of(grid_of_form(key)), None) for key in self.rows}
 
     def row(self, key, turn=SAME):
         """The row of a key after a turn. A reverse has the row of the mirror image with negative weights."""
@@ -26,35 +31,59 @@ class Numbers:
         return self._kept[key, turn]
 
     def turns(self, key, aim):
-        """The turns of a key after which no number tells it from another one."""
-        aims = self.row(aim)
-        return [turn for turn in TURNS if may_be_one(self.row(key, turn), aims)]
+        """The turns of a key after which nothing that is known tells it from another one."""
+        if (key, aim) not in self._turns:
+            aims = self.row(aim)
+            self._turns[key, aim] = [turn for turn in self.of_turns if self.may_be_linked(key, aim, turn) and may_be_one(self.row(key, turn), aims)]
+        return self._turns[key, aim]
 
-    def buckets(self):
-        """The keys in lists, the smallest first, such that no two of different lists are one knot after any turn."""
-        rows = [row for pair in self.rows.values() for row in pair]
+    def may_be_linked(self, key, aim, turn):
+        """Whether linking numbers don't tell a key after a turn from another one. Those of a mirror image are negative."""
+        (count, numbers), (other, aims) = self.linked[key], self.linked[aim]
+        if numbers is not None and turn.is_mirrored:
+            numbers = tuple(sorted(-number for number in numbers))
+        return count == other and (numbers is None or aims is None or numbers == aims)
+
+    def buckets(self, keys=None):
+        """Keys, or all, in lists, the smallest first, such that no two of different lists are one after any turn."""
+        keys = sorted(self.rows if keys is None else keys, key=lambda key: (len(key), key))
+        rows = [row for key in keys for row in self.rows[key]]
         full = [place for place in range(min(map(len, rows), default=0)) if all(row[place] is not None for row in rows)]
         found = collections.defaultdict(list)
-        for key in sorted(self.rows, key=lambda key: (len(key), key)):
-            found[min(tuple(self.row(key, turn)[place] for place in full) for turn in TURNS)].append(key)
+        for key in keys:
+            found[self.linked[key][0], min(tuple(self.row(key, turn)[place] for place in full) for turn in self.of_turns)].append(key)
         return list(found.values())
 
+    def learn(self, rows, blocks):
+        """Takes the numbers of some keys by further blocks; of the others nothing is known by these."""
+        nothing = (None,) * len(blocks)
+        self.blocks += blocks
+        for key, kept in self.rows.items():
+            self.rows[key] = tuple(row + more for row, more in zip(kept, rows.get(key, (nothing,) * len(kept))))
+        self.forget()
 
-    def learn(self, rows):
-        """Takes longer rows of some keys."""
-        self.rows.update(rows)
+    def link(self, key, numbers):
+        """Takes the linking numbers of a key, in order."""
+        self.linked[key] = self.linked[key][0], tuple(numbers)
+        self.forget()
+
+    def forget(self):
+        """What was concluded is concluded anew."""
         self._kept.clear()
+        self._turns.clear()
 
 
 class Joins:
     """What is known of keys: `above` has for one that was joined another one, a turn, and the moves from its turned diagram; `told` has the
-    verdicts that tell pairs apart; `book` has all tries."""
+    verdicts that tell pairs apart, and `by` the words of the searches that did; `loops` has for turns that leave a first key the same the moves
+    from its turned diagram; `book` has all tries, and `vain` for each pair the searches that found nothing."""
 
     def __init__(self, numbers, book):
         self.numbers, self.book = numbers, book
-        self.above, self.told = {}, {}
+        self.above, self.told, self.by, self.loops, self.vain = {}, {}, {}, {}, collections.defaultdict(list)
         self.buckets = numbers.buckets()
         self.same = collections.defaultdict(lambda: [SAME])
+        self._alexander = {}
 
     def way(self, key):
         """The first key of the class, and a turn and moves that lead there from the turned diagram of the key."""
@@ -69,13 +98,20 @@ class Joins:
         """The first keys of the classes."""
         return [key for bucket in self.buckets for key in bucket if key not in self.above]
 
-    def open_pairs(self, bucket):
-        """The pairs of first keys of a list that may be one, the smallest aims first, but those that were told apart."""
-        roots = [key for key in bucket if key not in self.above]
-        for place, key in enumerate(roots):
-            for aim in roots[:place]:
-                for pair in self.pairs(key, aim):
-                    yield pair
+    def learned(self):
+        """More is known of the first keys."""
+        self.buckets = self.numbers.buckets(self.roots())
+
+    def not_alone(self):
+        """The first keys that may be one with another."""
+        found = set()
+        for bucket in self.buckets:
+            roots = [key for key in bucket if key not in self.above]
+            for place, key in enumerate(roots):
+                for aim in roots[:place]:
+                    if not {key, aim} <= found and next(self.pairs(key, aim), None):
+                        found |= {key, aim}
+        return [key for key in self.roots() if key in found]
 
     def pairs(self, key, aim):
         """The turns by which a first key may be another one, but those that were told apart, or that symmetries make one with another."""
@@ -93,56 +129,66 @@ class Joins:
                 if turn not in self.same[key] and Pair(key, key, turn) not in self.told:
                     yield Pair(key, key, turn)
 
-    def next_pairs(self, tried, effort, with_symmetries):
-        """For each first key one pair that wasn't tried with this effort; where none is left, perhaps for each one symmetry."""
-        found = {}
+    def is_alike(self, key, aim):
+        """Whether two keys have the same Alexander polynomial, as far as one place tells, or one is a link. No answer rests on it."""
+        for one in (key, aim):
+            if one not in self._alexander:
+                self._alexander[one] = alexander_square(grid_of_form(one)) if self.numbers.linked[one][0] == 1 else None
+        return None in (self._alexander[key], self._alexander[aim]) or self._alexander[key] == self._alexander[aim]
+
+    def next_pairs(self, tried, is_walk, with_symmetries):
+        """For each first key one pair that wasn't tried, the smallest aims first; where none is left, perhaps for each one symmetry. No walk is
+        tried between two knots whose Alexander polynomials differ."""
+        found = []
         for bucket in self.buckets:
-            for pair in self.open_pairs(bucket):
-                if pair.key not in found and (pair, effort) not in tried:
-                    found[pair.key] = pair
+            roots = [key for key in bucket if key not in self.above]
+            for place, key in enumerate(roots):
+                aims = (aim for aim in roots[:place] if not is_walk or self.is_alike(key, aim))
+                pair = next((pair for aim in aims for pair in self.pairs(key, aim) if pair not in tried), None)
+                if pair:
+                    found.append(pair)
         if not found and with_symmetries:
+            taken = {}
             for pair in self.open_symmetries():
-                if pair.key not in found and (pair, effort) not in tried:
-                    found[pair.key] = pair
-        return list(found.values())
+                if pair not in tried:
+                    taken.setdefault(pair.key, pair)
+            found = list(taken.values())
+        return found
 
     def try_all(self, ask, efforts, with_symmetries=True):
-        """Tries all pairs with growing effort. `ask` answers questions of `join` of a worker."""
-        for effort, words in enumerate(efforts):
+        """Tries all pairs by searches, one after the other. `ask` answers questions of `join` of a worker."""
+        for words in efforts:
             tried = set()
             while True:
-                pairs = self.next_pairs(tried, effort, with_symmetries)
-                tried.update((pair, effort) for pair in pairs)
+                pairs = self.next_pairs(tried, words[0] == "decide" or "--no-weights" in words, with_symmetries)
+                tried.update(pairs)
                 if not pairs:
                     break
-                waiting = [pair for pair in pairs if name_of(pair, effort) not in self.book.lines]
-                for pair, found in ask([(pair, pair.turn.of(grid_of_form(pair.key)), grid_of_form(pair.aim), words) for pair in waiting]):
-                    self.book.add(name_of(pair, effort), said_of(found))
+                waiting = [pair for pair in pairs if name_of(pair, words) not in self.book.lines]
+                if waiting:
+                    for pair, found in ask([(pair, pair.turn.of(grid_of_form(pair.key)), grid_of_form(pair.aim), words) for pair in waiting]):
+                        self.book.add(name_of(pair, words), said_of(found))
                 for pair in pairs:
-                    self.take(pair, found_in(self.book.lines[name_of(pair, effort)][0]))
+                    # (a try without an answer isn't in the book, and was told)
+                    if name_of(pair, words) in self.book.lines:
+                        self.take(pair, found_in(self.book.lines[name_of(pair, words)][0]), words)
 
-    def take(self, pair, found):
+    def take(self, pair, found, words):
         """What a try makes of the classes."""
         if isinstance(found, str):
-            self.told[pair] = found
-        elif found is not None and pair.key == pair.aim:
+            self.told[pair], self.by[pair] = found, words
+        elif found is None:
+            self.vain[pair].append(words)
+        elif pair.key == pair.aim:
+            self.loops[pair] = found
             self.same[pair.key] += [turn for turn in [one.then(pair.turn) for one in self.same[pair.key]] if turn not in self.same[pair.key]]
-        elif found is not None and pair.key not in self.above:
+        elif pair.key not in self.above:
             self.above[pair.key] = pair.aim, pair.turn, found
 
-    def moves_of(self, pair, efforts):
-        """The moves that a try found of a pair, or None."""
-        for effort in range(len(efforts)):
-            said = self.book.lines.get(name_of(pair, effort))
-            found = found_in(said[0]) if said else None
-            if isinstance(found, tuple):
-                return found
-        return None
 
-
-def name_of(pair, effort):
+def name_of(pair, words):
     """The name of a try in the book."""
-    return f"{pair.key.hex()}.{pair.aim.hex()}.{TURNS.index(pair.turn)}.{effort}"
+    return f"{pair.key.hex()}.{pair.aim.hex()}.{TURNS.index(pair.turn)}.{hashlib.sha256(repr(words).encode()).hexdigest()[:16]}"
 
 
 def said_of(found):

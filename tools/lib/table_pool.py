@@ -1,4 +1,4 @@
-"""The workers of tabulate.py: processes that answer lists of questions, several at once, in the order in which they are asked."""
+"""The workers of tabulate.py and census.py: processes that answer lists of questions, several at once, in the order in which they are asked."""
 import contextlib
 import os
 import pickle
@@ -62,7 +62,7 @@ class Pool:
         if not hasattr(self.own, "worker"):
             with self.lock:
                 if self.is_stopped:
-                    raise Fault("the workers of tabulate.py are stopped")
+                    raise Fault("the workers are stopped")
                 self.own.worker = subprocess.Popen([sys.executable, "-B", "-c", SERVE, TOOLS], stdin=subprocess.PIPE, stdout=subprocess.PIPE)
                 self.workers.append(self.own.worker)
             self.tell(self.words)
@@ -70,7 +70,7 @@ class Pool:
             self.tell((method, items))
             found = pickle.load(self.own.worker.stdout)
         except (EOFError, BrokenPipeError, pickle.UnpicklingError):
-            raise Fault("a worker of tabulate.py has ended, perhaps for want of memory") from None
+            raise Fault("a worker has ended, perhaps for want of memory") from None
         if isinstance(found, Fault):
             raise found
         return found
@@ -108,9 +108,10 @@ class Progress:
             self.told = now
             rate = (self.done - self.before) / (now - self.began)
             left = f", {(self.count - self.done) / rate:.0f} s left" if rate and self.count > self.done else ""
-            note(f"tabulate.py: {self.what}: {self.done} of {self.count}{left}")
+            note(f"{self.what}: {self.done} of {self.count}{left}")
 
     def end(self):
-        """All is done."""
-        if self.done > self.before:
-            note(f"tabulate.py: {self.what}: {self.done} in {time.monotonic() - self.began:.0f} s")
+        """All is done. What took less than a second isn't worth a line."""
+        seconds = time.monotonic() - self.began
+        if self.done > self.before and seconds >= 1:
+            note(f"{self.what}: {self.done} in {seconds:.0f} s")

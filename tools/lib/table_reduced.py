@@ -1,8 +1,8 @@
-"""Grids of knots made smaller, and their keys; what is found of a form is found once.
+"""Grids made smaller, and their keys; what is found of a form is found once.
 
 A column whose two marks lie in neighbouring rows can be exchanged with each column that has no mark in these rows. So it comes beside one
-that has, and a destabilisation takes it away. The same holds of rows. Where there is none, `knot simplify` looks for a smaller grid, and where
-it finds none either, `knot least` has the key.
+that has, and a destabilisation takes it away, unless these two columns are a component of their own. The same holds of rows. A grid without
+such a column or row is *short*. There `knot simplify` looks for a smaller grid, and where it finds none, `knot least` has the key.
 """
 from typing import Callable, Dict, List, NamedTuple, Optional, Sequence, Tuple
 
@@ -24,20 +24,21 @@ class Reduced(NamedTuple):
 
 
 def short_place(form: bytes) -> Optional[Tuple[str, int]]:
-    """The first column, or else row, whose marks are neighbours, also round the end; None where there is none."""
+    """The first column, or else row, that can be taken away since its marks are neighbours, also round the end; None where there is none."""
     size = len(form) // 2
     xs, os = form[:size], form[size:]
     for place in range(size):
-        if (xs[place] - os[place]) % size in (1, size - 1):
+        if (xs[place] - os[place]) % size in (1, size - 1) and os[xs.index(os[place])] != xs[place]:
             return "columns", place
     for row in range(size):
-        if (xs.index(row) - os.index(row)) % size in (1, size - 1):
+        one, other = xs.index(row), os.index(row)
+        if (one - other) % size in (1, size - 1) and os[one] != xs[other]:
             return "rows", row
     return None
 
 
 def taken_away(grid: Grid, which: str, place: int) -> List[Move]:
-    """Moves that take away a column or a row whose marks are neighbours, of a grid of three columns or more."""
+    """Moves that take away a column or a row that `short_place` has found."""
     size, other = grid.size, "rows" if which == "columns" else "columns"
     seen = transposed(grid) if which == "rows" else grid
     low, high = sorted((seen.xs[place], seen.os[place]))
@@ -56,49 +57,56 @@ def taken_away(grid: Grid, which: str, place: int) -> List[Move]:
 
 
 class Reducer:
-    """Ways from forms to their keys, by the jobs `simplify` and `least` of knot."""
+    """Ways from forms to their keys, by the jobs `simplify` and `least` of knot. A key is the least over some turns, which are a group."""
 
-    def __init__(self, simplify: Job, least: Job) -> None:
-        self.simplify, self.least = simplify, least
+    def __init__(self, simplify: Job, least: Job, turns: Sequence[Turn] = TURNS) -> None:
+        self.simplify, self.least, self.turns = simplify, least, turns
         self.links: Dict[bytes, Tuple[List[Move], bytes]] = {}
         self.ends: Dict[bytes, Reduced] = {}
 
     def of_grid(self, grid: Grid) -> Reduced:
-        """The key of a grid of a knot, and how it comes there."""
-        here = form_of(grid)
-        moves = shifts_between(grid, grid_of_form(here))
-        while here not in self.ends:
-            if here not in self.links and not self.found_link(here):
-                break
-            more, here = self.links[here]
-            moves = moves + more
-        end = self.ends[here]
+        """The key of a grid, and how it comes there."""
+        here, moves = self.short(grid)
+        end = self.of_form(here)
         moves = turned(grid.size, moves, *end.turn) + list(end.moves)
         return Reduced(end.key, end.turn, tuple(tidied(end.turn.of(grid), moves)))
 
-    def found_link(self, form: bytes) -> bool:
-        """Finds the way from a form to a smaller one, or else its key: whether it is the former."""
-        grid, place = grid_of_form(form), short_place(form)
-        if grid.size > 2 and place:
-            self.keep_link(form, grid, taken_away(grid, *place))
-            return True
-        there, moves = self.simplify(grid)
-        if there.size < grid.size:
-            self.keep_link(form, grid, list(moves))
-            return True
-        self.ends[form] = self.key(grid)
-        return False
+    def short(self, grid: Grid) -> Tuple[bytes, Sequence[Move]]:
+        """The form of a short grid that a grid leads to, and the moves. No program is asked."""
+        here = form_of(grid)
+        moves = shifts_between(grid, grid_of_form(here))
+        while True:
+            if here not in self.links:
+                place = short_place(here)
+                if place is None:
+                    return here, tidied(grid, moves)
+                self.keep_link(here, taken_away(grid_of_form(here), *place))
+            more, here = self.links[here]
+            moves = moves + more
 
-    def keep_link(self, form: bytes, grid: Grid, moves: List[Move]) -> None:
+    def of_form(self, form: bytes) -> Reduced:
+        """The key of a short form, and how its grid comes there."""
+        if form not in self.ends:
+            grid = grid_of_form(form)
+            there, moves = self.simplify(grid)
+            if there.size < grid.size:
+                end = self.of_grid(there)
+                moves = turned(grid.size, list(moves), *end.turn) + list(end.moves)
+                self.ends[form] = Reduced(end.key, end.turn, tuple(tidied(end.turn.of(grid), moves)))
+            else:
+                self.ends[form] = self.key(grid)
+        return self.ends[form]
+
+    def keep_link(self, form: bytes, moves: List[Move]) -> None:
         """Keeps moves from the grid of a form, with shifts to the form of where they lead."""
-        there = after(grid, moves)
+        there = after(grid_of_form(form), moves)
         found = form_of(there)
         self.links[form] = moves + shifts_between(there, grid_of_form(found)), found
 
     def key(self, grid: Grid) -> Reduced:
-        """The least of the diagrams that shifts and exchanges reach over the four turns, and how a grid comes there."""
+        """The least of the diagrams that shifts and exchanges reach over the turns, and how a grid comes there."""
         found = []
-        for turn in TURNS:
+        for turn in self.turns:
             there, moves = self.least(turn.of(grid))
             found.append(Reduced(bytes(there.xs + there.os), turn, tuple(moves)))
         return min(found)

@@ -1,16 +1,18 @@
-"""Rows sorted to classes: books of what is known, workers that find the rest, and in between keys, numbers and walks."""
+"""Diagrams sorted to classes: books of what is known, workers that find the rest, and in between keys, numbers and walks. Both tabulate.py and
+census.py rest on it."""
+import hashlib
 import os
 import re
 
 from knot_workbench.diagrams import move_text
+from knot_workbench.faults import Fault
 from knot_workbench.knot_rows import blocks_of, entry_in, entry_text
-from knot_workbench.knot_tables import TURNS, larger_quandles
+from knot_workbench.knot_tables import TURNS
 from lib.calls import note
+from lib.table_apart import blocks_in
 from lib.table_book import Book, data_in, in_one_line, lines_in
-from lib.table_joins import Joins, Numbers
+from lib.table_joins import Numbers
 from lib.table_pool import Progress
-from lib.table_worker import DECIDE, WALKS
-from lib.table_written import Class, code_text
 
 # The books of parts of the rows.
 ROWS = re.compile(r"rows-[0-9]+-of-[0-9]+\.tsv")
@@ -19,34 +21,44 @@ ROWS = re.compile(r"rows-[0-9]+-of-[0-9]+\.tsv")
 LOT = 20
 
 
-def larger_words():
-    """The words of seek that count by the larger quandles alone."""
-    return (*(f"--weights={path}" for path in larger_quandles()), "--steps=0")
+class Row:
+    """What a book of rows says of a diagram: how many crossings it has, its code or nothing, its grid, and the moves to the grid of a short form.
+    Of one that can't be had `fault` says why."""
+
+    __slots__ = ("fields", "crossings", "code", "line", "form", "moves", "fault")
+
+    def __init__(self, fields):
+        self.fields, self.fault = fields, fields[1] if fields[0] == "!" else None
+        if self.fault is None:
+            crossings, self.code, self.line, form, self.moves = fields
+            self.crossings, self.form = int(crossings), bytes.fromhex(form)
 
 
 class Sorting:
-    """One call: its rows, its books and its workers. `parts` is how many parts the work has."""
+    """One call: the folder of its books, its workers, the texts of its lists, and the turns by which diagrams are one. `script` has the name
+    that is said, `parts` how many parts the work has."""
 
-    def __init__(self, folder, given, pool, listed, parts):
-        self.folder, self.given, self.pool, self.parts = folder, given, pool, parts
-        self.blocks, self.faults, self.efforts = blocks_of(listed), 0, (DECIDE, *WALKS, larger_words())
-        self.books, self.part, self.what = [], 0, ""
-        for said in given.faults:
-            self.fault(said)
+    def __init__(self, script, work, pool, lists, turns, parts):
+        self.script, self.work, self.pool, self.turns, self.parts = script, work, pool, turns, parts
+        self.lists, self.blocks = lists, [blocks_of(text) for text in lists]
+        self.marks = [hashlib.sha256(text.encode()).hexdigest()[:16] for text in lists]
+        self.books, self.faults, self.part, self.what = {}, 0, 0, ""
+        self.keys, self.keyless, self.texts = {}, {}, []
 
     def fault(self, said):
-        """Tells at once why a row is missing, and counts it."""
+        """Tells at once what is missing, and counts it."""
         self.faults += 1
-        note(f"tabulate.py: {said}")
+        note(f"{self.script}: {said}")
 
-    def book(self, *parts):
+    def book(self, name):
         """A book of the folder."""
-        self.books.append(Book(os.path.join(self.folder, *parts)))
-        return self.books[-1]
+        if name not in self.books:
+            self.books[name] = Book(os.path.join(self.work, name))
+        return self.books[name]
 
     def close(self):
         """Ends the writing of all books."""
-        for book in self.books:
+        for book in self.books.values():
             book.close()
 
     # ---- how far it is
@@ -58,7 +70,7 @@ class Sorting:
 
     def told(self, items, count, done=0):
         """The same items, with lines on how far they are."""
-        progress = Progress(self.what, count, done)
+        progress = Progress(f"{self.script}: {self.what}", count, done)
         for item in items:
             progress.step()
             yield item
@@ -71,56 +83,93 @@ class Sorting:
 
     # ---- the parts
 
-    def rows(self, rows, part=""):
-        """What is known of rows: of each its crossings, code and grid, and a turn and moves that lead from the turned grid to its key. Each part
-        of the rows has a book of its own; what others found is known too."""
+    def rows(self, given, part=""):
+        """What is known of diagrams, by their names: a dictionary of rows. Each part of the rows has a book of its own; what others found is
+        known too."""
         self.begin("rows")
-        book = self.book("work", f"rows{part}.tsv")
+        book = self.book(f"rows{part}.tsv")
         own = dict(book.lines)
-        for name in sorted(os.listdir(os.path.join(self.folder, "work"))):
+        for name in sorted(os.listdir(self.work)):
             if ROWS.fullmatch(name):
-                book.lines.update(lines_in(data_in(os.path.join(self.folder, "work", name))))
+                book.lines.update(lines_in(data_in(os.path.join(self.work, name))))
         book.lines.update(own)
-        waiting = [row for row in rows if row[0] not in book.lines or book.lines[row[0]][0] == "!"]
+        waiting = [one for one in given if one[0] not in book.lines or book.lines[one[0]][0] == "!"]
         codes = dict(waiting)
-        for name, grid, crossings, found in self.answers("row", waiting, len(rows) - len(waiting), LOT):
+        for name, grid, crossings, found, moves in self.answers("row", waiting, len(given) - len(waiting), LOT):
             if grid is None:
                 book.add(name, "!", found)
-                self.fault(f"{self.given.place(name)}: {found}")
             else:
-                code = code_text(codes[name]) if isinstance(codes[name], list) else ""
-                book.add(name, crossings, code, in_one_line(grid.text), TURNS.index(found.turn), found.key.hex(), " / ".join(map(move_text, found.moves)))
-        return book.lines
+                code = codes[name] if isinstance(codes[name], str) else ""
+                book.add(name, crossings, code, in_one_line(grid.text), found.hex(), " / ".join(map(move_text, moves)))
+        return {name: Row(book.lines[name]) for name, _ in given}
 
-    def numbers(self, keys, method):
-        """The rows of numbers of keys and their mirror images, by a method of a worker."""
+    def drawn(self, rows, places):
+        """The rows that have a grid. Of each other one the reason is told, with the place where it stands."""
+        for name, row in rows.items():
+            if row.fault is not None:
+                self.fault(f"{places.get(name, name)}: {row.fault}")
+        return {name: row for name, row in rows.items() if row.fault is None}
+
+    def had(self, rows, places):
+        """The rows that have a key, as `drawn`. `keys` are found on the way."""
+        rows = self.drawn(rows, places)
+        self.find_keys({row.form for row in rows.values()})
+        for name, row in rows.items():
+            if row.form not in self.keys:
+                self.fault(f"{places.get(name, name)}: {self.keyless[row.form]}")
+        return {name: row for name, row in rows.items() if row.form in self.keys}
+
+    def find_keys(self, forms):
+        """Finds the keys of short forms, each with a turn and the line of the moves that lead there from the turned grid; of those in `keyless`
+        why there is none."""
+        self.begin("keys")
+        book, named = self.book("keys.tsv"), {form: f"{form.hex()}.{len(self.turns)}{self.turns[-1].words}" for form in forms}
+        waiting = [form for form in forms if named[form] not in book.lines]
+        for form, found in self.answers("key", waiting, len(forms) - len(waiting)):
+            if isinstance(found, str):
+                self.keyless[form] = found
+            else:
+                book.add(named[form], found.key.hex(), TURNS.index(found.turn), " / ".join(map(move_text, found.moves)))
+        lines = {form: book.lines[named[form]] for form in forms if form not in self.keyless}
+        self.keys = {form: (bytes.fromhex(key), TURNS[int(turn)], moves) for form, (key, turn, moves) in lines.items()}
+
+    def numbers(self, keys, place):
+        """The rows of numbers of keys by one of the lists, and where there are turns those of their mirror images."""
         self.begin("numbers")
-        book = self.book("work", f"{method}.tsv")
-        waiting = [key for key in keys if key.hex() not in book.lines]
-        for key, found in self.answers(method, waiting, len(keys) - len(waiting)):
-            book.add(key.hex(), *("/".join(map(entry_text, row, self.blocks)) for row in found))
-        return {key: tuple(tuple(map(entry_in, text.split("/"), self.blocks)) for text in book.lines[key.hex()]) for key in keys}
+        book, blocks, mark = self.book("numbers.tsv"), self.blocks[place], self.marks[place]
+        sides = min(2, len(self.turns))
+        known = {key: book.lines.get(f"{key.hex()}.{mark}", ()) for key in keys}
+        waiting = [key for key in keys if len(known[key]) < sides]
+        for key, found in self.answers("numbers", [(key, place) for key in waiting], len(keys) - len(waiting)):
+            texts = ["/".join(map(entry_text, row, blocks)) for row in found]
+            book.add(f"{key.hex()}.{mark}", *texts)
+            known[key] = texts
+        return {key: tuple(tuple(map(entry_in, text.split("/"), blocks)) for text in known[key][:sides]) for key in keys}
 
-    def joined(self, keys):
-        """The classes, and what is known of their symmetries. All keys are counted by few quandles, and those that were not joined by all."""
-        numbers = Numbers(self.numbers(keys, "short_numbers"), self.blocks)
-        self.begin("pairs of keys, by one search each")
-        joins = Joins(numbers, self.book("work", "tries.tsv"))
+    def learn(self, numbers, keys, place):
+        """Counts keys by a list, behind what is known of them. `texts` are the blocks of the lists that were learned."""
+        numbers.learn(self.numbers(keys, place), self.blocks[place])
+        self.texts += blocks_in(self.lists[place])
 
-        def ask(asked):
-            return self.answers("join", asked)
+    def no_numbers(self, keys):
+        """Rows of no numbers."""
+        return Numbers({key: ((),) * min(2, len(self.turns)) for key in keys}, [], self.turns)
 
-        joins.try_all(ask, self.efforts[:1], with_symmetries=False)
-        joins.numbers.learn(self.numbers(joins.roots(), "numbers"))
-        self.begin("pairs of keys, by all searches")
-        joins.try_all(ask, self.efforts)
-        return joins
+    def asked(self, questions):
+        """What searches find, as `join` of a worker is asked. One that has no answer is told, and left out."""
+        for pair, found in self.answers("tried", questions):
+            if isinstance(found, Fault):
+                self.fault(str(found))
+            else:
+                yield pair, found
 
-
-def classes_of(rows, joins):
-    """The classes, those of the fewest crossings first."""
-    found = {}
-    for name, fields in rows:
-        key, turn, _ = joins.way(bytes.fromhex(fields[4]))
-        found.setdefault(key, Class(key)).add(name, int(fields[0]), fields[1], fields[2], TURNS[int(fields[3])].then(turn))
-    return sorted(found.values(), key=lambda one: (one.crossings, len(one.key), one.key))
+    def ruled(self, paths):
+        """Has the checker rule on certificates: for each path, with the digest of its file, whether it is accepted."""
+        self.begin("rulings")
+        book = self.book("rulings.tsv")
+        waiting = {path: digest for path, digest in paths.items() if book.lines.get(digest) != ["accepted"]}
+        for path, said in self.answers("check", waiting, len(paths) - len(waiting)):
+            book.add(waiting[path], said)
+            if said != "accepted":
+                self.fault(f"{path}: the checker says '{said}'")
+        return {path: book.lines.get(digest) == ["accepted"] for path, digest in paths.items()}

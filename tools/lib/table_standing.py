@@ -2,29 +2,43 @@
 turns make of it: one of a knot that is its mirror image and its reverse, four of one that is neither."""
 import collections
 
-from knot_workbench.diagrams import move_of
+from knot_workbench.diagrams import move_of, move_text
 from knot_workbench.knot_tables import SAME, TURNS
 from knot_workbench.moves import tidied, turned
 from lib.table_apart import Seeds, cost, told_in
-from lib.table_certificate import MOST_BLOCKS, Head, Standing, needed, row_text
+from lib.table_certificate import MOST_BLOCKS, Head, Standing, needed, row_of_lines, row_text
 from lib.table_joins import Pair
-from lib.table_written import SYMMETRIES
+from lib.table_keys import grid_of_form
+from lib.table_written import SYMMETRIES, Class
 
 # A class of a certificate: the place of its class in the table, and the turn that makes it of this one's diagram.
 Place = collections.namedtuple("Place", "number turn")
 
 
-class Standings:
-    """The classes of certificates, of sorted classes of a table."""
+def classes_of(rows, joins, keys):
+    """The classes of rows, which are given by names, in the order of their first rows. `keys` has for short forms their keys and turns."""
+    found, ways = {}, {}
+    for name, row in rows.items():
+        if row.form not in ways:
+            key, turn, _ = keys[row.form]
+            root, further, _ = joins.way(key)
+            ways[row.form] = root, turn.then(further)
+        root, turn = ways[row.form]
+        found.setdefault(root, Class(root)).add(name, row.crossings, row.code, row.line, turn)
+    return list(found.values())
 
-    def __init__(self, classes, joins, efforts):
-        self.classes, self.joins, self.efforts, self.seeds, self._ways, self._joined = classes, joins, efforts, Seeds(), {}, {}
+
+class Standings:
+    """The classes of certificates, of sorted classes of a table. `keys` has for short forms their keys, each with a turn and a line of moves."""
+
+    def __init__(self, classes, joins, keys=()):
+        self.classes, self.joins, self.forms, self.seeds, self._ways, self._joined, self._ends = classes, joins, keys, Seeds(), {}, {}, {}
         self.number = {one.key: place for place, one in enumerate(classes)}
         self.places = []
         self.place = {}
         for number, one in enumerate(classes):
             one.turns = []
-            for turn in TURNS:
+            for turn in joins.numbers.of_turns:
                 if not any(turn.then(other) in joins.same[one.key] for other in one.turns):
                     one.turns.append(turn)
                     self.place[number, turn] = len(self.places)
@@ -61,11 +75,11 @@ class Standings:
         """Moves from the turned diagram of a key to itself: what a try found, or those of the two other turns, one after the other."""
         if turn == SAME:
             return []
-        found = self.joins.moves_of(Pair(key, key, turn), self.efforts)
+        found = self.joins.loops.get(Pair(key, key, turn))
         if found is not None:
             return list(found)
         one, other = (other for other in TURNS if other not in (SAME, turn))
-        first, second = (self.joins.moves_of(Pair(key, key, each), self.efforts) for each in (one, other))
+        first, second = (self.joins.loops[Pair(key, key, each)] for each in (one, other))
         return turned(len(key) // 2, first, *other) + list(second)
 
     def row(self, grid, turn, key, moves):
@@ -78,10 +92,31 @@ class Standings:
         place, last = self.way(root, both)
         return place, tidied(grid, moves + last)
 
+    def end(self, form):
+        """The place of the class of a short form, and the lines of the moves from its grid to the diagram that stands for the class."""
+        if form not in self._ends:
+            key, turn, line = self.forms[form]
+            place, moves = self.row(grid_of_form(form), turn, key, moves_in(line))
+            self._ends[form] = place, [move_text(move) for move in moves]
+        return self._ends[form]
+
+    def of_row(self, row):
+        """The place of the class of a row, and the lines of the moves from its grid to the diagram that stands for the class."""
+        place, lines = self.end(row.form)
+        return place, [*(row.moves.split(" / ") if row.moves else ()), *lines]
+
+    def turn(self, row):
+        """The turn that makes a row's knot of the diagram that stands for its class of the table, the first where there are several."""
+        return self.places[self.end(row.form)[0]].turn
+
+    def text_of(self, said, row):
+        """A row as certificates have it."""
+        return row_of_lines(said, row.line.replace(" / ", "\n") + "\n", *self.of_row(row))
+
     def rows_of_turns(self):
         """The texts of rows that say what turns make of each class."""
         for number, one in enumerate(self.classes):
-            for turn in TURNS:
+            for turn in self.joins.numbers.of_turns:
                 place, moves = self.way(one.key, one.base.then(turn))
                 yield row_text(self.words(Place(number, turn)), one.grid(turn).text, place, tidied(one.grid(turn), moves))
 
@@ -89,14 +124,22 @@ class Standings:
 
     def head(self, numbers, texts, further):
         """What stands before the rows: numbers by blocks of the list, whose texts are given, and of pairs that a search told apart those by
-        other blocks. `further` answers what a search says of two grids each, of a list of such pairs."""
+        other blocks. `further` answers what searches say of two grids each, of a list of such pairs and one of the words of the searches."""
         rows = [numbers.row(key, turn) for key, turn in self.keys]
         seeds = [self.seeds.of(key) for key, _ in self.keys]
-        told, places, left = needed(rows, [[cost(block, len(some)) for block in numbers.blocks] for some in seeds])
+        costs = [[cost(block, len(some)) for block in numbers.blocks] for some in seeds]
+        told, places, left = needed(rows, costs)
+        while len(places) > MOST_BLOCKS:
+            # The block that the fewest classes need is done without.
+            _, least = min((sum(row[number] is not None for row in told), place) for number, place in enumerate(places))
+            for row in costs:
+                row[least] = None
+            told, places, left = needed(rows, costs)
         self.blocks = [texts[place] for place in places]
         self.left = []
         asked = [pair for pair in left if self.is_told(*pair)]
-        said = dict(zip(asked, further([tuple(self.grid(self.places[one]) for one in pair) for pair in asked])))
+        words = [next((self.joins.by[one] for one in self.tries(*pair) if one in self.joins.by), None) for pair in asked]
+        said = dict(zip(asked, further([tuple(self.grid(self.places[one]) for one in pair) for pair in asked], words)))
         for pair in left:
             if not self.add(told, pair, told_in(said.get(pair) or "")):
                 self.left.append(pair)
@@ -116,11 +159,15 @@ class Standings:
             told[one][self.blocks.index(found[0])] = entry
         return True
 
-    def is_told(self, first, second):
-        """Whether a search told two classes of certificates apart, as they are or after turns."""
+    def tries(self, first, second):
+        """The pairs that may have been tried of two classes of certificates, as they are or after turns."""
         (one, turn), (other, more) = (self.keys[place] for place in (first, second))
         turns = {turn.then(more).then(same) for same in (*self.joins.same[one], *self.joins.same[other])}
-        return any(Pair(*keys, each) in self.joins.told for keys in ((one, other), (other, one)) for each in turns)
+        return [Pair(*keys, each) for keys in ((one, other), (other, one)) for each in turns]
+
+    def is_told(self, first, second):
+        """Whether a search told two classes of certificates apart, as they are or after turns."""
+        return any(pair in self.joins.told for pair in self.tries(first, second))
 
     def tell(self):
         """Tells classes their symmetries, by what the head left open: how many are open, and the pairs of classes of which something is."""

@@ -1,6 +1,7 @@
-"""A worker of tabulate.py: a process that is asked by its standard input, and calls the programs. It ends where its input does."""
+"""A worker of tabulate.py and census.py: a process that is asked by its standard input, and calls the programs. It ends where its input does."""
 import contextlib
 import functools
+import json
 import os
 import pickle
 import random
@@ -11,25 +12,23 @@ import sys
 import tempfile
 
 from knot_workbench import code_grids, use
+from knot_workbench.alexander import alexander_square
 from knot_workbench.certificates import Equal, read_verdict
-from knot_workbench.diagrams import MAX_SIZE, MAX_STRANDS, Braid, Grid, Lines, crossings, grid_of, read_diagram, read_moves
+from knot_workbench.diagrams import MAX_SIZE, MAX_STRANDS, Braid, Grid, Lines, braid_fault, crossings, grid_of, read_diagram, read_moves
 from knot_workbench.faults import Fault, NoProgram
-from knot_workbench.identifying import UNKNOT, components_of
-from knot_workbench.knot_tables import KnotTable
+from knot_workbench.identifying import components_of
+from knot_workbench.knot_tables import UNKNOT, KnotTable
 from knot_workbench.moves import turned
 from knot_workbench.pd_codes import text_of
 from lib.identify_inputs import had
 from lib.smaller import reduced
-from lib.table_apart import blocks_in
 from lib.table_keys import grid_of_form, shifts_between
+from lib.table_linear import block_between
 from lib.table_reduced import Reducer
 from lib.table_written import code_text
 
 # Statuses with an answer: what is asked for, nothing found, rejected.
 ANSWERED, NOTHING, REJECTED = 0, 1, 8
-
-# By so many first blocks of the list each key is counted; by all of them, which take far longer, one key of each class.
-SHORT = 11
 
 # So often is a braid word made shorter, each time by other random relations.
 BRAIDS = 4
@@ -37,6 +36,12 @@ BRAIDS = 4
 # Searches, the cheapest first: one in order, and walks of `seek` alone, since numbers are compared before.
 DECIDE = ("decide", "--spare=1", "--budget=20000")
 WALKS = tuple(("--no-weights", f"--seed={seed}", f"--steps={steps}") for seed, steps in ((1, 100_000), (2, 1_000_000)))
+
+# In place of a search: numbers of colourings by a linear quandle that the Alexander polynomials name.
+LINEAR = ("linear",)
+
+# How far `seek` goes from a large grid to the closure of a shorter braid word.
+SHORTER = ("--no-weights", "--steps=4000000")
 
 
 class Caller:
@@ -81,47 +86,80 @@ def stream_file():
 
 
 class Worker:
-    """What a worker knows: the programs, the list of quandles, forms that it has met, and the table of names."""
+    """What a worker knows: the programs, the lists of quandles, forms that it has met, the turns by which diagrams are one, and of tabulate.py
+    the table of names. Without a table diagrams may be links."""
 
-    def __init__(self, knot, seek, listed, table, conventions):
-        blocks = blocks_in(listed)
-        self.listed, self.short = ("".join(f"quandle {block}" for block in some) for some in (blocks, blocks[:SHORT]))
-        self.knot, self.seek, self.table, self.conventions = knot, seek, table, conventions
+    def __init__(self, knot, seek, lists, table, conventions, turns):
+        self.lists, self.knot, self.seek, self.table, self.conventions = lists, knot, seek, table, conventions
         use(knot=knot, seek=seek)
-        self.caller, self.reducer = Caller(), Reducer(*(functools.partial(self.led_to, job) for job in ("simplify", "least")))
+        self.caller, self.reducer = Caller(), Reducer(self.simplified, functools.partial(self.led_to, "least"), turns)
 
     def answered(self, path, words, text, also=()):
         """The status and output of a call whose status is 0 or one of some others. Fault where it is none."""
         status, said = self.caller.call(path, words, text)
         if status != ANSWERED and status not in also:
             how = f"ended by signal {-status}" if status < 0 else f"ended with status {status}"
-            raise Fault(f"{os.path.basename(path)} {words[0]} {how}{': ' + said.strip() if said.strip() else ''}")
+            job = "" if words[0].startswith("-") else f" {words[0]}"
+            raise Fault(f"{os.path.basename(path)}{job} {how}{': ' + said.strip() if said.strip() else ''}")
         return status, said
 
     def led_to(self, job, grid):
         """The grid that a job of knot leads to, and the moves."""
+        return self.ended(job, grid)[:2]
+
+    def ended(self, job, grid):
+        """The grid that a job of knot leads to, the moves, and how the job ended."""
         _, said = self.answered(self.knot, [job], grid.text)
-        lines = Lines(said)
-        there = grid_of(read_diagram(lines))
-        return there, read_moves(lines)
+        with as_due(f"knot {job}"):
+            lines = Lines(said)
+            return grid_of(read_diagram(lines)), read_moves(lines), lines.take("an end")[1][0]
+
+    def simplified(self, grid):
+        """A grid made smaller by `simplify`, and the moves. Where its budget was spent, a walk to the closure of a shorter braid word is tried."""
+        there, moves, end = self.ended("simplify", grid)
+        if end != "spent":
+            return there, moves
+        word = reduced(self.word_of(there), random.Random(there.text))
+        if braid_fault(word) is not None:
+            return there, moves
+        aim, _, _ = self.ended("simplify", grid_of(word))
+        _, found = self.join((None, there, aim, SHORTER)) if aim.size < there.size else (None, None)
+        return (aim, [*moves, *found]) if isinstance(found, tuple) else (there, moves)
+
+    def word_of(self, grid):
+        """The braid word that `braid` reads off a grid."""
+        _, said = self.answered(self.knot, ["braid"], grid.text + "quandle trivial 1\n")
+        with as_due("knot braid"):
+            words = said.splitlines()[0].split()
+            return Braid(int(words[1]), [int(letter) for letter in words[2:]])
 
     # ---- rows
 
     def row(self, given):
-        """Of a name and a diagram: the grid, its crossings, the key, the turn and the moves from the turned grid. Or why there is none."""
+        """Of a name and a diagram: the grid, its crossings, and the short form that it leads to with the moves. Or why there is none."""
         name, entry = given
         try:
-            grid, crossings = self.drawn(entry) if isinstance(entry, list) else self.had(entry)
-            if components_of(grid) > 1:
+            grid, crossings = self.drawn(entry) if isinstance(entry, str) else self.had(entry)
+            if self.table and components_of(grid) > 1:
                 raise Fault(f"it is a link of {components_of(grid)} components, and a table of knots has none")
-            return name, grid, crossings, self.reducer.of_grid(grid)
+            return name, grid, crossings, *self.reducer.short(grid)
         except NoProgram:
             raise
         except Fault as fault:
-            return name, None, 0, str(fault)
+            return name, None, 0, str(fault), ()
 
-    def drawn(self, rows):
-        """The grid of a planar diagram code, and how many crossings it has."""
+    def key(self, form):
+        """The key of a short form, with the turn and the moves by which its grid comes there. Or why there is none."""
+        try:
+            return form, self.reducer.of_form(form)
+        except NoProgram:
+            raise
+        except Fault as fault:
+            return form, str(fault)
+
+    def drawn(self, code):
+        """The grid of a planar diagram code as tables have it, and how many crossings it has."""
+        rows = json.loads(code.removeprefix("PD"))
         _, said = self.answered(self.knot, ["grid"], text_of(rows))
         found = code_grids.GRID.fullmatch(said)
         if not found:
@@ -135,36 +173,51 @@ class Worker:
 
     # ---- keys
 
-    def short_numbers(self, form):
-        """The rows of numbers of a form and of its mirror image by the first blocks of the list."""
+    def numbers(self, asked):
+        """The row of numbers of a form by a list, and where there are turns that of its mirror image."""
+        form, place = asked
         grid = grid_of_form(form)
-        return form, tuple(self.numbers_of(one, self.short) for one in (grid, grid.mirror()))
-
-    def numbers(self, form):
-        """The rows of numbers of a form and of its mirror image."""
-        grid = grid_of_form(form)
-        return form, tuple(self.numbers_of(one, self.listed) for one in (grid, grid.mirror()))
+        return form, tuple(self.numbers_of(one, self.lists[place]) for one in (grid, grid.mirror())[:len(self.reducer.turns)])
 
     def numbers_of(self, grid, listed):
         """The row of numbers of a grid."""
         _, said = self.answered(self.knot, ["numbers"], grid.text + listed)
         found = []
-        for line in said.splitlines():
-            word, _, rest = line.partition(" ")
-            if word == "numbers":
-                found.append(tuple(map(int, rest.split())))
-            elif word == "wide":
-                found.append(None)
-        if len(found) != listed.count("quandle "):
-            raise Fault(f"knot numbers wrote {len(found)} lines of numbers for {listed.count('quandle ')} blocks")
+        with as_due("knot numbers"):
+            for line in said.splitlines():
+                word, _, rest = line.partition(" ")
+                if word == "numbers":
+                    found.append(tuple(map(int, rest.split())))
+                elif word == "wide":
+                    found.append(None)
+            if len(found) != listed.count("quandle "):
+                raise Fault(f"{len(found)} lines of numbers for {listed.count('quandle ')} blocks")
         return tuple(found)
+
+    def linking(self, key):
+        """The linking numbers of a key, ascending."""
+        text = grid_of_form(key).text
+        _, said = self.answered(self.knot, ["linking"], text + text)
+        with as_due("knot linking"):
+            return key, tuple(map(int, said.splitlines()[0].split()[1:]))
+
+    def tried(self, asked):
+        """As `join`; or the fault, where there is no answer."""
+        try:
+            return self.join(asked)
+        except NoProgram:
+            raise
+        except Fault as fault:
+            return asked[0], Fault(str(fault))
 
     def join(self, asked):
         """What a search finds of two grids: moves, the text of what tells them apart, or None. Its words are those of `seek`, or `decide` and
-        those of this job."""
+        those of this job, or LINEAR."""
         pair, first, second, words = asked
         if first == second:
             return pair, ()
+        if words == LINEAR:
+            return pair, self.linear(first, second)
         text = first.text + second.text
         if words[0] == "decide":
             # Numbers are compared before, so one quandle that tells nothing apart stands in place of the built-in list.
@@ -173,13 +226,25 @@ class Worker:
             status, said = self.answered(self.seek, ["--quiet", *words, "-"], text, also=(NOTHING,))
         if status == NOTHING:
             return pair, None
-        verdict, _ = read_verdict(Lines(said), first, second)
-        return pair, tuple(verdict.moves) if isinstance(verdict, Equal) else said
+        with as_due("decide" if words[0] == "decide" else "seek"):
+            verdict, _ = read_verdict(Lines(said), first, second)
+            return pair, tuple(verdict.moves) if isinstance(verdict, Equal) else said
+
+    def linear(self, first, second):
+        """What tells two grids apart by a linear quandle that suits them, or None."""
+        block = block_between(first, second)
+        if block is None:
+            return None
+        with tempfile.NamedTemporaryFile("w", suffix=".txt", encoding="utf-8") as file:
+            file.write(f"quandle {block}")
+            file.flush()
+            status, said = self.answered(self.seek, ["--quiet", f"--weights={file.name}", "--steps=0", "-"], first.text + second.text, also=(NOTHING,))
+        return None if status == NOTHING else said
 
     # ---- classes
 
     def apart(self, asked):
-        """The text of what tells two grids apart, or None. Of a name, the grids and the words of seek."""
+        """The text of what tells two grids apart, or None. Of a name, the grids and the words of a search."""
         name, *pair = asked
         _, found = self.join((None, *pair))
         return name, found if isinstance(found, str) else None
@@ -191,10 +256,10 @@ class Worker:
         if grid.size == UNKNOT.size:
             return key, (), UNKNOT, shifts_between(grid, UNKNOT)
         known = table_at(self.table)
-        candidates = known.candidates(row)
+        polynomial, aims = alexander_square(grid), [(parts, known.grid(parts)) for parts in known.candidates(row)]
+        aims = [(parts, aim) for parts, aim in aims if alexander_square(aim) == polynomial]
         for words in (DECIDE, *WALKS):
-            for parts in candidates:
-                aim = known.grid(parts)
+            for parts, aim in aims:
                 _, found = self.join((None, grid, aim, words))
                 if isinstance(found, tuple):
                     return key, parts, aim, found
@@ -211,9 +276,7 @@ class Worker:
         three times, where none is found that a certificate may have. Asked are a name, a key and a turn."""
         name, key, base = asked
         grid = base.of(grid_of_form(key))
-        _, said = self.answered(self.knot, ["braid"], grid.text + "quandle trivial 1\n")
-        words = said.splitlines()[0].split()
-        word = Braid(int(words[1]), [int(letter) for letter in words[2:]])
+        word = self.word_of(grid)
         found = min((reduced(word, random.Random(seed)) for seed in range(BRAIDS)), key=lambda one: (one.strands, len(one.letters), one.letters))
         if found.strands > MAX_STRANDS or len(found.letters) + 2 * found.strands > MAX_SIZE:
             return name, None, None, None
@@ -230,8 +293,21 @@ class Worker:
     def check(self, path):
         """What the checker says of a certificate in a file."""
         with open(path, encoding="utf-8") as source:
-            _, said = self.answered(self.knot, ["check"], source.read(), also=(REJECTED,))
-        return path, said.strip()
+            return path, self.check_text(source.read())[1]
+
+    def check_text(self, text):
+        """What the checker says of a certificate."""
+        _, said = self.answered(self.knot, ["check"], text, also=(REJECTED,))
+        return text, said.strip()
+
+
+@contextlib.contextmanager
+def as_due(program):
+    """What can't be read is a fault of what the program wrote."""
+    try:
+        yield
+    except (Fault, ValueError, IndexError):
+        raise Fault(f"{program} wrote a text of another form than was due") from None
 
 
 @functools.lru_cache(None)

@@ -39,9 +39,7 @@ class Class:
     @property
     def name(self):
         """The name that the table of knots has, or nothing."""
-        if self.parts is None:
-            return ""
-        return name_of(self.parts) or "unknot"
+        return "" if self.parts is None else name_of(self.parts)
 
     @property
     def type(self):

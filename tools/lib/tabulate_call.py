@@ -5,19 +5,23 @@ import os
 import re
 
 from knot_workbench.faults import Fault, NoProgram
-from knot_workbench.knot_tables import default_list, default_table, text_in
+from knot_workbench.knot_tables import TURNS, data_folder, default_list, default_table, larger_quandles, text_in
 from knot_workbench.programs import path_of
 from knot_workbench.table_rows import TableError
 from lib.batch_programs import Stopped, on_signals
 from lib.batch_stages import BatchError
 from lib.calls import WordsParser, note, reason_of, say
 from lib.identify_programs import add_program_words, use_programs
+from lib.table_apart import blocks_in
 from lib.table_book import BookError, require_job
 from lib.table_given import MOST_CROSSINGS, Given
+from lib.table_joins import Joins
 from lib.table_page import page_text
 from lib.table_pool import Pool
-from lib.table_sorting import Sorting, classes_of
+from lib.table_sorting import Sorting
+from lib.table_standing import classes_of
 from lib.table_telling import Telling
+from lib.table_worker import DECIDE, LINEAR, WALKS
 from lib.table_written import table_text
 from lib.whole_files import sweep_parts, write_whole
 
@@ -28,14 +32,15 @@ WHAT is a number N, for all prime reduced knot diagrams with 3 to N crossings; a
 with a column of codes or braid words, as identify.py reads it; or a file NAME.txt of lines as pieces.py reads and writes them. FOLDER gets
 
   table.csv          a line for each class: its name by the table of knots, crossings and code of its first row with fewest crossings, a braid
-                     if one was found, a grid, how many rows it has, its symmetry type, and what its mirror image is
-  rows.csv           a line for each row: its class, how the class is turned to be this knot, its grid, and where it stands in a certificate
-  certificate-1.txt  a certificate of version 4 with all of this, on which knot check rules; more of them where one would be too large
-  page.html          the classes with pictures
+                     if one was found, a grid, how many rows it has, its symmetry type, what its mirror image is, and the numbers of its
+                     classes in the certificate (certified)
+  rows.csv           a line for each row: its class, how the class is turned to be this knot, its grid, and its certificate and number there
+  certificate-1.txt  a certificate of version 4 with all of this, on which knot check rules; more of them if one would be too large
+  page.html          the classes with pictures, to be sorted and searched
   work/              what is known so far: called again, it goes on
 
 exit status:
-  0  all rows are sorted, and all classes and symmetries are told
+  0  all rows are sorted, and all classes and symmetries are decided
   1  some pair of classes, or a symmetry, is left open
   2  the words are no call, or a table, the folder or a program can't be used
   3  rows are missing: each is named, with the reason; or a file or standard output can't be written
@@ -43,7 +48,13 @@ exit status:
 """
 
 # The parts of the work, as they are told.
-PARTS = 11
+PARTS = 12
+
+# By so many first blocks of the list each key is counted; by the others, which take far longer, one key of each class.
+SHORT = 11
+
+# Files of the folder quandles/weights by which pairs are counted that are still open, beside those of the larger quandles.
+FURTHER = ("F8.txt", "F27.txt")
 
 
 def parser():
@@ -57,10 +68,10 @@ def parser():
     words.add_argument("--strands", metavar="COLUMN", help="the column of the numbers of strands")
     words.add_argument("--as", dest="as_kind", choices=("braid", "dt", "pd"), help="what each entry of the column is")
     words.add_argument("--arcs", choices=("columns", "rows"), default="columns", help="what a pair of an arc presentation is (default: columns)")
-    words.add_argument("--delimiter", metavar="MARK", help="what parts the fields of a table")
+    words.add_argument("--delimiter", metavar="MARK", help="what separates the fields of a table")
     words.add_argument("--no-header", action="store_true", help="the first line is a row like any other; columns have their numbers")
-    words.add_argument("--skip-rows", type=int, default=0, metavar="N", help="leave out N rows behind the header")
-    words.add_argument("--part", type=part_of, metavar="K/N", help="draw every Nth row from row K on, and find their keys: a task of a queue")
+    words.add_argument("--skip-rows", type=int, default=0, metavar="N", help="leave out N rows after the header")
+    words.add_argument("--part", type=part_of, metavar="K/N", help="draw every Nth row from row K on, and no more: a task of a queue")
     add_program_words(words)
     return words
 
@@ -73,35 +84,63 @@ def part_of(text):
     return int(found[1]), int(found[2])
 
 
-def drawn_part(sorting, rows, number, count):
-    """Draws a part of the rows, and finds their keys: the exit status."""
-    lines = sorting.rows(rows[number - 1::count], f"-{number}-of-{count}")
-    own = [name for name, _ in rows[number - 1::count]]
-    say(f"part {number} of {count}: {sum(lines[name][0] != '!' for name in own)} of {len(own)} diagrams have keys")
+def lists_of(listed):
+    """The texts of the first blocks of a list and of the others."""
+    blocks = blocks_in(listed)
+    return tuple("".join(f"quandle {block}" for block in some) for some in (blocks[:SHORT], blocks[SHORT:]))
+
+
+def further_words():
+    """The words of seek that count by larger quandles and further cocycles alone."""
+    folder = os.path.join(data_folder("quandles") or "", "weights")
+    return (*(f"--weights={path}" for path in [*(os.path.join(folder, name) for name in FURTHER), *larger_quandles()]), "--steps=0")
+
+
+def drawn_part(sorting, given, rows, number, count):
+    """Draws a part of the rows, and finds their short forms: the exit status."""
+    own = sorting.rows(rows[number - 1::count], f"-{number}-of-{count}")
+    say(f"part {number} of {count}: {len(sorting.drawn(own, given.places))} of {len(own)} diagrams are drawn")
     return 3 if sorting.faults else 0
 
 
-def sorted_table(sorting, rows, listed):
+def joined(sorting):
+    """The classes of keys, and what is known of their symmetries. All keys are counted by few quandles, and those that were not joined by all."""
+    numbers = sorting.no_numbers({key for key, _, _ in sorting.keys.values()})
+    sorting.learn(numbers, list(numbers.rows), 0)
+    sorting.begin("pairs of keys, by one search each")
+    joins = Joins(numbers, sorting.book("tries.tsv"))
+    joins.try_all(sorting.asked, (DECIDE,), with_symmetries=False)
+    sorting.learn(numbers, joins.roots(), 1)
+    joins.learned()
+    sorting.begin("pairs of keys, by all searches")
+    joins.try_all(sorting.asked, (DECIDE, LINEAR, *WALKS, further_words()))
+    return joins
+
+
+def sorted_table(sorting, given, rows, folder):
     """Does all parts of the work: the exit status."""
-    lines = sorting.rows(rows)
-    had = [(name, lines[name]) for name, _ in rows if lines[name][0] != "!"]
-    joins = sorting.joined(sorted({bytes.fromhex(fields[4]) for _, fields in had}, key=lambda key: (len(key), key)))
-    classes = classes_of(had, joins)
-    telling = Telling(sorting, had, classes, joins, listed)
+    had = sorting.had(sorting.rows(rows), given.places)
+    joins = joined(sorting)
+    classes = sorted(classes_of(had, joins, sorting.keys), key=lambda one: (one.crossings, len(one.key), one.key))
+    telling = Telling(folder, sorting, had, classes, joins)
     telling.named()
     telling.coded()
     telling.braided()
     found = telling.certified(telling.head())
-    accepted = telling.checked(found)
+    accepted = sum(telling.rulings.values())
     open_turns, left = telling.standings.tell()
     texts = (("rows.csv", telling.rows_text(found)), ("table.csv", table_text(telling.standings)))
-    said = (f"{len(had)} of {len(rows) + len(sorting.given.faults)} diagrams in {len(classes)} classes; {accepted} of {len(found)} "
+    said = (f"{len(had)} of {len(rows) + len(given.faults)} diagrams in {len(classes)} classes; {accepted} of {len(found)} "
             f"certificate{'s' * (len(found) > 1)} accepted; {len(left)} pairs of classes and {open_turns} symmetries open")
     for name, text in (*texts, ("page.html", page_text(telling.standings, said))):
-        write_whole(os.path.join(sorting.folder, name), text.encode())
+        write_whole(os.path.join(folder, name), text.encode())
     say(said)
     for first, second in left:
         note(f"tabulate.py: left open: classes {first} and {second}")
+    for number, one in enumerate(classes, 1):
+        some = [word.replace("_", " ") for word, said in one.symmetry.items() if said == "open"]
+        if some:
+            note(f"tabulate.py: left open: whether class {number}, {one.name or one.first}, is its own {', '.join(some)}")
     if sorting.faults:
         return 3
     return 1 if left or open_turns else 0
@@ -119,10 +158,13 @@ def made(options):
         sweep_parts(folder)
     digest = hashlib.sha256(f"{given.digest(rows)} {listed} {text_in(table)}".encode()).hexdigest()
     require_job(os.path.join(options.folder, "work"), digest)
-    with Pool(options.processes, (path_of("knot"), path_of("seek"), listed, table, given.conventions)) as pool:
-        sorting = Sorting(options.folder, given, pool, listed, 1 if options.part else PARTS)
+    lists = lists_of(listed)
+    with Pool(options.processes, (path_of("knot"), path_of("seek"), lists, table, given.conventions, TURNS)) as pool:
+        sorting = Sorting("tabulate.py", os.path.join(options.folder, "work"), pool, lists, TURNS, 1 if options.part else PARTS)
+        for said in given.faults:
+            sorting.fault(said)
         try:
-            return drawn_part(sorting, rows, *options.part) if options.part else sorted_table(sorting, rows, listed)
+            return drawn_part(sorting, given, rows, *options.part) if options.part else sorted_table(sorting, given, rows, options.folder)
         finally:
             sorting.close()
 
