@@ -2,15 +2,17 @@
 """How many knots of a table are told from each other, from their mirror images and from their reverses, by rows of numbers.
 
     python3 bench/apart.py                   by the rows that stand beside the table to 12 crossings, without a program
-    python3 bench/apart.py --list FILE       then what is left by this list of quandles, counted by `knot numbers`; it may stand several times
-    python3 bench/apart.py --book FILE       keeps what is counted there; called again, it goes on
+    python3 bench/apart.py --list FILE       then what is left by this list of quandles; it may stand several times
+    python3 bench/apart.py --book FILE       keeps what is found there; called again, it goes on
     python3 bench/apart.py --table TABLE     another table
     python3 bench/apart.py --each            also names what is left at the end, a line each
     python3 bench/apart.py --order           the blocks of the lists in the order of what they tell a millisecond, and no more
     python3 bench/apart.py --processes 2     so many counts at once
 
 Two knots are told apart where rows differ for each turn of the second: as it is, mirrored, reversed, or both. The rows of a knot and of its
-mirror image are compared, both at once. An entry that is too wide tells nothing. The program is that of KNOT, or the one that is built.
+mirror image are compared, both at once. An entry that is too wide tells nothing. What the table's symmetries join is the same knot, and isn't
+asked of further lists. Their rows are counted by `knot numbers`. Where a list has a quandle of more than 32 colours, which that doesn't take,
+`seek` is asked of each pair that is left, and `knot check` rules on what it finds. The programs are those of KNOT and SEEK, or those that are built.
 
 By --order that block comes next which tells most a millisecond of the processor of what those before it leave: of pairs of knots, knots and
 their mirror images, and knots and their reverses. The cost is the mean of `knot numbers` over some knots, less that of a quandle of one
@@ -27,11 +29,13 @@ from concurrent.futures import ThreadPoolExecutor
 sys.path.insert(0, os.path.join(os.path.dirname(os.path.dirname(os.path.abspath(__file__))), "tools"))
 from lib.census_plan import blocks_of as plan_blocks
 from lib.table_book import Book
-from lib.table_further import labels_of, rows_by
+from lib.table_further import is_counted, labels_of, rows_by, told_by
 from knot_workbench import use
+from knot_workbench.diagrams import grid_text
 from knot_workbench.knot_rows import blocks_of, may_be_one, opposite, row_of, text_of
-from knot_workbench.knot_tables import BOTH, MIRRORED, REVERSED, SAME, TURNS, KnotTable, default_table, text_in
+from knot_workbench.knot_tables import BOTH, MIRRORED, REVERSED, SAME, TURNS, KnotTable, default_table, digest, text_in
 from measure import PROGRAM
+from seek import SEEK
 
 # Two knots that aren't told apart, the second after a turn; or a knot and itself after one.
 Left = collections.namedtuple("Left", "one other turn")
@@ -81,6 +85,31 @@ def left_by(rows):
     return sorted(kept, key=lambda left: (order[left.one], order[left.other], left.turn))
 
 
+def left_by_list(known, left, path, each, book):
+    """What a further list leaves of what is left."""
+    listed = text_in(path)
+    if is_counted(listed):
+        due = sorted({name for one in left for name in one[:2]}, key=list(known.knots).index)
+        rows = Rows(blocks_of(listed), rows_by(known, due, listed, each, book))
+        return [one for one in left if rows.may_be(one)]
+
+    def grids(one):
+        return known.knots[one.one].grid, one.turn.of(known.knots[one.other].grid)
+
+    def told(one):
+        first, second = grids(one)
+        return told_by(first, second, path) is not None or told_by(first.mirror(), second.mirror(), path) is not None
+
+    places = {one: " ".join(map(digest, (listed, *map(grid_text, grids(one))))) for one in left}
+    found = {one: book.lines[places[one]] == ["told"] for one in left if book and places[one] in book.lines}
+    due = [one for one in left if one not in found]
+    for one, is_told in zip(due, each(due, told)):
+        found[one] = is_told
+        if book:
+            book.add(places[one], "told" if is_told else "open")
+    return [one for one in left if not found[one]]
+
+
 def classes_of(names, left):
     """How many classes knots fall into that aren't told apart, and how many of these have one knot."""
     head = {name: name for name in names}
@@ -96,13 +125,23 @@ def classes_of(names, left):
     return len(sizes), sum(size == 1 for size in sizes.values())
 
 
-def report(said, names, left, seconds):
-    """A line on what is left."""
+def is_joined(known, one):
+    """Whether what is left is one knot by the table's symmetries."""
+    return one.one == one.other and one.turn in known.knots[one.one].same
+
+
+def report(said, names, left, joined, seconds):
+    """A line on what is left, and on what is joined."""
     pairs = len({(one.one, one.other) for one in left if one.one != one.other})
-    own = {turn: {one.one for one in left if one.one == one.other and one.turn == turn} for turn in TURNS}
     count, alone = classes_of(names, left)
-    print(f"{said}: {pairs} of {len(names) * (len(names) - 1) // 2} pairs aren't told apart, {count} classes, {alone} of one knot; not told from "
-          f"the mirror image {len(own[MIRRORED] | own[BOTH])}, from the reverse {len(own[REVERSED])} of {len(names)}; {seconds:.0f} s", flush=True)
+
+    def own(some, *turns):
+        return {one.one for one in some if one.one == one.other and one.turn in turns}
+
+    mirrored, reverse = own(joined, MIRRORED, BOTH), own(joined, REVERSED)
+    print(f"{said}: {pairs} of {len(names) * (len(names) - 1) // 2} pairs aren't told apart, {count} classes, {alone} of one knot; neither joined to nor "
+          f"told from the mirror image {len(own(left, MIRRORED, BOTH) - mirrored)}, the reverse {len(own(left, REVERSED))} of {len(names)}; joined to it "
+          f"{len(mirrored)} and {len(reverse)}; {seconds:.0f} s", flush=True)
 
 
 # The order of blocks
@@ -186,22 +225,23 @@ def main():
     words.add_argument("--order", action="store_true")
     words.add_argument("--processes", type=int, default=os.cpu_count() or 1)
     asked = words.parse_args()
-    use(knot=os.environ.get("KNOT") or PROGRAM)
+    use(knot=os.environ.get("KNOT") or PROGRAM, seek=os.environ.get("SEEK") or SEEK)
     began = time.perf_counter()
     known, book = KnotTable(asked.table), Book(asked.book) if asked.book else None
     if asked.order:
+        if not all(is_counted(text_in(path)) for path in asked.lists):
+            words.error("--order takes lists of quandles of at most 32 colours")
         say_order(known, {path: text_in(path) for path in asked.lists}, asked, book)
         return
     names = list(known.knots)
-    left = left_by(Rows(known.blocks, known_rows(known, names)))
-    report("the rows of the table", names, left, time.perf_counter() - began)
+    every = left_by(Rows(known.blocks, known_rows(known, names)))
+    joined = [one for one in every if is_joined(known, one)]
+    left = [one for one in every if not is_joined(known, one)]
+    report("the rows of the table", names, left, joined, time.perf_counter() - began)
     for path in asked.lists:
         began = time.perf_counter()
-        due = sorted({name for one in left for name in one[:2]}, key=known.order.get)
-        listed = text_in(path)
-        rows = Rows(blocks_of(listed), rows_by(known, due, listed, each_by(asked.processes), book))
-        left = [one for one in left if rows.may_be(one)]
-        report(path, names, left, time.perf_counter() - began)
+        left = left_by_list(known, left, path, each_by(asked.processes), book)
+        report(path, names, left, joined, time.perf_counter() - began)
     if asked.each:
         for one in left:
             print(f"{one.one}: {one.other}{one.turn.words}")

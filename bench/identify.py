@@ -4,7 +4,7 @@
     python3 bench/identify.py                   500 disguised diagrams, 100 published identifications with ten errors, and seconds
     python3 bench/identify.py --disguised 60    so many; 0 leaves the part out
     python3 bench/identify.py --published 30 --errors 3
-    python3 bench/identify.py --timed 20        so many diagrams of 12 crossings one by one
+    python3 bench/identify.py --timed 20        so many diagrams of 12 crossings one by one, by the script and by the module
     python3 bench/identify.py --rows 50         so many rows of such diagrams in one call
     python3 bench/identify.py --most 10         knots of at most so many crossings
     python3 bench/identify.py --folder FOLDER   keeps tables, answers and certificates there; called again, it goes on
@@ -16,11 +16,13 @@ relations and Markov moves away, where one fits; and its planar diagram code, wi
 through backwards by a throw of dice, and has a name that says nothing. Where a published identification is wrong, the diagram is that of
 another knot of as many crossings, or that of the mirror image. The programs are those of KNOT and SEEK, or those that are built. Seconds are
 those of the clock, and in brackets those of the processor. The exit status is 1 where a name is wrong, more than 2 % are open, a certificate
-isn't accepted, other rows than the planted ones come back, half of the diagrams of 12 crossings take over a second, or 100 rows over a minute.
+isn't accepted or isn't of its row and its answer, other rows than the planted ones come back, half of the diagrams of 12 crossings take over a
+second, or 100 rows over a minute.
 """
 import argparse
 import collections
 import csv
+import io
 import os
 import random
 import resource
@@ -36,14 +38,17 @@ from seek import SEEK, TOP, varied, walked
 
 sys.path.insert(0, os.path.join(TOP, "tools"))
 from lib.smaller import reduced
+from lib.whole_files import write_whole
 from knot_workbench import Certificate, braid_word, identify
-from knot_workbench.diagrams import Braid, braid_fault
+from knot_workbench.code_grids import Grids
+from knot_workbench.diagrams import Braid, Lines, braid_fault, grid_of, grid_text, read_diagram
 from knot_workbench.knot_tables import MIRRORED, TURNS, KnotTable, default_table, name_of, records, text_in
-from knot_workbench.table_entries import nested
+from knot_workbench.table_entries import Conventions, diagram_of, nested
 
 COLUMNS_MORE = range(2, 9)
 RELATIONS = 40
 OPEN_SHARE = 0.02
+IDENTIFY = (sys.executable, os.path.join(TOP, "tools", "identify.py"))
 # How long one diagram of most crossings may take in the median, and a hundred rows of such.
 MEDIAN, HUNDRED = 1, 60
 
@@ -97,8 +102,9 @@ def knots_of(known, most):
 def write_table(path, rows):
     """Writes a table of names, hidden names and diagrams, where it isn't there."""
     if not os.path.exists(path):
-        with open(path, "w", encoding="utf-8", newline="") as out:
-            csv.writer(out, lineterminator="\n").writerows([("name", "is", "diagram"), *rows])
+        text = io.StringIO(newline="")
+        csv.writer(text, lineterminator="\n").writerows([("name", "is", "diagram"), *rows])
+        write_whole(path, text.getvalue().encode())
     with open(path, encoding="utf-8", newline="") as source:
         return list(csv.DictReader(source))
 
@@ -161,11 +167,11 @@ def processor_seconds():
     return sum(used.ru_utime + used.ru_stime for used in map(resource.getrusage, (resource.RUSAGE_SELF, resource.RUSAGE_CHILDREN)))
 
 
-def called(folder, name, words):
-    """Runs identify.py on a table of the folder: its rows, how many certificates were accepted, and how long the run took."""
+def called(known, folder, name, given, words):
+    """Runs identify.py on a table of the folder with these rows: the rows of its answers, how many of their certificates hold, and how long the
+    run took."""
     out, certificates = (os.path.join(folder, f"{name}{ending}") for ending in ("-answers.csv", "-certificates"))
-    call = [sys.executable, os.path.join(TOP, "tools", "identify.py"), os.path.join(folder, f"{name}.csv"), "--diagram", "diagram", "--out", out,
-            "--certificates", certificates, *words]
+    call = [*IDENTIFY, os.path.join(folder, f"{name}.csv"), "--diagram", "diagram", "--out", out, "--certificates", certificates, *words]
     clock = Clock()
     status = subprocess.run(call, check=False).returncode
     took, seconds = str(clock), clock.seconds
@@ -173,8 +179,16 @@ def called(folder, name, words):
         sys.exit(f"identify.py ended with status {status}")
     with open(out, encoding="utf-8", newline="") as source:
         rows = list(csv.DictReader(source))
-    accepted = sum(Certificate.load(os.path.join(certificates, row["certificate"])).check() for row in rows if row["certificate"])
+    accepted = sum(holds(known, Certificate.load(os.path.join(certificates, row["certificate"])), row["answer"], entry["diagram"])
+                   for row, entry in zip(rows, given) if row["certificate"])
     return rows, accepted, took, seconds
+
+
+def holds(known, certificate, answer, entry):
+    """Whether a certificate leads from the diagram of an entry to the table's diagram of an answer, and the checker accepts it."""
+    first = read_diagram(Lines(diagram_of(entry, None, Conventions("columns", False, False, None, Grids(None))).text))
+    return certificate.is_equal and grid_of(certificate.first) == grid_of(first) and certificate.second == known.grid(known.parts_of(answer)) \
+        and certificate.check()
 
 
 def is_right(known, hidden, answer):
@@ -190,7 +204,7 @@ def is_right(known, hidden, answer):
 def try_disguised(known, folder, asked):
     """Names disguised diagrams: whether that went as it should."""
     hidden = write_table(os.path.join(folder, "disguised.csv"), disguised_rows(known, asked.disguised, asked.most, asked.seed))
-    rows, accepted, took, _ = called(folder, "disguised", asked.words)
+    rows, accepted, took, _ = called(known, folder, "disguised", hidden, asked.words)
     counts = collections.Counter()
     for row, truth in zip(rows, hidden):
         kind = row["answer"] if row["answer"] in ("open", "refused", "failed") else "right" if is_right(known, truth["is"], row["answer"]) else "wrong"
@@ -205,8 +219,8 @@ def try_disguised(known, folder, asked):
 def try_published(known, folder, asked):
     """Looks for planted errors: whether exactly these were found."""
     made = published_rows(known, asked.published, asked.errors, asked.most, asked.seed)
-    write_table(os.path.join(folder, "published.csv"), [row[:3] for row in made])
-    rows, accepted, took, _ = called(folder, "published", ["--expect", "is", *asked.words])
+    given = write_table(os.path.join(folder, "published.csv"), [row[:3] for row in made])
+    rows, accepted, took, _ = called(known, folder, "published", given, ["--expect", "is", *asked.words])
     planted, back = {row[0] for row in made if row[3]}, {row["name"] for row in rows if row["ruling"] != "right"}
     for row in rows:
         if row["ruling"] != "right" or row["name"] in planted:
@@ -219,24 +233,35 @@ def try_published(known, folder, asked):
 def try_rows(known, folder, asked):
     """Times a table of diagrams of the most crossings in one call: whether a hundred of them would take at most a minute."""
     grids = timed_grids(known, asked.rows, asked.most, asked.seed)
-    write_table(os.path.join(folder, "rows.csv"), [(f"r{place:03}", "", arcs_text(grid)) for place, grid in enumerate(grids, 1)])
-    rows, accepted, took, seconds = called(folder, "rows", asked.words)
+    given = write_table(os.path.join(folder, "rows.csv"), [(f"r{place:03}", "", arcs_text(grid)) for place, grid in enumerate(grids, 1)])
+    rows, accepted, took, seconds = called(known, folder, "rows", given, asked.words)
     named = sum(row["answer"] not in ("open", "refused", "failed") for row in rows)
     print(f"{len(rows)} diagrams of most crossings in one call: {named} named; {accepted} certificates accepted; {took}", flush=True)
     return accepted == named and seconds <= HUNDRED * len(rows) / 100
 
 
-def try_times(known, asked):
-    """Times such diagrams one by one: whether half of them took at most a second."""
-    seconds, spent = [], []
-    for grid in timed_grids(known, asked.timed, asked.most, asked.seed):
-        clock = Clock()
-        identify(grid, known)
-        seconds.append(clock.seconds)
-        spent.append(processor_seconds() - clock.spent)
-    print(f"{len(seconds)} diagrams of most crossings one by one: median {statistics.median(seconds):.2f} s ({statistics.median(spent):.2f}), "
-          f"longest {max(seconds):.2f} s ({max(spent):.2f})")
-    return statistics.median(seconds) <= MEDIAN
+def try_times(known, folder, asked):
+    """Times such diagrams one by one, by a call of the script each, and of the module, which has read the table: whether half of either took at
+    most a second."""
+    path = os.path.join(folder, "timed.txt")
+
+    def by_script(grid):
+        with open(path, "w", encoding="utf-8") as out:
+            out.write(grid_text(grid))
+        subprocess.run([*IDENTIFY, path, *asked.words], stdout=subprocess.DEVNULL, check=True)
+
+    is_well = True
+    for said, call in (("script", by_script), ("module", lambda grid: identify(grid, known))):
+        seconds, spent = [], []
+        for grid in timed_grids(known, asked.timed, asked.most, asked.seed):
+            clock = Clock()
+            call(grid)
+            seconds.append(clock.seconds)
+            spent.append(processor_seconds() - clock.spent)
+        print(f"{len(seconds)} diagrams of most crossings one by one, by the {said}: median {statistics.median(seconds):.2f} s "
+              f"({statistics.median(spent):.2f}), longest {max(seconds):.2f} s ({max(spent):.2f})", flush=True)
+        is_well = is_well and statistics.median(seconds) <= MEDIAN
+    return is_well
 
 
 def main():
@@ -256,7 +281,7 @@ def main():
         wells = [try_disguised(known, folder, asked)] if asked.disguised else []
         wells += [try_published(known, folder, asked)] if asked.published else []
         wells += [try_rows(known, folder, asked)] if asked.rows else []
-        wells += [try_times(known, asked)] if asked.timed else []
+        wells += [try_times(known, folder, asked)] if asked.timed else []
     sys.exit(0 if all(wells) else 1)
 
 

@@ -1,20 +1,25 @@
 #!/usr/bin/env python3
-"""Makes what belongs to a table of knots anew, and compares it with what stands there.
+"""Makes what belongs to a table of knots anew, and compares it with what is there.
 
     tools/knot_table.py grids TABLE..        draws the grid of each code by `knot grid` and makes it smaller by `knot simplify`
     tools/knot_table.py numbers TABLE..      counts the rows of numbers by `knot numbers`
     tools/knot_table.py names TABLE..        joins the braid word of each knot to its grid by `seek`, and has `knot check` rule on it
-    tools/knot_table.py symmetry TABLE..     joins each knot to its mirror image, its reverse and the reverse of its mirror image, or tells it apart
+    tools/knot_table.py symmetry TABLE..     joins each knot to its mirror image, its reverse and the reverse of its mirror image, or distinguishes them
 
-Each line that differs is named on standard error, and the exit status is 1. --write puts what was made in the place of what stands there:
-the grids into the table, the numbers into TABLE without .csv and with .numbers.txt, the symmetries into .symmetry.csv. The numbers of a grid
-that has its line stay, and so do symmetries that are known: --all makes these anew too. --list FILE names another list of quandles than
-tables/list.txt. --certificates FOLDER keeps those of `names` and `symmetry`; else symmetries that rows of numbers rule out are
-taken as ruled out by them.
+Each line that differs is named on standard error, and the exit status is 1. --write replaces what is there: the grids in the table NAME.csv,
+the numbers in NAME.numbers.txt, the symmetries in NAME.symmetry.csv. The numbers of a grid that has its line are kept, and so are symmetries
+that are known; --all makes these anew too. --list FILE names another list of quandles than tables/list.txt. --certificates FOLDER keeps those
+of `names` and `symmetry`; without it symmetries that rows of numbers rule out are taken as ruled out by them.
 
-`symmetry` takes what the table's rows tell, then what rows by each --further FILE tell, then walks, all short ones before longer ones. With
---write it puts down what it knows every fifty knots. --book FILE keeps what was counted and walked, also in vain, so that a call that was
-stopped goes on where it was.
+`symmetry` uses the table's rows, then rows by each --further FILE, then walks, all short ones before longer ones. A list of --mirrors FILE is
+counted only for knots that may be their own mirror images. With --write it writes what it knows every fifty knots. --book FILE keeps what
+was counted and walked, also in vain, so that a call that was stopped goes on where it was.
+
+NAME.numbers.txt has the lines `list` with the SHA-256 of the list of quandles, `knots` with their number, one for each knot, and `end` with
+the SHA-256 of all bytes before it. A knot's line is, with commas between: its name; the SHA-256 of the two lines `x` and `o` of its grid; the
+row of numbers of the grid; and that of its mirror image. A row has an entry for each block of the list, with `/` between two: what `knot
+numbers` writes after `numbers`, without noughts at its end, nothing if that is the unknot's, and `?` for `wide`. The row of the reversed
+mirror image is this one with negative weights.
 """
 import argparse
 import collections
@@ -29,7 +34,7 @@ from lib.census_plan import blocks_of as plan_blocks
 from lib.connected import is_connected
 from lib.identify_programs import add_program_words, use_programs
 from lib.table_book import Book
-from lib.table_further import labels_of, rows_by
+from lib.table_further import is_counted, labels_of, rows_by, told_by
 from lib.whole_files import write_whole
 from knot_workbench import Certificate, Fault, seek
 from knot_workbench.code_grids import Grids
@@ -201,16 +206,17 @@ def symmetry(path, asked, work):
     """Joins each knot to itself after each turn, or tells it apart; what two turns show of the third is taken as shown."""
     found = Symmetries(path, asked)
     found.by_rows(labels_of(found.known.listed), {name: (found.known.row(name), found.known.row(name, MIRRORED)) for name in found.rows}, asked.list)
-    for file in asked.further:
+    mirrors = (MIRROR, MIRROR_REVERSE)
+    for file, columns in [*((file, mirrors) for file in asked.mirrors), *((file, ALL) for file in asked.further)]:
         listed = text_in(file)
-        found.by_rows(labels_of(listed, file), rows_by(found.known, found.open_names(), listed, work.each, found.book), file)
+        labels = labels_of(listed, file)
+        if is_counted(listed):
+            found.by_rows(labels, rows_by(found.known, found.open_names(columns), listed, work.each, found.book), file)
+        else:
+            found.try_all(f"pairs by {file}", effort_of(file, listed, labels), columns, work)
     for seed, steps in ROUNDS[:asked.rounds]:
-        due = found.open_names()
-        calls.note(f"{path}: walks of {steps} steps for {len(due)} knots")
-        for place, (name, said) in enumerate(zip(due, work.each(due, lambda name: found.walked(name, seed, steps))), 1):
-            found.take_all(name, said, seed, steps)
-            if place % FIFTY == 0:
-                found.put()
+        effort = Effort(f"{seed} {steps}", lambda *grids: walked(*grids, seed, steps), symmetry_text)
+        found.try_all(f"walks of {steps} steps", effort, asked.walk or ALL, work)
     found.put()
     for row in found.rows.values():
         if row != found.old.get(row["name"]):
@@ -218,6 +224,31 @@ def symmetry(path, asked, work):
     for kind, count in sorted(collections.Counter(map(kind_of, found.rows.values())).items()):
         calls.note(f"{path}: {kind}: {count}")
 
+
+# What may show a symmetry: its name in the book, what it finds of two grids, a certificate that the checker accepted or None, and what stands in
+# the table of that.
+Effort = collections.namedtuple("Effort", "mark find text")
+
+
+def walked(first, second, seed, steps):
+    """What a walk finds of two grids: a certificate that the checker accepted, or None."""
+    verdict = sought(first, second, seed, steps)
+    if verdict is None:
+        return None
+    found = Certificate(first, second, verdict)
+    found.check()
+    return found
+
+
+def effort_of(file, listed, labels):
+    """What a list's file tells of two grids."""
+    def text(found):
+        return f"different by {labels[0]}" if found and len(labels) == 1 else symmetry_text(found)
+
+    return Effort(digest(listed), lambda first, second: told_by(first, second, file), text)
+
+
+ALL = MIRROR, REVERSE, MIRROR_REVERSE = tuple(column for column, _ in SYMMETRIES)
 
 # The turns that are tried first: most knots are told from their mirror images by rows, and most others are their own reverses.
 TRIED = (SYMMETRIES[1], SYMMETRIES[0], SYMMETRIES[2])
@@ -235,9 +266,9 @@ class Symmetries:
         self.rows = {name: {**dict.fromkeys(self.columns, "open"), "name": name, **kept.get(name, {})} for name in self.known.knots}
         self.book = Book(asked.book) if asked.book else None
 
-    def open_names(self):
-        """The knots of which some symmetry isn't known."""
-        return [name for name, row in self.rows.items() if "open" in row.values()]
+    def open_names(self, columns=ALL):
+        """The knots of which some symmetry of these isn't known."""
+        return [name for name, row in self.rows.items() if any(row[column] == "open" for column in columns)]
 
     def take(self, row, column, said):
         """Takes what is known of one symmetry into a row, and what follows for the others."""
@@ -268,33 +299,35 @@ class Symmetries:
             kept(self.asked, f"{name}-{column}", found)
         return found is not None
 
-    def place(self, name, column, seed, steps):
-        """The name of a walk in the book."""
-        return f"{digest(diagram_text(self.known.knots[name].grid))} {column} {seed} {steps}"
+    def place(self, name, column, effort):
+        """The name of an effort in the book."""
+        return f"{digest(diagram_text(self.known.knots[name].grid))} {column} {effort.mark}"
 
-    def walked(self, name, seed, steps):
-        """What walks show of the open symmetries of a knot, by columns, `open` where nothing; certificates are checked, and kept where they are asked for."""
+    def try_all(self, said, effort, columns, work):
+        """Takes what an effort shows of all symmetries in these columns that are open, and notes it in the book."""
+        due = self.open_names(columns)
+        calls.note(f"{self.target}: {said} for {len(due)} knots")
+        for place, (name, shown) in enumerate(zip(due, work.each(due, lambda name: self.shown(name, effort, columns))), 1):
+            for column, text in shown.items():
+                self.take(self.rows[name], column, text)
+                if self.book and [text] != self.book.lines.get(self.place(name, column, effort)):
+                    self.book.add(self.place(name, column, effort), text)
+            if place % FIFTY == 0:
+                self.put()
+
+    def shown(self, name, effort, columns):
+        """What an effort shows of the open symmetries of a knot, by columns, `open` where nothing; certificates are kept where they are asked for."""
         row, grid, found = dict(self.rows[name]), self.known.knots[name].grid, {}
         for column, turn in TRIED:
-            if row[column] == "open":
-                before = self.book.lines.get(self.place(name, column, seed, steps)) if self.book else None
+            if row[column] == "open" and column in columns:
+                before = self.book.lines.get(self.place(name, column, effort)) if self.book else None
                 if before is None or (self.asked.certificates and before != ["open"]):
-                    verdict = sought(grid, turn.of(grid), seed, steps)
-                    certificate = None if verdict is None else Certificate(grid, turn.of(grid), verdict)
-                    if certificate is not None:
-                        certificate.check()
+                    certificate = effort.find(grid, turn.of(grid))
                     kept(self.asked, f"{name}-{column}", certificate)
-                    before = [symmetry_text(certificate)]
+                    before = [effort.text(certificate)]
                 found[column] = before[0]
                 self.take(row, column, before[0])
         return found
-
-    def take_all(self, name, said, seed, steps):
-        """Takes what walks have shown of a knot, and notes it in the book."""
-        for column, text in said.items():
-            self.take(self.rows[name], column, text)
-            if self.book:
-                self.book.add(self.place(name, column, seed, steps), text)
 
     def put(self):
         """Puts what is known into the file, where that is asked for."""
@@ -330,11 +363,13 @@ def main():
     parser = calls.WordsParser(description=__doc__, formatter_class=argparse.RawDescriptionHelpFormatter)
     parser.add_argument("what", choices=("grids", "numbers", "names", "symmetry"), help="what is made anew")
     parser.add_argument("tables", nargs="+", metavar="TABLE", help="a table as docs/FORMATS.md has it")
-    parser.add_argument("--write", action="store_true", help="put what was made in the place of what stands there")
-    parser.add_argument("--all", action="store_true", help="make numbers and symmetries anew that stand there already")
+    parser.add_argument("--write", action="store_true", help="replace what is there by what was made")
+    parser.add_argument("--all", action="store_true", help="also make anew the numbers and symmetries that are there")
     parser.add_argument("--certificates", metavar="FOLDER", help="keep the certificates of names and symmetries here")
     parser.add_argument("--further", action="append", default=[], metavar="FILE", help="a further list of quandles that may rule symmetries out")
+    parser.add_argument("--mirrors", action="append", default=[], metavar="FILE", help="a further list that may rule mirror images out")
     parser.add_argument("--rounds", type=int, default=len(ROUNDS), metavar="N", help="how many rounds of walks for symmetries (default: %(default)s)")
+    parser.add_argument("--walk", action="append", choices=ALL, help="walks for this symmetry alone; it may stand several times")
     parser.add_argument("--book", metavar="FILE", help="keep what was counted and walked for symmetries here")
     parser.add_argument("--list", metavar="FILE", help="the list of quandles by which is counted")
     add_program_words(parser)

@@ -5,7 +5,7 @@ of one, mirrored or reversed as need be. Short walks to all candidates come befo
 none. Nothing is believed of what is found before `knot check` accepted the certificate.
 """
 import threading
-from typing import Any, Dict, List, NamedTuple, Optional, Sequence, Tuple, Union
+from typing import Any, Dict, Iterator, List, NamedTuple, Optional, Sequence, Tuple, Union
 
 from .alexander import alexander_square
 from .certificates import Certificate, Equal, Evidence
@@ -13,11 +13,9 @@ from .diagrams import Diagram, Grid, Move, grid_of
 from .given import diagram as diagram_given
 from .jobs import certificate_of, simplify
 from .knot_rows import row_of
-from .knot_tables import KnotTable, Parts, name_of
+from .knot_tables import UNKNOT, KnotTable, Parts, name_of
 from .moves import tidied
 from .programs import answered
-
-UNKNOT = Grid((0, 1), (1, 0))
 
 # The budgets of `simplify`, the first for every diagram, the second where no short walk joined one.
 FIRST_BUDGET, LATER_BUDGET = 1_000, 20_000
@@ -33,7 +31,7 @@ class Identified(NamedTuple):
     `parts`        the knot of the table, or the parts of a sum, each a name and a turn; () for the unknot; None where it is none or open
     `certificate`  moves that lead to the table's diagram, accepted by the checker; None where there are no parts
     `candidates`   where no walk joined the diagram to one: those that no number tells it from. Without any, its numbers differ from those of
-                   each knot of the table, and of each sum of them of at most twelve crossings
+                   the unknot, of each knot of the table, and of each sum of them of at most twelve crossings
     """
 
     components: int
@@ -44,7 +42,7 @@ class Identified(NamedTuple):
     @property
     def name(self) -> Optional[str]:
         """As `10_132 mirrored`, `3_1 # 4_1` or `unknot`; None where it has none."""
-        return None if self.parts is None else name_of(self.parts) or "unknot"
+        return None if self.parts is None else name_of(self.parts)
 
     @property
     def answer(self) -> str:
@@ -82,11 +80,12 @@ def components_of(grid: Grid) -> int:
 
 def identify(diagram: Any, table: Union[KnotTable, str, None] = None, *, first: Optional[Parts] = None,
              rounds: Sequence[Tuple[int, int]] = ROUNDS) -> Identified:
-    """Which knot of a table a diagram is, which may be given as other calls take it: by default of the prime knots to twelve crossings, or a sum of such of at most twelve crossings.
+    """Which knot of a table a diagram is, which may be given as other calls take it: by default of the prime knots to twelve crossings, or a sum
+    of such of at most twelve crossings.
 
-    `first` is tried before other candidates, unless it has another Alexander polynomial. `rounds` are the seeds and steps of walks, the shortest
-    first. Raises TableError where the table can't be used; NoProgram, OverLimit, Failed as other calls; and Rejected where the checker doesn't
-    accept what was found."""
+    `first` is tried before other candidates, unless it has another Alexander polynomial, by all walks. `rounds` are the seeds and steps of
+    walks, the shortest first. Raises TableError where the table can't be used; NoProgram, OverLimit, Failed as other calls; and
+    Rejected where the checker doesn't accept what was found."""
     diagram = diagram_given(diagram)
     grid = grid_of(diagram)
     components = components_of(grid)
@@ -94,15 +93,16 @@ def identify(diagram: Any, table: Union[KnotTable, str, None] = None, *, first: 
         return Identified(components, None, None, ())
     known = table_of(table)
     small, moves, is_spent = smaller(grid, FIRST_BUDGET)
-    if small.size == 2:
-        across = [] if small == UNKNOT else [("shift", "columns", 1)]
-        return named(diagram, (), UNKNOT, moves + across)
+    if small.size == UNKNOT.size:
+        return named_unknot(diagram, small, moves)
     likely, unlikely = by_likelihood(small, known, known.candidates(row_of(small, known.listed)), first)
-    for place, (seed, steps) in enumerate(rounds):
-        if likely and place == 1 and is_spent:
+    for (seed, steps), few in rounds_of(likely, first, rounds):
+        if is_spent and few and (seed, steps) != rounds[0]:
             small, more, _ = smaller(small, LATER_BUDGET)
-            moves = moves + more
-        for parts in list(likely):
+            moves, is_spent = moves + more, False
+            if small.size == UNKNOT.size:
+                return named_unknot(diagram, small, moves)
+        for parts in few:
             target = known.grid(parts)
             verdict = sought(small, target, seed, steps)
             if isinstance(verdict, Equal):
@@ -110,6 +110,14 @@ def identify(diagram: Any, table: Union[KnotTable, str, None] = None, *, first: 
             if verdict is not None:
                 likely.remove(parts)
     return Identified(1, None, None, (*likely, *unlikely))
+
+
+def rounds_of(likely: List[Parts], first: Optional[Parts], rounds: Sequence[Tuple[int, int]]) -> Iterator[Tuple[Tuple[int, int], List[Parts]]]:
+    """Rounds, each with the candidates whose turn it is, of those that are still likely. One that is expected comes by all rounds before others:
+    of its turns that aren't known to differ from it, another one may be joined sooner."""
+    for is_first in (True, False):
+        for effort in rounds:
+            yield effort, [parts for parts in likely if (parts == first) == is_first]
 
 
 def by_likelihood(grid: Grid, known: KnotTable, candidates: List[Parts], first: Optional[Parts]) -> Tuple[List[Parts], List[Parts]]:
@@ -139,6 +147,12 @@ def sought(first: Grid, second: Grid, seed: int, steps: int) -> Optional[Evidenc
     words = ["--quiet", "--no-weights", f"--seed={seed}", f"--steps={steps}", "-"]
     ran = answered("seek", words, first.text + second.text, also=(1,))
     return None if ran.status == 1 else certificate_of("seek", first, second, (), ran.text).verdict
+
+
+def named_unknot(diagram: Diagram, small: Grid, moves: List[Move]) -> Identified:
+    """What is known by moves from a diagram to one of two columns."""
+    across: List[Move] = [] if small == UNKNOT else [("shift", "columns", 1)]
+    return named(diagram, (), UNKNOT, [*moves, *across])
 
 
 def named(diagram: Diagram, parts: Parts, target: Grid, moves: List[Move]) -> Identified:

@@ -1,8 +1,8 @@
 """Tables of knots: names, diagrams, rows of numbers and kinds of symmetry, and how a row is looked up.
 
-A table NAME.csv has a line for each knot. Beside it lie NAME.numbers.txt, its rows of numbers, and perhaps NAME.symmetry.csv. docs/FORMATS.md
-has all three. A knot of the table has four *turns*: as it is, mirrored, reversed, or both. Rows of the first two are listed, and those of
-the other two are these with negative weights.
+A table NAME.csv has a line for each knot. Beside it are NAME.numbers.txt, its rows of numbers, and perhaps NAME.symmetry.csv. docs/FORMATS.md
+and `tools/knot_table.py --help` have their forms. A knot of the table has four *turns*: as it is, mirrored, reversed, or both. Rows of the
+first two are listed, and those of the other two are these with negative weights.
 """
 import csv
 import hashlib
@@ -17,6 +17,8 @@ from .faults import BadDiagram
 from .knot_rows import Block, Counts, Row, blocks_of, counts_of, counts_of_sum, may_be_one, of_sum, opposite, row_in, text_of
 from .sums import sum_of_grids
 from .table_rows import TableError
+
+UNKNOT = Grid((0, 1), (1, 0))
 
 # The most crossings that the parts of a sum have in all.
 SUM_CROSSINGS = 12
@@ -74,13 +76,13 @@ class TableKnot(NamedTuple):
         return found
 
 
-# The parts of a sum, or one alone: each a name and a turn.
+# The parts of a sum, or one alone: each a name and a turn. The unknot has none.
 Parts = Tuple[Tuple[str, Turn], ...]
 
 
 def name_of(parts: Parts) -> str:
-    """The name of a knot or a sum."""
-    return " # ".join(name + turn.words for name, turn in parts)
+    """The name of a knot, a sum or the unknot."""
+    return " # ".join(name + turn.words for name, turn in parts) or "unknot"
 
 
 def data_folder(name: str) -> Optional[str]:
@@ -267,11 +269,12 @@ class KnotTable:
         return opposite(row, self.blocks) if turn.is_reversed else row
 
     def candidates(self, row: Row) -> List[Parts]:
-        """The knots of the table, and the sums of some, that a row doesn't tell from its own, by crossings and by the order of the table."""
-        return [*self.prime_candidates(row), *self.sum_candidates(row)]
+        """The unknot, the knots of the table and the sums of some, in this order, as far as a row doesn't tell them from its own."""
+        unknot: List[Parts] = [()] if may_be_one(row, [block.unknot for block in self.blocks]) else []
+        return [*unknot, *self.prime_candidates(row), *self.sum_candidates(row)]
 
     def prime_candidates(self, row: Row) -> List[Parts]:
-        """The knots of the table, as `candidates`; of turns that are known to make one knot the first."""
+        """The knots of the table, as `candidates`, by their order there; of turns that are known to make one knot the first."""
         if None in row:
             found = {(name, turn) for name in self.knots for turn in TURNS if may_be_one(row, self.row(name, turn))}
         else:
@@ -327,12 +330,9 @@ class KnotTable:
         yield from longer((), None, 0, SUM_CROSSINGS)
 
     def grid(self, parts: Parts) -> Grid:
-        """The diagram of a knot of the table after its turn, or of a sum."""
+        """The diagram of a knot of the table after its turn, of a sum, or of the unknot."""
         grids = [turn.of(self.knots[name].grid) for name, turn in parts]
-        whole = grids[0]
-        for further in grids[1:]:
-            whole = sum_of_grids(whole, further)
-        return whole
+        return reduce(sum_of_grids, grids) if grids else UNKNOT
 
     def parts_of(self, said: str) -> Optional[Parts]:
         """The parts that a name means, as `10_132`, `K11n34`, `m3_1`, `3_1 mirrored # 4_1`, or () for the unknot; None where it means none.

@@ -1,5 +1,5 @@
-"""Invariants that people know: the Alexander polynomial, the determinant and the Jones polynomial. They are worked out here, from a grid, and no
-proof speaks of them; `seek` and `numbers` have evidence instead.
+"""Invariants that people know: the Alexander polynomial, the determinant, the Jones polynomial and the signature. They are worked out here, from a
+grid, and no proof speaks of them; `seek` and `numbers` have evidence instead.
 """
 from typing import Any, Callable, Dict, List, NamedTuple, Optional, Sequence, Tuple
 
@@ -7,6 +7,7 @@ from .alexander import PRIME, determinant
 from .diagrams import Grid, covers, crossings, ends, grid_of, is_up
 from .given import diagram as diagram_given
 from .identifying import components_of
+from .signatures import signature
 
 # As many columns may stand side by side in a row where the Jones polynomial is worked out: the work grows fourfold with two more.
 MOST_OPEN = 16
@@ -27,12 +28,14 @@ class Invariants(NamedTuple):
     `determinant`  the size of that polynomial at -1
     `jones`        pairs of twice a power of t and its coefficient, from the lowest; None where the diagram has more than 16 columns side by
                    side: `simplify` may help
+    `signature`    that of the right trefoil is -2
     """
 
     components: int
     alexander: Tuple[int, ...]
     determinant: int
     jones: Optional[Tuple[Tuple[int, int], ...]]
+    signature: int
 
     @property
     def alexander_text(self) -> str:
@@ -50,7 +53,7 @@ def invariants(of: Any) -> Invariants:
     grid = grid_of(diagram_given(of))
     alexander = alexander_polynomial(grid)
     at_minus_one = sum(coefficient * (-1) ** power for power, coefficient in enumerate(alexander))
-    return Invariants(components_of(grid), alexander, abs(at_minus_one), jones_polynomial(grid))
+    return Invariants(components_of(grid), alexander, abs(at_minus_one), jones_polynomial(grid), signature(grid))
 
 
 def text_of(terms: Any) -> str:

@@ -6,7 +6,7 @@ from typing import Any, List, Optional, Tuple, Union
 from .code_grids import Grids
 from .diagrams import Diagram, Grid, Lines, read_diagram
 from .faults import Fault
-from .identifying import UNKNOT, table_of
+from .identifying import table_of
 from .jobs import from_pd
 from .links import code_of_regina, code_of_sage, code_of_snappy
 from .table_entries import Conventions, EntryError, diagram_of
@@ -74,4 +74,4 @@ def grid_named(said: str) -> Grid:
     parts = table.parts_of(said)
     if parts is None:
         raise TableError(f"'{said}' is no knot of {os.path.basename(table.path)}, and no file; a knot is named as 8_19, 11n34 or '3_1 mirrored'")
-    return table.grid(parts) if parts else UNKNOT
+    return table.grid(parts)

@@ -6,18 +6,20 @@ import csv
 import os
 import random
 import re
+import signal
 import subprocess
 import sys
+import time
 import unittest
 from concurrent.futures import ThreadPoolExecutor
 
 import common
 import knot_invariants
-from knot_workbench import Braid, Grid, KnotTable, Turn, identify
+from knot_workbench import Braid, Certificate, Grid, KnotTable, Turn, identify
 from knot_workbench.alexander import PLACE, PRIME, alexander_square
 from knot_workbench.diagrams import CORNERS, grid_of, grid_text
 from knot_workbench.faults import Illegal
-from knot_workbench.identifying import by_likelihood
+from knot_workbench.identifying import by_likelihood, rounds_of
 from knot_workbench.knot_rows import blocks_of, may_be_one, of_sum, opposite, row_in, row_of, text_of
 from knot_workbench.knot_tables import read_knots
 from knot_workbench.moves import made
@@ -98,8 +100,13 @@ class OneDiagram(IdentifyTest):
         self.assertEqual(self.identify("--braid", "1"), (0, "unknot\n", ""))
 
     def test_a_knot_that_no_entry_has_the_numbers_of_is_none_of_the_table(self):
-        # 5_2 has three colourings by dihedral 3 and five by dihedral 5, as the unknot, but none of the others has so few by all quandles.
-        self.assertEqual(self.identify("--braid", "3 -1 2 -1 2 2 2")[1], "none of the table\n")
+        # 6_1 has 9 colourings by dihedral 3, 4 by the tetrahedral quandle and 5 by dihedral 5.
+        self.assertEqual(self.identify("--braid", "4 1 1 2 -1 -3 2 -3")[:2], (0, "none of the table\n"))
+
+    def test_a_knot_with_the_numbers_of_the_unknot_may_be_it(self):
+        # The closure is the unknot in eight columns, which the stand-in doesn't make smaller, and 5_2 has no other numbers by this list.
+        for word in ("3 1 2", "3 -1 2 -1 2 2 2"):
+            self.assertEqual(self.identify("--braid", word), (1, "open\n", "identify.py: candidates: unknot\n"))
 
     def test_a_link_is_told_and_not_looked_up(self):
         self.assertEqual(self.identify("--braid", "2 1 1"), (1, "link of 2 components\n", ""))
@@ -121,6 +128,16 @@ class Likelihood(IdentifyTest):
         known, (trefoil, eight, mirrored) = self.parts("3_1", "4_1", "4_1 mirrored")
         self.assertEqual(by_likelihood(EIGHT, known, [trefoil, eight, mirrored], trefoil), ([eight, mirrored], [trefoil]))
         self.assertEqual(by_likelihood(EIGHT, known, [trefoil, eight, mirrored], mirrored), ([mirrored, eight], [trefoil]))
+
+    def test_an_expected_knot_comes_by_all_rounds_before_others(self):
+        likely, rounds = ["a", "b", "c"], ((1, 5), (2, 50), (3, 500))
+        found = []
+        for effort, few in rounds_of(likely, "b", rounds):
+            found.append((effort[0], few))
+            if effort == (1, 5) and "a" in few:
+                likely.remove("a")
+        self.assertEqual(found, [(1, ["b"]), (2, ["b"]), (3, ["b"]), (1, ["a", "c"]), (2, ["c"]), (3, ["c"])])
+        self.assertEqual([few for _, few in rounds_of(["a", "b"], None, rounds) if few], [["a", "b"]] * 3)
 
     def test_turns_of_one_knot_are_all_likely(self):
         known, (eight, mirrored) = self.parts("4_1", "4_1 mirrored")
@@ -206,11 +223,35 @@ class BadInput(IdentifyTest):
             self.assertEqual(said.count("\n"), 1, said)
             self.put(name, kept)
 
+    def test_a_folder_keeps_each_file(self):
+        for name, text in (("a.txt", grid_text(EIGHT)), ("b.txt", ""), ("d.txt", "PD[X[1,2,3,4]]\n"), (".c.txt", "no diagram"), ("e.out", "none")):
+            self.put(os.path.join("given", name), text)
+        with open(os.path.join(self.folder, "given", "c.txt"), "wb") as file:
+            file.write(b"x 0 1\n\xff")
+        status, out, _ = self.identify(os.path.join(self.folder, "given"))
+        rows = list(csv.DictReader(out.splitlines()))
+        self.assertEqual((status, [(row["name"], row["answer"]) for row in rows]), (1, [("a", "4_1"), ("b", "refused"), ("c", "refused"), ("d", "refused")]))
+        self.assertEqual(len({row["said"] for row in rows}), 4)
+        self.assertIn("UTF-8", rows[2]["said"])
+
     def test_words(self):
         for words in ((), ("--processes", "0", "x"), ("--steps", "-1", "x")):
             self.assertEqual(self.identify(*words)[0], 2)
-        self.assertEqual(self.identify(os.path.join(self.folder, "none.csv"))[0], 2)
-        self.assertIn("say which has them by --diagram", self.identify(self.put("given.csv", "name,notes\na,b\n"))[2])
+        os.mkdir(os.path.join(self.folder, "empty"))
+        given = self.put("given.csv", "name,notes\na,b\n")
+        for words, due in (((os.path.join(self.folder, "none.csv"),), "No such file"), ((given,), "say which has them by --diagram"),
+                           ((os.path.join(self.folder, "empty"),), "it has no file NAME.txt"),
+                           ((given, "--diagram", "notes", "--expect", "is"), "no column is called 'is'"),
+                           (("--table", os.path.join(self.folder, "none.csv"), "--braid", "1"), "No such file"),
+                           (("--seek", os.path.join(self.folder, "none"), "--braid", "1"), "none")):
+            status, out, said = self.identify(*words)
+            self.assertEqual((status, out, said.count("\n")), (2, "", 1), said)
+            self.assertIn(due, said)
+
+    def test_a_file_that_cannot_be_written(self):
+        status, out, said = self.identify("--braid", "1", "--out", os.path.join(self.folder, "none", "out.csv"))
+        self.assertEqual((status, out, said.count("\n")), (3, "", 1), said)
+        self.assertIn("No such file", said)
 
 
 class Threads(IdentifyTest):
@@ -250,6 +291,44 @@ class GoingOn(IdentifyTest):
         self.assertEqual(self.read("out.csv"), whole)
         self.assertEqual(self.calls() - first, 2)
 
+    def test_stopped_by_a_signal_it_goes_on(self):
+        words = [sys.executable, "-B", os.path.join(common.TOOLS, "identify.py"), "--table", self.table, "--list", self.list, self.given, "--out", self.out,
+                 "--processes", "1"]
+        with subprocess.Popen(words, env={**os.environ, "KNOT": STAND_IN, "SEEK": self.seek}, stdout=subprocess.PIPE, stderr=subprocess.PIPE, text=True,
+                              preexec_fn=common.default_signals) as process:
+            while process.poll() is None and not (os.path.exists(self.out) and self.rows(self.out)):
+                time.sleep(0.02)
+            process.send_signal(signal.SIGTERM)
+            out, said = process.communicate()
+        self.assertEqual((process.returncode, out, said), (128 + signal.SIGTERM, "", "identify.py: stopped by signal 15; called again, it goes on\n"))
+        self.assertEqual(self.rows(self.out)[0]["answer"], "3_1")
+        self.assertLess(len(self.rows(self.out)), 4)
+        self.assertEqual(self.identify(self.given, "--out", self.out)[:2], (1, "4 diagrams: 3 named, 1 refused\n"))
+        self.assertEqual([row["answer"] for row in self.rows(self.out)], ["3_1", "unknot", "refused", "unknot"])
+
+    def test_what_a_program_failed_at_is_done_again(self):
+        failing = self.put("failing/seek", f"#!/bin/sh\ncase \"$*\" in *--seed=*) exit 7;; esac\nexec {self.seek} \"$@\"\n")
+        os.chmod(failing, 0o755)
+        shifted = Grid(EIGHT.xs[2:] + EIGHT.xs[:2], EIGHT.os[2:] + EIGHT.os[:2])
+        for name, grid in (("a", EIGHT), ("b", shifted)):
+            self.put(f"given/{name}.txt", grid_text(grid))
+        words = (os.path.join(self.folder, "given"), "--out", self.out)
+        self.assertEqual(self.identify(*words, "--seek", failing)[:2], (1, "2 diagrams: 1 failed, 1 named\n"))
+        row = self.rows(self.out)[1]
+        self.assertEqual((row["name"], row["answer"]), ("b", "failed"))
+        self.assertIn("memory was wanting", row["said"])
+        self.assertEqual(self.identify(*words)[:2], (0, "2 diagrams: 2 named\n"))
+        self.assertEqual([row["answer"] for row in self.rows(self.out)], ["4_1", "4_1"])
+
+    def test_open_rows_are_done_again_where_that_is_asked_for(self):
+        path = self.put("open.csv", 'name,braid\na,"{1,-2,1,-2}"\n')
+        self.assertEqual(self.identify(path, "--out", self.out)[:2], (1, "1 diagrams: 1 open\n"))
+        done = self.calls()
+        self.identify(path, "--out", self.out)
+        self.assertEqual(self.calls(), done)
+        self.identify(path, "--out", self.out, "--again")
+        self.assertEqual(self.calls(), 2 * done)
+
     def test_a_row_that_was_changed_is_done_again(self):
         self.identify(self.given, "--out", self.out)
         self.put("given.csv", self.read("given.csv").replace('b,"{{1,2},{2,1}}"', 'b,"{{6,2},{4,1},{5,3},{2,4},{3,6},{1,5}}"'))
@@ -264,26 +343,29 @@ class GoingOn(IdentifyTest):
 
 class Published(IdentifyTest):
     def test_each_row_is_ruled_on(self):
-        entries = {"left": "{{2,5},{3,1},{4,2},{5,3},{1,4}}", "right": "{{4,1},{3,5},{2,4},{1,3},{5,2}}", "eight": "{{6,2},{4,1},{5,3},{2,4},{3,6},{1,5}}"}
+        entries = {"left": "{{2,5},{3,1},{4,2},{5,3},{1,4}}", "right": "{{4,1},{3,5},{2,4},{1,3},{5,2}}", "eight": "{{6,2},{4,1},{5,3},{2,4},{3,6},{1,5}}",
+                   "back": "{{2,6},{1,4},{3,5},{4,2},{6,3},{5,1}}"}
         given = (("left", "3_1"), ("left", "K3a1"), ("right", "3_1"), ("right", "m3_1"), ("right", "3_1 mirrored"), ("eight", "3_1"), ("left", "10_166"),
-                 ("eight", ""))
+                 ("eight", ""), ("back", "4_1"))
         path = self.put("given.csv", "name,is,arcs\n" + "".join(f'{place},{said},"{entries[what]}"\n' for place, (what, said) in enumerate(given)))
         out = os.path.join(self.folder, "out.csv")
         self.assertEqual(self.identify(path, "--expect", "is", "--out", out)[0], 1)
         rows = self.rows(out)
         self.assertEqual([row["ruling"] for row in rows],
-                         ["right", "right", "mirrored", "right", "right", "wrong: it is 4_1", "wrong: it is 3_1", "no name"])
-        self.assertEqual(rows[6]["said"], "no knot of the table is called '10_166'")
+                         ["right", "right", "mirrored", "right", "right", "wrong: it is 4_1", "wrong: it is 3_1", "no name", "mirrored"])
+        self.assertEqual([row["said"] for row in rows[5:]], ["", "no knot of the table is called '10_166'", "", "it isn't known whether that is another knot"])
 
     def test_rows_without_a_name_are_ruled_on(self):
-        # The last two closures aren't made smaller by the stand-in, nor joined.
-        given = (("{1,1}", "3_1"), ("{-1,2,-1,2,2,2}", "3_1"), ("", "3_1"), ("{1,-2,1,-2}", "4_1"), ("{1,-2,1,-2}", "3_1"))
+        # The last four closures aren't made smaller by the stand-in, nor joined.
+        given = (("{1,1}", "3_1"), ("{1,1,2,-1,-3,2,-3}", "3_1"), ("", "3_1"), ("{1,-2,1,-2}", "4_1"), ("{1,-2,1,-2}", "3_1"), ("{1,2}", "3_1"),
+                 ("{1,2}", "unknot"))
         path = self.put("given.csv", "name,is,braid\n" + "".join(f'{place},{said},"{word}"\n' for place, (word, said) in enumerate(given)))
         status, out, _ = self.identify(path, "--expect", "is")
         self.assertEqual(status, 1)
         rulings = [row["ruling"] for row in csv.DictReader(out.splitlines())]
         self.assertEqual(rulings[:4], ["wrong: it is a link of 2 components", "wrong: it is none of the table", "refused", "open"])
         self.assertTrue(rulings[4].startswith("wrong: it may be 4_1 or 4_1 mirrored"), rulings[4])
+        self.assertEqual(rulings[5:], ["wrong: it may be unknot", "open"])
 
 
 class KnotTableScript(IdentifyTest):
@@ -308,6 +390,31 @@ class KnotTableScript(IdentifyTest):
         known = KnotTable(self.table, self.list).knots
         self.assertEqual(known["3_1"].different, (Turn(True), Turn(True, True)))
         self.assertEqual(len(known["4_1"].turns()), 4)
+
+    def test_further_lists_and_walks_for_symmetries(self):
+        # The rows of this list tell nothing from its mirror image, and of all turns shifts join 4_1 to its reversed mirror image alone.
+        self.list = self.put("short.txt", "quandle dihedral 3\n")
+        self.assertEqual(self.make("numbers", "--write")[0], 0)
+        mirrors, target = self.put("mirrors.txt", "quandle dihedral 3\nshadow mochizuki\n"), os.path.join(self.folder, "knots.symmetry.csv")
+        words = ("symmetry", "--mirrors", mirrors, "--rounds", "1", "--write", "--book", os.path.join(self.folder, "book"))
+        self.assertEqual(self.make(*words)[0], 0)
+        rows = [list(row.values()) for row in self.rows(target)]
+        self.assertEqual(rows, [["3_1", "different by mirrors", "open", "different by mirrors"], ["4_1", "open", "open", "equal"],
+                                ["5_1", "open", "open", "open"]])
+        # What is in the book is neither counted nor walked again.
+        os.unlink(target)
+        calls = self.counted()
+        self.assertEqual(self.make(*words)[0], 0)
+        self.assertEqual([list(row.values()) for row in self.rows(target)], rows)
+        self.assertEqual(self.counted(), calls)
+        # Where both mirror images are known, their list is asked nothing.
+        self.assertEqual(self.make("symmetry", "--mirrors", mirrors, "--rounds", "0")[0], 0)
+        self.assertEqual(self.counted() - calls, 2 * 2)  # 4_1 and 5_1, and the mirror image of each
+
+    def counted(self):
+        """How many times the stand-ins were called to count or to walk."""
+        with open(self.log, encoding="utf-8") as log:
+            return sum(line.startswith(("numbers", "seek")) for line in log)
 
     def test_turns_that_make_one_knot_are_tried_once(self):
         self.put("knots.symmetry.csv", "name,mirror,reverse,mirror_reverse\n3_1,different by x,equal,different by x\n4_1,equal,equal,equal\n"
@@ -409,12 +516,34 @@ class Tables(unittest.TestCase):
 
 @unittest.skipUnless(os.path.isfile(TO_12[:-4] + ".symmetry.csv"), "the symmetries aren't there")
 class Symmetries(unittest.TestCase):
+    def setUp(self):
+        self.knots = read_knots(TO_12).values()
+
+    def at_most(self, known, is_such):
+        """No more knots are such than are known, and of the others as many may be."""
+        every = collections.Counter(knot.crossings for knot in self.knots)
+        shown = collections.Counter(knot.crossings for knot in self.knots if is_such(knot) is True)
+        ruled_out = collections.Counter(knot.crossings for knot in self.knots if is_such(knot) is False)
+        for crossings, count in zip(range(3, 13), known):
+            self.assertLessEqual(shown[crossings], count)
+            self.assertLessEqual(ruled_out[crossings], every[crossings] - count)
+
     def test_as_many_are_their_own_mirror_images_as_are_known(self):
-        knots = read_knots(TO_12).values()
-        counts = collections.Counter(knot.crossings for knot in knots if {Turn(True), Turn(True, True)} & set(knot.same))
-        self.assertLessEqual(set(counts), {4, 6, 8, 10, 12})
-        for crossings, count in ((4, 1), (6, 1), (8, 5), (10, 13), (12, 58)):
-            self.assertLessEqual(counts[crossings], count)
+        both = {Turn(True), Turn(True, True)}
+        self.at_most((0, 1, 0, 1, 0, 5, 0, 13, 0, 58), lambda knot: bool(both & set(knot.same)) or (False if both <= set(knot.different) else None))
+
+    def test_as_many_are_their_own_reverses_as_are_known(self):
+        turn = Turn(False, True)
+        self.at_most((1, 1, 2, 3, 7, 20, 47, 132, 365, 1032), lambda knot: turn in knot.same or (False if turn in knot.different else None))
+
+    def test_two_symmetries_make_the_third(self):
+        for knot in self.knots:
+            self.assertNotEqual(len(knot.same), 2, knot.name)
+            self.assertFalse(len(knot.same) == len(knot.different) == 1, knot.name)
+
+    def test_the_table_to_ten_has_the_same(self):
+        self.assertEqual([(knot.same, knot.different) for knot in read_knots(TO_10).values()],
+                         [(knot.same, knot.different) for knot in self.knots if knot.crossings <= 10])
 
 
 def jones_of_code(rows):
@@ -457,8 +586,20 @@ class WithThePrograms(IdentifyTest):
         self.assertIn("9 disguised diagrams: 9 right; 9 certificates accepted", done.stdout)
         self.assertIn("6 published identifications with 2 errors: 2 of these came back, and 0 others", done.stdout)
 
+    def test_symmetries_that_walks_show(self):
+        kept = os.path.join(self.folder, "kept")
+        words = ("knot_table.py", "symmetry", self.table, "--list", self.list, "--rounds", "2", "--write", "--certificates", kept)
+        self.assertEqual(self.call(*words, KNOT=BUILT, SEEK=BUILT_SEEK)[0], 0)
+        by = "different by dihedral 3 with a cocycle mod 3"
+        rows = [tuple(row.values()) for row in self.rows(os.path.join(self.folder, "knots.symmetry.csv"))]
+        self.assertEqual(rows, [("3_1", by, "equal", by), ("4_1", "equal", "equal", "equal"), ("5_1", "open", "equal", "open")])
+        eight = KnotTable(self.table, self.list).knots["4_1"].grid
+        for name, first, second in (("4_1-mirror", eight, eight.mirror()), ("4_1-reverse", eight, eight.reverse())):
+            found = Certificate.load(os.path.join(kept, f"{name}.txt"))
+            self.assertEqual((found.first, found.second, found.is_equal, found.check()), (first, second, True, True))
+
     def test_the_module_answers_a_certificate_that_the_checker_accepts(self):
-        found = identify(Braid(3, (1, 1, 1, 2, -1, 2)), KnotTable(self.table, self.list))
+        found = identify(Braid(4, (1, 1, 2, -1, -3, 2, -3)), KnotTable(self.table, self.list))
         self.assertEqual((found.name, found.answer, found.certificate), (None, "none of the table", None))
         found = identify(Braid(2, (-1,) * 5), KnotTable(self.table, self.list))
         self.assertEqual(found.name, "5_1")

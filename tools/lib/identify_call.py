@@ -28,19 +28,22 @@ word as {1,1,1}. A table has a column of names, and one of braid words, arc pres
 
 An answer is
   10_132              the knot of this name, as the table draws it
-  10_132 mirrored     its mirror image; also `reversed`, run through backwards, where that isn't the same knot
+  10_132 mirrored     its mirror image; also `reversed`, run through backwards, if that isn't known to be the same knot
   3_1 # 4_1           a sum, of at most twelve crossings in all
   unknot
-  none of the table   its numbers of colourings differ from those of each knot of the table, and of each such sum
-  open                no walk joined it to a candidate; those that its numbers leave are named beside it
+  none of the table   its numbers of colourings differ from those of the unknot, of each knot of the table, and of each such sum
+  open                no walk joined it to a candidate; those that its numbers leave are in the column `said`
   link of 2 components    it isn't looked up
-  refused             there is no diagram, and it is said why
-Behind each name stands a certificate, moves that lead to the table's diagram, which `knot check` accepted; --certificates keeps them.
-With --expect a column has the names that the rows should have, and each row is ruled on: `right`; `mirrored`, `reversed` or both, where it
-is that knot after a turn; `wrong: it is 10_133`; or the answer, where it has no name. A DT code doesn't tell mirror images apart.
+  refused             there is no diagram; `said` has the reason
+  failed              a program gave no answer
+Each name has a certificate, moves that lead to the table's diagram, which `knot check` accepted; --certificates keeps them.
+With --expect a column has the names that the rows should have, and each row gets a ruling: `right`; `mirrored`, `reversed` or both, if it
+is that knot after a turn; `wrong: it is 10_133`; `wrong: it may be` and the candidates, if the expected name is none of them; `no name`,
+if none was expected; otherwise the answer. A DT code is also that of the mirror image.
 
-One diagram alone is answered in a line. Of more a table is written: name, answer, expected and ruling, certificate, said, sha256. With --out
-it goes to a file, to which each row is added as it is known; called again, those that stand there stay, and the others are done.
+One diagram alone is answered in a line. For more a table is written: name, answer, expected and ruling, certificate (its file), said, and
+sha256, of all that decides the answer. With --out it goes to a file, to which each row is added as it is known; called again, those that
+are there remain, and the others are done.
 
 examples:
   tools/identify.py --braid "4 -1 2 -1 -3 2 2 2 -3"
@@ -50,8 +53,8 @@ examples:
 
 exit status:
   0  each diagram has a name, or is none of the table; with --expect each row is right
-  1  some row is open, a link, refused, or not right; each is in the table
-  2  the words are no call, or the table of knots, an input or a program can't be used
+  1  some row is open, failed, a link, refused or not right; each is in the table
+  2  an argument is wrong, or the table of knots, an input or a program can't be used
   3  a file or standard output can't be written
   128 + N  stopped by signal N; called again with the same --out, it goes on
 """
@@ -65,7 +68,7 @@ def parser():
     words = WordsParser(prog="identify.py", description=ABOUT, epilog=EPILOG, allow_abbrev=False, formatter_class=argparse.RawDescriptionHelpFormatter)
     words.add_argument("inputs", nargs="*", metavar="INPUT", help="a file, a folder or a table")
     words.add_argument("--braid", action="append", default=[], metavar="WORD", help='a braid: its strands and its letters, as "2 1 1 1"')
-    words.add_argument("--pd", action="append", default=[], metavar="FILE", help="a file with a planar diagram code, as an INPUT")
+    words.add_argument("--pd", action="append", default=[], metavar="FILE", help="a file with a planar diagram code, looked up like an INPUT")
     words.add_argument("--dt", action="append", default=[], metavar="CODE", help='a DT code, as "4 6 2"')
     words.add_argument("--table", metavar="FILE", help="the table of knots (default: tables/prime-knots-to-12.csv)")
     words.add_argument("--list", metavar="FILE", help="the list of quandles by which its rows were counted (default: tables/list.txt)")
@@ -75,14 +78,15 @@ def parser():
     words.add_argument("--strands", metavar="COLUMN", help="the column of the numbers of strands")
     words.add_argument("--as", dest="as_kind", choices=("braid", "dt", "pd"), help="what each entry of the column is")
     words.add_argument("--arcs", choices=("columns", "rows"), default="columns", help="what a pair of an arc presentation is (default: columns)")
-    words.add_argument("--mirror", action="store_true", help="take the mirror image of each entry that isn't a grid or a braid of a file")
-    words.add_argument("--reverse", action="store_true", help="run through each such entry backwards")
-    words.add_argument("--delimiter", metavar="MARK", help="what parts the fields of a table")
+    words.add_argument("--mirror", action="store_true",
+                       help="mirror each diagram that is a code or comes from a table; grids, and braids as knot reads them, stay as they are")
+    words.add_argument("--reverse", action="store_true", help="run through each of these backwards")
+    words.add_argument("--delimiter", metavar="MARK", help="what separates the fields of a table")
     words.add_argument("--no-header", action="store_true", help="the first line is a row like any other; columns have their numbers")
-    words.add_argument("--skip-rows", type=int, default=0, metavar="N", help="leave out N rows behind the header")
+    words.add_argument("--skip-rows", type=int, default=0, metavar="N", help="leave out N rows after the header")
     words.add_argument("--out", metavar="FILE", help="write the rows to this file, and go on where it ends")
     words.add_argument("--certificates", metavar="FOLDER", help="write a certificate NAME.txt for each diagram that has a name")
-    words.add_argument("--again", action="store_true", help="also do the rows of --out again that are open or refused")
+    words.add_argument("--again", action="store_true", help="redo the rows of --out that are open or refused (failed ones are always redone)")
     words.add_argument("--steps", type=int, default=ROUNDS[-1][1], metavar="N", help="how many steps the longest walk may make (default: %(default)s)")
     add_program_words(words)
     return words
@@ -115,7 +119,7 @@ class Run:
         except Fault as fault:
             return row._replace(said=str(fault))
         parts = without_mirrors(found.parts) if is_dt and found.parts else found.parts
-        answer = name_of(parts) if parts else found.answer
+        answer = found.answer if parts is None else name_of(parts)
         said = [f"candidates: {', '.join(name_of(one) for one in found.candidates)}"] if found.candidates else []
         said += ["a DT code doesn't tell it from its mirror image"] * bool(is_dt and parts)
         if found.certificate is not None and self.options.certificates:
@@ -137,7 +141,11 @@ class Run:
         if parts == expected:
             return "right"
         turn = None if not parts or expected is None else self.turn_between(expected, parts)
-        return f"wrong: it is {name_of(parts) or 'unknot'}" if turn is None else turn.words.strip()
+        if turn is None:
+            return f"wrong: it is {name_of(parts)}"
+        if len(parts) == 1 and turn not in self.known.knots[parts[0][0]].different:
+            said.append("it isn't known whether that is another knot")
+        return turn.words.strip()
 
     def turn_between(self, one, other):
         """The turn that makes the other parts of these, or None."""
@@ -298,7 +306,7 @@ def main(words):
     if options.processes < 1 or options.steps < 0 or options.skip_rows < 0:
         parser().error("--processes takes 1 or more, --steps and --skip-rows 0 or more")
     if not (options.inputs or options.braid or options.dt):
-        parser().error("an INPUT is due, or --braid, --pd or --dt")
+        parser().error("an INPUT is missing, or --braid, --pd or --dt")
     on_signals()
     try:
         use_programs(options.knot, options.seek)
