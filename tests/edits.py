@@ -8,8 +8,8 @@
 A copy is made of the files that git tracks in crates/, of crates.txt and of HANDLES, as they stand in the work tree; so a new
 edit is tried once `git add` has named it. In the copy edits/ takes the place of must-fail/. There each crate is proved by
 `rt check`, since an edit of a crate that isn't proved would be refused whatever it does, and its edits are tried by
-`rt must-fail`. What rt says of each is printed when all of the crate were tried. It keeps on the machine what it tried, and
-tries again only what has changed; RT_JOBS says how many edits it tries side by side.
+`rt must-fail`. What rt says of each is printed when all of the crate were tried. Kit 13f keeps on the machine what it tried, tries
+again only what has changed, and tries as many edits side by side as RT_JOBS says; kit 13b tries all, one behind the other.
 
 The copy takes up to 5 GB, and is removed at the end where no --keep names it. A DIR that is kept saves the proofs of the next
 run, and one that was stopped goes on. The last line counts rt's verdicts: refused, NOT REFUSED (the crate is proved with the

@@ -4,16 +4,16 @@
 usage: tools/build.py [--jobs N] [--input FILE] [knot] [seek] [knot_check]
 
 Without a name it builds knot and seek. knot_check is the separate checker: the job check of knot alone, on half of its crates. The
-launchers ./knot and ./seek call it where a program is missing or older than a source. The old program stays in its place until the
+launchers ./knot and ./seek call it if a program is missing or older than a source. The old program stays in its place until the
 new one is there. One build works in a tree at a time, and a second one waits. What was proved is kept: a build that was stopped goes
 on where it stopped. The prover's lines go to crates/knot/out/build/NAME.log, and standard error has one line a crate.
 
 With --input FILE knot_check is also run on that file unproved, by `rt try`, while the proof goes on, and standard error has one line
-of what it says. There is no such trial on fewer than three processors, nor where less than a minute of proof is left. knot and seek
+of what it says. There is no such trial on fewer than three processors, or if less than a minute of proof is left. knot and seek
 have none: a trial of theirs costs two to five times as much, and what they answer is more than a line.
 
 Each crate is built by `rt lib`, or `rt run` for a program, in a copy of the tree below crates/knot/out/build, since rt lets two
-commands work side by side only where they share no crate. What is made goes back to the crate's own folder out/.
+commands work side by side only if they share no crate. What is made goes back to the crate's own folder out/.
 """
 import argparse
 import contextlib
@@ -30,7 +30,8 @@ import time
 HERE = os.path.dirname(os.path.realpath(__file__))
 ROOT = os.path.dirname(HERE)
 PROGRAMS = ("knot", "seek", "knot_check")
-KIT = "rattle-kit-13f"
+# The kits that the tree was proved with.
+KITS = ("rattle-kit-13b", "rattle-kit-13f")
 CHECKER = "knot_check"
 # Of a whole build, as measured: bytes on the disk, and of memory for one crate at most; and of those of the checker.
 DISK = 11_500_000_000
@@ -351,8 +352,8 @@ class Build:
                  f"up to {memory // 10**9} GB of memory a crate, {disk / 10**9:.1f} GB of disk")
         self.say(f"the prover's lines are in {relative(self.place)}/NAME.log; stopped by Ctrl-C, it goes on from there at the next call")
         kit = kit_name()
-        if kit != KIT:
-            self.say(f"warning: rt is of {kit}, and the tree was proved with {KIT}")
+        if kit not in KITS:
+            self.say(f"warning: rt is of {kit}, and the tree was proved with {' and '.join(KITS)}")
         free = shutil.disk_usage(self.place).free
         if free < disk:
             self.say(f"warning: {free / 10**9:.1f} GB of disk are free in {self.tree.root}")

@@ -1,11 +1,12 @@
 #!/usr/bin/env python3
-"""Tells invariants that people know of a diagram: how many components it has, the Alexander polynomial, the determinant, and the Jones polynomial.
+"""Computes well-known invariants of a diagram: how many components it has, the Alexander polynomial, the determinant, the signature, and the
+Jones polynomial.
 
     tools/invariants.py [INPUT]
 
-INPUT is a file with one diagram, a grid or a braid, as ./knot reads it, or standard input where none is given. They are told for the eye:
-nothing here is proved, and equal ones show nothing. Of a diagram with more than 16 columns side by side the Jones polynomial isn't worked
-out; ./knot simplify may make it smaller. The Alexander polynomial begins at its constant, up to a power of t and its sign.
+INPUT is a file with one diagram, a grid or a braid, as ./knot reads it, or standard input if none is given. They are for comparison with
+tables: nothing here is proved, and equal ones show nothing. For a diagram with more than 16 columns side by side the Jones polynomial isn't
+computed; ./knot simplify may make it smaller. The Alexander polynomial begins at its constant, up to a power of t and its sign.
 """
 import argparse
 
@@ -16,7 +17,7 @@ from knot_workbench.polynomials import MOST_OPEN, invariants
 
 def main():
     parser = argparse.ArgumentParser(description=__doc__, formatter_class=argparse.RawDescriptionHelpFormatter)
-    parser.add_argument("input", nargs="?", help="a file with one diagram; standard input where none is given")
+    parser.add_argument("input", nargs="?", help="a file with one diagram; standard input if none is given")
     words = parser.parse_args()
     with calls.naming(words.input):
         lines = Lines(calls.text_of(words.input))
@@ -24,7 +25,8 @@ def main():
         lines.done()
     found = invariants(diagram)
     jones = found.jones_text or f"not worked out: more than {MOST_OPEN} columns stand side by side"
-    calls.put(None, f"components {found.components}\nalexander {found.alexander_text}\ndeterminant {found.determinant}\njones {jones}\n")
+    calls.put(None, f"components {found.components}\nalexander {found.alexander_text}\ndeterminant {found.determinant}\n"
+                    f"signature {found.signature}\njones {jones}\n")
 
 
 if __name__ == "__main__":

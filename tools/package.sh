@@ -1,12 +1,13 @@
 #!/bin/sh
 # Makes a Debian package of both built programs, the tools, documents, manual pages, completions, tables and the Python module.
 #
-#     tools/package.sh [FOLDER]     writes FOLDER/knot-workbench_VERSION_ARCHITECTURE.deb; FOLDER is the current one where none is given
+#     tools/package.sh [FOLDER]     writes FOLDER/knot-workbench_VERSION_ARCHITECTURE.deb; FOLDER is the current one if none is given
 #
 # It needs dpkg-deb, gzip and python3, and both programs built (tools/build.py). What goes in is what ./install puts below /usr, with the
-# programs stripped where strip is there; the package wants the C library that the programs were linked with or a newer one, and recommends
-# python3 for the tools and the module. DEBFULLNAME and DEBEMAIL name who made the package, else the user and the host.
-# Status 0 where the package is there, 1 where it can't be made, 2 where the words are wrong.
+# programs stripped if there is strip; the package depends on the C library that the programs were linked with or a newer one, and recommends
+# python3 for the tools and the module. DEBFULLNAME and DEBEMAIL name who made the package, otherwise the user and the host; with both set
+# lintian finds no error.
+# Status 0 if the package was made, 1 if it can't be made, 2 if the words are wrong.
 set -u
 
 say() {
@@ -51,6 +52,10 @@ if command -v strip >/dev/null 2>&1; then
     done
 fi
 maker="${DEBFULLNAME:-$(id -un)} <${DEBEMAIL:-$(id -un)@$(uname -n)}>"
+case ${DEBEMAIL:-$(uname -n)} in
+    *.*) ;;
+    *) say "warning: the package names $maker, to whom nobody can write: DEBFULLNAME and DEBEMAIL name who made it" ;;
+esac
 
 version=$("$top/knot" --version | cut -d ' ' -f 2)
 architecture=$(dpkg --print-architecture)
@@ -70,7 +75,7 @@ Section: math
 Priority: optional
 Description: decides whether knots and links are the same, with evidence
  Diagrams are grids or braid words. The program seek looks for evidence by
- quandles and random walks; knot rules on evidence, searches exactly, and
+ quandles and random walks; knot checks evidence, searches exhaustively, and
  does other work on diagrams. Both are proved against their contracts.
  .
  With tables of connected quandles, and a module for Python.

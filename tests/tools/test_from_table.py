@@ -230,7 +230,7 @@ class TableShapesTest(TableTest):
         status, out, errors = self.call(path, self.out, "--diagram", "word")
         self.assertEqual(status, 1)
         self.assertEqual(errors, f"{path}:2: a: the row has 4 fields, and the header 2; a field with commas stands in quotes\n")
-        self.assertEqual(out, f"2 rows: 1 diagrams in {self.out}, 1 not to be had\n")
+        self.assertEqual(out, f"2 rows: 1 diagrams in {self.out}, 1 couldn't be made\n")
 
     def test_names(self):
         path = self.table('name,word\na,{1}\na,{2}\n,{1}\n"T(2,3)",{1}\n"b\nc",{1}\n../d,{1}\nA,{1}\n')
@@ -271,10 +271,10 @@ class TableShapesTest(TableTest):
         path = self.table("name,word\na,{1}\nb,{1}\n")
         self.assertEqual(self.call(path, self.out, "--diagram", "word")[0], 0)
         status, out, _ = self.call(path, self.out, "--diagram", "word")
-        self.assertEqual((status, out), (0, f"2 rows: 2 diagrams in {self.out}, 0 not to be had\n"))
+        self.assertEqual((status, out), (0, f"2 rows: 2 diagrams in {self.out}, 0 couldn't be made\n"))
         self.table("name,word\na,{-1}\nb,{1}\nc,{0}\n")
         status, out, errors = self.call(path, self.out, "--diagram", "word")
-        self.assertEqual((status, out), (1, f"3 rows: 1 diagrams in {self.out}, 1 not written, 1 not to be had\n"))
+        self.assertEqual((status, out), (1, f"3 rows: 1 diagrams in {self.out}, 1 not written, 1 couldn't be made\n"))
         self.assertIn("is there already, with another content", errors)
         self.assertEqual(self.made("a"), "# name: a\nbraid 2 1\n")
         self.assertEqual(self.call(path, self.out, "--diagram", "word", "--replace")[0], 1)
@@ -283,10 +283,10 @@ class TableShapesTest(TableTest):
     def test_a_name_too_long_for_a_file_is_one_bad_row(self):
         path = self.table(f"name,word\na,{{1}}\n{'b' * 600},{{1}}\n{'c' * 150},{{1}}\n{'d' * 150},{{1}}\n")
         status, out, errors = self.call(path, self.out, "--diagram", "word")
-        self.assertEqual((status, out), (1, f"4 rows: 3 diagrams in {self.out}, 1 not to be had\n"))
+        self.assertEqual((status, out), (1, f"4 rows: 3 diagrams in {self.out}, 1 couldn't be made\n"))
         self.assertEqual(errors, f"{path}:3: {'b' * 40}... (600 letters): the file's name would have 604 bytes, and 180 are the most\n")
         status, out, errors = self.call(path, os.path.join(self.folder, "pairs"), "--diagram", "word", "--all-pairs")
-        self.assertEqual((status, out), (1, f"4 rows: 2 problems in {self.folder}/pairs, 1 not written, 3 not to be had\n"))
+        self.assertEqual((status, out), (1, f"4 rows: 2 problems in {self.folder}/pairs, 1 not written, 3 couldn't be made\n"))
         self.assertIn(f"{path}:4: {'c' * 40}... (302 letters): the file's name would have 306 bytes, and 180 are the most", errors)
 
     def test_columns_by_their_titles_but_for_blanks_marks_and_capitals(self):
@@ -340,7 +340,7 @@ class ProblemsTest(TableTest):
         self.assertEqual(errors.splitlines(), [
             f"{self.knots}:3: b: column 3: one pair alone, and a grid has two columns or more",
             f"{self.knots}:4: c: column 3: the entry is empty"])
-        self.assertEqual(out, f"4 rows: 2 problems in {self.out}, 2 not to be had\n")
+        self.assertEqual(out, f"4 rows: 2 problems in {self.out}, 2 couldn't be made\n")
 
     def test_the_mirror_image_of_one_column(self):
         self.call(self.knots, self.out, "--diagram", "word", "--second", "arcs", "--mirror", "second")
@@ -358,7 +358,7 @@ class ProblemsTest(TableTest):
         status, out, _ = self.call(self.knots, self.out, "--diagram", "arcs", "--neighbours")
         self.assertEqual((status, self.files()), (1, []))
         self.assertIn("4 rows: 0 problems", out)
-        self.assertIn("3 not to be had", out)
+        self.assertIn("3 couldn't be made", out)
 
     def test_all_pairs(self):
         status, out, _ = self.call(self.knots, self.out, "--diagram", "word", "--all-pairs")
@@ -376,7 +376,7 @@ class ProblemsTest(TableTest):
         status, out, errors = self.call(self.knots, self.out, "--diagram", "word", "--only", "a z")
         self.assertEqual((status, self.files()), (1, ["a.txt"]))
         self.assertIn("z: no row has this name", errors)
-        self.assertEqual(out, f"1 rows: 1 diagrams in {self.out}, 0 not to be had, 1 names that no row has\n")
+        self.assertEqual(out, f"1 rows: 1 diagrams in {self.out}, 0 couldn't be made, 1 names that no row has\n")
 
     def test_names_with_blanks(self):
         path = self.table("name|word\n3_1 mirrored|{-1,-1,-1}\n3_1|{1,1,1}\nmirrored|{1}\n4_1|{1,-2,1,-2}\n")
@@ -390,7 +390,7 @@ class ProblemsTest(TableTest):
         self.assertEqual((status, self.files()), (0, ["T_2,3___4_1-2.txt", "T_2,3___4_1.txt", "T_2,3___T_2,3_.txt"]))
         self.assertEqual(self.made("T_2,3___4_1"), "# first: T(2,3)\nbraid 2 1 1 1\n# second: 4_1\nbraid 3 1 -2 1 -2\n")
         self.assertEqual(self.made("T_2,3___4_1-2"), "# first: T[2,3]\nbraid 2 -1 -1 -1\n# second: 4_1\nbraid 3 1 -2 1 -2\n")
-        self.assertEqual((errors, out), ("", f"3 rows: 3 problems in {self.out}, 0 not to be had\n"))
+        self.assertEqual((errors, out), ("", f"3 rows: 3 problems in {self.out}, 0 couldn't be made\n"))
 
     def test_quandles_behind_each(self):
         quandles = self.table("quandle dihedral 11", "quandles.txt")

@@ -186,8 +186,10 @@ class Installed(unittest.TestCase):
             out.write('#!/bin/sh\nprintf "%s\\n" "$@"\n')
         self.called()
         listed = self.path("share", "knot-workbench", "quandles", "weights", "list.txt")
-        for words, wanted in (["--seed", "2", "a b"], ["--weights", listed, "--seed", "2", "a b"]), (["--weights=x", "a"], ["--weights=x", "a"]), (["--help"], ["--help"]):
+        for words, wanted in (["--seed", "2", "a b"], ["--weights", listed, "--seed", "2", "a b"]), (["--weights=x", "a"], ["--weights=x", "a"]), (["--version"], ["--version"]):
             self.assertEqual(common.call([self.path("bin", "seek"), *words]).stdout.splitlines(), wanted)
+        shown = common.call([self.path("bin", "seek"), "--help"]).stdout
+        self.assertTrue(shown.startswith("--help\n\nOptions of the launcher"), shown)
 
     def test_the_module_finds_the_programs_beside_it(self):
         self.called()
@@ -334,9 +336,13 @@ class Installed(unittest.TestCase):
     @unittest.skipUnless(shutil.which("dpkg-deb"), "there is no dpkg-deb")
     def test_a_debian_package(self):
         script = os.path.join(common.TOOLS, "package.sh")
-        done = common.call([script, self.folder], env={**os.environ, "KNOT": self.program, "SEEK": self.program})
+        made = {**os.environ, "KNOT": self.program, "SEEK": self.program, "DEBFULLNAME": "A Maker", "DEBEMAIL": "maker@debian.org"}
+        done = common.call([script, self.folder], env=made)
         self.assertEqual((done.returncode, done.stderr), (0, ""))
         package = done.stdout.strip()
+        if shutil.which("lintian"):
+            told = common.call(["lintian", package]).stdout
+            self.assertEqual([line for line in told.splitlines() if line.startswith("E:")], [])
         files = re.findall(r"(?m)^(\S+) root/root +\d+ \S+ \S+ \.(/.*[^/])$", common.call(["dpkg-deb", "-c", package]).stdout)
         modes = {path: mode for mode, path in files}
         self.assertEqual((modes["/usr/bin/knot"], modes["/usr/bin/seek"], modes["/usr/share/man/man1/knot.1.gz"]), ("-rwxr-xr-x", "-rwxr-xr-x", "-rw-r--r--"))
@@ -347,6 +353,8 @@ class Installed(unittest.TestCase):
         self.assertNotIn("localhost", subprocess.run(["dpkg-deb", "-f", package, "Maintainer"], capture_output=True, text=True, check=True).stdout)
         said = subprocess.run(["dpkg-deb", "-f", package, "Package", "Version"], capture_output=True, text=True, check=True).stdout
         self.assertEqual(said, f"Package: knot-workbench\nVersion: {common.call([os.path.join(common.ROOT, 'knot'), '--version']).stdout.split()[1]}\n")
+        told = common.call([script, self.folder], env={**made, "DEBEMAIL": "maker@localhost"}).stderr
+        self.assertIn("warning: the package names A Maker <maker@localhost>, to whom nobody can write", told)
         self.assertEqual(common.call([script, "/no/such/folder"]).returncode, 2)
         self.assertEqual(common.call([script, "--help"]).stdout.splitlines()[0][:22], "Makes a Debian package")
 

@@ -45,7 +45,7 @@ class TableStreamsTest(StreamsTest):
         for streams in ("2>&-", "2>/dev/full"):
             with self.subTest(streams):
                 status, out, _ = self.shell([FROM_TABLE, path, self.out, "--diagram", "word"], streams)
-                self.assertEqual((status, out), (1, f"2 rows: 1 diagrams in {self.out}, 1 not to be had\n"))
+                self.assertEqual((status, out), (1, f"2 rows: 1 diagrams in {self.out}, 1 couldn't be made\n"))
 
     def test_all_closed(self):
         path = self.table("name,word\na,{1}\n")

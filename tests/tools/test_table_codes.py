@@ -96,7 +96,7 @@ class DrawnTest(TableTest):
     def test_a_bad_code_is_one_bad_row(self):
         path = self.table("name|pd_notation\na|{{1,5,2,4},{3,1,4,6},{5,3,6,2}}\nb|{{1,2,3,4}}\nc|{1,1,1}\n")
         status, out, errors = self.call(path, self.out, "--diagram", "pd_notation")
-        self.assertEqual((status, out, self.files()), (1, f"3 rows: 1 diagrams in {self.out}, 2 not to be had\n", ["a.txt"]))
+        self.assertEqual((status, out, self.files()), (1, f"3 rows: 1 diagrams in {self.out}, 2 couldn't be made\n", ["a.txt"]))
         self.assertEqual(errors.splitlines(), [f"{path}:3: b: the edge 1 doesn't stand exactly twice", f"{path}:4: c: row 1 of a PD code has four numbers, and not 1"])
 
     def test_a_program_that_cannot_be_run_ends_it(self):
@@ -214,7 +214,7 @@ class MissingLettersTest(TableTest):
     def test_letters_that_are_missing_get_a_warning(self):
         path = self.table("name|word|strands\na|{1,-4}|\nb|{1,1}|3\nc|{2,2,2}|\nd|{1,2}|\ne|{}|4\n")
         status, out, errors = self.call(path, self.out, "--diagram", "word", "--strands", "strands")
-        self.assertEqual((status, out), (0, f"5 rows: 5 diagrams in {self.out}, 0 not to be had\n"))
+        self.assertEqual((status, out), (0, f"5 rows: 5 diagrams in {self.out}, 0 couldn't be made\n"))
         self.assertEqual(errors.splitlines(), [
             f"{path}:2: a: warning: letters 2, 3 are missing, so the closure is split",
             f"{path}:3: b: warning: letter 2 is missing, so the closure is split",

@@ -17,7 +17,8 @@ from reader.items import Quandle as ReadQuandle
 from reader.weights import counts_by_weight
 
 # The numbers of colours and the moduli: the conjugates of a matrix are as many as the matrices of determinant 1, q³ − q, by its torus.
-SIZES = {"T5": (12, 5), "T7": (24, 7), "M20a": (20, 3), "M20b": (20, 6), "M30": (30, 4), "M42a": (42, 8), "M42b": (42, 8), "M42c": (42, 8), "M56b": (56, 6)}
+SIZES = {"T5": (12, 5), "T7": (24, 7), "M20a": (20, 3), "M20b": (20, 6), "M30": (30, 4), "M42a": (42, 8), "M42b": (42, 8), "M42c": (42, 8), "M56b": (56, 6),
+         "M56c": (56, 9), "M72": (72, 7), "T11": (60, 11)}
 # Knots of the table that are their own mirror images, perhaps run through backwards.
 AMPHICHIRAL = ("4_1", "6_3", "8_9", "8_17", "8_18")
 
@@ -149,7 +150,7 @@ class Weights(unittest.TestCase):
     def test_mirror_images_by_the_larger_tables(self):
         tables = {name: read_table(common.read("quandles", "larger", f"{name}.txt")) for name in weight_tables.LARGER}
         knots = dict(quandles.read_knots(common.KNOTS))
-        for knot, wanted in (("7_1", set(tables)), ("7_5", {"M42a"}), ("8_14", {"M42c"})):
+        for knot, wanted in (("7_1", {"M42a", "M42b", "M42c", "M56b", "M56c"}), ("7_5", {"M42a"}), ("8_14", {"M42c"})):
             braid = knots[knot]
             self.assertEqual({name for name, found in tables.items() if weights(braid, *found) != weights(diagrams.mirror_braid(braid), *found)}, wanted, knot)
 
