@@ -1,5 +1,5 @@
 #!/usr/bin/env python3
-"""Runs what tries the built programs and the scripts, side by side: some three minutes on four processors. It proves and builds nothing.
+"""Runs what tries the built programs and the scripts, side by side: some four minutes on four processors. It proves and builds nothing.
 
     tests/quick.sh
     KNOT=PATH SEEK=PATH tests/quick.sh     with these programs in place of those of the tree

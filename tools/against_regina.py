@@ -10,7 +10,7 @@ The diagrams are those of examples/, closures of random words, and random grids.
 - the closure of the word that `braid` writes has the HOMFLY polynomial, and the number of components, of the diagram's own code.
 
 Nothing of this is proved: no theorem says that the closure of the word is the diagram's link. Prints each difference, and the counts;
-ends with 1 where there is a difference. Run with Regina 7.3 (Debian's package regina-normal). KNOT names another program."""
+ends with 1 if there is a difference. Run with Regina 7.3 (Debian's package regina-normal). KNOT names another program."""
 import argparse
 import os
 import random

@@ -1,20 +1,20 @@
 #!/usr/bin/env python3
-"""Finds 2-cocycles of quandles mod 2, 3, 4 and 5, and knots that the weights of colourings tell apart.
+"""Finds 2-cocycles of quandles mod 2, 3, 4 and 5, and knots that the weights of colourings distinguish.
 
     tools/cocycles.py find [PROBLEM] [LIST ...] finds, for two diagrams, the first cocycle by which their weights differ, and writes the
-                                                input of the job `weights` that tells them apart
+                                                input of the job `weights` that shows it
 
     tools/cocycles.py classes LIST ...          prints, for each quandle of the files, cocycles that give all others by sums,
                                                 multiples and coboundaries, as items `quandle` and `weight`
-    tools/cocycles.py search KNOTS LIST ...     lists the pairs of the table, mirror images too, that no quandle of the files tells
-                                                apart by its number of colourings and that some cocycle does by weights
+    tools/cocycles.py search KNOTS LIST ...     lists the pairs of the table, mirror images too, that no quandle of the files distinguishes
+                                                by its number of colourings and that some cocycle does by weights
                                                 (--write FOLDER writes an input of `weights` for each)
     tools/cocycles.py weights [PROBLEM] LIST .. prints the weights of two diagrams by each cocycle that `classes` prints
 
-PROBLEM is a file that begins with two diagrams, or standard input where no file begins with a diagram. A LIST has quandles as in quandles/; for `find` and `weights` a cocycle may stand behind a quandle, as in the ready tables of
-quandles/weights/. `find` takes the cheapest first: those that leave the fewest colourings to try, and few equations where the cocycles
-have to be found. Without a LIST it takes the ready tables, and all connected quandles up to order 16, or that of --largest. It says what it tried,
-and ends with 1 where nothing tells the two apart.
+PROBLEM is a file that begins with two diagrams, or standard input if no file begins with a diagram. A LIST has quandles as in quandles/; for
+`find` and `weights` a cocycle may follow a quandle, as in the ready tables of quandles/weights/. `find` tries the cheapest first: those that
+leave the fewest colourings to try, and few equations if the cocycles have to be found. Without a LIST it uses the ready tables, and all
+connected quandles up to order 16, or that of --largest. It says what it tried, and ends with 1 if nothing distinguishes the two.
 
 KNOTS is a CSV file with columns `name` and `braid`, or those of --name and --braid. A cocycle φ mod k has φ(x, x) = 0 and
 φ(x, y) + φ(x ▷ y, z) = φ(x, z) + φ(x ▷ z, y ▷ z); a coboundary is f(x) - f(x ▷ y), by which all weights are 0.
@@ -354,8 +354,8 @@ def main():
     parser = argparse.ArgumentParser(description=__doc__, formatter_class=argparse.RawDescriptionHelpFormatter)
     jobs = parser.add_subparsers(dest="job", required=True, metavar="JOB")
     common = argparse.ArgumentParser(add_help=False)
-    common.add_argument("--moduli", type=moduli_of, default=list(MODULI), help="powers of primes, parted by commas; 2,3,4,5 where none are given")
-    given = (("find", "the first cocycle that tells two diagrams apart"), ("classes", "print cocycles"), ("search", "search a table of knots"),
+    common.add_argument("--moduli", type=moduli_of, default=list(MODULI), help="powers of primes, separated by commas; 2,3,4,5 if none are given")
+    given = (("find", "the first cocycle that distinguishes two diagrams"), ("classes", "print cocycles"), ("search", "search a table of knots"),
              ("weights", "the weights of two diagrams"))
     for name, said in given:
         job = jobs.add_parser(name, help=said, parents=[common])
@@ -364,8 +364,8 @@ def main():
             job.add_argument("--write", metavar="FOLDER", help="write an input of `weights` for each pair found into this folder")
             quandles.add_columns(job)
         if name == "find":
-            job.add_argument("--largest", type=int, default=16, metavar="N", help="the largest order of connected quandles, where no LIST is given, to 32 (16)")
-            job.add_argument("--out", metavar="FILE", help="where the input of `weights` goes; standard output where none is given")
+            job.add_argument("--largest", type=int, default=16, metavar="N", help="the largest order of connected quandles, if no LIST is given, to 32 (16)")
+            job.add_argument("--out", metavar="FILE", help="where the input of `weights` goes; standard output if none is given")
         job.add_argument("lists", nargs="*" if name == "find" else "+", metavar="FILE" if name in ("find", "weights") else "LIST",
                          help="the problem, else standard input; and lists of quandles" if name in ("find", "weights") else "lists of quandles")
     words = parser.parse_args()

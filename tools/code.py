@@ -6,8 +6,8 @@
     tools/code.py --as gauss --signs "1 1 1" '1 -2 3 -1 2 -3'
     tools/code.py --grid 'DT:[(4,6,8,2)]'                        the grid itself, by ./knot grid
 
-CODE is a text as the other program prints it, or the path of a file with one; standard input is read where none is given. It becomes a planar
-diagram code as ./knot grid and ./seek --pd read it, with a comment that says how it was had. Taken are, in brackets of any kind:
+CODE is a text as the other program prints it, or the path of a file with one; standard input is read if none is given. It becomes a planar
+diagram code as ./knot grid and ./seek --pd read it, with a comment that says how it was made. These are accepted, in brackets of any kind:
 
 PD     PD[X[4,2,5,1], ..] of KnotTheory, [[4,2,5,1], ..] of KnotInfo, SnapPy and Regina; Sage lists edges the other way round, see --sage
 DT     KnotInfo and KnotTheory: [4,6,2], DT[4,6,2], DTCode[{6,8},{2,4}] with a list for each component
@@ -16,9 +16,9 @@ DT     KnotInfo and KnotTheory: [4,6,2], DT[4,6,2], DTCode[{6,8},{2,4}] with a l
 Gauss  KnotInfo, KnotTheory and Regina: {-1,2,-3,1,-2,3}, where a negative number is a passage under; a list for each component of a link
        Sage: [[[-1,2,-3,1,-2,3]],[1,1,1]], and O1+U2+O3+U1+O2+U3+, where the crossings have signs
 
-A list without a word tells by its numbers what it is; --as says it. The signs of a DT code mean the same to KnotInfo and SnapPy but for the
-mirror image, which neither code decides: a DT code, and a Gauss code without signs of crossings, are codes of the mirror image too. SnapPy's
-flips behind a DT code (.001, or a list of 0 and 1) would decide it, and are not read.
+What a list without a word is follows from its numbers, or --as says it. The signs of a DT code mean the same to KnotInfo and SnapPy except
+for the mirror image, which neither decides: a DT code, and a Gauss code without signs of crossings, are codes of the mirror image too.
+SnapPy's flips after a DT code (.001, or a list of 0 and 1) would decide it, and are not read.
 """
 import argparse
 import os
@@ -70,7 +70,7 @@ def remark(found):
 
 def main():
     parser = argparse.ArgumentParser(prog="code.py", description=__doc__, formatter_class=argparse.RawDescriptionHelpFormatter)
-    parser.add_argument("code", nargs="?", metavar="CODE", help="the code, or a file with it; standard input where none is given")
+    parser.add_argument("code", nargs="?", metavar="CODE", help="the code, or a file with it; standard input if none is given")
     parser.add_argument("--as", dest="kind", choices=sorted(KINDS), help="what the code is")
     parser.add_argument("--signs", metavar="SIGNS", help='the sign of each crossing of a Gauss code, in the order of their numbers, as "1 -1 1"')
     parser.add_argument("--sage", action="store_true", help="rows of a PD code as Sage lists them, clockwise")

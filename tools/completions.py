@@ -4,7 +4,8 @@
     tools/completions.py FOLDER          writes knot.bash, seek.bash, _knot, _seek, knot.fish and seek.fish into the folder
     tools/completions.py --print FILE    writes one of them to standard output
 
-Jobs and options are those of `./knot --help` and of examples/seek/help.out, so a new one is completed as soon as the help has it.
+Jobs and options are those of `./knot --help`, of examples/seek/help.out and of what the launcher adds to it, so a new one is completed as soon as
+the help has it.
 """
 import argparse
 import os
@@ -17,7 +18,7 @@ from lib import calls
 # A word to be completed and what it does. `value` is what an option takes: None, "file", or "words" where nothing can be proposed.
 Word = namedtuple("Word", "name said value")
 
-FILES = ("FILE",)
+FILES = ("FILE", "DIR")
 
 
 def knot_words():
@@ -32,7 +33,8 @@ def knot_words():
 def seek_words():
     """The options of seek."""
     shown = calls.text_of(os.path.join(man.TOP, "examples", "seek", "help.out"))
-    return [option_word(tag, said) for tag, said in man.options_of(man.help_part(shown, "Options:"))]
+    further = man.help_part(man.further_help(), "Options of the launcher")
+    return [option_word(tag, said) for tag, said in man.options_of(man.help_part(shown, "Options:") + further)]
 
 
 def option_word(tag, said):

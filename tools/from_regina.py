@@ -5,7 +5,7 @@
     tools/from_regina.py 'ExampleLink.trefoil()' 'ExampleLink.trefoilLeft()'           both to ./seek
     tools/from_regina.py 'Link("dabcabcv-")' 'ExampleLink.trefoil()' -- --seed 2
 
-Regina lists the rows as they stand. Run with Regina 7.3 (Debian's package regina-normal, /usr/bin/python3).
+Regina lists the rows as they are. Run with Regina 7.3 (Debian's package regina-normal, /usr/bin/python3).
 """
 from lib import codes_in
 

@@ -6,7 +6,7 @@
     sage --python tools/from_sage.py 'KnotInfo.K8_17.link()' 'KnotInfo.K8_17.link().mirror_image()' -- --seed 2
 
 Sage lists the edges of a crossing the other way round: [i, l, k, j] for X[i,j,k,l]. This is by its documentation, as tools/to_sage.py found
-it with Sage 9.5; this script was not run with Sage, which wasn't to be had.
+it with Sage 9.5; this script was never run with Sage.
 """
 from lib import codes_in
 

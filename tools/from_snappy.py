@@ -5,7 +5,7 @@
     tools/from_snappy.py 'Link("8_17")' 'Link("DT: [(6,8,12,14,4,16,2,10)]")'          both to ./seek
     tools/from_snappy.py 'Link("K8a1")' 'Link("8_18")' -- --seed 2
 
-By its documentation SnapPy lists the rows as they stand, with edges from 0. This was not run with SnapPy, which wasn't to be had.
+By its documentation SnapPy lists the rows as they are, with edges from 0. This was never run with SnapPy.
 """
 from lib import codes_in
 

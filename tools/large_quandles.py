@@ -1,16 +1,16 @@
 #!/usr/bin/env python3
-"""Makes quandles of 56, 84 and 120 colours. By numbers of colourings they tell apart what no polynomial does, as a knot and its reverse.
+"""Makes quandles of 56, 84 and 120 colours. By numbers of colourings they distinguish what no polynomial does, as a knot and its reverse.
 
     tools/large_quandles.py tables FOLDER        writes a file for each, NAME.txt
     tools/large_quandles.py numbers BRAID ..     how many colourings the closures of braids have by each; BRAID is as "3 1 -2 1 -2"
 
-`seek --weights` takes the files, and `check` rules on evidence with them; quandles/larger/ has them ready. `numbers` counts in plain Python,
+`seek --weights` takes the files, and `check` accepts evidence with them; quandles/larger/ has them ready. `numbers` counts in plain Python,
 and nothing of it is proved. It tries the order to the power of the strands but one, so a braid of four strands takes a minute or more.
 
 The colours are the elements of a conjugacy class of a group of permutations, in the order of their lists of images, and x ▷ y = y⁻¹ x y. The
 groups are PSL(2,7), the maps x ↦ (a x + b) / (c x + d) mod 7 with a d − b c = 1; PΓL(2,8), those over the field of 8 elements followed by
 powers of the Frobenius map x ↦ x²; and AΓL(1,16), the maps x ↦ a x + b of the field of 16 elements followed by such powers. A point is a number
-whose binary digits are its coefficients, that of 1 the lowest, with t³ = t + 1 and t⁴ = t + 1; 7 and 8 stand for infinity. Those whose names
+whose binary digits are its coefficients, that of 1 the lowest, with t³ = t + 1 and t⁴ = t + 1; 7 and 8 mean infinity. Those whose names
 end with a and b are the duals of each other. Each table is tested before it is written: it is a quandle, and connected.
 """
 import argparse

@@ -149,6 +149,11 @@ def help_of_knot():
     return done.stdout
 
 
+def further_help():
+    """What the launcher adds to the help of seek."""
+    return re.search(r"(?ms)^further_help\(\) \{\n    cat <<'END'\n(.*?)^END$", document("launch"))[1]
+
+
 def help_part(text, first):
     """The indented lines of a help behind a line that begins so, up to the next line that isn't indented."""
     found = re.search(rf"(?m)^{re.escape(first)}.*\n((?: .*\n|\n(?= ))*)", text)
@@ -190,7 +195,7 @@ def checker_page():
     about = section(document("docs", "GUIDE.md"), "The separate checker").strip().split("\n\n")[0].replace("`knot_check`", "`knot-check`")
     statuses = table_of(document("README.md"), "status")
     text = head("knot-check", 1, "knot and seek")
-    text += ".SH NAME\nknot\\-check \\- rules on evidence that two knots or links are the same, or differ\n.SH SYNOPSIS\n\\fBknot\\-check\\fR < INPUT\n"
+    text += ".SH NAME\nknot\\-check \\- checks evidence that two knots or links are the same, or differ\n.SH SYNOPSIS\n\\fBknot\\-check\\fR < INPUT\n"
     text += ".SH DESCRIPTION\n" + roff(about) + ".SH EXIT STATUS\n" + roff(statuses_of_checker(statuses))
     return text + ".SH SEE ALSO\n.BR knot\\-formats (5)\n"
 
@@ -207,7 +212,7 @@ def seek_page():
     text = head("seek", 1, "knot and seek")
     text += f".SH NAME\nseek \\- seeks evidence that two knots or links are the same, or differ\n.SH SYNOPSIS\n\\fBseek\\fR {escaped(usage)}\n"
     text += f".SH DESCRIPTION\n{inline(shown.splitlines()[0])}\n" + roff(paragraphs(help_after(shown, "A PROBLEM is", "\nWhat is written")))
-    text += ".SH OPTIONS\n" + tagged(options_of(help_part(shown, "Options:")))
+    text += ".SH OPTIONS\n" + tagged(options_of(help_part(shown, "Options:")) + options_of(help_part(further_help(), "Options of the launcher")))
     text += ".SH EXIT STATUS\n" + roff(paragraphs(help_after(shown, "What is written", None)))
     text += ".SH EXAMPLES\n" + roff(guide)
     return text + ".SH SEE ALSO\n.BR knot (1),\n.BR knot\\-formats (5)\n"

@@ -4,10 +4,10 @@
     tools/quandles.py tables [FOLDER]         writes the tables, a file for each order
     tools/quandles.py lists [FOLDER]          writes the ready lists, put in order by the table of knots in the folder
     tools/quandles.py count                   how many were found of each order, and how many there are
-    tools/quandles.py pairs KNOTS LIST ...    how many pairs of a table of knots the built-in list and each list tell apart
+    tools/quandles.py pairs KNOTS LIST ...    how many pairs of a table of knots the built-in list and each list distinguish
 
-FOLDER is quandles/ beside this folder where none is given. KNOTS is a CSV file with columns `name` and `braid`, or those of --name and --braid.
-A quandle is connected where its translations lead from each colour to each other one.
+FOLDER is quandles/ beside this folder if none is given. KNOTS is a CSV file with columns `name` and `braid`, or those of --name and --braid.
+A quandle is connected if its translations lead from each colour to each other one.
 """
 import argparse
 import csv
@@ -182,7 +182,7 @@ def main():
     for name, said in (("tables", "write the tables"), ("lists", "write the ready lists")):
         jobs.add_parser(name, help=said).add_argument("folder", nargs="?", default=beside)
     jobs.add_parser("count", help="how many were found")
-    pairs = jobs.add_parser("pairs", help="how many pairs each list tells apart")
+    pairs = jobs.add_parser("pairs", help="how many pairs each list distinguishes")
     pairs.add_argument("knots", metavar="KNOTS")
     pairs.add_argument("lists", nargs="*", metavar="LIST")
     add_columns(pairs)

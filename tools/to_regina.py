@@ -5,7 +5,7 @@
     ./knot code < diagram.txt | tools/to_regina.py --print      the call alone, for regina-python
     tools/to_regina.py [--print] CODE ...                       files, also those of tools/batch.py --job code
 
-Regina takes the rows as they stand. Run with Regina 7.3 (Debian's package regina-normal, /usr/bin/python3).
+Regina takes the rows as they are. Run with Regina 7.3 (Debian's package regina-normal, /usr/bin/python3).
 """
 from lib import crossing_codes
 

@@ -5,7 +5,7 @@
     ./knot code < diagram.txt | tools/to_snappy.py --print      the call alone, for SnapPy's prompt
     tools/to_snappy.py [--print] CODE ...                       files, also those of tools/batch.py --job code
 
-By its documentation SnapPy takes the rows as they stand. This was not run with SnapPy, which wasn't to be had.
+By its documentation SnapPy takes the rows as they are. This was never run with SnapPy.
 """
 from lib import crossing_codes
 

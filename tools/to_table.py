@@ -1,5 +1,5 @@
 #!/usr/bin/env python3
-"""Puts results back into the table that inputs were made of: its columns as they are, and those of the results behind them.
+"""Puts results back into the table that inputs were made of: its columns as they are, followed by those of the results.
 
     tools/to_table.py examples/table/knots.csv table/answers/summary.csv > answered.csv     verdict, evidence, stage, check
     tools/to_table.py knots.csv census/classes.csv --out sorted.csv                         class, as, known, check
@@ -7,7 +7,7 @@
 
 TABLE is the one that tools/from_table.py read, and RESULTS what tools/batch.py, census.py or identify.py wrote of its rows. A result belongs to
 the row whose name made its file's name, or to the row of its own name. Rows without a result have empty fields, and are counted on standard
-error. Lines that aren't rows of the table, as empty ones, are left out. Status 1 where a result belongs to no row: it is named.
+error. Lines that aren't rows of the table, as empty ones, are left out. A result that belongs to no row is named, and the status is 1.
 """
 import argparse
 import csv
@@ -82,9 +82,9 @@ def main():
     parser.add_argument("results", metavar="RESULTS", help="summary.csv, classes.csv, or another table with the rows' names")
     parser.add_argument("--name", default="name", metavar="COLUMN", help="the table's column of names (default: name)")
     parser.add_argument("--result-name", default="name", metavar="COLUMN", help="the results' column of names (default: name)")
-    parser.add_argument("--columns", metavar="NAMES", help=f"the columns of RESULTS that are taken, parted by commas (default: those of {', '.join(TAKEN)})")
-    parser.add_argument("--delimiter", metavar="MARK", help="what parts the fields of TABLE (default: by its name and first line)")
-    parser.add_argument("--out", metavar="FILE", help="where the table goes; standard output where none is given")
+    parser.add_argument("--columns", metavar="NAMES", help=f"the columns of RESULTS that are taken, separated by commas (default: those of {', '.join(TAKEN)})")
+    parser.add_argument("--delimiter", metavar="MARK", help="what separates the fields of TABLE (default: by its name and first line)")
+    parser.add_argument("--out", metavar="FILE", help="where the table goes; standard output if none is given")
     options = parser.parse_args()
     text, without, strange = joined(options)
     calls.put(options.out, text)

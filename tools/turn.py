@@ -5,8 +5,8 @@
     tools/turn.py --reverse [INPUT]
     tools/turn.py --mirror --reverse [INPUT]
 
-INPUT is a file with one diagram, a grid or a braid, as ./knot reads it, or standard input where none is given. What comes of it goes to
-standard output: a grid of a grid, and a braid of a braid.
+INPUT is a file with one diagram, a grid or a braid, as ./knot reads it, or standard input if none is given. Standard output gets a
+grid for a grid, and a braid for a braid.
 
 The mirror image of a grid of n rows has the marks of row r in row n − 1 − r: the picture turned upside down, in which columns pass over
 rows as before and each crossing has the other sign. The mirror image of a braid has all letters negated. Of a grid run through backwards
@@ -24,7 +24,7 @@ def main():
     parser = argparse.ArgumentParser(description=__doc__, formatter_class=argparse.RawDescriptionHelpFormatter)
     parser.add_argument("--mirror", action="store_true", help="the mirror image")
     parser.add_argument("--reverse", action="store_true", help="run through backwards")
-    parser.add_argument("input", nargs="?", help="a file with one diagram; standard input where none is given")
+    parser.add_argument("input", nargs="?", help="a file with one diagram; standard input if none is given")
     words = parser.parse_args()
     if not (words.mirror or words.reverse):
         parser.error("--mirror, --reverse or both are due")

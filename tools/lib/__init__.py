@@ -6,13 +6,14 @@ crossing_codes  the three programs that take what `./knot code` prints into othe
 connected       connected quandles, by all constructions; on groups, fields, extensions, cohomology and linear
 batch_call      the call of batch.py; on batch_stages, batch_answers, batch_programs, batch_runs, batch_parallel and batch_summary
 table_call      the call of from_table.py; on table_rows, table_entries and table_inputs
-census_call     the call of census.py; on census_plan, census_rounds, census_steps, census_classes, census_results and census_page
+census_call     the call of census.py; on census_plan, census_steps, census_results and census_page, and what tabulate_call is on
 identify_call   the call of identify.py; on identify_inputs and identify_programs
-smaller         braid words and grids made smaller by random changes
+smaller         braid words made shorter by random changes
 whole_files     files that are there whole or not at all
 pieces_call     the call of pieces.py; on pieces_cut, pieces_run, pieces_answers and pieces_join
 tabulate_call   the call of tabulate.py; on table_given (table_shadows, table_choices), table_sorting (table_pool, table_worker, table_reduced,
-                table_keys, table_book, table_joins), table_telling (table_standing, table_apart, table_certificate), table_written and table_page
+                table_keys, table_linear, table_book, table_joins), table_telling (table_standing, table_apart, table_certificate), table_written and
+                table_page
 
 Diagrams, quandles, moves, codes and tables stand in python/knot_workbench, which is found from here on.
 """

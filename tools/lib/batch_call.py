@@ -21,11 +21,22 @@ ABOUT = "Runs a folder of problems through knot and seek, stage by stage, and ch
 EPILOG = """\
 PROBLEMS has the files NAME.txt. In ANSWERS are written
   answers/NAME.txt       how it was tried, in comment lines, and what the program wrote last
-  certificates/NAME.txt  the problem with its verdict behind it, where there is evidence
+  certificates/NAME.txt  the problem followed by its verdict, if there is evidence
   rulings/NAME.txt       what knot check says of this certificate
-  summary.csv            name, first, second, verdict, evidence, stage, seconds, check
-  jobs.log               the log of GNU parallel, where it was used
-Called again, it goes on where it stopped; a problem that has changed is run anew. docs/BATCH.md tells the rest.
+  summary.csv            a line for each problem
+  jobs.log               the log of GNU parallel, if it was used
+Called again, it goes on where it stopped; a problem that has changed is run anew. docs/BATCH.md has more.
+
+columns of the summary:
+  name           the problem's file without .txt; 3_1 comes before 10_1
+  first, second  the names of the diagrams, by the comments '# first: NAME' and '# second: NAME', or '# name: NAME' for one alone
+  verdict        equal, different or unknown; refused, if the input is malformed or over a limit; none, without an answer; for
+                 other jobs different, alike or wide, accepted or rejected, or answered
+  evidence       the number of moves, the quandle (with its table, if it has no name), or the numbers of both; for unknown the
+                 rest of its line, or 'nothing found' if seek was asked last; otherwise the cause
+  stage          the stage that gave this verdict; for unknown the last one that added no quandles of a +FILE
+  seconds        the time of all tries together
+  check          what the checker said; none, if it gave no answer; empty without a certificate
 
 examples:
   tools/batch.py examples/batch/problems answers
@@ -37,8 +48,8 @@ examples:
 
 exit status:
   0  every problem has an answer, and every certificate was accepted
-  1  as 0, but that some ended as unknown; with --part that is 0 too
-  2  the words are no call, a folder or a file of stages can't be read, or a program doesn't run; nothing was done
+  1  as 0, but some ended as unknown; with --part that is 0 too
+  2  an argument is wrong, a folder or a file of stages can't be read, or a program doesn't run; nothing was done
   3  a problem has no answer, can't be read or was refused, a certificate was not accepted, or a file or standard output
      can't be written; each is named on standard error
   70  the script itself failed, with a traceback on standard error
@@ -51,9 +62,9 @@ def parser():
     words = WordsParser(prog="batch.py", description=ABOUT, epilog=EPILOG, allow_abbrev=False,
                         formatter_class=argparse.RawDescriptionHelpFormatter)
     words.add_argument("problems", metavar="PROBLEMS", help="a folder of files NAME.txt; with --stage, one such file")
-    words.add_argument("answers", metavar="ANSWERS", help="the folder of what is made; it is made where it is missing")
+    words.add_argument("answers", metavar="ANSWERS", help="the folder of what is made; it is made if it is missing")
     words.add_argument("--job", metavar="JOB",
-                       help="decide (default, or where --program is called seek, seek), seek, or any other job of knot; '' for a program "
+                       help="decide (default; seek, if --program is called so), seek, or any other job of knot; '' for a program "
                             "that takes no name of a job")
     words.add_argument("--program", metavar="FILE",
                        help="the program of the job (default: what the variable KNOT names, else knot at the top of the tree; for the job "
@@ -61,16 +72,16 @@ def parser():
     words.add_argument("--seeker", metavar="FILE", help="the seek of the stages that ask it (default: what SEEK names, else that of the tree)")
     words.add_argument("--checker", metavar="FILE", help="the knot that checks the certificates (default: as KNOT or the tree has it)")
     words.add_argument("--stages", metavar="FILE", help="the stages (default: stages.txt beside this script for decide, else one without options)")
-    words.add_argument("--no-seek", action="store_true", help="leave out the stages that ask seek, as where it is not built")
+    words.add_argument("--no-seek", action="store_true", help="leave out the stages that ask seek, if that isn't built")
     words.add_argument("--processes", type=int, metavar="N",
                        help="how many at once (default: as many as there are processors); with --hosts the file says it")
     words.add_argument("--with", dest="runs", choices=("auto", "parallel", "python"), default="auto",
-                       help="GNU parallel, or this script's own processes (default: its own, which cost a tenth; with --hosts GNU parallel)")
+                       help="GNU parallel, or this script's own processes (default: its own, which cost a fifteenth; with --hosts GNU parallel)")
     words.add_argument("--hosts", metavar="FILE", help="GNU parallel's file of ssh logins; the hosts must see the same folders")
     words.add_argument("--part", metavar="K/N", help="only part K of N, as in an array job; no summary, nothing is checked")
     words.add_argument("--again", action="store_true", help="forget the answers that are there")
-    words.add_argument("--stage", metavar="NAME", help="run one problem in this stage, whatever is kept, and no more; or a whole stage, in the "
-                                                       "word by which GNU parallel gets it")
+    words.add_argument("--stage", metavar="NAME", help="run one problem in this stage, ignoring kept answers (internally also an encoded stage, "
+                                                       "for GNU parallel)")
     words.add_argument("--trial", action="store_true", help="with --stage, only try whether a folder's problems can be run in this stage here, and print 'fit'")
     return words
 

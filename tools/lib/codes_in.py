@@ -10,9 +10,9 @@ from . import calls, pd_codes
 
 TREE = os.path.dirname(os.path.dirname(os.path.dirname(os.path.realpath(__file__))))
 
-ABOUT = """One expression: its code is written as `./knot grid` reads it. Two: `./seek` gets both, with the words behind `--`, and its exit status
-is the script's. An expression is Python, with all names of the module, and stands for a link. Status 1 where it can't be had, 3 where the
-module can't."""
+ABOUT = """One expression: its code is written as `./knot grid` reads it. Two: `./seek` gets both, with the words after `--`, and its exit status
+is the script's. An expression is Python, with all names of the module, and its value is a link. Status 1 if there is no link, 3 if there is
+no module."""
 
 
 def values_of(module, expressions):

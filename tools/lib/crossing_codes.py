@@ -7,9 +7,9 @@ from . import calls
 
 __all__ = ("BadCode", "Code", "LOST", "all_over", "kinked", "program", "read_code", "signs")
 
-LOST = """What the rows do not hold: components without a crossing, which are only counted in the line `loops`, and the direction of a
-component that passes over at each of its crossings. With --kinks each of these gets a positive kink, a crossing with itself: then the rows
-hold all there is, and the writhe grows by one for each kink."""
+LOST = """The rows do not hold components without a crossing, which are only counted in the line `loops`, nor the direction of a component
+that passes over at each of its crossings. With --kinks each of these gets a positive kink, a crossing with itself: then the rows hold all
+of the link, and the writhe grows by one for each kink."""
 
 
 def say_lost(code, named):
@@ -44,7 +44,7 @@ def program(name, doc, expression, built):
     """Runs one of the three programs: `expression(code)` is the call as text, `built(code)` makes the link and shows it."""
     def main():
         parser = argparse.ArgumentParser(description=f"{doc}\n{LOST}", formatter_class=argparse.RawDescriptionHelpFormatter)
-        parser.add_argument("input", nargs="*", help="what ./knot code printed, or tools/batch.py --job code wrote; standard input where none is given")
+        parser.add_argument("input", nargs="*", help="what ./knot code printed, or tools/batch.py --job code wrote; standard input if none is given")
         parser.add_argument("--kinks", action="store_true", help="put in loops, and directions, by kinks")
         parser.add_argument("--print", action="store_true", help="only write the call; needs no module")
         words = parser.parse_args()

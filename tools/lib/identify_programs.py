@@ -9,16 +9,16 @@ from knot_workbench.faults import NoProgram
 TOP = os.path.dirname(os.path.dirname(os.path.dirname(os.path.realpath(__file__))))
 
 
-def use_programs(knot=None, seek=None):
+def use_programs(knot=None, seek=None, uses=("knot", "seek")):
     """Has the module call these programs, those of KNOT and SEEK, or what the launchers of the tree have built, which is done first where it
-    is due. NoProgram where one can't be run."""
+    is due. `uses` names those that are needed. NoProgram where one can't be run."""
     given = {name: path or os.environ.get(name.upper()) or os.path.join(TOP, name) for name, path in (("knot", knot), ("seek", seek))}
     programs = Programs(Runner(), given["knot"], given["seek"], None)
     try:
-        programs.prepare(["knot", "seek"])
+        programs.prepare(uses)
     except BatchError as error:
         raise NoProgram(str(error)) from None
-    use(knot=programs.path("knot"), seek=programs.path("seek"))
+    use(**{name: programs.path(name) for name in uses})
 
 
 def add_program_words(words):

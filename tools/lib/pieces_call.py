@@ -16,7 +16,14 @@ ABOUT = "Cuts a long table of short problems into pieces that any queue of jobs 
 EPILOG = """\
 A line of a table is a name, a tab, and the lines of a problem with ' / ' between:
   3_1\tx 4 3 2 1 0 / o 2 1 0 4 3
-A line of the answers is the name, a tab, the exit status of the program, a tab, and its lines. docs/BATCH.md tells the rest.
+A line of the answers is the name, a tab, the exit status of the program, a tab, and its lines. docs/BATCH.md has more.
+
+In RUN are
+  job                what is asked, and the SHA-256 of the program, of each file and of each piece
+  files/             copies of the files that the arguments name
+  pieces/00017.txt   lines of the table
+  answers/00017.txt  their answers; the first lines have the checksums of what was asked, and the line #end at the end has the number of
+                     lines, and bytes and SHA-256 of all before
 
 examples:
   tools/pieces.py cut knots.txt run --each 400000 --job numbers +quandles/list-short.txt
@@ -29,8 +36,8 @@ examples:
 exit status:
   0  all was done; of left, no piece is left
   1  of left, some are
-  2  the words are no call, a table or a run is at fault, or a program or a file is another one than `cut` wrote down
-  3  of run, a piece has no answer; of join, again and alike, one is missing or at fault; of check, an answer is not what it is made anew, or
+  2  an argument is wrong, a table or a run is at fault, or a program or a file is not the one that `cut` recorded
+  3  of run, a piece has no answer; of join, again and alike, one is missing or at fault; of check, an answer made anew is another one, or
      a certificate is not accepted; a file or standard output can't be read or written. Each is named on standard error
   128 + N  stopped by signal N; called again, it goes on
 """
@@ -51,14 +58,14 @@ def parser():
     words = act("cut", "make a run of a table: its pieces, and what is asked of each line")
     words.add_argument("--each", type=count_of, required=True, metavar="N", help="how many lines a piece has")
     words.add_argument("--most", type=count_of, default=1000, metavar="N", help="how many pieces there may be (default: 1000, a usual limit of queues)")
-    words.add_argument("--keep", metavar="WORD,..", help="keep only lines of answers that begin with one of these words, where the status is 0")
+    words.add_argument("--keep", metavar="WORD,..", help="of answers with status 0 keep only the lines that begin with one of these words")
     words.add_argument("--job", nargs=argparse.REMAINDER, required=True, metavar="JOB",
-                       help="comes last: seek or a job of knot, and its words; +FILE puts the text of a file behind each problem")
+                       help="comes last: seek or a job of knot, and its words; +FILE appends the text of a file to each problem")
     words = act("run", "answer some pieces, each whole or not at all")
     words.add_argument("numbers", metavar="NUMBER", help="which: 17, or 3,17-19")
     processes_word(words)
     words = act("left", "print the pieces without a whole answer, as 3,17-19")
-    words.add_argument("--sums", action="store_true", help="read all answers and pieces through, and compare their sums")
+    words.add_argument("--sums", action="store_true", help="read all answers and pieces through, and compare their checksums")
     words.add_argument("--lines", action="store_true", help="print a number a line, as GNU parallel, HTCondor and xargs read them")
     for name, said in (("join", "write all answers in the order of the table"),
                        ("again", "write each problem with its verdict, as a table for the job check"),

@@ -1,14 +1,8 @@
-"""Diagrams made smaller by random changes: braid words of fewer letters and strands, and grids of fewer bottoms.
+"""Braid words made shorter by random changes. A shorter word is a proposal: nothing here shows that the closures are one link."""
+from lib.diagrams import Braid
 
-A shorter braid word is a proposal: nothing here shows that the closures are one link. Of a grid the moves are told that lead there.
-"""
-from lib.diagrams import Braid, bottoms
-from lib.moves import Illegal, made
+WORD_TURNS = 4000
 
-WORD_TURNS, GRID_TURNS = 4000, 2500
-
-
-# Braid words
 
 def cancelled(letters):
     """A word without letters beside their negatives, also round the end."""
@@ -60,28 +54,3 @@ def reduced(braid, dice, turns=WORD_TURNS):
             break
         strands, letters = shrunk(strands, cancelled(related(letters, dice)))
     return Braid(strands, tuple(letters))
-
-
-# Grids
-
-def lowered(grid, dice, turns=GRID_TURNS):
-    """Exchanges and shifts from a grid that lead to one of as few bottoms as random turns find."""
-    best, least, moves, kept = grid, bottoms(grid), [], []
-    here, count = grid, least
-    for _ in range(turns):
-        if least <= 2 or len(grid.xs) < 3:
-            break
-        which = dice.choice(("columns", "rows"))
-        move = ("shift", which, dice.randrange(1, len(grid.xs))) if dice.random() < 0.1 else ("exchange", which, dice.randrange(len(grid.xs) - 1))
-        try:
-            there = made(here, move)
-        except Illegal:
-            continue
-        after = bottoms(there)
-        if after > count and dice.random() > 0.1:
-            continue
-        here, count = there, after
-        moves.append(move)
-        if count < least:
-            best, least, kept = here, count, list(moves)
-    return kept, best
