@@ -45,7 +45,7 @@ none_lowest test n e k lt =
     sym (ap test (get_or-range_with_len 0 n k 0 lt ∙ zero-add k)) ∙ fails_before_first test (range_with_len 0 n) k 0 (omega (arith, size, past, lt))
 
 -- a row that is not repeated differs from those before it
-earlier : (rows : List ℕ) (b c : ℕ) → c < length rows → is_repeated rows c ≡ false → b < c → get_or rows b 0 ≢ get_or rows c 0
+pub earlier : (rows : List ℕ) (b c : ℕ) → c < length rows → is_repeated rows c ≡ false → b < c → get_or rows b 0 ≢ get_or rows c 0
 earlier rows b c lt none low e =
     let at : get_or (take c rows) b 0 ≡ get_or rows b 0 = get_or-take c rows b 0 low in
     let found =

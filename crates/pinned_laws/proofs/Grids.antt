@@ -1,9 +1,9 @@
 -- The first fault of two lists of rows by column.
 use Rattle.std.proofs.Common.{◌≡◌, ◌≢◌, ◌<◌, ◌≤◌, ◌∙◌, ◌==◌, ◌||◌, ◌&&◌, inl, inr, ℕ, List, Bool, true, false, not, Option, Some, None, length, get_or, take, slice_index, nat_le, zero, suc, arith, sym, ap, ap₂, subst, refl, zero-add}
 use Rattle.std.specs.List.{range_with_len}
-use Rattle.std.proofs.lemmas.Bool.{and_parts, and_from, or_cases, or_parts, both_ways, not-false, not-true, leb-true, leb-false, le-leb, eqb-true, eqb-false, eq-eqb, cases_lt}
+use Rattle.std.proofs.lemmas.Bool.{and_parts, and_from, or_cases, or_parts, both_ways, not-false, not-true, leb-true, leb-false, le-leb, eqb-true, eqb-false, cases_lt}
 use Rattle.std.proofs.lemmas.List.{get_or-take, length-take, get_or_default}
-use Rattle.std.proofs.lemmas.List.Folds.{Any-from_list_any, list_any_at}
+use Rattle.std.proofs.lemmas.List.Folds.{Any-from_list_any}
 use Rattle.std.proofs.lemmas.List.FromFn.{get_or-range_with_len, length-range_with_len}
 use Rattle.std.proofs.lemmas.List.Quantifiers.{position-Some}
 use Rattle.grid_core.specs.declared.grid.TheConstants.{MAX_SIZE}
@@ -13,7 +13,7 @@ use Rattle.grid_core.specs.declared.fault.GridFault.{GridFault}
 use Rattle.grid_core.specs.declared.fault.GridFault.TheVariants.{Size, Length, Range, Repeat, Same}
 use Rattle.grid_core.specs.Diagram.{Diagram, size, row_of}
 use Rattle.grid_core.specs.Fault.{lowest, is_outside, is_repeated, first_fault}
-use Rattle.grid_core.proofs.Accepted.{none_lowest, cond_passed, next_passed}
+use Rattle.grid_core.proofs.Accepted.{earlier, none_lowest, cond_passed, next_passed}
 use Rattle.pinned_laws.specs.First.{IsFirst}
 use Rattle.pinned_laws.specs.GridFaults.{IsGridFault, grid_rank, grid_number}
 use Rattle.pinned_laws.proofs.Chains.{tested, placed}
@@ -59,12 +59,6 @@ repeated_at rows c e =
     let low : some.0 < c = omega (arith, some.2, length-take c rows) in
     let same : some.1 ≡ get_or rows c 0 = eqb-true some.1 (slice_index rows c) some.4 in
     (some.0, (low, sym (get_or-take c rows some.0 0 low) ∙ (get_or_default (take c rows) some.0 0 some.1 some.2 ∙ (some.3 ∙ same))))
-
-not_repeated : (rows : List ℕ) (b c : ℕ) → c < length rows → is_repeated rows c ≡ false → b < c → get_or rows b 0 ≢ get_or rows c 0
-not_repeated rows b c inside none low e =
-    both_ways (is_repeated rows c) none
-    (list_any_at (λ r. r == get_or rows c 0) (take c rows) b 0 (omega (arith, length-take c rows, low, inside))
-    (eq-eqb (get_or (take c rows) b 0) (get_or rows c 0) (get_or-take c rows b 0 low ∙ e)))
 
 module _ (d : Diagram) where
   abbrev wrong_size : Bool
@@ -136,9 +130,9 @@ module _ (d : Diagram) where
   repeat_holds same c e fails = by fails.1.0 fails.1.1
     where
       by : (kind : Kind) → (b : ℕ) × ((b < c) × (row_of kind d b ≡ row_of kind d c)) → ⊥
-      by Cross again = not_repeated d.x again.0 c fails.0 (or_parts (is_repeated d.x c) (is_repeated d.o c) e).0 again.1.0 again.1.1
+      by Cross again = earlier d.x again.0 c fails.0 (or_parts (is_repeated d.x c) (is_repeated d.o c) e).0 again.1.0 again.1.1
       by Ring again =
-          not_repeated d.o again.0 c (omega (arith, same, fails.0)) (or_parts (is_repeated d.x c) (is_repeated d.o c) e).1 again.1.0 again.1.1
+          earlier d.o again.0 c (omega (arith, same, fails.0)) (or_parts (is_repeated d.x c) (is_repeated d.o c) e).1 again.1.0 again.1.1
 
   same_fails : (c : ℕ) → c < size d → has_both c ≡ true → IsGridFault d (Same c)
   same_fails c inside e = (inside, eqb-true (slice_index d.x c) (slice_index d.o c) e)

@@ -35,11 +35,11 @@ too_many n = Err (Limit n)
 abbrev too_many_read : ℕ → Result (List Block × Text) TextFault
 too_many_read n = Err (Limit n)
 
-abbrev surplus_line : NumberedLine → Result (List Block) TextFault
-surplus_line line = word (codes "quandle") line >>= λ rest. written_at rest >>= λ name. too_many line.number
+abbrev surplus_block_line : NumberedLine → Result (List Block) TextFault
+surplus_block_line line = word (codes "quandle") line >>= λ rest. written_at rest >>= λ name. too_many line.number
 
-surplus_at : (line : NumberedLine) → At line.number (surplus_line line)
-surplus_at line =
+surplus_block_at : (line : NumberedLine) → At line.number (surplus_block_line line)
+surplus_block_at line =
     at_bind (word_at (codes "quandle") line) (λ rest e.
     at_bind (at_same ((word_keeps (codes "quandle") line).of rest e) (written_at_at rest)) (λ name g. at_limit))
 
@@ -56,7 +56,7 @@ flat_word n (Err e) text k = refl
 
 flat_surplus : {B : Type 0} (r : Result (NumberedLine × Text) TextFault) (k : List Block → Text → Result B TextFault)
     → ((r >>= λ line. word (codes "quandle") line.0 >>= λ rest. written_at rest >>= λ name. too_many_read line.0.number) >>= λ bs. k bs.0 bs.1)
-    ≡ (r >>= λ line. surplus_line line.0 >>= λ bs. k bs line.1)
+    ≡ (r >>= λ line. surplus_block_line line.0 >>= λ bs. k bs line.1)
 flat_surplus (Ok line) k = flat_word line.0.number (word (codes "quandle") line.0) line.1 k
 flat_surplus (Err e) k = refl
 
@@ -66,8 +66,8 @@ surplus_then k text = surplus_block text >>= λ bs. k bs.0 bs.1
 surplus_fails : {B : Type 0} (k : List Block → Text → Result B TextFault) → ((bs : List Block) → FailsFirst (k bs)) → FailsFirst (surplus_then k)
 unfolding surplus_block
 surplus_fails k fails =
-    same_fails (λ text. next_line text >>= λ line. surplus_line line.0 >>= λ bs. k bs line.1) (surplus_then k) (λ text. flat_surplus (next_line text) k)
-    (line_fails surplus_line k surplus_at fails)
+    same_fails (λ text. next_line text >>= λ line. surplus_block_line line.0 >>= λ bs. k bs line.1) (surplus_then k) (λ text. flat_surplus (next_line text) k)
+    (line_fails surplus_block_line k surplus_block_at fails)
 
 -- ---- blocks up to the first line behind one that does not begin with `quandle`
 

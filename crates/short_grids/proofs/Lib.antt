@@ -10,5 +10,5 @@ mod SpreadHalves
 mod SwappedDigits
 mod Placed
 mod CountedEnds
-mod MarkedTrades
+pub mod MarkedTrades
 mod ShortPairs

@@ -1,9 +1,7 @@
 -- A table of knots is answered by the ruling on it.
-use Rattle.std.specs.Prelude.{◌≡◌, ◌<◌, ℕ, List, length, Ok}
-use Rattle.std.specs.List.{All}
-use Rattle.table_text.specs.declared.rows.Row.{Row}
+use Rattle.std.specs.Prelude.{◌≡◌, ℕ, List, Ok}
 use Rattle.table_text.specs.declared.tables.KnotTable.{KnotTable}
-use Rattle.table_text.specs.Tables.{table_of}
+use Rattle.table_text.specs.Tables.{table_of, RowsHaveClasses}
 use Rattle.table_check.specs.declared.cause.TableRuling.{TableRuling}
 use Rattle.table_check.specs.declared.cause.TableRuling.TheVariants.{Accepted, Rejected}
 use Rattle.table_check.specs.Holds.{RowsJoined, ClassesApart, RowsApart}
@@ -24,14 +22,10 @@ pub record AnswersTable (table : KnotTable) (reply : PlainReply) : Type 0 where
   pub rules : RulesOn table ruling
   pub is : reply ≡ plain_reply (table_ruling_status ruling) (table_ruling_line ruling)
 
--- each row has one of the classes of its table
-abbrev pub AreKnown : KnotTable → Type 0
-AreKnown table = All (λ (r : Row). r.class < length table.classes) table.rows
-
 -- what a table claims is true: each row has a class, rows of one class are joined by moves, and no list of moves joins the diagrams or the rows
 -- of two, unless these are left open
 pub record IsTrueTable (table : KnotTable) : Type 0 where
-  pub known : AreKnown table
+  pub known : RowsHaveClasses table
   pub joined : RowsJoined table
   pub classes : ClassesApart table
   pub apart : RowsApart table

@@ -1,9 +1,9 @@
 //! The answer to the bytes of a table.
 ghost use Rattle.std.specs.Prelude.{◌≡◌, IfOk};
-ghost use Rattle.table_text.specs.Tables.{table_of};
+ghost use Rattle.table_text.specs.Tables.{table_of, RowsHaveClasses};
 ghost use Rattle.reply_text.specs.Reply.{plain_reply, AnswersRead};
 ghost use Rattle.table_job.specs.Lines.{table_ruling_line};
-ghost use Rattle.table_job.specs.Answer.{table_ruling_status, AnswersTable, AreKnown, IsTrueTable, IsTableCertificate};
+ghost use Rattle.table_job.specs.Answer.{table_ruling_status, AnswersTable, IsTrueTable, IsTableCertificate};
 
 use crate::lines::table_ruling_line;
 use knot_ports::Status;
@@ -26,7 +26,7 @@ pub fn answer_table(alloc: Global, bytes: &[u8]) -> Result<PlainReply, AllocErro
 
 /// The answer to a table that was read.
 fn answer_read(alloc: Global, table: &KnotTable) -> Result<PlainReply, AllocError>
-    requires known { AreKnown table.now }
+    requires known { RowsHaveClasses table.now }
     ensures answer { IfOk result (λ reply. AnswersTable table.now reply) }
     ensures claim { IfOk result (λ reply. reply.status ≡ Status.Done → IsTrueTable table.now) }
 {

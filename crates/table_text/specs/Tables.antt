@@ -1,5 +1,6 @@
 -- A table of knots as a text: blocks, classes with their numbers, pairs of classes that are left open, and rows.
-use Rattle.std.specs.Prelude.{ℕ, ◌==◌, ◌&&◌, Bool, false, List, [], ◌∷◌, length, codes, nat_lt, Option, Some, None, Result, Ok, Err, if◌then◌else◌}
+use Rattle.std.specs.Prelude.{ℕ, ◌<◌, ◌==◌, ◌&&◌, Bool, false, List, [], ◌∷◌, length, codes, nat_lt, Option, Some, None, Result, Ok, Err, if◌then◌else◌}
+use Rattle.std.specs.List.{All}
 use Rattle.std.specs.Str.{bytes_eq}
 use Rattle.quandle_core.specs.declared.operations.TheConstants.{MAX_LARGE_ORDER}
 use Rattle.text_lines.specs.Lines.{NumberedLine, Text, text_of, begins}
@@ -166,3 +167,7 @@ table_in text = do
 
 abbrev pub table_of : List ℕ → Result KnotTable TextFault
 table_of bytes = table_in (text_of bytes)
+
+-- each row has one of the classes of its table
+abbrev pub RowsHaveClasses : KnotTable → Type 0
+RowsHaveClasses table = All (λ (r : Row). r.class < length table.classes) table.rows

@@ -1,10 +1,9 @@
 //! A table of knots, whole.
-ghost use Rattle.std.specs.Prelude.{◌≡◌, ◌<◌, IfOk, length};
-ghost use Rattle.std.specs.List.{All};
+ghost use Rattle.std.specs.Prelude.{◌≡◌, IfOk};
 ghost use Rattle.text_items.specs.Reading.{Gives, in_turn};
 ghost use Rattle.block_text.specs.Blocks.{block_item};
 ghost use Rattle.quandle_core.specs.declared.operations.TheConstants.{MAX_LARGE_ORDER};
-ghost use Rattle.table_text.specs.Tables.{is_fourth_line, begins_table, fourth_at, blocks_item, table_of};
+ghost use Rattle.table_text.specs.Tables.{is_fourth_line, begins_table, fourth_at, blocks_item, table_of, RowsHaveClasses};
 
 use crate::classes::{Class, classes_item};
 use crate::rows::{OpenPair, Row, left_item, rows_item};
@@ -94,7 +93,7 @@ fn blocks_item(alloc: Global, lines: &mut Lines) -> Result<Vec<Block>, TextFault
 #[tactic(auto, unfolding(crate::specs::Tables::table_in))]
 pub fn read_table(alloc: Global, bytes: &[u8]) -> Result<KnotTable, TextFault>
     ensures read { Gives (λ t. t) result (table_of bytes.now) }
-    ensures known { IfOk result (λ t. All (λ r. r.class < length t.classes) t.rows) }
+    ensures known { IfOk result (λ t. RowsHaveClasses t) }
 {
     let mut lines = Lines::new(bytes);
     let mut head = next_line(&mut lines)?;
