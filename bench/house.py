@@ -1,10 +1,12 @@
 #!/usr/bin/env python3
-"""What the tree shows of its own order: statements that stand twice, wide proof lines, long files and functions, long sentences.
+"""What the tree shows of its own order: statements that stand twice, names with several meanings, wide proof lines, long files and
+functions, long sentences.
 
     python3 bench/house.py          all of it
-    python3 bench/house.py twice    one part: twice, library, wide, long, names, pages, sentences, stated
+    python3 bench/house.py twice    one part: twice, library, meanings, wide, long, names, pages, sentences, stated
 
-A finding is a place to look. Statements are compared by their text, with the names that they bind told apart by place alone.
+A finding is a place to look. Statements are compared by their text, with the names that they bind told apart by place alone. `meanings`
+counts the names that several files of specs/ define, and the types that several files of code declare.
 
 `pages` counts the words of every page `*.md` of the tree between white space, as `wc -w` does, and beside them the words of prose: those
 with a letter or a digit that stand in no block of commands or texts, where all between two backticks is one word. `sentences` reads the
@@ -151,6 +153,30 @@ def defined_twice():
             print("; ".join(f"{place(path, number)} {name}" for path, number, name in places))
     print(f"{count} definitions stand more than once")
     return count
+
+
+def several(kind, ending, pattern):
+    """Names that two or more files of a kind define, each with its places; the count of them, and of all names."""
+    places = {}
+    for _, path in files(kind, ending):
+        for number, line in enumerate(lines_of(path), 1):
+            found = re.match(pattern, line)
+            if found and not re.search(r"(?:^|/)tests(?:/|\.rt)", os.path.relpath(path, TOP)):
+                places.setdefault(found.group(1), []).append((path, number))
+    count = 0
+    for name, held in sorted(places.items(), key=lambda item: (-len(item[1]), item[0])):
+        if len({path for path, _ in held}) > 1:
+            count += 1
+            print(f"{name}: {', '.join(place(path, number) for path, number in held)}")
+    return count, len(places)
+
+
+def meanings():
+    """Names of definitions, and then types of the code, that have several meanings."""
+    count, names_of = several("specs", ".antt", r"(?:(?:abbrev|data|opaque|pub|record|recursive|unfoldable) )+(?!mod\b|use\b)([^\W\d][\w'\-]*)(?=\s)")
+    types, types_of = several("src", ".rt", r"pub(?:\(crate\))? (?:enum|struct|trait|type) (\w+)")
+    print(f"{count} of {names_of} names of definitions have several meanings, and {types} of {types_of} types of the code")
+    return count, types
 
 
 def wide():
@@ -316,7 +342,7 @@ def stated():
     print(f"{count} of {names_of} names are stated elsewhere")
 
 
-PARTS = {"twice": (twice, defined_twice), "library": (library,), "wide": (wide,), "long": (long,), "names": (names,),
+PARTS = {"twice": (twice, defined_twice), "library": (library,), "meanings": (meanings,), "wide": (wide,), "long": (long,), "names": (names,),
          "pages": (pages,), "sentences": (sentences,), "stated": (links, stated)}
 
 if __name__ == "__main__":

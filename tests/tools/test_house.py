@@ -1,13 +1,15 @@
-"""Tests of bench/house_crates.py: functions, floors and sizes, on small texts and trees."""
+"""Tests of bench/house.py and house_crates.py: names with several meanings, functions, floors and sizes, on small texts and trees."""
 import contextlib
 import io
 import os
 import sys
 import unittest
+import unittest.mock
 
 from common import ROOT, scratch
 
 sys.path.insert(0, os.path.join(ROOT, "bench"))
+import house  # noqa: E402
 import house_crates  # noqa: E402
 
 CODE = """use std::io;
@@ -105,6 +107,44 @@ class Crates(unittest.TestCase):
         self.assertEqual(self.said(house_crates.sizes), [
             "middle: 101 functions, 101 lines of code", "low: 0 functions, 1502 lines of code",
             "2 of 3 crates have over 100 functions or 1500 lines of code; the largest others: high 1 / 6"])
+
+
+class Meanings(unittest.TestCase):
+    def setUp(self):
+        self.top = scratch(self)
+        self.write("crates/one/specs/Walk.antt", "use Rattle.two.specs.Walk.{size}\n\nabbrev pub walked : ℕ → ℕ\nwalked n = n\n\n"
+                   "pub record Holds (n : ℕ) : Type 0 where\n  pub size : n ≡ 1\n")
+        self.write("crates/one/specs/Lib.antt", "pub mod Walk\npub use Rattle.two.specs.Walk as Other\n")
+        self.write("crates/two/specs/Walk.antt", "unfoldable pub walked : ℕ → ℕ\nwalked n = n + 1\n\nabbrev pub size : ℕ\nsize = 1\n")
+        self.write("crates/two/specs/Held.antt", "abbrev pub Holds : ℕ → Type 0\nHolds n = n ≡ 2\n")
+        self.write("crates/one/src/walk.rt", "pub struct Row {\n    left: u8,\n}\n\npub(crate) enum Side {\n    Left,\n}\n")
+        self.write("crates/two/src/lib.rt", "pub struct Row {\n    right: u8,\n}\n\nstruct Side {\n    left: u8,\n}\n")
+        self.write("crates/two/src/tests/side.rt", "pub struct Side {\n    left: u8,\n}\n")
+
+    def write(self, path, text):
+        path = os.path.join(self.top, path)
+        os.makedirs(os.path.dirname(path), exist_ok=True)
+        with open(path, "w", encoding="utf-8") as file:
+            file.write(text)
+
+    def said(self):
+        said = io.StringIO()
+        with unittest.mock.patch.object(house, "TOP", self.top), contextlib.redirect_stdout(said):
+            house.meanings()
+        return said.getvalue().splitlines()
+
+    def test_a_name_of_several_files_is_printed_with_its_places(self):
+        self.assertEqual(self.said(), [
+            "Holds: crates/one/specs/Walk.antt:6, crates/two/specs/Held.antt:1",
+            "walked: crates/one/specs/Walk.antt:3, crates/two/specs/Walk.antt:1",
+            "Row: crates/one/src/walk.rt:1, crates/two/src/lib.rt:1",
+            "2 of 3 names of definitions have several meanings, and 1 of 2 types of the code"])
+
+    def test_a_name_of_one_file_has_one_meaning(self):
+        self.write("crates/two/specs/Held.antt", "abbrev pub IsTwo : ℕ → Type 0\nIsTwo n = n ≡ 2\n")
+        self.write("crates/two/specs/Walk.antt", "abbrev pub size : ℕ\nsize = 1\n\nabbrev pub stepped : ℕ\nstepped = size\n")
+        self.write("crates/two/src/lib.rt", "")
+        self.assertEqual(self.said(), ["0 of 5 names of definitions have several meanings, and 0 of 2 types of the code"])
 
 
 if __name__ == "__main__":
