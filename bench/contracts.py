@@ -5,8 +5,8 @@
     python3 bench/contracts.py COMMIT --counts   their numbers alone
     python3 bench/contracts.py COMMIT --specs    the definitions of specs/ whose text isn't the earlier one, too
 
-A function is known by its type and name; where its crate has none of them, by those in any one crate that has lost it. Clauses are compared
-by their text, without comments and with one blank for any space. A `requires` that is new asks for more, an `ensures` that went promises less:
+A function is known by its file, type and name; where that file has it no more, by type and name in its crate, and else in any one crate. Of
+several the one with the same clauses is taken. Clauses are compared by their text, without comments and with one blank for any space. A `requires` that is new asks for more, an `ensures` that went promises less:
 both are listed first, under `to be read`. A clause with another text may say more or less: it is shown with both texts.
 """
 import re
@@ -61,9 +61,9 @@ def closed(text, at):
 
 
 def contracts(commit):
-    """By crate and name the public functions, each with its clauses: kind and name, and text."""
+    """By crate, file and name the public functions, each with its clauses: kind and name, and text."""
     found = {}
-    for crate, _, text in files(commit, "src"):
+    for crate, path, text in files(commit, "src"):
         text = re.sub(r"//.*", "", text)
         for head in FUNCTION.finditer(text):
             owner = ""
@@ -82,12 +82,12 @@ def contracts(commit):
                     at = stop
                 else:
                     break
-            found[crate, owner + head.group(2)] = clauses
+            found[crate, path.split("/", 3)[3], owner + head.group(2)] = clauses
     return found
 
 
 def definitions(commit):
-    """By crate and file the text of definitions, without comments."""
+    """By crate, file and name the text of definitions, without comments."""
     found = {}
     for crate, path, text in files(commit, "specs"):
         text = re.sub(r"--.*", "", text)
@@ -95,22 +95,27 @@ def definitions(commit):
         for part in parts:
             name = re.match(r"(?:pub )?(?:record|data|syntax|opaque|open)? *(\S+)", part.strip())
             if part.strip() and name and not part.strip().startswith(("use ", "pub use ", "pub mod ", "mod ", "import", "}", ")")):
-                found.setdefault((crate, name.group(1)), " ".join(part.split()))
+                found.setdefault((crate, path.split("/", 3)[3], name.group(1)), " ".join(part.split()))
     return found
 
 
 def paired(old, new):
-    """Each old key with its new one, or none."""
-    gone = [key for key in old if key not in new]
-    fresh = {}
-    for key in new:
-        if key not in old:
-            fresh.setdefault(key[1], []).append(key)
+    """Each old key with its new one, or none: by crate, file and name, else by crate and name, by file and name, by name."""
     pairs = {key: key for key in old if key in new}
-    for key in gone:
-        others = fresh.get(key[1], [])
-        pairs[key] = others[0] if len(others) == 1 else None
-    return pairs
+    for same in (lambda key: (key[0], key[2]), lambda key: key[1:], lambda key: key[2]):
+        taken = set(pairs.values())
+        fresh = {}
+        for key in new:
+            if key not in taken:
+                fresh.setdefault(same(key), []).append(key)
+        for key in [key for key in old if key not in pairs]:
+            others = [other for other in fresh.get(same(key), []) if other not in taken]
+            alike = [other for other in others if new[other] == old[key]]
+            rivals = [other for other in old if other not in pairs and same(other) == same(key)]
+            if len(alike) == 1 or len(others) == 1 == len(rivals):
+                pairs[key] = (alike or others)[0]
+                taken.add(pairs[key])
+    return {key: pairs.get(key) for key in old}
 
 
 def main():
@@ -122,7 +127,7 @@ def main():
     numbers = dict(same=0, moved=0, gone=0, asked=0, lost=0, other=0, more=0)
     gone, serious, others = [], [], []
     for key, now in sorted(pairs.items()):
-        name = "::".join(key)
+        name = f"{key[0]}::{key[2]}"
         if now is None:
             numbers["gone"] += 1
             gone.append(name)
@@ -132,7 +137,7 @@ def main():
         texts_before, texts_after = sorted(before.values()), sorted(after.values())
         same = True
         for clause in sorted(set(before) | set(after)):
-            label = f"{'::'.join(now)} {' '.join(clause)}"
+            label = f"{now[0]}::{now[2]} {' '.join(clause)}"
             if clause not in after and before[clause] not in texts_after:
                 same = False
                 if clause[0] == "ensures":
@@ -163,9 +168,9 @@ def main():
         print("\n## Definitions with another text\n")
         for key, now in sorted(moved.items()):
             if now is None:
-                print(f"{'.'.join(key)}: went")
+                print(f"{key[0]}.{key[2]}: went")
             elif before[key] != after[now]:
-                print(f"{'.'.join(now)}\n    was {before[key]}\n    now {after[now]}")
+                print(f"{now[0]}.{now[2]}\n    was {before[key]}\n    now {after[now]}")
     fresh = len(new) - sum(now is not None for now in pairs.values())
     print(f"\n{len(old)} public functions then, {len(new)} now: {numbers['same']} with the same clauses ({numbers['moved']} in another crate), "
           f"{fresh} new, {numbers['gone']} gone; clauses: {numbers['other']} with another text, {numbers['more']} new promises, "
