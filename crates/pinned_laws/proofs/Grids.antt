@@ -13,7 +13,7 @@ use Rattle.grid_core.specs.declared.fault.GridFault.{GridFault}
 use Rattle.grid_core.specs.declared.fault.GridFault.TheVariants.{Size, Length, Range, Repeat, Same}
 use Rattle.grid_core.specs.Diagram.{Diagram, size, row_of}
 use Rattle.grid_core.specs.Fault.{lowest, is_outside, is_repeated, first_fault}
-use Rattle.grid_core.proofs.Accepted.{earlier, none_lowest, cond_passed, next_passed}
+use Rattle.grid_core.proofs.Accepted.{earlier as not_repeated, none_lowest, cond_passed, next_passed}
 use Rattle.pinned_laws.specs.First.{IsFirst}
 use Rattle.pinned_laws.specs.GridFaults.{IsGridFault, grid_rank, grid_number}
 use Rattle.pinned_laws.proofs.Chains.{tested, placed}
@@ -130,9 +130,9 @@ module _ (d : Diagram) where
   repeat_holds same c e fails = by fails.1.0 fails.1.1
     where
       by : (kind : Kind) → (b : ℕ) × ((b < c) × (row_of kind d b ≡ row_of kind d c)) → ⊥
-      by Cross again = earlier d.x again.0 c fails.0 (or_parts (is_repeated d.x c) (is_repeated d.o c) e).0 again.1.0 again.1.1
+      by Cross again = not_repeated d.x again.0 c fails.0 (or_parts (is_repeated d.x c) (is_repeated d.o c) e).0 again.1.0 again.1.1
       by Ring again =
-          earlier d.o again.0 c (omega (arith, same, fails.0)) (or_parts (is_repeated d.x c) (is_repeated d.o c) e).1 again.1.0 again.1.1
+          not_repeated d.o again.0 c (omega (arith, same, fails.0)) (or_parts (is_repeated d.x c) (is_repeated d.o c) e).1 again.1.0 again.1.1
 
   same_fails : (c : ℕ) → c < size d → has_both c ≡ true → IsGridFault d (Same c)
   same_fails c inside e = (inside, eqb-true (slice_index d.x c) (slice_index d.o c) e)
