@@ -33,6 +33,7 @@ A file has a subject, and is read by people. A row is a name, a call, and parts.
   pipe NAME                 a named pipe that lies there; what stands in the part is written into it, and where it is empty, it is read
   memory N                  the call has N kilobytes of address space; where the program was built with a sanitizer, the row is passed over
   full output               standard output is a full device, so that each write fails
+  output to NAME            standard output is this file, which lies where the call is made, behind what stands there
   each of                   so many cases: each line stands in turn in the place of the line `...` above, up to the next `each of`
   answer STATUS             the exit status, and standard output
   front STATUS              the exit status, and what standard output begins with
@@ -54,7 +55,8 @@ A file has a subject, and is read by people. A row is a name, a call, and parts.
 
 The words of a call stand as in a shell: `--braid "2 1 1 1"`.
 Each line of a part ends with a line feed, but where it ends with a backslash. Within lines stand \\\\ \\t \\r \\n \\0 and \\xHH for one byte,
-\\{MAX_SIZE + 1} for a number, \\{0 to MAX_SIZE} for numbers with blanks between, and \\{" 1" x MAX_SIZE - 4} for so many copies of a text.
+\\{MAX_SIZE + 1} for a number, \\{0 to MAX_SIZE} for numbers with blanks between, \\{" 1" x MAX_SIZE - 4} for so many copies of a text, and
+\\{alexander MAX_ORDER + 1 by 2} for the lines of the table of such a quandle.
 The constants are those of the crates. Lines that begin with # are remarks, and empty lines between parts say nothing.
 
 Each difference is printed, and last a line with the counts. There are some 3,900 calls.
@@ -92,7 +94,7 @@ MARGIN = "    "
 ONE_BYTE = {"\\": b"\\", "t": b"\t", "r": b"\r", "n": b"\n", "0": b"\0"}
 ESCAPE = re.compile(r"\\(?:\{(?P<sum>[^}]*)\}|x(?P<byte>[0-9a-f]{2})|(?P<one>.))")
 NUMBER = re.compile(r"(?P<front>\w+)(?: (?P<sign>[+-]) (?P<rest>[0-9]+))?")
-PART = re.compile(r"input|unreadable input|full output|input is (?P<input>\S+)|word (?P<word>.+)|file (?P<file>\S+)|each of"
+PART = re.compile(r"input|unreadable input|full output|input is (?P<input>\S+)|output to (?P<output>\S+)|word (?P<word>.+)|file (?P<file>\S+)|each of"
                   r"|link (?P<link>\S+ to \S+)|pipe (?P<pipe>\S+)|memory (?P<memory>[0-9]+)"
                   r"|(?:answer|front) (?P<status>[0-9]+)|error|taken|whole|accepted behind it"
                   r"|(?:simplified to|equal within|drawn in) (?P<columns>[0-9]+) columns|lists of (?P<lists>[0-9]+(?: [0-9]+)*)"
@@ -116,6 +118,7 @@ class Case:
     pipes: dict = field(default_factory=dict)
     memory: int = None
     is_full: bool = False
+    output: str = None
 
 
 @dataclass
@@ -150,13 +153,21 @@ def number_of(text, known):
 
 
 def sum_of(text, known):
-    """What stands in braces: a number, numbers from one to another, or so many copies of a text."""
+    """What stands in braces: a number, numbers from one to another, so many copies of a text, or the lines of a table."""
     copies = re.fullmatch(r'"(.*)" x (.*)', text)
     if copies:
         return bytes_of(copies[1], known) * number_of(copies[2], known)
+    table = re.fullmatch(r"alexander (.*) by ([0-9]+)", text)
+    if table:
+        return table_by(number_of(table[1], known), int(table[2]))
     first, _, last = text.partition(" to ")
     numbers = range(number_of(first, known), number_of(last or first, known) + 1)
     return " ".join(map(str, numbers)).encode()
+
+
+def table_by(order, factor):
+    """The lines of the table of x ▷ y = factor x + (1 − factor) y mod the order, without a line feed behind them."""
+    return "\n".join(" ".join(str((factor * x + (1 - factor) * y) % order) for y in range(order)) for x in range(order)).encode()
 
 
 def bytes_of(line, known):
@@ -246,6 +257,8 @@ def cases_of(name, blocks, known):
             frame.given = None
         elif line == "full output":
             frame.is_full = True
+        elif part["output"]:
+            frame.output = part["output"]
         elif part["input"]:
             frame.input = part["input"]
         elif part["word"]:
@@ -287,7 +300,7 @@ def one_case(frame, other, place, known):
     given = None if frame.given is None else put(frame.given)
     name = frame.name if other is None else f"{frame.name}, {place}: {other}"
     return Case(name, frame.words, given, {path: put(lines) for path, lines in frame.files.items()}, frame.wanted, frame.input, frame.links,
-                {path: put(lines) for path, lines in frame.pipes.items()}, frame.memory, frame.is_full)
+                {path: put(lines) for path, lines in frame.pipes.items()}, frame.memory, frame.is_full, frame.output)
 
 
 def all_cases(names):
@@ -399,6 +412,14 @@ class Runner:
                                   check=False)
         return Ended(done.returncode, b"", done.stderr)
 
+    def call_into(self, case, folder):
+        """A call whose output is a file."""
+        next(self.counter)
+        with open(os.path.join(folder, case.output), "ab") as file:
+            done = subprocess.run([self.programs[case.words[0]], *case.words[1:]], input=case.given, stdout=file, stderr=subprocess.PIPE, cwd=folder,
+                                  timeout=PATIENCE, check=False)
+        return Ended(done.returncode, b"", done.stderr, folder)
+
     def problems(self, case):
         """What differs in a case."""
         try:
@@ -417,7 +438,7 @@ class Runner:
                 for name, target in case.links.items():
                     os.symlink(target, os.path.join(folder, name))
                 with Pipes(folder, case.pipes) as pipes:
-                    ended = self.call(case.words, case.given, folder, case.input)
+                    ended = self.call_into(case, folder) if case.output else self.call(case.words, case.given, folder, case.input)
                 ended.piped = pipes.got
                 return self.differences(case, ended)
         except subprocess.TimeoutExpired:

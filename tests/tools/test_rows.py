@@ -241,6 +241,7 @@ class Lines(unittest.TestCase):
     def test_numbers_and_copies_are_made(self):
         self.assertEqual(rows.bytes_of("x \\{0 to MAX_SIZE - 4} \\{MAX_SIZE + 1} \\{3}", KNOWN), b"x 0 1 2 7 3")
         self.assertEqual(rows.bytes_of('braid 2\\{" 1" x MAX_SIZE - 4}\\{"a\\n" x 2}', KNOWN), b"braid 2 1 1a\na\n")
+        self.assertEqual(rows.bytes_of("\\{alexander MAX_SIZE - 3 by 2}", KNOWN), b"0 2 1\n2 1 0\n1 0 2")
 
     def test_what_stands_for_nothing_is_an_error(self):
         for line in ("\\q", "\\{MIN_SIZE}", "\\{MAX_SIZE * 2}", "\\{}"):
@@ -288,6 +289,10 @@ class Rows(unittest.TestCase):
 
     def test_a_file_as_standard_input(self):
         self.assertEqual(self.found("== one\nknot job\nfile here\n    good\n    bad\ninput is here\nanswer 3\n    malformed line 2\n"),
+                         (0, "1 cases, 1 calls, 0 different\n"))
+
+    def test_a_file_as_standard_output(self):
+        self.assertEqual(self.found("== one\nknot job\ninput\n    good\noutput to here\nfile here\n    before\nanswer 0\nwritten here\n    before\n    good\n"),
                          (0, "1 cases, 1 calls, 0 different\n"))
 
     def test_what_a_call_writes(self):

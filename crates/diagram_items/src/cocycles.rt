@@ -11,7 +11,7 @@ use text_items::rows::{numbers_below, table_front};
 use text_items::{TextFault, modulus_at};
 use text_lines::Lines;
 
-/// A cocycle of a quandle.
+/// A cocycle of a quandle. Else the fault of the first bad line, or want of memory.
 #[tactic(auto, unfolding(crate::specs::Cocycles::cocycle_item))]
 pub fn cocycle_item(
     alloc: Global,

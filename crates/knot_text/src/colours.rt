@@ -56,7 +56,7 @@ fn coloured_item(
     Ok((listed, colours))
 }
 
-/// A quandle and colours where a line that begins with `quandle` is next, else nothing.
+/// A quandle and colours where a line that begins with `quandle` is next, or nothing. Else the fault of the first bad line, or want of memory.
 #[tactic(auto, unfolding(crate::specs::Colours::coloured))]
 pub fn coloured(
     alloc: Global,

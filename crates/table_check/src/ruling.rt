@@ -22,8 +22,8 @@ use table_text::KnotTable;
 ///
 /// A class holds where its seeds settle its diagram, and its numbers by each block are shown by them to be the diagram's own. A pair of
 /// classes holds where it's left open, or some block has numbers of both that differ. A row holds where its moves lead from its diagram
-/// to that of its class. Where a table is accepted, rows of one class are equivalent, and no list of moves joins the diagrams of two
-/// classes, or rows of them, unless these are left open.
+/// to that of its class. Where a table that was read is accepted, rows of one class are equivalent, and no list of moves joins the diagrams
+/// of two classes, or rows of them, unless these are left open.
 ///
 /// The colourings of each class by each block are counted once, and each move is made once.
 pub fn rule(alloc: Global, table: &KnotTable) -> Result<TableRuling, OutOfMemory>

@@ -148,7 +148,7 @@ pub(crate) fn quandle_of(
     }
 }
 
-/// A name at the end of a line, with the lines behind it that a table takes.
+/// A name at the end of a line, with the lines behind it that a table takes. Else the fault of the first bad line, or want of memory.
 #[tactic(auto, unfolding(crate::specs::Quandles::quandle_at))]
 pub fn quandle_at(alloc: Global, line: &mut Line, lines: &mut Lines) -> Result<Listed, TextFault>
     ensures { Gives (λ q. (q, lines.new)) result (quandle_at MAX_ORDER line.old lines.old) }
@@ -161,7 +161,7 @@ pub fn quandle_at(alloc: Global, line: &mut Line, lines: &mut Lines) -> Result<L
     quandle_of(alloc, at, written, lines)
 }
 
-/// A quandle item.
+/// A quandle item. Else the fault of the first bad line, or want of memory.
 #[tactic(auto, unfolding(crate::specs::Quandles::quandle_item))]
 pub fn quandle_item(alloc: Global, lines: &mut Lines) -> Result<Listed, TextFault>
     ensures { Gives (λ q. (q, lines.new)) result (quandle_item lines.old) }
@@ -224,7 +224,7 @@ pub fn built_in(alloc: Global) -> Result<Vec<Listed>, TextFault>
     Ok(listed)
 }
 
-/// All quandle items, or the built-in list where there are none.
+/// All quandle items, or the built-in list where there are none. Else the fault of the first bad line, or want of memory.
 #[tactic(auto, unfolding(crate::specs::Quandles::quandle_list))]
 pub fn quandle_list(alloc: Global, lines: &mut Lines) -> Result<Items<Listed>, TextFault>
     ensures { Gives (λ q. (q, lines.new)) result (quandle_list lines.old) }

@@ -13,7 +13,7 @@ use crate::reading::next_line;
 use std::alloc::{AllocFailed, Global};
 use text_lines::{Line, Lines};
 
-/// So many numbers below a bound, which is at most 255.
+/// So many numbers below a bound, which is at most 255. Else the fault of the line, or want of memory.
 #[tactic(auto, unfolding(crate::specs::Numbers::numbers_below))]
 pub fn numbers_below(
     alloc: Global,
@@ -90,7 +90,7 @@ pub fn table_rows(
     Ok(entries)
 }
 
-/// The entries of all lines of a square table but the last, each below the bound.
+/// The entries of all lines of a square table but the last, each below the bound. Else the fault of the first bad line, or want of memory.
 pub fn table_front(
     alloc: Global,
     order: u8,
