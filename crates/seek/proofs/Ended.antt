@@ -70,7 +70,7 @@ pub without_inputs : (told : Told) (asked : Asked) (old new : Outside) (s : Stat
     → IsInputsFailure told asked f → s ≡ failure_status f → EndsBy told asked old new s
 without_inputs told asked old new s f same (inl bad) is = inr (inl (unread told asked old new s f same bad is))
 without_inputs told asked old new s f same (inr bad) is =
-    inr (inr record { failure = f; is = bad; status_is = is; untouched = same })
+    inr (inr record { parts = bad.parts; are = bad.are; failure = f; is = bad.is; status_is = is; untouched = same })
 
 -- a call that is done and does what is asked has answered it
 answered_by : (told : Told) (words : List Text) (asked : Asked) (old new : Outside) (s : Status) → Asks words asked → EndsBy told asked old new s

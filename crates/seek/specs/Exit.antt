@@ -73,8 +73,10 @@ pub record EndsWithBlocks (told : Told) (asked : Asked) (parts : List (List ℕ)
   pub given : AreBlocksOf told asked.weights.items blocks
   pub sought : IsSought asked.out (joined parts) blocks old new s
 
--- a file of blocks can't be had
+-- the parts of what is asked can be had, and a file of blocks can't
 pub record EndsWithoutBlocks (told : Told) (asked : Asked) (old new : Outside) (s : Status) : Type 0 where
+  pub parts : List (List ℕ)
+  pub are : ArePartsOf told (all_due asked) parts
   pub failure : Failure
   pub is : IsBlocksFailure told asked.weights.items failure
   pub status_is : s ≡ failure_status failure

@@ -1,7 +1,7 @@
 -- Why what is read for a search can't be had.
-use Rattle.std.specs.Prelude.{◌⊎◌}
+use Rattle.std.specs.Prelude.{◌⊎◌, ℕ, List}
 use Rattle.seek_words.specs.declared.asked.Asked.{Asked}
-use Rattle.seek_parts.specs.Parts.{Told, all_due}
+use Rattle.seek_parts.specs.Parts.{Told, ArePartsOf, all_due}
 use Rattle.seek_parts.specs.Fault.{IsFaultOf}
 use Rattle.seek.specs.declared.failure.Failure.{Failure}
 use Rattle.seek.specs.declared.failure.Failure.TheVariants.{Part, Blocks, ReadAndWritten, Write, OutOfMemory}
@@ -15,6 +15,12 @@ IsPartsFailure told asked (ReadAndWritten name) = ⊥
 IsPartsFailure told asked (Write name error) = ⊥
 IsPartsFailure told asked OutOfMemory = ⊥
 
+-- the parts can be had, and a file of blocks can't
+pub record IsFailureBehindParts (told : Told) (asked : Asked) (failure : Failure) : Type 0 where
+  pub parts : List (List ℕ)
+  pub are : ArePartsOf told (all_due asked) parts
+  pub is : IsBlocksFailure told asked.weights.items failure
+
 -- a part or a file of blocks can't be had
 abbrev pub IsInputsFailure : Told → Asked → Failure → Type 0
-IsInputsFailure told asked failure = IsPartsFailure told asked failure ⊎ IsBlocksFailure told asked.weights.items failure
+IsInputsFailure told asked failure = IsPartsFailure told asked failure ⊎ IsFailureBehindParts told asked failure
