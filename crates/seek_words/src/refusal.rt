@@ -18,6 +18,9 @@ const LIKE: &str = "  tip: a similar argument exists: '-";
 const BELOW_ZERO: &str =
     "no option takes a number below 0, and a braid stands in quotes, as --braid \"2 -1 -1\"";
 
+/// What is said of files that are too many: letters of a braid, as a rule.
+const QUOTES: &str = "a braid stands in quotes, as --braid \"2 1 1 1\"";
+
 /// What is said of words that are refused, in lines. Of the tips of `clap` no other is among them than an option that begins with the same
 /// letter as the one that there isn't.
 pub fn refusal_text(alloc: Global, error: &Error) -> Result<String, AllocError> {
@@ -65,6 +68,7 @@ fn hint_of(alloc: Global, kind: ErrorKind, line: &str) -> Result<Option<&'static
     match kind {
         ErrorKind::ValueValidation => bounds_in(alloc, line),
         ErrorKind::UnknownArgument if is_number(line) => Ok(Some(BELOW_ZERO)),
+        ErrorKind::TooManyValues => Ok(Some(QUOTES)),
         _ => Ok(None),
     }
 }
