@@ -290,6 +290,9 @@ def limits():
         front = UNKNOT + UNKNOT + b"certificate 3\ndifferent numbers table %d\n" % order + rows
         yield Case("limits", f"check: numbers by a table of {order}", [b"check"], front + b"seeds 0\nnumbers %d\nseeds 0\nnumbers %d\n" % (order, order))
         yield Case("limits", f"check: a shadow cocycle of a table of {order}", [b"check"], front + b"shadow 2\n")
+        front = TREFOIL + b"quandle table %d\n" % order + rows
+        for behind in (b"", b"shadow 2\n", b"weight 2\n" + (b"0 " * order + b"\n") * order, b"quandle dihedral 3\n", b"quandle dihedral %d\n" % order):
+            yield Case("limits", f"numbers: a table of {order} and {behind[:12]}", [b"numbers"], front + behind)
     for first in range(1, 33):
         for second in range(0, 34):
             yield Case("limits", f"colour: alexander {first} {second}", [b"colour"], UNKNOT + b"quandle alexander %d %d\n" % (first, second))

@@ -363,12 +363,13 @@ def read_grid(lines: Lines) -> Grid:
     return Grid(tuple(xs), tuple(os_))
 
 
-def read_quandle(lines: Lines, word: str = "quandle") -> Quandle:
-    """The quandle of a line `quandle`, or of another word that stands before its name, with the lines of its table."""
+def read_quandle(lines: Lines, word: str = "quandle", largest: int = MAX_ORDER) -> Quandle:
+    """The quandle of a line `quandle`, or of another word that stands before its name, with the lines of its table, which has at most the largest
+    order. Raises BadText."""
     line, tokens = lines.take("a quandle")
     if tokens[0] != word or len(tokens) < 2:
         raise BadText(f"a line '{word}' with a name is due", line)
-    return quandle_named(lines, line, tokens[1:])
+    return quandle_named(lines, line, tokens[1:], largest)
 
 
 def quandle_named(lines: Lines, line: int, tokens: Sequence[str], largest: int = MAX_ORDER) -> Quandle:

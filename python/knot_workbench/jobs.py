@@ -11,7 +11,7 @@ from .certificates import Certificate, Unknown, numbers_behind, read_list, read_
 from .cocycles import MAX_MODULUS, Cocycle, ShadowCocycle, cocycle_fault, read_shadow
 from .code_texts import kind_of_text, lists_in, of_signed, plain, read_lists, read_text, unwrapped, unwrapped_components
 from .codes import Code, read_code, rows_text
-from .diagrams import (Braid, Diagram, Grid, Lines, Move, Quandle, Rows, diagram_text, grid_of, move_of, move_text, quandle_fault, quandle_of,
+from .diagrams import (MAX_LARGE_ORDER, Braid, Diagram, Grid, Lines, Move, Quandle, Rows, diagram_text, grid_of, move_of, move_text, quandle_fault, quandle_of,
                        read_grid, read_quandle, wholes)
 from .faults import BadCode, BadText, Fault, NoJob, Wide
 from .given import diagram as diagram_given
@@ -36,7 +36,7 @@ def quandle(of: QuandleLike) -> Quandle:
         return ready(of)[0]
     if isinstance(of, str):
         lines = Lines(of if of.lstrip().startswith("quandle") else f"quandle {of}")
-        found = read_quandle(lines)
+        found = read_quandle(lines, largest=MAX_LARGE_ORDER)
         lines.done()
         return found
     try:
@@ -216,7 +216,7 @@ def numbers(diagram: DiagramLike, *blocks: Union[QuandleLike, Tuple[QuandleLike,
     found = []
     with reading("knot numbers"):
         while lines.peek() == "quandle":
-            by = read_quandle(lines)
+            by = read_quandle(lines, largest=MAX_LARGE_ORDER)
             if lines.peek() == "wide":
                 found.append(Numbers(by, None, numbers_behind(lines, "wide", 1)[0]))
             else:

@@ -528,5 +528,5 @@ def diagram_and_blocks(lines):
     """A diagram, and any number of quandles, each perhaps with a cocycle behind it; the built-in list where there are none."""
     grid, blocks = read_diagram(lines), []
     while lines.begins_with(b"quandle"):
-        blocks.append(read_block(lines, is_one_too_many=len(blocks) == MAX_QUANDLES))
+        blocks.append(read_block(lines, is_one_too_many=len(blocks) == MAX_QUANDLES, largest=MAX_LARGE_ORDER))
     return grid, blocks or [(quandle, None) for quandle in BUILT_IN]

@@ -1,6 +1,5 @@
 -- Blocks as a text: a quandle item, and perhaps a cocycle of this quandle behind it.
 use Rattle.std.specs.Prelude.{ℕ, zero, suc, List, [], ◌∷◌, map, codes, None, Result, Ok, Err, if◌then◌else◌}
-use Rattle.quandle_core.specs.declared.quandle.TheConstants.{MAX_ORDER}
 use Rattle.quandle_core.specs.declared.operations.TheConstants.{MAX_LARGE_ORDER}
 use Rattle.text_lines.specs.Lines.{Text, text_of, begins}
 use Rattle.named_quandles.specs.Names.{NamedQuandle}
@@ -53,10 +52,10 @@ abbrev pub or_built_in : List Block → List Block
 or_built_in [] = map alone built_in
 or_built_in (block ∷ blocks) = block ∷ blocks
 
--- the same of at most MAX_QUANDLES, of orders of at most MAX_ORDER
+-- the same of at most MAX_QUANDLES, of orders of at most MAX_LARGE_ORDER
 unfoldable pub block_list : Text → Result (List Block × Text) TextFault
 block_list text = do
-  listed ← blocks MAX_ORDER MAX_QUANDLES text
+  listed ← blocks MAX_LARGE_ORDER MAX_QUANDLES text
   Ok (or_built_in listed.0, listed.1)
 
 -- ---- a text of blocks alone

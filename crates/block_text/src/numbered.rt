@@ -20,7 +20,8 @@ pub struct NumbersText {
     pub blocks: Items<Block>,
 }
 
-/// A diagram and at most `MAX_QUANDLES` blocks, without which the built-in quandles stand, each alone.
+/// A diagram and at most `MAX_QUANDLES` blocks, of at most `MAX_LARGE_ORDER` colours where they are by tables; without blocks the built-in
+/// quandles stand, each alone.
 ///
 /// Else the fault of the first bad line, or want of memory.
 #[tactic(auto, unfolding(crate::specs::Numbered::numbers_in))]

@@ -20,7 +20,7 @@ use std::fs::Files;
 use std::io::{Read, Write};
 use std::{fmt, io};
 
-/// What is told of a call that ended otherwise than with an answer.
+/// What is told of a call that ended with another status than `Done` and `Unknown`.
 #[derive(Debug, Drop)]
 pub enum Sentence<'a> {
     /// Why the words ask for no job.
@@ -78,7 +78,7 @@ pub fn sentence_of<'a, R: Read + Drop, W: Write + Drop>(
         },
         Status::Malformed | Status::Limit => {
             let is_limit = status == Status::Limit;
-            line_sentence(reading(alloc, words)?, is_limit, source, sink)
+            line_sentence(alloc, reading(alloc, words)?, is_limit, source, sink)
         }
         Status::ReadFault => Some(Sentence::Read {
             error: source.error(),
@@ -114,6 +114,7 @@ fn wide_sentence<'a>(job: Job, is_limit: bool, columns: usize) -> Option<Sentenc
 
 /// What is told of the line that an answer names, of the length of the input, or of the columns of a drawing.
 fn line_sentence<'a, R: Read + Drop, W: Write + Drop>(
+    alloc: Global,
     job: Job,
     is_limit: bool,
     source: &'a StdSource<R>,
@@ -134,7 +135,7 @@ fn line_sentence<'a, R: Read + Drop, W: Write + Drop>(
     let front = source.front();
     let is_table = job == Job::Plain(PlainJob::Check) && begins_table(front);
     if !is_table && (source.is_whole() || has_line(front, line)) {
-        let reason = reason_in(shape, front, line, is_limit);
+        let reason = reason_in(alloc, shape, front, line, is_limit);
         return Some(Sentence::Line { line, reason });
     }
     Some(Sentence::LineAlone { line, is_limit })

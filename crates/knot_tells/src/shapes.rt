@@ -36,7 +36,7 @@ fn plain_shape_of(job: PlainJob) -> Option<Shape>
         PlainJob::Linking => (true, false, Then::Nothing),
         PlainJob::Braidcheck => (true, true, Then::Only(Part::Steps)),
         PlainJob::Weights => (true, false, Then::QuandleAnd(Part::Cocycle)),
-        PlainJob::Numbers => (false, false, Then::QuandlesAnd(Part::Cocycle)),
+        PlainJob::Numbers => (false, false, Then::QuandlesAnd(Part::LargeCocycle)),
         PlainJob::Grid => return None,
     };
     Some(Shape {

@@ -1,6 +1,5 @@
 -- A text of a diagram and blocks, and one of blocks alone, fails at its first bad line.
 use Rattle.std.proofs.Common.{◌≡◌, ℕ, zero, suc, List, [], ◌∷◌, Bool, true, false, cond, Result, Ok, Err, refl, codes}
-use Rattle.quandle_core.specs.declared.quandle.TheConstants.{MAX_ORDER}
 use Rattle.quandle_core.specs.declared.operations.TheConstants.{MAX_LARGE_ORDER}
 use Rattle.text_lines.specs.Lines.{NumberedLine, Text, first_starts}
 use Rattle.verdict_core.specs.declared.diagrams.Diagram.{Diagram}
@@ -136,9 +135,9 @@ flat_built_in (Err e) k = refl
 behind_diagram_fails : (d : Diagram) → FailsFirst (λ text. block_list text >>= λ listed. ended d listed.0 listed.1)
 unfolding block_list
 behind_diagram_fails d =
-    same_fails (listed_then MAX_ORDER MAX_QUANDLES (λ bs. ended d (or_built_in bs))) (λ text. block_list text >>= λ listed. ended d listed.0 listed.1)
-    (λ text. flat_built_in (blocks MAX_ORDER MAX_QUANDLES text) (ended d))
-    (list_fails MAX_ORDER MAX_QUANDLES (λ bs. ended d (or_built_in bs)) (λ bs. end_fails (numbers_text d (or_built_in bs))))
+    same_fails (listed_then MAX_LARGE_ORDER MAX_QUANDLES (λ bs. ended d (or_built_in bs))) (λ text. block_list text >>= λ listed. ended d listed.0 listed.1)
+    (λ text. flat_built_in (blocks MAX_LARGE_ORDER MAX_QUANDLES text) (ended d))
+    (list_fails MAX_LARGE_ORDER MAX_QUANDLES (λ bs. ended d (or_built_in bs)) (λ bs. end_fails (numbers_text d (or_built_in bs))))
 
 pub numbers_fail : FailsFirst numbers_in
 unfolding numbers_in

@@ -67,7 +67,7 @@ pub(crate) fn tell_line<R: Eprint>(
 {
     let (name, line) = place_of(parts, at);
     match join_parts(alloc, parts.texts()) {
-        Ok(problem) => tell_reason(rt, name, line, reason_at(problem.as_slice(), at)),
+        Ok(problem) => tell_reason(rt, name, line, reason_at(alloc, problem.as_slice(), at)),
         Err(_) => {
             let _told = eprintln!(rt;
                 "seek: {name}, line {line} is bad, and there is not enough memory to say why"

@@ -3,14 +3,14 @@
 use crate::reason::Reason;
 use crate::shown::Shown;
 use arrayvec::ArrayVec;
-use grid_core::MAX_SIZE;
+use quandle_core::MAX_LARGE_ORDER;
 use text_lines::{Line, MAX_DIGITS};
 
 /// The numbers that are left of a line.
 #[derive(Drop)]
 pub(crate) struct Numbers {
-    /// The first `MAX_SIZE` of them.
-    pub(crate) first: ArrayVec<u32, MAX_SIZE>,
+    /// The first `MAX_LARGE_ORDER` of them.
+    pub(crate) first: ArrayVec<u32, MAX_LARGE_ORDER>,
     /// How many there are.
     pub(crate) count: usize,
 }

@@ -3,11 +3,16 @@
 use crate::numbers::Numbers;
 use crate::reason::{Due, Reason};
 use crate::shown::Shown;
-use arrayvec::ArrayVec;
-use quandle_core::{MAX_ORDER, MAX_TABLE, Quandle, QuandleFault};
+use quandle_core::{
+    LargeFault, LargeQuandle, MAX_LARGE_ORDER, MAX_ORDER, Quandle, QuandleFault,
+};
+use std::alloc::Global;
 use std::fmt;
 use text_items::MAX_QUANDLES;
 use text_lines::Line;
+
+/// How many entries the largest table has.
+const MAX_ENTRIES: usize = MAX_LARGE_ORDER * MAX_LARGE_ORDER;
 
 /// The families of quandles that have names.
 #[derive(Clone, Copy, Debug, PartialEq, Eq)]
@@ -30,6 +35,10 @@ pub enum QuandleReason<'a> {
     Count { family: Family, count: usize },
     /// The order is 0, or too large.
     Order { order: u32 },
+    /// The order is too large without a table, and not with one.
+    NamedOrder { order: u32 },
+    /// The order is too large for the largest tables.
+    TableOrder { order: u32 },
     /// The factor is not below the order.
     Factor { order: u32, factor: u32 },
     /// The factor has no inverse.
@@ -108,6 +117,14 @@ impl<'a> fmt::Display for QuandleReason<'a> {
                     "the order {order} is above {MAX_ORDER}, the largest of a quandle here"
                 )
             }
+            QuandleReason::NamedOrder { order } => write!(
+                f,
+                "the order {order} is above {MAX_ORDER}, the largest of a quandle without a table"
+            ),
+            QuandleReason::TableOrder { order } => write!(
+                f,
+                "the order {order} is above {MAX_LARGE_ORDER}, the largest of a table here"
+            ),
             QuandleReason::Factor { order, factor } => {
                 write!(f, "the factor {factor} is not below the order {order}")
             }
@@ -163,9 +180,14 @@ pub(crate) fn table_order(line: &mut Line) -> Option<usize> {
     }
 }
 
-/// Why the line of a quandle is bad, from behind its first word: by its form, by a limit, or by what it says. One quandle more than a
-/// problem may have exceeds a limit whatever it says.
-pub(crate) fn quandle_reason<'a>(line: &mut Line<'a>, is_surplus: bool, due: Due) -> Reason<'a> {
+/// Why the line of a quandle is bad, from behind its first word: by its form, by a limit, or by what it says. One quandle more than an
+/// input may have exceeds a limit whatever it says. A table has at most so many elements.
+pub(crate) fn quandle_reason<'a>(
+    line: &mut Line<'a>,
+    is_surplus: bool,
+    most: usize,
+    due: Due,
+) -> Reason<'a> {
     let Some(token) = line.next_token() else {
         return Reason::Quandle(QuandleReason::NoName);
     };
@@ -188,15 +210,27 @@ pub(crate) fn quandle_reason<'a>(line: &mut Line<'a>, is_surplus: bool, due: Due
     if let Some(token) = long {
         return Reason::Digits { token };
     }
-    match numbers_reason(numbers.first.as_slice()) {
+    match numbers_reason(family, numbers.first.as_slice(), most) {
         Some(reason) => Reason::Quandle(reason),
         None => Reason::Other { due },
     }
 }
 
-/// Why there is no quandle of an order and, if there are two numbers, a factor.
-fn numbers_reason<'a>(numbers: &[u32]) -> Option<QuandleReason<'a>> {
+/// Why there is no quandle of an order and, if there are two numbers, a factor. A table has at most so many elements.
+fn numbers_reason<'a>(
+    family: Family,
+    numbers: &[u32],
+    most: usize,
+) -> Option<QuandleReason<'a>> {
     let order = *numbers.first()?;
+    if order > 0 && most > MAX_ORDER {
+        if let Some(reason) = large_reason(family, order, most) {
+            return Some(reason);
+        }
+        if family == Family::Table {
+            return None;
+        }
+    }
     if order < 1 || order as usize > MAX_ORDER {
         return Some(QuandleReason::Order { order });
     }
@@ -210,21 +244,36 @@ fn numbers_reason<'a>(numbers: &[u32]) -> Option<QuandleReason<'a>> {
     }
 }
 
+/// Why an order is too large where tables may have more elements than other quandles.
+fn large_reason<'a>(family: Family, order: u32, most: usize) -> Option<QuandleReason<'a>> {
+    if family == Family::Table {
+        if order as usize > most {
+            return Some(QuandleReason::TableOrder { order });
+        }
+        return None;
+    }
+    if order as usize > MAX_ORDER {
+        return Some(QuandleReason::NamedOrder { order });
+    }
+    None
+}
+
 /// The table of a quandle, as far as it was read.
 #[derive(Drop)]
 pub(crate) struct Table {
     order: usize,
     pub(crate) rows: usize,
-    entries: ArrayVec<u8, MAX_TABLE>,
+    /// As many entries as the largest table has, and none for which memory was wanting.
+    entries: Vec<u8>,
 }
 
 impl Table {
     /// A table without a row.
-    pub(crate) fn new(order: usize) -> Table {
+    pub(crate) fn new(alloc: Global, order: usize) -> Table {
         Table {
             order,
             rows: 0,
-            entries: ArrayVec::new(),
+            entries: Vec::new(alloc),
         }
     }
 
@@ -244,14 +293,19 @@ impl Table {
     /// Appends entries, as far as there is room.
     fn append(&mut self, row: &[u32]) {
         for entry in row {
-            if !self.entries.is_full() {
-                self.entries.push((*entry).min(255) as u8);
+            if self.entries.len() < MAX_ENTRIES {
+                let _kept = self.entries.push((*entry).min(255) as u8);
             }
         }
     }
 
     /// Why a row is bad.
-    pub(crate) fn reason<'a>(&mut self, line: &mut Line<'a>, due: Due) -> Reason<'a> {
+    pub(crate) fn reason<'a>(
+        &mut self,
+        alloc: Global,
+        line: &mut Line<'a>,
+        due: Due,
+    ) -> Reason<'a> {
         let numbers = match Numbers::of(line) {
             Ok(numbers) => numbers,
             Err(reason) => return reason,
@@ -265,9 +319,9 @@ impl Table {
             return Reason::Quandle(QuandleReason::Entry { entry, order });
         }
         self.append(numbers.first.as_slice());
-        match Quandle::new(order.min(255) as u8, self.entries.as_slice()) {
-            Ok(_) => Reason::Other { due },
-            Err(fault) => Reason::Quandle(QuandleReason::Law(fault)),
+        match LargeQuandle::new(alloc, order.min(255) as u8, self.entries.as_slice()) {
+            Err(LargeFault::Broken { fault }) => Reason::Quandle(QuandleReason::Law(fault)),
+            Ok(_) | Err(LargeFault::OutOfMemory) => Reason::Other { due },
         }
     }
 }

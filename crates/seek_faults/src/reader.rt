@@ -7,20 +7,28 @@ use crate::quandles::{Table, quandle_reason, table_order};
 use crate::reason::{Due, Reason, Which};
 use crate::shape::{PROBLEM, Part, Shape, Then};
 use crate::shown::Shown;
+use std::alloc::Global;
 use text_items::MAX_QUANDLES;
 use text_lines::{Line, Lines};
 
 /// Why a line of a problem is bad, where it is the first bad one, or what is due where the text ends. Lines are counted from 1. Of a line
-/// that is not the first bad one, or of none, what is answered may be beside the point.
-pub fn reason_at<'a>(bytes: &'a [u8], at: usize) -> Reason<'a> {
-    reason_in(PROBLEM, bytes, at, false)
+/// that is not the first bad one, or of none, what is answered may be beside the point. Where memory is wanting, the law that a table breaks
+/// may not be named.
+pub fn reason_at<'a>(alloc: Global, bytes: &'a [u8], at: usize) -> Reason<'a> {
+    reason_in(alloc, PROBLEM, bytes, at, false)
 }
 
 /// The same of an input of any shape. Of its further part no more is known than where it begins, and whether it is a limit that the line
 /// exceeds.
-pub fn reason_in<'a>(shape: Shape, bytes: &'a [u8], at: usize, is_limit: bool) -> Reason<'a> {
+pub fn reason_in<'a>(
+    alloc: Global,
+    shape: Shape,
+    bytes: &'a [u8],
+    at: usize,
+    is_limit: bool,
+) -> Reason<'a> {
     let mut lines = Lines::new(bytes);
-    let mut reader = Reader::new(shape);
+    let mut reader = Reader::new(alloc, shape);
     for _line in 0..u64::MAX {
         let Some(mut line) = lines.next_line() else {
             break;
@@ -36,6 +44,7 @@ pub fn reason_in<'a>(shape: Shape, bytes: &'a [u8], at: usize, is_limit: bool) -
 /// What was read of an input.
 #[derive(Drop)]
 struct Reader {
+    alloc: Global,
     shape: Shape,
     /// How many whole diagrams.
     diagrams: u8,
@@ -51,8 +60,9 @@ struct Reader {
 
 impl Reader {
     /// Nothing was read.
-    fn new(shape: Shape) -> Reader {
+    fn new(alloc: Global, shape: Shape) -> Reader {
         Reader {
+            alloc,
             shape,
             diagrams: 0,
             crosses: None,
@@ -99,10 +109,7 @@ impl Reader {
         let are_two = self.shape.are_two;
         match (self.shape.then.part(self.quandles), self.part) {
             (Some(part), Some(line)) => Due::Behind { part, line },
-            (Some(part), None) => Due::Begin {
-                part,
-                or_quandle: self.shape.then.takes_quandle(self.quandles),
-            },
+            (Some(part), None) => Due::Begin { part },
             (None, _) => match self.shape.then {
                 Then::Quandles | Then::QuandlesAnd(_) => Due::Quandles { are_two },
                 Then::QuandleAnd(_) => Due::Quandle,
@@ -165,7 +172,7 @@ impl Reader {
         self.quandles = self.quandles.saturating_add(1);
         let _word = line.next_token();
         self.table = match table_order(line) {
-            Some(order) => Some(Table::new(order)),
+            Some(order) => Some(Table::new(self.alloc, order)),
             None => None,
         };
     }
@@ -173,8 +180,9 @@ impl Reader {
     /// Why a line is bad.
     fn reason<'a>(&mut self, line: &mut Line<'a>, is_limit: bool) -> Reason<'a> {
         let due = self.due();
+        let alloc = self.alloc;
         if let Some(table) = &mut self.table {
-            return table.reason(line, due);
+            return table.reason(alloc, line, due);
         }
         if let Due::Behind { part, .. } = due {
             return reason_of_part(part, due, is_limit);
@@ -221,10 +229,11 @@ impl Reader {
         is_limit: bool,
     ) -> Reason<'a> {
         if token == b"quandle".as_slice() && self.shape.then.takes_quandle(self.quandles) {
-            return quandle_reason(line, self.quandles >= MAX_QUANDLES, due);
+            let most = self.shape.then.most_of_table();
+            return quandle_reason(line, self.quandles >= MAX_QUANDLES, most, due);
         }
         match due {
-            Due::Begin { part, .. } if part.begins(token) => reason_of_part(part, due, is_limit),
+            Due::Begin { part } if part.begins(token) => reason_of_part(part, due, is_limit),
             _ => begins,
         }
     }

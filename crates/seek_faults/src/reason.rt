@@ -32,7 +32,7 @@ pub enum Due {
     /// Nothing.
     Nothing { are_two: bool },
     /// The first line of a part, or a quandle in its place, if one may stand there.
-    Begin { part: Part, or_quandle: bool },
+    Begin { part: Part },
     /// A further line of the part that begins in a line.
     Behind { part: Part, line: usize },
 }
@@ -120,7 +120,7 @@ impl fmt::Display for Due {
                 let diagrams = diagrams(*are_two);
                 write!(f, "nothing may follow {diagrams}")
             }
-            Due::Begin { part, or_quandle } => write_begin(f, *part, *or_quandle),
+            Due::Begin { part } => write_begin(f, *part),
             Due::Behind { part, line } => {
                 write!(f, "more is due behind line {line}, where {part}")
             }
@@ -132,7 +132,6 @@ impl fmt::Display for Due {
 fn write_begin<W: fmt::Write>(
     f: &mut fmt::Formatter<W>,
     part: Part,
-    or_quandle: bool,
 ) -> fmt::Result {
     f.write_str(match part {
         Part::Verdict => {
@@ -140,7 +139,7 @@ fn write_begin<W: fmt::Write>(
         }
         Part::Moves => "a line `moves ..` with their number is due",
         Part::Steps => "a line `steps ..` with their number is due",
-        Part::Cocycle if or_quandle => {
+        Part::LargeCocycle => {
             "only a cocycle of the quandle, from a line `weight ..` or `shadow ..` on, or lines `quandle ..` may follow"
         }
         Part::Cocycle => "a line `weight ..` with a modulus or a line `shadow ..` is due",

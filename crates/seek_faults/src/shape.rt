@@ -27,7 +27,7 @@ pub enum Then {
     Nothing,
     /// Any number of quandles.
     Quandles,
-    /// Any number of quandles, and a further part; a cocycle stands behind its quandle, or there is none.
+    /// Any number of quandles, and a further part; a `LargeCocycle` stands behind its quandle, or there is none.
     QuandlesAnd(Part),
     /// One quandle, and a further part.
     QuandleAnd(Part),
@@ -43,6 +43,8 @@ pub enum Part {
     Moves,
     Steps,
     Cocycle,
+    /// A cocycle of a quandle whose table may be large.
+    LargeCocycle,
 }
 
 /// Two diagrams and any number of quandles.
@@ -65,9 +67,17 @@ impl Then {
     /// The part that may begin behind so many quandles.
     pub(crate) fn part(self, quandles: usize) -> Option<Part> {
         match self {
-            Then::QuandlesAnd(Part::Cocycle) | Then::QuandleAnd(_) if quandles < 1 => None,
+            Then::QuandlesAnd(Part::LargeCocycle) | Then::QuandleAnd(_) if quandles < 1 => None,
             Then::QuandlesAnd(part) | Then::QuandleAnd(part) | Then::Only(part) => Some(part),
             Then::Nothing | Then::Quandles => None,
+        }
+    }
+
+    /// The greatest order of a quandle by its table.
+    pub(crate) fn most_of_table(self) -> usize {
+        match self {
+            Then::QuandlesAnd(Part::LargeCocycle) => MAX_LARGE_ORDER,
+            _ => MAX_ORDER,
         }
     }
 }
@@ -79,7 +89,7 @@ impl Part {
             Part::Verdict => &[b"certificate", b"equal", b"different", b"unknown"],
             Part::Moves => &[b"moves"],
             Part::Steps => &[b"steps"],
-            Part::Cocycle => &[b"weight", b"shadow"],
+            Part::Cocycle | Part::LargeCocycle => &[b"weight", b"shadow"],
         };
         words.iter().any(|word| *word == token)
     }
@@ -99,7 +109,7 @@ impl fmt::Display for Limits {
                 )?;
                 write!(
                     f,
-                    "by a table in evidence by numbers at most {MAX_LARGE_ORDER} without `shadow`, seeds are at most {MAX_SIZE}, "
+                    "by a table in evidence by numbers at most {MAX_LARGE_ORDER} without `shadow`, a diagram at most {MAX_SIZE} seeds, "
                 )?;
                 write!(f, "a modulus or a number of a move is at most {MAX_BYTE}, ")
             }
@@ -112,6 +122,10 @@ impl fmt::Display for Limits {
                 "a number of a step is at most {MAX_BYTE}, a letter at most {MAX_LETTER}, "
             ),
             Part::Cocycle => write!(f, "the modulus is at most {MAX_BYTE}, "),
+            Part::LargeCocycle => write!(
+                f,
+                "the modulus is at most {MAX_BYTE}, a quandle with `shadow` has at most {MAX_ORDER} elements, "
+            ),
         }?;
         write!(f, "and any number has at most {MAX_DIGITS} digits")
     }
@@ -123,7 +137,7 @@ impl fmt::Display for Part {
             Part::Verdict => "the verdict begins",
             Part::Moves => "the moves begin",
             Part::Steps => "the steps begin",
-            Part::Cocycle => "the cocycle begins",
+            Part::Cocycle | Part::LargeCocycle => "the cocycle begins",
         })
     }
 }

@@ -5,7 +5,7 @@ use std::test::Fail;
 
 /// What is said of a line of a problem with which nothing is wrong.
 fn said_of_a_good_line(alloc: Global) -> Result<String, Fail> {
-    let said = reason_at(b"braid 1\nbraid 1\nquandle alexander 4 3\n", 3);
+    let said = reason_at(alloc, b"braid 1\nbraid 1\nquandle alexander 4 3\n", 3);
     Ok(format!(in alloc; "{said}")?)
 }
 
