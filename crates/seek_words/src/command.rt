@@ -21,25 +21,25 @@ const USAGE: &str = "seek [OPTIONS] [PROBLEM | FIRST SECOND]";
 
 /// What follows the options in the help.
 const AFTER: &str = "\
-A PROBLEM is two diagrams and any number of quandles, one behind the other; FIRST and SECOND are one diagram each. Without any,
-the problem is read from standard input. A diagram is a grid, two lines like
+A PROBLEM is a file with two diagrams, perhaps followed by quandles; FIRST and SECOND are files with one diagram each. If no
+diagram is given, the problem is read from standard input. A diagram is a grid, two lines like
     x 4 3 2 1 0
     o 2 1 0 4 3
 or a braid, a line like
     braid 2 1 1 1
-A planar diagram code, as other programs print it, stands in a file behind --pd, like
+--pd names a file with a planar diagram code, as other programs print it, like
     X[1,5,2,4] X[3,1,4,6] X[5,3,6,2]
 
 Example: is the closure of a braid the diagram in a file?
     seek --braid \"2 1 1 1\" trefoil.txt
 
-What is written with status 0 is a verdict with its evidence: `equal` and moves that lead from the first diagram to the second, or
-`different` and a quandle with all colourings of both diagrams by it, or their numbers of colourings, by weight where there is a
-cocycle, or their linking numbers. Behind the problem `knot check` accepts it, where both are within its limit of bytes. The other
-statuses:
-    1 nothing was found   2 the words are wrong   3 a line or a code is wrong   4 a limit is passed
-    5 reading failed      6 writing failed        7 memory was wanting
-    10 the system gives the program no words that it can read
+What is written with exit status 0 is a verdict with its evidence: `equal` and moves that lead from the first diagram to the
+second, or `different` and what differs: the colourings of both diagrams by a quandle, their numbers of colourings (with a cocycle
+by weight), or their linking numbers. The problem followed by the verdict is a certificate, which `knot check` accepts unless it
+has too many bytes. The other exit statuses:
+    1 nothing was found   2 the command line is invalid   3 a line or a code is malformed   4 a limit is exceeded
+    5 reading failed      6 writing failed                7 memory ran out
+    10 an argument isn't UTF-8
 ";
 
 /// The files.
