@@ -29,7 +29,7 @@ DiagramLike = Any
 
 def quandle(of: QuandleLike) -> Quandle:
     """A quandle by its name, as "dihedral 3", "alexander 5 2" or "tetrahedral", by that of a table of quandles/weights/, as "T5", or by the
-    rows of its table. Raises BadText."""
+    rows of its table. A quandle has at most 32 colours, by its table 128 for `numbers` and for weights of `seek`. Raises BadText."""
     if isinstance(of, Quandle):
         return of
     if isinstance(of, str) and ready_file(of):

@@ -180,6 +180,15 @@ class Answers(Case):
         self.assertEqual([one[1:] for one in found], [((9,), None), ((4, 12), None), (None, 5)])
         self.assertEqual(found[0].quandle, table)
 
+    def test_numbers_by_larger_tables(self):
+        text = "quandle table 33\n" + "".join(" ".join(str((2 * y - x) % 33) for y in range(33)) + "\n" for x in range(33))
+        with self.says(0, f"{text}numbers 99\n"):
+            found, = kw.numbers(TREFOIL, text)
+        self.assertEqual(self.got(), ("numbers", TREFOIL.text + text))
+        self.assertEqual((found.quandle, found.counts), (kw.quandle([[(2 * y - x) % 33 for y in range(33)] for x in range(33)]), (99,)))
+        self.fails(kw.BadText, "the order is not 1 to 128", kw.quandle, "table 129")
+        self.fails(kw.BadText, "the order is not 1 to 32", kw.quandle, "dihedral 33")
+
     def test_an_older_program_has_no_such_job(self):
         with self.says(2, "usage: knot JOB\n"):
             self.fails(kw.NoJob, "knot doesn't take the words 'numbers'", kw.numbers, TREFOIL)
