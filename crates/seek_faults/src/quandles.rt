@@ -3,9 +3,7 @@
 use crate::numbers::Numbers;
 use crate::reason::{Due, Reason};
 use crate::shown::Shown;
-use quandle_core::{
-    LargeFault, LargeQuandle, MAX_LARGE_ORDER, MAX_ORDER, Quandle, QuandleFault,
-};
+use quandle_core::{LargeFault, LargeQuandle, MAX_LARGE_ORDER, MAX_ORDER, Quandle, QuandleFault};
 use std::alloc::Global;
 use std::fmt;
 use text_items::MAX_QUANDLES;
@@ -217,11 +215,7 @@ pub(crate) fn quandle_reason<'a>(
 }
 
 /// Why there is no quandle of an order and, if there are two numbers, a factor. A table has at most so many elements.
-fn numbers_reason<'a>(
-    family: Family,
-    numbers: &[u32],
-    most: usize,
-) -> Option<QuandleReason<'a>> {
+fn numbers_reason<'a>(family: Family, numbers: &[u32], most: usize) -> Option<QuandleReason<'a>> {
     let order = *numbers.first()?;
     if order > 0 && most > MAX_ORDER {
         if let Some(reason) = large_reason(family, order, most) {

@@ -129,10 +129,7 @@ impl fmt::Display for Due {
 }
 
 /// Writes what is due where a part may begin.
-fn write_begin<W: fmt::Write>(
-    f: &mut fmt::Formatter<W>,
-    part: Part,
-) -> fmt::Result {
+fn write_begin<W: fmt::Write>(f: &mut fmt::Formatter<W>, part: Part) -> fmt::Result {
     f.write_str(match part {
         Part::Verdict => {
             "lines `quandle ..` or a verdict are due, from `certificate ..`, `equal ..`, `different ..` or `unknown ..` on"
