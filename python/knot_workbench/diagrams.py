@@ -70,6 +70,11 @@ class Grid(_Grid):
         return reverse(self)
 
 
+def as_grid(xs: Rows, os: Rows) -> Grid:
+    """The grid of rows that are known to be those of one: they aren't looked at again."""
+    return tuple.__new__(Grid, (xs, os))
+
+
 class _Braid(NamedTuple):
     strands: int
     letters: Rows
@@ -142,7 +147,7 @@ def wholes(values: Any, what: str) -> Rows:
         found = tuple(values)
     except TypeError:
         raise BadDiagram(f"{what}: a list of whole numbers is due, and not {values!r:.30}") from None
-    return tuple(whole(value, what) for value in found)
+    return found if set(map(type, found)) <= {int} else tuple(whole(value, what) for value in found)
 
 
 def numeral(word: str, what: str) -> int:
@@ -458,8 +463,8 @@ def grid_fault(grid: Tuple[Sequence[int], Sequence[int]]) -> Optional[str]:
     for letter, rows in (("X", xs), ("O", os_)):
         if sorted(rows) != list(range(size)):
             return f"the {letter}s don't have each row of 0 to {size - 1} once"
-    for column in range(size):
-        if xs[column] == os_[column]:
+    for column, (x, o) in enumerate(zip(xs, os_)):
+        if x == o:
             return f"column {column} has its X and its O in one cell"
     return None
 
@@ -516,12 +521,12 @@ def mirror_image(diagram: Any) -> Any:
     if isinstance(diagram, Braid):
         return mirror_braid(diagram)
     size = len(diagram.xs)
-    return Grid(*(tuple(size - 1 - row for row in marks) for marks in diagram))
+    return as_grid(*(tuple(size - 1 - row for row in marks) for marks in diagram))
 
 
 def reverse(diagram: Any) -> Any:
     """The same link, run through backwards: a word from its end, and of a grid the Xs and the Os in each other's place."""
-    return Braid(diagram.strands, diagram.letters[::-1]) if isinstance(diagram, Braid) else Grid(diagram.os, diagram.xs)
+    return Braid(diagram.strands, diagram.letters[::-1]) if isinstance(diagram, Braid) else as_grid(diagram.os, diagram.xs)
 
 
 def ends(grid: Grid, row: int) -> Tuple[int, int]:

@@ -4,7 +4,7 @@ Nothing here is proved: `check` of the program makes the moves itself.
 """
 from typing import List, Sequence
 
-from .diagrams import Grid, MAX_SIZE, Move, Quandle, ends, is_up
+from .diagrams import Grid, MAX_SIZE, Move, Quandle, as_grid, ends, is_up
 from .faults import Illegal
 
 
@@ -23,7 +23,7 @@ def made(grid: Grid, move: Move) -> Grid:
 def transposed(grid: Grid) -> Grid:
     """Columns and rows in each other's place."""
     size = len(grid.xs)
-    return Grid(tuple(grid.xs.index(row) for row in range(size)), tuple(grid.os.index(row) for row in range(size)))
+    return as_grid(tuple(grid.xs.index(row) for row in range(size)), tuple(grid.os.index(row) for row in range(size)))
 
 
 def shifted(grid: Grid, which: str, by: int) -> Grid:
@@ -31,8 +31,8 @@ def shifted(grid: Grid, which: str, by: int) -> Grid:
     if not 0 < by < size:
         raise Illegal("range")
     if which == "columns":
-        return Grid(grid.xs[by:] + grid.xs[:by], grid.os[by:] + grid.os[:by])
-    return Grid(tuple((row - by) % size for row in grid.xs), tuple((row - by) % size for row in grid.os))
+        return as_grid(grid.xs[by:] + grid.xs[:by], grid.os[by:] + grid.os[:by])
+    return as_grid(tuple((row - by) % size for row in grid.xs), tuple((row - by) % size for row in grid.os))
 
 
 def swapped(grid: Grid, word: str, which: str, place: int) -> Grid:
@@ -55,7 +55,7 @@ def swapped(grid: Grid, word: str, which: str, place: int) -> Grid:
         raise Illegal("apart")
     for marks in (xs, os_):
         marks[place], marks[place + 1] = marks[place + 1], marks[place]
-    return Grid(tuple(xs), tuple(os_))
+    return as_grid(tuple(xs), tuple(os_))
 
 
 def stabilised(grid: Grid, column: int, kind: str, corner: str) -> Grid:

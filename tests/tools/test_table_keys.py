@@ -16,6 +16,7 @@ from lib.table_linear import block_between, block_text
 from lib.table_reduced import Reducer, short_place
 from lib.table_shadows import KNOWN, faces, is_one_curve, least, maps_to, shadows_to
 from knot_workbench.diagrams import Braid, Grid, closure
+from knot_workbench.faults import Fault
 from knot_workbench.identifying import components_of
 from knot_workbench.knot_rows import Block
 from knot_workbench.knot_tables import SAME, TURNS
@@ -202,6 +203,41 @@ class LinearTest(unittest.TestCase):
         self.assertEqual((lines[0], len(lines), lines[1 + 3].split()[2]), ("table 37", 38, str((5 * 3 - 4 * 2) % 37)))
 
 
+def by_rounds(joins, answer, efforts):
+    """Tries all pairs by rounds, in each of which every first key has one pair; where none has one, one symmetry."""
+    for words in efforts:
+        tried = set()
+        while True:
+            pairs = []
+            for bucket in joins.buckets:
+                roots = [key for key in bucket if key not in joins.above]
+                for place, key in enumerate(roots):
+                    pairs += [pair for aim in roots[:place] for pair in joins.pairs(key, aim) if pair not in tried][:1]
+            if not pairs:
+                for key in joins.roots():
+                    pairs += [pair for pair in joins.symmetries(key) if pair not in tried][:1]
+            if not pairs:
+                break
+            tried.update(pairs)
+            for pair in pairs:
+                found = answer(pair, words)
+                if not isinstance(found, Fault):
+                    joins.book.add(f"{pair.key.hex()}.{pair.aim.hex()}.{TURNS.index(pair.turn)}.{words}", said_of(found))
+                    joins.take(pair, found, words)
+
+
+def in_any_order(answer, dice):
+    """Answers to the questions of `try_all`, of which a few are under way at once, and any of these ends first."""
+    def ask(waiting, left):
+        under_way = []
+        while waiting or under_way:
+            while waiting and len(under_way) < 5:
+                under_way.append(waiting.popleft())
+            pair, _, _, words = under_way.pop(dice.randrange(len(under_way)))
+            yield pair, answer(pair, words)
+    return ask
+
+
 class JoinsTest(unittest.TestCase):
     """Keys of one bucket, joined by answers that the test gives."""
 
@@ -215,19 +251,36 @@ class JoinsTest(unittest.TestCase):
         joins = self.joins({small: (((9,),) * 2), large: (((9,),) * 2), other: (((3,),) * 2)})
         asked = []
 
-        def ask(questions):
-            for pair, *_ in questions:
-                asked.append(pair)
-                yield pair, (("shift", "rows", 1),) if pair.key != pair.aim and pair.turn == TURNS[1] else None
+        def answer(pair, _):
+            asked.append(pair)
+            return (("shift", "rows", 1),) if pair.key != pair.aim and pair.turn == TURNS[1] else None
 
-        joins.try_all(ask, ["words"], with_symmetries=False)
+        joins.try_all(in_any_order(answer, random.Random(1)), ["words"], with_symmetries=False)
         self.assertEqual(asked, [Pair(large, small, SAME), Pair(large, small, TURNS[1])])
         self.assertEqual(sorted(joins.roots()), sorted([small, other]))
         self.assertEqual(joins.way(large), (small, TURNS[1], [("shift", "rows", 1)]))
         # All is in the book: a second call asks nothing.
         again = Joins(joins.numbers, joins.book)
-        again.try_all(lambda questions: self.fail(questions), ["words"], with_symmetries=False)
+        again.try_all(in_any_order(lambda pair, _: self.fail(pair), random.Random(1)), ["words"], with_symmetries=False)
         self.assertEqual(again.above, joins.above)
+
+    def test_what_comes_of_tries_is_what_comes_of_rounds_whichever_ends_first(self):
+        keys = sorted({form_of(plain_orbits.walked(closure(Braid(3, [1, -2, 1, -2, 1, -2, 1, 2]))[0], random.Random(seed), 20)) for seed in range(20)})
+        self.assertGreater(len(keys), 12)
+        rows = {key: ((((9, 3)[place % 3 == 0],),) * 2) for place, key in enumerate(keys)}
+        for seed in range(20):
+
+            def answer(pair, words):
+                dice = random.Random(repr((seed, pair, words)))
+                return dice.choice([None] * 12 + [(), "told\n", Fault("none")])
+
+            plain, joins = self.joins(rows), self.joins(rows)
+            by_rounds(plain, answer, ["one", "other"])
+            joins.try_all(in_any_order(answer, random.Random(seed)), ["one", "other"])
+            same = [{key: turns for key, turns in one.same.items() if len(turns) > 1} for one in (joins, plain)]
+            self.assertEqual(*same)
+            self.assertEqual((joins.above, joins.told, joins.by, joins.loops, joins.vain, joins.left),
+                             (plain.above, plain.told, plain.by, plain.loops, plain.vain, set()))
 
     def test_what_a_try_found_is_read_as_it_was_written(self):
         for found in (None, (), (("shift", "rows", 1), ("stabilise", 0, "x", "lowleft")), "certificate 3\ndifferent linking\n"):

@@ -12,8 +12,8 @@ smaller         braid words made shorter by random changes
 whole_files     files that are there whole or not at all
 pieces_call     the call of pieces.py; on pieces_cut, pieces_run, pieces_answers and pieces_join
 tabulate_call   the call of tabulate.py; on table_given (table_shadows, table_choices), table_sorting (table_pool, table_worker, table_reduced,
-                table_keys, table_linear, table_book, table_joins), table_telling (table_standing, table_apart, table_certificate), table_written and
-                table_page
+                table_keys, table_linear, table_book, table_joins, table_tries), table_telling (table_standing, table_apart, table_certificate),
+                table_written and table_page
 
 Diagrams, quandles, moves, codes and tables stand in python/knot_workbench, which is found from here on.
 """

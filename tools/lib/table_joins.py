@@ -1,15 +1,18 @@
 """Keys joined to classes: walks are tried only between keys whose numbers agree after some turn. The same tries tell the symmetries of a class."""
 import collections
 import hashlib
+import itertools
 
 from knot_workbench.alexander import alexander_square
 from knot_workbench.diagrams import move_of, move_text
+from knot_workbench.faults import Fault
 from knot_workbench.identifying import components_of
 from knot_workbench.knot_rows import may_be_one, opposite
 from knot_workbench.knot_tables import SAME, TURNS
 from knot_workbench.moves import turned
 from lib.table_book import in_lines, in_one_line
 from lib.table_keys import grid_of_form
+from lib.table_tries import Course, Rounds
 
 # A pair of keys that may be one after a turn of the first.
 Pair = collections.namedtuple("Pair", "key aim turn")
@@ -76,14 +79,15 @@ class Numbers:
 class Joins:
     """What is known of keys: `above` has for one that was joined another one, a turn, and the moves from its turned diagram; `told` has the
     verdicts that tell pairs apart, and `by` the words of the searches that did; `loops` has for turns that leave a first key the same the moves
-    from its turned diagram; `book` has all tries, and `vain` for each pair the searches that found nothing."""
+    from its turned diagram; `book` has all tries, and `vain` for each pair the searches that found nothing; `left` are keys that may still be
+    tried."""
 
     def __init__(self, numbers, book):
         self.numbers, self.book = numbers, book
         self.above, self.told, self.by, self.loops, self.vain = {}, {}, {}, {}, collections.defaultdict(list)
         self.buckets = numbers.buckets()
         self.same = collections.defaultdict(lambda: [SAME])
-        self._alexander = {}
+        self.left, self._alexander = set(), {}
 
     def way(self, key):
         """The first key of the class, and a turn and moves that lead there from the turned diagram of the key."""
@@ -122,56 +126,67 @@ class Joins:
                 kept.append(turn)
                 yield Pair(key, aim, turn)
 
-    def open_symmetries(self):
+    def chain(self, key, aims):
+        """The pairs of a first key with some others, one after the other."""
+        for aim in aims:
+            yield from self.pairs(key, aim)
+
+    def symmetries(self, key):
         """The pairs of a first key with itself after a turn that may leave it the same, but those that are known."""
-        for key in self.roots():
-            for turn in self.numbers.turns(key, key):
-                if turn not in self.same[key] and Pair(key, key, turn) not in self.told:
-                    yield Pair(key, key, turn)
+        for turn in self.numbers.turns(key, key):
+            if turn not in self.same[key] and Pair(key, key, turn) not in self.told:
+                yield Pair(key, key, turn)
 
-    def is_alike(self, key, aim):
-        """Whether two keys have the same Alexander polynomial, as far as one place tells, or one is a link. No answer rests on it."""
-        for one in (key, aim):
-            if one not in self._alexander:
-                self._alexander[one] = alexander_square(grid_of_form(one)) if self.numbers.linked[one][0] == 1 else None
-        return None in (self._alexander[key], self._alexander[aim]) or self._alexander[key] == self._alexander[aim]
+    def alexander(self, key):
+        """What the Alexander polynomial of a knot is at one place; of a link None. No answer rests on it."""
+        if key not in self._alexander:
+            self._alexander[key] = alexander_square(grid_of_form(key)) if self.numbers.linked[key][0] == 1 else None
+        return self._alexander[key]
 
-    def next_pairs(self, tried, is_walk, with_symmetries):
-        """For each first key one pair that wasn't tried, the smallest aims first; where none is left, perhaps for each one symmetry. No walk is
-        tried between two knots whose Alexander polynomials differ."""
-        found = []
-        for bucket in self.buckets:
-            roots = [key for key in bucket if key not in self.above]
-            for place, key in enumerate(roots):
-                aims = (aim for aim in roots[:place] if not is_walk or self.is_alike(key, aim))
-                pair = next((pair for aim in aims for pair in self.pairs(key, aim) if pair not in tried), None)
-                if pair:
-                    found.append(pair)
-        if not found and with_symmetries:
-            taken = {}
-            for pair in self.open_symmetries():
-                if pair not in tried:
-                    taken.setdefault(pair.key, pair)
-            found = list(taken.values())
-        return found
+    def parts(self, bucket, efforts, with_symmetries):
+        """The searches of a bucket, each with its rounds: of each first key the pairs with others, the smallest of these first, and perhaps then
+        its symmetries. No walk is tried between two knots whose Alexander polynomials differ."""
+        for words in efforts:
+            keys = [key for key in bucket if key not in self.above]
+            is_walk = len(keys) > 1 and (words[0] == "decide" or "--no-weights" in words)
+            groups, chains = collections.defaultdict(list), {}
+            for key in keys:
+                aims = groups[self.alexander(key) if is_walk else None]
+                chains[key] = self.chain(key, itertools.islice(aims, len(aims)))
+                aims.append(key)
+            yield words, Rounds(chains)
+            if with_symmetries:
+                yield words, Rounds({key: self.symmetries(key) for key in keys if key not in self.above})
 
     def try_all(self, ask, efforts, with_symmetries=True):
-        """Tries all pairs by searches, one after the other. `ask` answers questions of `join` of a worker."""
-        for words in efforts:
-            tried = set()
-            while True:
-                pairs = self.next_pairs(tried, words[0] == "decide" or "--no-weights" in words, with_symmetries)
-                tried.update(pairs)
-                if not pairs:
-                    break
-                waiting = [pair for pair in pairs if name_of(pair, words) not in self.book.lines]
-                if waiting:
-                    for pair, found in ask([(pair, pair.turn.of(grid_of_form(pair.key)), grid_of_form(pair.aim), words) for pair in waiting]):
-                        self.book.add(name_of(pair, words), said_of(found))
-                for pair in pairs:
-                    # (a try without an answer isn't in the book, and was told)
-                    if name_of(pair, words) in self.book.lines:
-                        self.take(pair, found_in(self.book.lines[name_of(pair, words)][0]), words)
+        """Tries all pairs by searches, one after the other. `ask` has a deque of questions, as `join` of a worker is asked, to which others are
+        added as it answers, and the set of keys that may still be tried. It answers each pair with what is found, or a fault."""
+        waiting, courses = collections.deque(), {}
+        self.left = set(self.roots())
+
+        def go_on(course, pairs=()):
+            for pair in course.go_on(pairs):
+                courses[pair] = course
+                waiting.append((pair, pair.turn.of(grid_of_form(pair.key)), grid_of_form(pair.aim), course.words))
+            if course.is_ended:
+                self.left.difference_update(course.keys)
+
+        for bucket in self.buckets:
+            go_on(Course(bucket, self.parts(bucket, efforts, with_symmetries), self.take_known))
+        for pair, found in ask(waiting, self.left) if waiting else ():
+            course = courses.pop(pair)
+            if isinstance(found, Fault):
+                go_on(course, course.rounds.took(pair, False))
+            else:
+                self.book.add(name_of(pair, course.words), said_of(found))
+                go_on(course, [pair])
+
+    def take_known(self, pair, words):
+        """Whether the book has a try, and whether the key is joined, to this aim or before."""
+        line = self.book.lines.get(name_of(pair, words))
+        if line is not None:
+            self.take(pair, found_in(line[0]), words)
+        return line is not None, pair.key in self.above
 
     def take(self, pair, found, words):
         """What a try makes of the classes."""
@@ -184,6 +199,7 @@ class Joins:
             self.same[pair.key] += [turn for turn in [one.then(pair.turn) for one in self.same[pair.key]] if turn not in self.same[pair.key]]
         elif pair.key not in self.above:
             self.above[pair.key] = pair.aim, pair.turn, found
+            self.left.discard(pair.key)
 
 
 def name_of(pair, words):

@@ -6,7 +6,7 @@ least form that shifts and exchanges reach, over the four turns. Diagrams with o
 import functools
 from typing import List
 
-from knot_workbench.diagrams import Grid, Move
+from knot_workbench.diagrams import Grid, Move, as_grid
 from knot_workbench.moves import made
 
 
@@ -36,7 +36,7 @@ def form_of(grid: Grid) -> bytes:
 def grid_of_form(found: bytes) -> Grid:
     """A form as a grid."""
     size = len(found) // 2
-    return Grid(found[:size], found[size:])
+    return as_grid(tuple(found[:size]), tuple(found[size:]))
 
 
 # ---- ways

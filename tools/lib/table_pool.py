@@ -1,4 +1,4 @@
-"""The workers of tabulate.py and census.py: processes that answer lists of questions, several at once, in the order in which they are asked."""
+"""The workers of tabulate.py and census.py: processes that answer lists of questions, several at once."""
 import contextlib
 import os
 import pickle
@@ -7,10 +7,10 @@ import sys
 import threading
 import time
 from collections import deque
-from concurrent.futures import ThreadPoolExecutor
+from concurrent.futures import FIRST_COMPLETED, ThreadPoolExecutor, wait
 
 from knot_workbench.faults import Fault
-from lib.batch_programs import result_of
+from lib.batch_programs import LOOK_UP
 from lib.calls import note
 
 TOOLS = os.path.dirname(os.path.dirname(os.path.realpath(__file__)))
@@ -81,16 +81,15 @@ class Pool:
         self.own.worker.stdin.flush()
 
     def each(self, method, items, lot=1):
-        """The answers to all items in their order; `lot` of them are handed out at once."""
-        waiting, items = deque(), iter(items)
-        while True:
-            some = [item for _, item in zip(range(lot), items)]
-            if some:
-                waiting.append(self.threads.submit(self.asked, method, some))
-            if waiting and (not some or len(waiting) > 2 * self.processes):
-                yield from result_of(waiting.popleft())
-            elif not some:
-                return
+        """The answers to all items, as they come; `lot` of them are handed out at once. Where these are a deque, others may be added meanwhile."""
+        waiting, running = items if isinstance(items, deque) else deque(items), set()
+        while waiting or running:
+            while waiting and len(running) < 2 * self.processes:
+                some = [waiting.popleft() for _ in range(min(lot, len(waiting)))]
+                running.add(self.threads.submit(self.asked, method, some))
+            ended, running = wait(running, timeout=LOOK_UP, return_when=FIRST_COMPLETED)
+            for one in ended:
+                yield from one.result()
 
 
 class Progress:

@@ -155,13 +155,15 @@ class Sorting:
         """Rows of no numbers."""
         return Numbers({key: ((),) * min(2, len(self.turns)) for key in keys}, [], self.turns)
 
-    def asked(self, questions):
-        """What searches find, as `join` of a worker is asked. One that has no answer is told, and left out."""
-        for pair, found in self.answers("tried", questions):
+    def asked(self, waiting, left):
+        """What searches find, as `try_all` of Joins asks. What has no answer is told."""
+        progress = Progress(f"{self.script}: {self.what}", len(left))
+        for pair, found in self.pool.each("tried", waiting):
             if isinstance(found, Fault):
                 self.fault(str(found))
-            else:
-                yield pair, found
+            yield pair, found
+            progress.step(progress.count - len(left) - progress.done)
+        progress.end()
 
     def ruled(self, paths):
         """Has the checker rule on certificates: for each path, with the digest of its file, whether it is accepted."""
