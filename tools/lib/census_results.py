@@ -8,9 +8,9 @@ from knot_workbench.knot_tables import BOTH, MIRRORED, REVERSED, SAME
 from knot_workbench.moves import turned
 from lib.batch_runs import write_named
 from lib.census_plan import block_label, block_of
-from lib.table_book import grid_in
+from lib.table_book import grid_in, moves_in
 from lib.table_certificate import Head, certificates, head_text, row_text
-from lib.table_standing import classes_of, moves_in
+from lib.table_standing import classes_of
 from lib.table_telling import Telling
 from lib.table_written import csv_text
 from lib.whole_files import write_whole

@@ -4,7 +4,7 @@ A line has a name and fields, parted by tabs. The file `job` beside the books ha
 """
 import os
 
-from knot_workbench.diagrams import Grid
+from knot_workbench.diagrams import Grid, move_of, move_text
 from lib.whole_files import write_whole
 
 FORM = "tabulate 3"
@@ -80,3 +80,13 @@ def in_lines(line):
 def grid_in(line):
     """The grid whose text such a line has."""
     return Grid(*([int(word) for word in lines.split(" ")[1:]] for lines in line.split(" / ")))
+
+
+def line_of(moves):
+    """Moves in one line."""
+    return " / ".join(map(move_text, moves))
+
+
+def moves_in(line):
+    """The moves of such a line."""
+    return [move_of(None, one.split(" ")) for one in line.split(" / ") if one]

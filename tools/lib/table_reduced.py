@@ -4,7 +4,7 @@ A column whose two marks lie in neighbouring rows can be exchanged with each col
 that has, and a destabilisation takes it away, unless these two columns are a component of their own. The same holds of rows. A grid without
 such a column or row is *short*. There `knot simplify` looks for a smaller grid, and where it finds none, `knot least` has the key.
 """
-from typing import Callable, Dict, List, NamedTuple, Optional, Sequence, Tuple
+from typing import Callable, Dict, List, NamedTuple, Optional, Sequence, Tuple, Union
 
 from knot_workbench.diagrams import Grid, Move
 from knot_workbench.knot_tables import TURNS, Turn
@@ -21,6 +21,19 @@ class Reduced(NamedTuple):
     key: bytes
     turn: Turn
     moves: Tuple[Move, ...]
+
+
+class Shorter(NamedTuple):
+    """A form that a grid is led to, and the moves."""
+
+    form: bytes
+    moves: Tuple[Move, ...]
+
+
+def through(form: bytes, found: Shorter, end: Reduced) -> Reduced:
+    """The key of a form by that of a shorter one, to which it leads."""
+    moves = turned(len(form) // 2, found.moves, *end.turn) + list(end.moves)
+    return Reduced(end.key, end.turn, tuple(tidied(grid_of_form(form), moves)))
 
 
 def short_place(form: bytes) -> Optional[Tuple[str, int]]:
@@ -87,15 +100,18 @@ class Reducer:
     def of_form(self, form: bytes) -> Reduced:
         """The key of a short form, and how its grid comes there."""
         if form not in self.ends:
-            grid = grid_of_form(form)
-            there, moves = self.simplify(grid)
-            if there.size < grid.size:
-                end = self.of_grid(there)
-                moves = turned(grid.size, list(moves), *end.turn) + list(end.moves)
-                self.ends[form] = Reduced(end.key, end.turn, tuple(tidied(end.turn.of(grid), moves)))
-            else:
-                self.ends[form] = self.key(grid)
+            found = self.step(form)
+            self.ends[form] = through(form, found, self.of_form(found.form)) if isinstance(found, Shorter) else found
         return self.ends[form]
+
+    def step(self, form: bytes) -> Union[Reduced, Shorter]:
+        """The key of a short form, or where `simplify` finds a smaller grid a shorter one, and how its grid comes there."""
+        grid = grid_of_form(form)
+        there, moves = self.simplify(grid)
+        if there.size < grid.size:
+            here, more = self.short(there)
+            return Shorter(here, (*moves, *more))
+        return self.key(grid)
 
     def keep_link(self, form: bytes, moves: List[Move]) -> None:
         """Keeps moves from the grid of a form, with shifts to the form of where they lead."""

@@ -3,16 +3,17 @@ census.py rest on it."""
 import hashlib
 import os
 import re
+from collections import deque
 
-from knot_workbench.diagrams import move_text
 from knot_workbench.faults import Fault
 from knot_workbench.knot_rows import blocks_of, entry_in, entry_text
 from knot_workbench.knot_tables import TURNS
 from lib.calls import note
 from lib.table_apart import blocks_in
-from lib.table_book import Book, data_in, in_one_line, lines_in
+from lib.table_book import Book, data_in, line_of, lines_in, moves_in
 from lib.table_joins import Numbers
 from lib.table_pool import Progress
+from lib.table_reduced import Reduced, Shorter, through
 
 # The books of parts of the rows.
 ROWS = re.compile(r"rows-[0-9]+-of-[0-9]+\.tsv")
@@ -94,13 +95,8 @@ class Sorting:
                 book.lines.update(lines_in(data_in(os.path.join(self.work, name))))
         book.lines.update(own)
         waiting = [one for one in given if one[0] not in book.lines or book.lines[one[0]][0] == "!"]
-        codes = dict(waiting)
-        for name, grid, crossings, found, moves in self.answers("row", waiting, len(given) - len(waiting), LOT):
-            if grid is None:
-                book.add(name, "!", found)
-            else:
-                code = codes[name] if isinstance(codes[name], str) else ""
-                book.add(name, crossings, code, in_one_line(grid.text), found.hex(), " / ".join(map(move_text, moves)))
+        for name, *fields in self.answers("row", waiting, len(given) - len(waiting), LOT):
+            book.add(name, *fields)
         return {name: Row(book.lines[name]) for name, _ in given}
 
     def drawn(self, rows, places):
@@ -123,15 +119,52 @@ class Sorting:
         """Finds the keys of short forms, each with a turn and the line of the moves that lead there from the turned grid; of those in `keyless`
         why there is none."""
         self.begin("keys")
-        book, named = self.book("keys.tsv"), {form: f"{form.hex()}.{len(self.turns)}{self.turns[-1].words}" for form in forms}
-        waiting = [form for form in forms if named[form] not in book.lines]
-        for form, found in self.answers("key", waiting, len(forms) - len(waiting)):
+        book, mark = self.book("keys.tsv"), f".{len(self.turns)}{self.turns[-1].words}"
+        waiting, asked = deque(), set()
+
+        def ask(form):
+            """Asks of a form; where it leads to a shorter one, of this."""
+            while f"{form.hex()}{mark}" in book.lines:
+                found, turn, _ = book.lines[f"{form.hex()}{mark}"]
+                if turn:
+                    return
+                form = bytes.fromhex(found)
+            if form not in asked:
+                asked.add(form)
+                waiting.append(form)
+
+        # Large ones take longest.
+        for form in sorted(forms, key=len, reverse=True):
+            ask(form)
+        progress = Progress(f"{self.script}: {self.what}", len(asked))
+        for form, found in self.pool.each("key", waiting):
             if isinstance(found, str):
                 self.keyless[form] = found
             else:
-                book.add(named[form], found.key.hex(), TURNS.index(found.turn), " / ".join(map(move_text, found.moves)))
-        lines = {form: book.lines[named[form]] for form in forms if form not in self.keyless}
-        self.keys = {form: (bytes.fromhex(key), TURNS[int(turn)], moves) for form, (key, turn, moves) in lines.items()}
+                is_key = isinstance(found, Reduced)
+                book.add(f"{form.hex()}{mark}", found[0].hex(), TURNS.index(found.turn) if is_key else "", line_of(found.moves))
+                ask(form)
+            progress.count = len(asked)
+            progress.step()
+        progress.end()
+        for form in forms:
+            self.find_end(form, book, mark)
+
+    def find_end(self, form, book, mark):
+        """Finds the key of a form by what a book says of it, and of those to which it leads."""
+        if form in self.keys or form in self.keyless:
+            return
+        found, turn, line = book.lines[f"{form.hex()}{mark}"]
+        if turn:
+            self.keys[form] = bytes.fromhex(found), TURNS[int(turn)], line
+            return
+        shorter = Shorter(bytes.fromhex(found), moves_in(line))
+        self.find_end(shorter.form, book, mark)
+        if shorter.form in self.keyless:
+            self.keyless[form] = self.keyless[shorter.form]
+        else:
+            key, turn, line = self.keys[shorter.form]
+            self.keys[form] = key, turn, line_of(through(form, shorter, Reduced(key, turn, moves_in(line))).moves)
 
     def numbers(self, keys, place):
         """The rows of numbers of keys by one of the lists, and where there are turns those of their mirror images."""

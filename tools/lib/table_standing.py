@@ -2,10 +2,11 @@
 turns make of it: one of a knot that is its mirror image and its reverse, four of one that is neither."""
 import collections
 
-from knot_workbench.diagrams import move_of, move_text
+from knot_workbench.diagrams import move_text
 from knot_workbench.knot_tables import SAME, TURNS
 from knot_workbench.moves import tidied, turned
 from lib.table_apart import Seeds, cost, told_in
+from lib.table_book import moves_in
 from lib.table_certificate import MOST_BLOCKS, Head, Standing, needed, row_of_lines, row_text
 from lib.table_joins import Pair
 from lib.table_keys import grid_of_form
@@ -185,8 +186,3 @@ class Standings:
                     one.symmetry[word] = "open" if is_open else "different"
                     count += is_open
         return count, sorted(pairs)
-
-
-def moves_in(line):
-    """The moves of a line, with ' / ' between."""
-    return [move_of(None, one.split(" ")) for one in line.split(" / ") if one]

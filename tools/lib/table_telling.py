@@ -2,14 +2,14 @@
 import hashlib
 import os
 
-from knot_workbench.diagrams import Braid, diagram_text, grid_of, move_text
+from knot_workbench.diagrams import Braid, diagram_text, grid_of
 from knot_workbench.knot_tables import SAME, TURNS, name_of
 from knot_workbench.moves import back
-from lib.table_book import grid_in, in_one_line
+from lib.table_book import grid_in, in_one_line, line_of, moves_in
 from lib.table_certificate import certificates, head_text, row_text
 from lib.table_keys import grid_of_form
-from lib.table_standing import Standings, moves_in
-from lib.table_written import csv_text, marks
+from lib.table_standing import Standings
+from lib.table_written import csv_text
 from lib.whole_files import write_whole
 
 CERTIFICATE = "certificate-{}.txt"
@@ -41,7 +41,7 @@ class Telling:
         def told(parts, aim, moves):
             if parts is None:
                 return "!", "", ""
-            return " # ".join(f"{name}:{TURNS.index(turn)}" for name, turn in parts), in_one_line(aim.text), " / ".join(map(move_text, moves))
+            return " # ".join(f"{name}:{TURNS.index(turn)}" for name, turn in parts), in_one_line(aim.text), line_of(moves)
 
         known = self.learn("name", "names.tsv", {one.key.hex(): (one.key, self.joins.numbers.row(one.key)) for one in self.classes}, told)
         for one in self.classes:
@@ -69,7 +69,7 @@ class Telling:
         def told(braid, turn, moves):
             if braid is None:
                 return "!", "", ""
-            return diagram_text(braid).strip(), TURNS.index(turn), " / ".join(map(move_text, moves))
+            return diagram_text(braid).strip(), TURNS.index(turn), line_of(moves)
 
         names = {f"{one.key.hex()}.{TURNS.index(one.base)}": one for one in self.classes}
         known = self.learn("braid", "braids.tsv", {name: (name, one.key, one.base) for name, one in names.items()}, told)
@@ -130,5 +130,6 @@ class Telling:
         table = [("name", "class", "turn", "x", "o", "certificate", "row")]
         for (name, row), (path, where) in zip(self.rows.items(), self.places(found)):
             number, turn = self.standings.places[self.standings.end(row.form)[0]]
-            table.append((name, number + 1, turn.words.strip(), *marks(grid_in(row.line)), os.path.basename(path), where))
+            x, o = row.line.split(" / ")
+            table.append((name, number + 1, turn.words.strip(), x[2:], o[2:], os.path.basename(path), where))
         return csv_text(table)

@@ -22,6 +22,7 @@ from knot_workbench.moves import turned
 from knot_workbench.pd_codes import text_of
 from lib.identify_inputs import had
 from lib.smaller import reduced
+from lib.table_book import in_one_line, line_of
 from lib.table_keys import grid_of_form, shifts_between
 from lib.table_linear import block_between
 from lib.table_reduced import Reducer
@@ -49,7 +50,7 @@ class Caller:
 
     def __init__(self):
         self.streams = [stream_file() for _ in range(3)]
-        self.child = None
+        self.child, self.environment = None, dict(os.environ)
 
     def call(self, path, words, text):
         """The status and the output of a call on a text. NoProgram where it can't be made."""
@@ -60,7 +61,7 @@ class Caller:
         os.lseek(self.streams[0], 0, os.SEEK_SET)
         try:
             # The names of the streams in the child are those that a call without threads may give them.
-            self.child = os.posix_spawn(path, [path, *words], os.environ,
+            self.child = os.posix_spawn(path, [path, *words], self.environment,
                                         file_actions=[(os.POSIX_SPAWN_DUP2, stream, place) for place, stream in enumerate(self.streams)])
         except OSError as error:
             raise NoProgram(f"{path}: {error.strerror}") from None
@@ -136,22 +137,23 @@ class Worker:
     # ---- rows
 
     def row(self, given):
-        """Of a name and a diagram: the grid, its crossings, and the short form that it leads to with the moves. Or why there is none."""
+        """Of a name and a diagram what a book of rows has of it."""
         name, entry = given
         try:
             grid, crossings = self.drawn(entry) if isinstance(entry, str) else self.had(entry)
             if self.table and components_of(grid) > 1:
                 raise Fault(f"it is a link of {components_of(grid)} components, and a table of knots has none")
-            return name, grid, crossings, *self.reducer.short(grid)
+            form, moves = self.reducer.short(grid)
+            return name, crossings, entry if isinstance(entry, str) else "", in_one_line(grid.text), form.hex(), line_of(moves)
         except NoProgram:
             raise
         except Fault as fault:
-            return name, None, 0, str(fault), ()
+            return name, "!", str(fault)
 
     def key(self, form):
-        """The key of a short form, with the turn and the moves by which its grid comes there. Or why there is none."""
+        """Of a short form what `step` of a Reducer finds. Or why there is nothing."""
         try:
-            return form, self.reducer.of_form(form)
+            return form, self.reducer.step(form)
         except NoProgram:
             raise
         except Fault as fault:
