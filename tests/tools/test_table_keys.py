@@ -3,6 +3,7 @@ import os
 import random
 import sys
 import unittest
+from unittest import mock
 
 import common
 import plain_orbits
@@ -15,6 +16,7 @@ from lib.table_keys import after, form_of, grid_of_form, shifts_between
 from lib.table_linear import block_between, block_text
 from lib.table_reduced import Reducer, short_place
 from lib.table_shadows import KNOWN, faces, is_one_curve, least, maps_to, shadows_to
+from lib.table_worker import Worker
 from knot_workbench.diagrams import Braid, Grid, closure
 from knot_workbench.faults import Fault
 from knot_workbench.identifying import components_of
@@ -287,7 +289,41 @@ class JoinsTest(unittest.TestCase):
             self.assertEqual(found_in(said_of(found)), found)
 
 
+class NoSearch(Worker):
+    """A worker without programs, whose searches find nothing."""
+
+    def __init__(self, aims):
+        self.reducer, self.table, self.aims = plain_reducer(), self, aims
+
+    def join(self, asked):
+        return asked[0], None
+
+    def candidates(self, row):
+        return row
+
+    def grid(self, parts):
+        return self.aims[parts]
+
+
 class WorkerTest(unittest.TestCase):
+    def test_a_class_has_the_name_of_a_diagram_that_leads_to_one_of_its_keys(self):
+        eight = (("8_20", TURNS[1]),)
+        aim, other = closure(Braid(3, [1, 1, 1, -2, -1, -1, -1, -2]))[0], TREFOIL
+        there = plain_reducer().of_grid(aim)
+        # As if a search had joined this key, mirrored, to the first.
+        first = after(TURNS[1].of(grid_of_form(there.key)), [("stabilise", 2, "x", "lowleft")])
+        ways = {there.key: (TURNS[1], [("stabilise", 2, "x", "lowleft")])}
+        key = bytes(first.xs + first.os)
+        with mock.patch("lib.table_worker.table_at", lambda worker: worker):
+            for known in (ways, {}):
+                found = NoSearch({eight: aim, (("3_1", SAME),): other}).name((key, [(("3_1", SAME),), eight], known))
+                if not known:
+                    self.assertEqual(found, (key, None, None, None))
+                    continue
+                turn = there.turn.then(TURNS[1])
+                self.assertEqual(found[:3], (key, (("8_20", TURNS[1].then(turn)),), turn.of(aim)))
+                self.assertEqual(after(first, found[3]), turn.of(aim))
+
     def test_a_signal_behind_the_end_of_a_program_leaves_no_traceback(self):
         script = ("import subprocess, sys; sys.path.insert(0, sys.argv[1]); from lib.table_worker import Caller\n"
                   "caller = Caller(); gone = subprocess.Popen([sys.executable, '-c', '']); gone.wait(); caller.child = gone.pid; caller.stop()")

@@ -4,7 +4,7 @@ A *form* is the least translate of a grid, by the rows of the Xs and then of the
 least form that shifts and exchanges reach, over the four turns. Diagrams with one key are one knot up to mirror image and reversal.
 """
 import functools
-from typing import List
+from typing import List, Tuple
 
 from knot_workbench.diagrams import Grid, Move, as_grid
 from knot_workbench.moves import made
@@ -20,6 +20,11 @@ def downward(size: int) -> List[bytes]:
 
 def form_of(grid: Grid) -> bytes:
     """The form of a grid."""
+    return form_and_way(grid)[0]
+
+
+def form_and_way(grid: Grid) -> Tuple[bytes, List[Move]]:
+    """The form of a grid, and the shifts that lead there."""
     size, xs, os = grid.size, bytes(grid.xs), bytes(grid.os)
     # The least begins with a nought, and then with the least step that there is.
     least, places = size, []
@@ -30,7 +35,8 @@ def form_of(grid: Grid) -> bytes:
         elif step == least:
             places.append(place)
     down = downward(size)
-    return min([(xs[place:] + xs[:place] + os[place:] + os[:place]).translate(down[xs[place]]) for place in places])
+    form, place = min([((xs[place:] + xs[:place] + os[place:] + os[:place]).translate(down[xs[place]]), place) for place in places])
+    return form, [("shift", which, number) for which, number in (("columns", place), ("rows", xs[place])) if number]
 
 
 def grid_of_form(found: bytes) -> Grid:

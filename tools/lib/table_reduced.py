@@ -9,7 +9,7 @@ from typing import Callable, Dict, List, NamedTuple, Optional, Sequence, Tuple, 
 from knot_workbench.diagrams import Grid, Move
 from knot_workbench.knot_tables import TURNS, Turn
 from knot_workbench.moves import tidied, transposed, turned
-from lib.table_keys import after, form_of, grid_of_form, shifts_between
+from lib.table_keys import after, form_and_way, grid_of_form
 
 # A job of knot: of a grid, another one and the moves that lead there.
 Job = Callable[[Grid], Tuple[Grid, Sequence[Move]]]
@@ -86,8 +86,7 @@ class Reducer:
 
     def short(self, grid: Grid) -> Tuple[bytes, Sequence[Move]]:
         """The form of a short grid that a grid leads to, and the moves. No program is asked."""
-        here = form_of(grid)
-        moves = shifts_between(grid, grid_of_form(here))
+        here, moves = form_and_way(grid)
         while True:
             if here not in self.links:
                 place = short_place(here)
@@ -115,9 +114,8 @@ class Reducer:
 
     def keep_link(self, form: bytes, moves: List[Move]) -> None:
         """Keeps moves from the grid of a form, with shifts to the form of where they lead."""
-        there = after(grid_of_form(form), moves)
-        found = form_of(there)
-        self.links[form] = moves + shifts_between(there, grid_of_form(found)), found
+        found, way = form_and_way(after(grid_of_form(form), moves))
+        self.links[form] = moves + way, found
 
     def key(self, grid: Grid) -> Reduced:
         """The least of the diagrams that shifts and exchanges reach over the turns, and how a grid comes there."""

@@ -1,4 +1,5 @@
 """What a sorted table says: names, codes and braids of its classes, and the certificates, on which the checker rules."""
+import collections
 import hashlib
 import os
 
@@ -43,7 +44,12 @@ class Telling:
                 return "!", "", ""
             return " # ".join(f"{name}:{TURNS.index(turn)}" for name, turn in parts), in_one_line(aim.text), line_of(moves)
 
-        known = self.learn("name", "names.tsv", {one.key.hex(): (one.key, self.joins.numbers.row(one.key)) for one in self.classes}, told)
+        ways = collections.defaultdict(dict)
+        for key in self.joins.numbers.rows:
+            first, *way = self.joins.way(key)
+            ways[first][key] = way
+        asked = {one.key.hex(): (one.key, self.joins.numbers.row(one.key), ways[one.key]) for one in self.classes}
+        known = self.learn("name", "names.tsv", asked, told)
         for one in self.classes:
             said, aim, moves = known[one.key.hex()]
             if said == "!":

@@ -18,7 +18,7 @@ from knot_workbench.diagrams import MAX_SIZE, MAX_STRANDS, Braid, Grid, Lines, b
 from knot_workbench.faults import Fault, NoProgram
 from knot_workbench.identifying import components_of
 from knot_workbench.knot_tables import UNKNOT, KnotTable
-from knot_workbench.moves import turned
+from knot_workbench.moves import back, turned
 from knot_workbench.pd_codes import text_of
 from lib.identify_inputs import had
 from lib.smaller import reduced
@@ -252,8 +252,9 @@ class Worker:
         return name, found if isinstance(found, str) else None
 
     def name(self, asked):
-        """The name of the first key of a class by the table, with the table's diagram and moves to it; or None three times."""
-        key, row = asked
+        """The name of the first key of a class by the table, with the table's diagram after a turn and moves to it; or None three times. Asked are
+        this key, its row, and of each key of the class a turn and moves that lead from the turned diagram to the first."""
+        key, row, ways = asked
         grid = grid_of_form(key)
         if grid.size == UNKNOT.size:
             return key, (), UNKNOT, shifts_between(grid, UNKNOT)
@@ -265,6 +266,14 @@ class Worker:
                 _, found = self.join((None, grid, aim, words))
                 if isinstance(found, tuple):
                     return key, parts, aim, found
+        # No search joins the table's diagram to the first key; it may lead to another one.
+        for parts, aim in aims:
+            there = self.reducer.of_grid(aim)
+            if there.key in ways:
+                further, moves = ways[there.key]
+                turn = there.turn.then(further)
+                moves = turned(aim.size, there.moves, *further) + list(moves)
+                return key, tuple((name, one.then(turn)) for name, one in parts), turn.of(aim), back(turn.of(aim), moves)
         return key, None, None, None
 
     def code(self, asked):
