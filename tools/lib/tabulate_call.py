@@ -48,10 +48,7 @@ exit status:
 """
 
 # The parts of the work, as they are told.
-PARTS = 12
-
-# By so many first blocks of the list each key is counted; by the others, which take far longer, one key of each class.
-SHORT = 11
+PARTS = 10
 
 # Files of the folder quandles/weights by which pairs are counted that are still open, beside those of the larger quandles.
 FURTHER = ("F8.txt", "F27.txt")
@@ -84,12 +81,6 @@ def part_of(text):
     return int(found[1]), int(found[2])
 
 
-def lists_of(listed):
-    """The texts of the first blocks of a list and of the others."""
-    blocks = blocks_in(listed)
-    return tuple("".join(f"quandle {block}" for block in some) for some in (blocks[:SHORT], blocks[SHORT:]))
-
-
 def further_words():
     """The words of seek that count by larger quandles and further cocycles alone."""
     folder = os.path.join(data_folder("quandles") or "", "weights")
@@ -104,16 +95,12 @@ def drawn_part(sorting, given, rows, number, count):
 
 
 def joined(sorting):
-    """The classes of keys, and what is known of their symmetries. All keys are counted by few quandles, and those that were not joined by all."""
+    """The classes of keys, and what is known of their symmetries."""
     numbers = sorting.no_numbers({key for key, _, _ in sorting.keys.values()})
     sorting.learn(numbers, list(numbers.rows), 0)
-    sorting.begin("pairs of keys, by one search each")
+    sorting.begin("pairs of keys")
     joins = Joins(numbers, sorting.book("tries.tsv"))
-    joins.try_all(sorting.asked, (DECIDE,), with_symmetries=False)
-    sorting.learn(numbers, joins.roots(), 1)
-    joins.learned()
-    sorting.begin("pairs of keys, by all searches")
-    joins.try_all(sorting.asked, (DECIDE, LINEAR, *WALKS, further_words()))
+    joins.try_all(sorting.asked, (LINEAR, *WALKS, further_words()))
     return joins
 
 
@@ -158,7 +145,7 @@ def made(options):
         sweep_parts(folder)
     digest = hashlib.sha256(f"{given.digest(rows)} {listed} {text_in(table)}".encode()).hexdigest()
     require_job(os.path.join(options.folder, "work"), digest)
-    lists = lists_of(listed)
+    lists = ("".join(f"quandle {block}" for block in blocks_in(listed)),)
     with Pool(options.processes, (path_of("knot"), path_of("seek"), lists, table, given.conventions, TURNS)) as pool:
         sorting = Sorting("tabulate.py", os.path.join(options.folder, "work"), pool, lists, TURNS, 1 if options.part else PARTS)
         for said in given.faults:
