@@ -182,8 +182,11 @@ class Joins:
                 go_on(course, [pair])
 
     def take_known(self, pair, words):
-        """Whether the book has a try, and whether the key is joined, to this aim or before."""
+        """Whether it is known what a try finds, by the book or since no linear quandle tells knots of one Alexander polynomial apart; and whether
+        the key is joined."""
         line = self.book.lines.get(name_of(pair, words))
+        if words[0] == "linear" and self.alexander(pair.key) is not None and self.alexander(pair.key) == self.alexander(pair.aim):
+            line = [said_of(None)]
         if line is not None:
             self.take(pair, found_in(line[0]), words)
         return line is not None, pair.key in self.above

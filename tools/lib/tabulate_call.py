@@ -50,6 +50,9 @@ exit status:
 # The parts of the work, as they are told.
 PARTS = 10
 
+# The searches, one after the other: walks join most keys, and so they come before what is tried between all that is left.
+EFFORTS = (WALKS[0], LINEAR, DECIDE, *WALKS[1:])
+
 # Files of the folder quandles/weights by which pairs are counted that are still open, beside those of the larger quandles.
 FURTHER = ("F8.txt", "F27.txt")
 
@@ -100,7 +103,7 @@ def joined(sorting):
     sorting.learn(numbers, list(numbers.rows), 0)
     sorting.begin("pairs of keys")
     joins = Joins(numbers, sorting.book("tries.tsv"))
-    joins.try_all(sorting.asked, (LINEAR, *WALKS, further_words()))
+    joins.try_all(sorting.asked, (*EFFORTS, further_words()))
     return joins
 
 
