@@ -60,7 +60,10 @@ def write_problems(folder, table, only):
 def names_of_tables(text):
     """The names of the quandles of a list that stand there as tables with a cocycle, by their orders and moduli."""
     found = re.findall(r"^# (\w+): [^\n]*\nquandle table (\d+)\n(?:[\d ]+\n)+?(?:weight|shadow) (\d+)\n", text, re.MULTILINE)
-    return {(int(order), int(modulus)): name for name, order, modulus in found}
+    names = collections.defaultdict(list)
+    for name, order, modulus in found:
+        names[int(order), int(modulus)].append(name)
+    return {key: " or ".join(some) for key, some in names.items()}
 
 
 def evidence_of(row, tables):

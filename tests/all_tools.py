@@ -6,10 +6,10 @@
     tests/all_tools.py --processes 2 --seconds 600
 
 The variables KNOT and SEEK name built programs; without them those of this tree are taken, if they are built. Standard output has a line for
-each file as it ends, with its seconds and what it passed over and why, and all that it wrote where it failed; the last lines name each test
-that failed. No test gets an input or a terminal. A signal that ends the script ends all that it began. Since tests of signals and of time
-depend on how busy the machine is, a file that failed is run once more, when all others have ended; what then passes counts as passed. The
-exit status is 0 where all passed, and else 1.
+each file as it ends, with its seconds by the clock and of the processor, with what it passed over and why, and with all that it wrote where it
+failed; the last lines name each test that failed. No test gets an input or a terminal. A signal that ends the script ends all that it began.
+Since tests of signals and of time depend on how busy the machine is, a file that failed is run once more, when all others have ended; what then
+passes counts as passed. The exit status is 0 where all passed, and else 1.
 """
 import argparse
 import concurrent.futures
@@ -19,6 +19,7 @@ import signal
 import subprocess
 import sys
 import tempfile
+import threading
 import time
 
 HERE = os.path.dirname(os.path.realpath(__file__))
@@ -63,6 +64,27 @@ def default_signals():
         signal.signal(number, signal.SIG_DFL)
 
 
+def wait_for(process, seconds):
+    """Waits for a process, and kills it with its group after so many seconds: whether it was killed, and the seconds of the processor that it took,
+    with what it has waited for."""
+    killed = threading.Event()
+
+    def kill():
+        killed.set()
+        try:
+            os.killpg(process.pid, signal.SIGKILL)
+        except ProcessLookupError:
+            pass
+
+    timer = threading.Timer(seconds, kill)
+    timer.daemon = True
+    timer.start()
+    _, status, used = os.wait4(process.pid, 0)
+    timer.cancel()
+    process.returncode = -os.WTERMSIG(status) if os.WIFSIGNALED(status) else os.WEXITSTATUS(status)
+    return killed.is_set(), used.ru_utime + used.ru_stime
+
+
 def run(folder, name, seconds):
     """Runs a file of tests: its lines, what it wrote, the tests that failed, which are none where it passed, and how many were run and passed over."""
     began = time.monotonic()
@@ -72,20 +94,15 @@ def run(folder, name, seconds):
         process = subprocess.Popen(call, stdin=subprocess.DEVNULL, stdout=said, stderr=subprocess.STDOUT, start_new_session=True,
                                    cwd=os.path.dirname(HERE), preexec_fn=default_signals)
         RUNNING.add(process)
-        try:
-            process.wait(timeout=seconds)
-            end = "ok" if process.returncode == 0 else f"FAILED with status {process.returncode}"
-        except subprocess.TimeoutExpired:
-            os.killpg(process.pid, signal.SIGKILL)
-            process.wait()
-            end = f"FAILED: it took more than {seconds} seconds"
+        is_killed, used = wait_for(process, seconds)
+        end = f"FAILED: it took more than {seconds} seconds" if is_killed else "ok" if process.returncode == 0 else f"FAILED with status {process.returncode}"
         RUNNING.discard(process)
         said.seek(0)
         told = said.read().decode("utf-8", "replace")
     count = re.search("^Ran ([0-9]+) tests?", told, re.M)
     if end == "ok" and not (count and int(count[1])):
         end = "FAILED: no test was run"
-    line = f"{folder}/{name}: {end}, {count[1] if count else 0} tests in {time.monotonic() - began:.0f} s"
+    line = f"{folder}/{name}: {end}, {count[1] if count else 0} tests in {time.monotonic() - began:.0f} s ({used:.0f} of the processor)"
     reasons = [match[2] for match in SKIPPED.finditer(told)]
     lines = [line, *(f"    {reasons.count(reason)} passed over: {reason}" for reason in dict.fromkeys(reasons))]
     failed = list(dict.fromkeys(FAILED.findall(told)))

@@ -28,20 +28,21 @@ def _on_alarm(_signal, _frame):
 
 
 class Caller:
-    """Calls one program, with a folder of its own for inputs and outputs. A program of one job isn't given so many of the first words."""
+    """Calls one program, by this name, with a folder of its own in `room` for inputs and outputs. A program of one job isn't given so many of the
+    first words."""
 
-    def __init__(self, program, dropped=0):
-        self.program, self.dropped = program, dropped
-        self.folder = tempfile.TemporaryDirectory(prefix="knot-hostile.")
-        self.paths = [os.path.join(self.folder.name, name) for name in ("in", "out", "err")]
+    def __init__(self, program, room, dropped=0, name=b"knot"):
+        self.program, self.dropped, self.name = program, dropped, name
+        self.folder = tempfile.mkdtemp(dir=room)
+        self.paths = [os.path.join(self.folder, name) for name in ("in", "out", "err")]
 
-    def call(self, words, data, name=b"knot"):
+    def call(self, words, data, name=None):
         """From a file into a file."""
         path_in, path_out, path_err = self.paths
         with open(path_in, "wb") as file:
             file.write(data)
         fresh = os.O_WRONLY | os.O_CREAT | os.O_TRUNC
-        child = os.posix_spawn(self.program, [name, *words[self.dropped:]], os.environ, file_actions=[
+        child = os.posix_spawn(self.program, [self.name if name is None else name, *words[self.dropped:]], os.environ, file_actions=[
             (os.POSIX_SPAWN_OPEN, 0, path_in, os.O_RDONLY, 0), (os.POSIX_SPAWN_OPEN, 1, path_out, fresh, 0o600),
             (os.POSIX_SPAWN_OPEN, 2, path_err, fresh, 0o600)], setsigdef=[signal.SIGPIPE, signal.SIGXFSZ])
         status = wait_for(child)
@@ -61,7 +62,7 @@ class Caller:
 
         # (standard error is a pipe, so that a limit of files doesn't cut what is told there)
         with open(self.paths[0], "rb") as given, open(self.paths[1], "wb") as taken:
-            child = subprocess.Popen([b"knot", *words[self.dropped:]], executable=self.program, stdin=given if stdin is None else stdin,
+            child = subprocess.Popen([self.name, *words[self.dropped:]], executable=self.program, stdin=given if stdin is None else stdin,
                                      stdout=taken if stdout is None else stdout, stderr=subprocess.PIPE, preexec_fn=prepare, restore_signals=False)
             try:
                 told, status = child.communicate(timeout=PATIENCE)[1], child.returncode
@@ -149,7 +150,7 @@ def wait_for(child):
     signal.setitimer(signal.ITIMER_REAL, PATIENCE)
     try:
         _, status = os.waitpid(child, 0)
-        return os.waitstatus_to_exitcode(status)
+        return -os.WTERMSIG(status) if os.WIFSIGNALED(status) else os.WEXITSTATUS(status)
     except Hung:
         os.kill(child, signal.SIGKILL)
         os.waitpid(child, 0)
@@ -157,6 +158,15 @@ def wait_for(child):
     finally:
         signal.setitimer(signal.ITIMER_REAL, 0)
         signal.signal(signal.SIGALRM, before)
+
+
+def no_threads():
+    """Lets the child begin no thread: its user may have no further process. Root may have any number, so another user is made of it."""
+    if os.geteuid() == 0:
+        os.setgroups([])
+        os.setgid(65_534)
+        os.setuid(65_534)
+    resource.setrlimit(resource.RLIMIT_NPROC, (0, 0))
 
 
 def limit(which, most):

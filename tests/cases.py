@@ -1,4 +1,4 @@
-"""The cases but for random changes: words, texts, limits, small bad inputs, cuts, streams and limits of the system."""
+"""The cases but for random changes: words, texts, limits, small bad inputs, cuts, streams and limits of the system; and `seek` under these."""
 import os
 import random
 import re
@@ -28,6 +28,12 @@ GOOD = {
     b"numbers": TREFOIL + b"quandle tetrahedral\nweight 2\n0 1 1 0\n1 0 1 0\n1 1 0 0\n0 0 0 0\nquandle dihedral 3\n",
     b"weights": TREFOIL + b"braid 2\nquandle tetrahedral\nweight 2\n0 1 1 0\n1 0 1 0\n1 1 0 0\n0 0 0 0\n",
 }
+
+# A table of three classes, two of which are left open, by one block and by another that is claimed to be wide.
+BLOCKS = b"quandle dihedral 3\nquandle tetrahedral\nweight 2\n0 1 1 0\n1 0 1 0\n1 1 0 0\n0 0 0 0\n"
+TABLE = (b"certificate 4\nblocks 2\n" + BLOCKS + b"classes 3\n" + TREFOIL + b"seeds 0 1\nnumbers 9\nwide 2\n" + UNKNOT + b"seeds 0\nnumbers 3\nwide 1\n"
+         + MIRRORED + b"seeds 0 1\nnumbers 9\nwide 2\nopen 1\nclasses 0 2\nrows 2\n" + TREFOIL + b"class 0\nmoves 0\n"
+         + b"x 1 0\no 0 1\nclass 1\nmoves 1\nshift columns 1\n")
 
 
 class Case:
@@ -291,8 +297,10 @@ def limits():
         yield Case("limits", f"check: numbers by a table of {order}", [b"check"], front + b"seeds 0\nnumbers %d\nseeds 0\nnumbers %d\n" % (order, order))
         yield Case("limits", f"check: a shadow cocycle of a table of {order}", [b"check"], front + b"shadow 2\n")
         front = TREFOIL + b"quandle table %d\n" % order + rows
-        for behind in (b"", b"shadow 2\n", b"weight 2\n" + (b"0 " * order + b"\n") * order, b"quandle dihedral 3\n", b"quandle dihedral %d\n" % order):
-            yield Case("limits", f"numbers: a table of {order} and {behind[:12]}", [b"numbers"], front + behind)
+        zeros = (b"0 " * order + b"\n") * order
+        shadow = b"shadow 2\n" + zeros * order if order == 33 else b"shadow 2\n"
+        for further in (b"", b"weight 2\n" + zeros, shadow, b"quandle dihedral 3\n", b"quandle dihedral %d\n" % order):
+            yield Case("limits", f"numbers: a table of {order}, {further[:12]}", [b"numbers"], front + further)
     for first in range(1, 33):
         for second in range(0, 34):
             yield Case("limits", f"colour: alexander {first} {second}", [b"colour"], UNKNOT + b"quandle alexander %d %d\n" % (first, second))
@@ -305,8 +313,28 @@ def limits():
             yield Case("limits", f"decide: {number} quandles and {last}", [b"decide"], SHIFTED + many)
             yield Case("limits", f"check: {number} quandles and {last}", [b"check"], SHIFTED + many + b"equal 1\nshift rows 1\n")
             yield Case("limits", f"check: {number} quandles and another", [b"check"], SHIFTED + many + b"different trivial 2\nlist 0\nlist 0\n")
+    yield from evidence_at_limits()
     yield from lists_at_limits()
     yield from numbers_in_places()
+
+
+def evidence_at_limits():
+    """The most blocks of a table, and the most seeds."""
+    for number in (0, 1, 63, 64, 65, 66):
+        for last in (b"", b"quandle foo\n", b"quandle trivial 1\nweight 2\n0\n", b"quandle trivial 1\nshadow 2\n0\n", b"quandle trivial 129\n", b"classes 1\n"):
+            blocks = b"quandle trivial 1\n" * (number - (last.startswith(b"quandle"))) + last
+            claims = UNKNOT + b"seeds 0\n" + b"numbers 1\n" * number
+            yield Case("limits", f"check: a table by {number} blocks, {last}", [b"check"],
+                       b"certificate 4\nblocks %d\n" % number + blocks + b"classes 1\n" + claims + b"open 0\nrows 0\n")
+    for number in (0, 1, 2, 47, 48, 49, 50):
+        for seeds in (b" 0" * number, b"".join(b" %d" % (place % 2) for place in range(number)), b" 1" * number):
+            yield Case("limits", f"check: evidence by {number} seeds, {seeds[:4]}", [b"check"], TREFOIL + UNKNOT
+                       + b"certificate 3\ndifferent numbers dihedral 3\nseeds 0 1\nnumbers 9\nseeds" + seeds + b"\nnumbers 3\n")
+            yield Case("limits", f"check: a class by {number} seeds, {seeds[:4]}", [b"check"],
+                       b"certificate 4\nblocks 1\nquandle trivial 1\nclasses 1\n" + UNKNOT + b"seeds" + seeds + b"\nnumbers 1\nopen 0\nrows 0\n")
+    for front, line in ((b"", b"blocks"), (b"blocks 0\n", b"classes"), (b"blocks 0\nclasses 0\n", b"open"), (b"blocks 0\nclasses 0\nopen 0\n", b"rows")):
+        for number in (0, 1, 64, 65, 65_537, 999_999_999, 1_000_000_000, 2**64):
+            yield Case("limits", f"check: a table that ends at {line.decode()} {number}", [b"check"], b"certificate 4\n" + front + line + b" %d\n" % number)
 
 
 def lists_at_limits():
@@ -338,6 +366,7 @@ def numbers_in_places():
         (b"check", TREFOIL + UNKNOT + b"certificate 3\ndifferent numbers dihedral 3\nshadow mochizuki\nseeds 0 1\nnumbers 9 0 18\nseeds 0\nnumbers 9 0 0\n"),
         (b"weights", TREFOIL + UNKNOT + b"quandle trivial 2\nshadow 3\n0 0\n0 0\n0 0\n0 0\n"),
         (b"check", TREFOIL + UNKNOT + b"certificate 3\ndifferent linking\ncomponents 2\nnumbers -1 1\ncomponents 1\nnumbers\n"),
+        (b"check", TABLE),
         (b"close", b"braid 3 1 -2 1\nquandle dihedral 3\nquandle tetrahedral\n"),
         (b"braid", TREFOIL + b"quandle dihedral 3\n"), (b"linking", GOOD[b"linking"]),
         (b"braidcheck", GOOD[b"braidcheck"]), (b"weights", GOOD[b"weights"]), (b"numbers", GOOD[b"numbers"]),
@@ -399,6 +428,10 @@ def streams(bases):
         # The loader itself needs a fourth one.
         for files in (4, 8, 16):
             yield Case("streams", f"{b' '.join(words_).decode()}: {files} files", words_, data, way="few files", need=files)
+        yield Case("streams", f"{b' '.join(words_).decode()}: no threads", words_, data, way="no threads")
+    for workers in (2, 8, 64):
+        given = [b"decide", b"--spare=3", b"--workers=%d" % workers]
+        yield Case("streams", f"a search by {workers} workers: no threads", given, MIRRORED + TREFOIL, way="no threads")
 
 
 # ---------------------------------------------------------------- limits of the system
@@ -417,6 +450,11 @@ def wanting():
     yield "a long remark", [b"check"], SHIFTED + b"equal 0\n" + b"#" * 20_000_000
     yield "many moves", [b"check"], SHIFTED + b"equal 300001\n" + b"shift rows 1\n" * 300_001
     yield "more moves than there are", [b"check"], SHIFTED + b"equal 999999999\n"
+    yield "a table", [b"check"], TABLE
+    yield "a table of many rows", [b"check"], b"certificate 4\nblocks 0\nclasses 1\n" + UNKNOT + b"seeds 0\nopen 0\nrows 30000\n" \
+        + (UNKNOT + b"class 0\nmoves 0\n") * 30_000
+    yield "more rows than there are", [b"check"], b"certificate 4\nblocks 0\nclasses 1\n" + UNKNOT + b"seeds 0\nopen 0\nrows 999999999\n"
+    yield "more classes than there are", [b"check"], b"certificate 4\nblocks 0\nclasses 999999999\n" + UNKNOT
     yield "bytes over the limit", [b"check"], b"\n" * 34_000_000
     yield "long answer", [b"colour"], b"x 0 1 2 3 4 5 6 7\no 1 0 3 2 5 4 7 6\n" + b"quandle trivial 16\n" * 20
 
@@ -463,6 +501,29 @@ def stack():
         yield in_stack("each stack, a check", [b"check"], SHIFTED + b"equal 0\n", size)
 
 
+# Words of `seek`, by which it finds something or nothing, two diagrams, which are on its standard input, and the step between sizes in KB. OUT
+# is a file that is there.
+SOUGHT = {
+    "equal": ([b"--no-weights"], b"braid 3 1 2 1 2 1 2\nbraid 3 2 1 2 1 2 1 1 -1\n", 64),
+    "equal, to a file": ([b"--no-weights", b"--out", b"OUT"], b"braid 3 1 2 1 2 1 2\nbraid 3 2 1 2 1 2 1 1 -1\n", 512),
+    "different": ([], TREFOIL + UNKNOT, 512),
+    "nothing": ([b"--no-weights", b"--steps", b"2000"], TREFOIL + MIRRORED, 512),
+}
+
+
+def seek():
+    """The seeker in address spaces from 3 to 64 MB, and with stacks of its first thread up to 4 MB."""
+    for name, (words_, data, step) in SOUGHT.items():
+        for workers in (1, 2, 8, 64):
+            call = f"{name}, {workers} workers"
+            given = [*words_, b"--workers", b"%d" % workers]
+            for size in range(3 * 1024, 64 * 1024 + 1, step):
+                yield Case("seek", f"{call}: {size} KB", given, data, way="memory", need=size * KIBIBYTE)
+            for size in (16, *range(64, 4 * 1024 + 1, step)):
+                way = "stack" if size >= 64 else "tiny stack"
+                yield Case("seek", f"{call}: a stack of {size} KB", given, data, way=way, need=size * KIBIBYTE)
+
+
 def file_size():
     calls = [([job], GOOD[job]) for job in jobs()] + [([], b""), *loud()]
     for words_, data in calls:
@@ -487,6 +548,7 @@ def sections(bases, seed, page):
         "memory": memory,
         "stack": stack,
         "file size": file_size,
+        "seek": seek,
         "texts": lambda: texts(bases),
         "limits": limits,
         "cuts": lambda: cuts(bases, seed),

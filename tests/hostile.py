@@ -7,6 +7,7 @@
     tests/hostile.sh --only changes --first 7041 --cases 1    one case again
     KNOT=/some/where/knot tests/hostile.sh        another program; also --program
     tests/hostile.sh --checker PATH               and another separate checker; also KNOT_CHECK
+    tests/hostile.sh --seek PATH                  and another seeker, for the section `seek`; also SEEK
 
 It is no part of the gate. It looks for these things: that no call ends by a signal or hangs, that nothing is written on standard error,
 which is no terminal here, that nothing is half written but by a counted write fault, and that status and text are what docs/FORMATS.md
@@ -20,6 +21,7 @@ import os
 import resource
 import signal
 import sys
+import tempfile
 import time
 from collections import Counter
 from multiprocessing import Pool
@@ -78,8 +80,8 @@ def reads_input(words):
 class Trier:
     """Tries cases with one program: knot, or the separate checker, which isn't given the word `check`."""
 
-    def __init__(self, program, is_checker=False):
-        self.caller = calls.Caller(program, 1 if is_checker else 0)
+    def __init__(self, program, room, is_checker=False):
+        self.caller = calls.Caller(program, room, 1 if is_checker else 0)
         self.whole = {}
         self.starts = {}
 
@@ -196,6 +198,9 @@ class Trier:
     def few_files(self, case):
         return self.special(case, self.caller.call_by(case.words, case.data, before=calls.limit(resource.RLIMIT_NOFILE, case.need)))
 
+    def no_threads(self, case):
+        return self.special(case, self.caller.call_by(case.words, case.data, before=calls.no_threads))
+
     def few_bytes_of_memory(self, case):
         before = calls.limit(resource.RLIMIT_AS, case.need)
         if case.need not in self.starts:
@@ -235,7 +240,7 @@ class Trier:
             return ended, "not started", None
         return ended, "whole", crash_of(ended) or reader.answer([], case.data).problem_with(ended.status, ended.text)
 
-    WAYS = {"plain": plain, "slow input": slow_input, "reader that leaves": leaving_reader, "few files": few_files,
+    WAYS = {"plain": plain, "slow input": slow_input, "reader that leaves": leaving_reader, "few files": few_files, "no threads": no_threads,
             "memory": few_bytes_of_memory, "stack": small_stack, "tiny stack": tiny_stack, "file size": small_files, "no words": no_words}
 
     def tried(self, case):
@@ -243,18 +248,83 @@ class Trier:
         return Tried(case, *way(self, case))
 
 
+class SeekTrier:
+    """Tries `seek` under limits of the system: it must find what it finds on an ordinary day, or end for want of memory with nothing written."""
+
+    OLD = b"what was there\n"
+
+    def __init__(self, program, room):
+        self.caller = calls.Caller(program, room, name=b"seek")
+        self.out = os.path.join(self.caller.folder, "out-file")
+        self.due, self.starts = {}, {}
+
+    def call(self, case, before=None):
+        """How the call ends. What the file has that it may write comes as its text, where there is one."""
+        with open(self.out, "wb") as file:
+            file.write(self.OLD)
+        words = [self.out.encode() if word == b"OUT" else word for word in case.words]
+        ended = self.caller.call_by(words, case.data, before=before)
+        with open(self.out, "rb") as file:
+            written = file.read()
+        if written != self.OLD or ended.status == DONE and b"OUT" in case.words:
+            ended.text += written
+        return ended
+
+    def problem(self, case, ended):
+        """What is wrong but for the status."""
+        if ended.status is None or ended.status < 0:
+            return crash_of(ended)
+        if any(not line.startswith(b"seek: ") for line in ended.errors.splitlines()):
+            return f"it writes on standard error: {ended.errors[:200]!r}"
+        if ended.status != DONE:
+            return f"status {ended.status} and {len(ended.text)} bytes are written" if ended.text else None
+        ruling = reader.answer([b"check"], case.data + ended.text)
+        return ruling.problem_with(DONE, b"accepted\n")
+
+    def ordinary(self, case):
+        """The status on an ordinary day, and what is wrong then."""
+        key = tuple(case.words), case.data
+        if key not in self.due:
+            ended = self.call(case)
+            problem = self.problem(case, ended)
+            self.due[key] = ended.status, problem or (f"status {ended.status}" if ended.status not in (DONE, reader.UNKNOWN) else None)
+        return self.due[key]
+
+    def begins(self, size, before):
+        """Whether the system can load the program at all within so little."""
+        if size not in self.starts:
+            ended = self.caller.call_by([b"--version"], b"", before=before)
+            self.starts[size] = ended.status in (DONE, OUT_OF_MEMORY)
+        return self.starts[size]
+
+    def tried(self, case):
+        due, problem = self.ordinary(case)
+        before = calls.limit(resource.RLIMIT_AS if case.way == "memory" else resource.RLIMIT_STACK, case.need)
+        ended = self.call(case, before)
+        if case.way == "memory" and not self.begins(case.need, before):
+            return Tried(case, calls.Ended(None, b""), "not started", "text on standard output" if ended.text else None)
+        if case.way == "tiny stack" and ended.status is not None and ended.status < 0 and not ended.text:
+            return Tried(case, ended, "by signal", problem)
+        problem = problem or self.problem(case, ended)
+        if not problem and ended.status not in (due, OUT_OF_MEMORY):
+            problem = f"status {ended.status}, where {due} or {OUT_OF_MEMORY} is due"
+        return Tried(case, ended, "ordinary", problem)
+
+
 # ---------------------------------------------------------------- many cases
 
 WORKER = {}
 
 
-def begin_worker(programs, seed, patience=calls.PATIENCE, again=reader.Searched.TRIED_AGAIN):
+def begin_worker(programs, room, seed, patience=calls.PATIENCE, again=reader.Searched.TRIED_AGAIN):
+    signal.signal(signal.SIGTERM, signal.SIG_DFL)
     calls.PATIENCE = patience
     reader.Searched.TRIED_AGAIN = again
     # The reader takes seconds for tables of many colours.
     bases = [base for base in changes.examples(EXAMPLES, reader.JOBS) if len(base[3]) <= 5000]
-    program, checker = programs
-    WORKER.update(trier=Trier(program), checker=Trier(checker, is_checker=True) if checker else None)
+    program, checker, seeker = programs
+    WORKER.update(trier=Trier(program, room), checker=Trier(checker, room, is_checker=True) if checker else None,
+                  seeker=SeekTrier(seeker, room) if seeker else None)
     WORKER.update(seed=seed, bases=bases, lines=[line for base in bases for line in base[3].split(b"\n")])
 
 
@@ -268,6 +338,8 @@ def try_one(case):
     if isinstance(case, int):
         words, data = changes.make(WORKER["seed"], case, WORKER["bases"], WORKER["lines"])
         case = cases.Case("changes", f"{case}", words, data)
+    if case.section == "seek":
+        return [WORKER["seeker"].tried(case)]
     found = [WORKER["trier"].tried(case)]
     if WORKER["checker"] and is_checkers(case):
         found.append(WORKER["checker"].tried(case))
@@ -337,9 +409,9 @@ def program_of(given):
     return os.path.join(TOP, "crates", "knot", "out", "knot")
 
 
-def checker_of(given):
-    """The separate checker: what is named, or what was built; None where it wasn't."""
-    built = os.path.join(TOP, "crates", "knot_check", "out", "knot_check")
+def built_of(name, given):
+    """The separate checker or the seeker: what is given, or what was built; None where it wasn't."""
+    built = os.path.join(TOP, "crates", name, "out", name)
     if given and not os.access(given, os.X_OK):
         sys.exit(f"{given} is no program")
     return os.path.abspath(given) if given else built if os.access(built, os.X_OK) else None
@@ -349,6 +421,7 @@ def options_given():
     parser = argparse.ArgumentParser(description=__doc__, formatter_class=argparse.RawDescriptionHelpFormatter)
     parser.add_argument("--program", default=os.environ.get("KNOT"), help="the program to run; also by the environment, as KNOT")
     parser.add_argument("--checker", default=os.environ.get("KNOT_CHECK"), help="the separate checker; crates/knot_check/out/knot_check where it is there")
+    parser.add_argument("--seek", default=os.environ.get("SEEK"), help="the seeker; crates/seek/out/seek where it is there")
     parser.add_argument("--seed", default="1", help="what random changes are made from")
     parser.add_argument("--cases", type=int, default=100_000, help="how many random changes")
     parser.add_argument("--first", type=int, default=0, help="the number of the first one")
@@ -364,18 +437,26 @@ def options_given():
 
 def main():
     options = options_given()
-    program, checker = program_of(options.program), checker_of(options.checker)
+    program, checker, seeker = program_of(options.program), built_of("knot_check", options.checker), built_of("seek", options.seek)
     wanted = [name for name in options.only.split(",") if name]
     bases = changes.examples(EXAMPLES, reader.JOBS)
     sections = cases.sections(bases, options.seed, BAD_INPUTS)
     sections["changes"] = lambda: range(options.first, options.first + options.cases)
     total, begin = Figures(), time.time()
-    with Pool(options.jobs, begin_worker, ((program, checker), options.seed, options.patience, options.again)) as pool:
-        for name, make in sections.items():
-            if not wanted or name in wanted:
-                chunk = 50 if name in ("changes", "cuts", "words") else 1
-                chosen = (case for case in make() if isinstance(case, int) or options.match in case.name)
-                total.add(run_section(pool, name, chosen, options.folder, chunk))
+    if not seeker:
+        del sections["seek"]
+        if not wanted or "seek" in wanted:
+            print("seek: passed over, since there is no program crates/seek/out/seek, and --seek names none", flush=True)
+    # So that a signal, too, ends the workers and removes their folders.
+    signal.signal(signal.SIGTERM, lambda *_: sys.exit(128 + signal.SIGTERM))
+    with tempfile.TemporaryDirectory(prefix="knot-hostile.") as room:
+        begun = (program, checker, seeker), room, options.seed, options.patience, options.again
+        with Pool(options.jobs, begin_worker, begun) as pool:
+            for name, make in sections.items():
+                if not wanted or name in wanted:
+                    chunk = 50 if name in ("changes", "cuts", "words") else 1
+                    chosen = (case for case in make() if isinstance(case, int) or options.match in case.name)
+                    total.add(run_section(pool, name, chosen, options.folder, chunk))
     number = sum(total.kinds.values())
     print(f"all: {total}\n    with seed {options.seed}, in {time.time() - begin:.0f} seconds, by {program}{f' and {checker}' if checker else ''}")
     if total.differences:

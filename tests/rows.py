@@ -135,7 +135,7 @@ def constants():
     """The limits of the crates, by their names."""
     found = {}
     for folder, folders, names in os.walk(os.path.join(TOP, "crates")):
-        folders[:] = [it for it in folders if it not in ("out", "specs", "proofs", "must-fail", "edits")]
+        folders[:] = [it for it in folders if it not in ("out", "specs", "proofs", "must-fail")]
         for name in names:
             if name.endswith(".rt"):
                 with open(os.path.join(folder, name), encoding="utf-8") as file:

@@ -1,8 +1,8 @@
 #!/usr/bin/env python3
 """Makes the ready tables of quandles/weights/, quandles with cocycles that distinguish many knots from their mirror images or reverses.
 
-    tools/weight_tables.py [FOLDER]             writes T5, T7, M20a, M20b, M30, F8 and F27, of at most 32 colours, and the list that seek tries
-    tools/weight_tables.py --larger FOLDER      writes M42a, M42b, M42c, M56b, M56c, M72 and T11, which only seek --weights and check take
+    tools/weight_tables.py [FOLDER]             writes the tables of at most 32 colours, T5 to A28, and the list that seek tries
+    tools/weight_tables.py --larger FOLDER      writes those of more colours, M42a to S120, which only seek --weights and check take
     tools/weight_tables.py --rows FOLDER        writes the shorter list by which rows of tables of knots are counted
 
 FOLDER is quandles/weights/ beside this folder if none is given. Append a table to two diagrams for the job weights:
@@ -21,18 +21,28 @@ another matrix, with two eigenvalues in the field or with none.
 
 F and the number of colours, p³: the colours are the field, x ▷ y = t x + (1 − t) y, and a shadow cocycle mod p is the coefficient of 1 of
 (w − x) (x − y)^p y^(p²). Powers of p are sums' powers too, so both sides of its law differ by the factor 1 − t^(1 + p + p²) alone, and here
-t to this power is 1 (Mochizuki 2005).
+t to this power is 1 (Mochizuki 2005). For F27b it is the determinant of the coefficients of w − x, x − y and y, which t keeps.
+
+The other names have a letter of a group, and the number of colours. These are the conjugates of a permutation x0, and s(x) is a product of
+quotients x0⁻¹ y of colours. Then x0⁻¹ s(x) y s(x ▷ y)⁻¹ is such a product too and commutes with x0. A homomorphism from these to the numbers
+mod k makes it a cocycle as above. A are the affine maps x ↦ a x + b of a field with Frobenius, and G those of a projective line: it is the place
+to which 0 goes, or whether the places 0, 1 and infinity are permuted evenly. S is the symmetric group of six points. P and Z are those of pairs of
+elements of the field of 8 with the product (v, w) (a, b) = (v + a, w + b + v a^k), by right translations, by (v, w) ↦ (t v, t^(k + 1) w), and by
+x0, which squares both. H has pairs (a, b) mod 3 and a third number, to which a product adds 2 (a d − b c), and x0 has the order 8 on the pairs.
 """
 import argparse
 import itertools
 import os
 from collections import namedtuple
 
-from large_quandles import classes
+from large_quandles import EIGHT as FIELD_OF_8
+from large_quandles import affine_semilinear, classes, power, projective_semilinear, with_infinity
 from large_quandles import operation as class_table
 from lib import calls
 from knot_workbench.diagrams import quandle_of, quandle_text
 from lib.fields import Field
+from lib.groups import conjugacy_class, cycle, swap, times
+from lib.groups import inverse as backwards
 
 IDENTITY = ((1, 0), (0, 1))
 FOUR = (2, (1, 1))
@@ -42,10 +52,10 @@ EIGHT = (2, (1, 1, 0))
 # quandle with Mochizuki's shadow cocycle, a name one of the tables. Behind them stand quandles of more than 32 colours.
 LIST = "list"
 PLAIN = ("dihedral 3", "tetrahedral", "alexander 5 2", "alexander 7 2", "alexander 11 3", "alexander 17 10")
-WEIGHED = (3, 5, 7, "F8", 11, "T5", 13, 17, 19, "M20a", "M20b", 23, "T7", "F27", 29, "M30", 31)
-LAST = ("M42a", "PGammaL2_8_84_a", "AGammaL1_16_120_a")
+WEIGHED = (3, 5, 7, "F8", 11, "T5", 13, 17, 19, "M20a", "M20b", 23, "T7", "F27", "F27b", "H27", "A28", 29, "M30", 31)
+LAST = ("M42a", "M42c", "M56c", "T11", "M72", "PGammaL2_8_84_a", "AGammaL1_16_120_a")
 # What isn't among those by which rows of tables of knots are counted.
-NOT_IN_ROWS = ("F8", "F27", *LAST)
+NOT_IN_ROWS = ("F8", "F27", "F27b", "H27", "A28", *LAST)
 
 # The colours as matrices, the first of them x0; s(x) by colour; the logarithm of each element of the torus, and its order.
 Conjugates = namedtuple("Conjugates", "field colours sections logarithms modulus said")
@@ -142,17 +152,31 @@ def cocycle(found, table):
 
 # Shadow cocycles of fields
 
-def shadow(prime, coefficients, said):
-    """What the field of p³ elements is that t^3 + ... makes, and the lines of its quandle and its shadow cocycle."""
+def shadow(prime, coefficients, said, form):
+    """What the field of p³ elements is that t^3 + ... makes, and the lines of its quandle and of the shadow cocycle that a form of three makes."""
     field = Field(prime, coefficients)
     size, plus, minus, times = field.size, field.plus, field.minus, field.times
     table = [[plus[times[prime][x]][times[plus[1][minus[prime]]][y]] for y in range(size)] for x in range(size)]
-    cubes = [power_of(field, x, prime) for x in range(size)]
-    lines = [[times[times[plus[w][minus[x]]][cubes[plus[x][minus[y]]]]][cubes[cubes[y]]] % prime for y in range(size)]
-             for w in range(size) for x in range(size)]
+    value = form(field, prime)
+    lines = [[value(plus[w][minus[x]], plus[x][minus[y]], y) for y in range(size)] for w in range(size) for x in range(size)]
     about = f"the field of {size}, {said}, x ▷ y = t x + (1 - t) y; a shadow cocycle mod {prime}"
     rows = "".join(" ".join(map(str, row)) + "\n" for row in lines)
     return about, quandle_text(quandle_of(f"table {size}", table)) + f"shadow {prime}\n{rows}"
+
+
+def by_powers(field, prime):
+    """The coefficient of 1 of u v^p w^(p²)."""
+    raised = [power_of(field, x, prime) for x in range(field.size)]
+    return lambda u, v, w: field.times[field.times[u][raised[v]]][raised[raised[w]]] % prime
+
+
+def by_determinant(_, prime):
+    """The determinant of the coefficients of three elements."""
+    def value(*elements):
+        rows = [[element // prime ** power % prime for power in range(3)] for element in elements]
+        return sum(rows[0][a] * (rows[1][b] * rows[2][c] - rows[1][c] * rows[2][b]) for a, b, c in ((0, 1, 2), (1, 2, 0), (2, 0, 1))) % prime
+
+    return value
 
 
 def power_of(field, element, exponent):
@@ -163,11 +187,104 @@ def power_of(field, element, exponent):
     return found
 
 
+# Classes of permutations
+
+def class_lines(said, generators, element, modulus=0, logarithm=None):
+    """What a class is, and the lines of its quandle and of the cocycle that a logarithm of what commutes with the element makes."""
+    colours = sorted(conjugacy_class(element, generators, 128))
+    table = class_table(generators, element)
+    about, lines = f"the class of {said}", quandle_text(quandle_of(f"table {len(table)}", table))
+    if not modulus:
+        return about, lines
+    first, sections = backwards(element), quotients(colours, element)
+    back = [backwards(sections[colour]) for colour in colours]
+    rows = [[logarithm(times(times(times(first, sections[x]), y), back[table[place][other]])) for other, y in enumerate(colours)]
+            for place, x in enumerate(colours)]
+    return f"{about}; a cocycle mod {modulus}", lines + f"weight {modulus}\n" + "".join(" ".join(map(str, row)) + "\n" for row in rows)
+
+
+def quotients(colours, element):
+    """For each colour x a product s of quotients of two colours such that s⁻¹ x0 s = x, where x0 is the element."""
+    found, waiting = {element: tuple(range(len(element)))}, [element]
+    steps = [times(backwards(element), colour) for colour in colours]
+    for x in waiting:
+        for step in steps:
+            image = times(times(backwards(step), x), step)
+            if image not in found:
+                found[image] = times(found[x], step)
+                waiting.append(image)
+    return found
+
+
+def affine_27():
+    """Generators of the maps x ↦ a x + b of the field of 27 elements, where a to the 13 is 1, with Frobenius, which is the last."""
+    field = Field(3, (2, 2, 2))
+    shifts = [tuple(field.plus[x][step] for x in range(field.size)) for step in (1, 3, 9)]
+    return [*shifts, tuple(field.times[3]), power(field, 3)]
+
+
+def pairs_of_8(exponent):
+    """Generators of the group of pairs with this exponent, as permutations of the places v + 8 w; the last is x0."""
+    field, places = FIELD_OF_8, range(64)
+    plus, by = field.plus, field.times
+    powers = [power_of(field, a, exponent) for a in range(8)]
+
+    def right(a, b):
+        return tuple(plus[v][a] + 8 * plus[plus[w][b]][by[v][powers[a]]] for w, v in (divmod(place, 8) for place in places))
+
+    def scaled(one, other):
+        return tuple(one[v] + 8 * other[w] for w, v in (divmod(place, 8) for place in places))
+
+    squares = power(field, 2)
+    return [*(right(1 << place, 0) for place in range(3)), *(right(0, 1 << place) for place in range(3)),
+            scaled(by[2], by[power_of(field, 2, exponent + 1)]), scaled(squares, squares)]
+
+
+def triples_of_3():
+    """Generators of the group of triples mod 3, as permutations of the places a + 3 b + 9 c; the last is x0, (a, b) ↦ (b, a + b)."""
+    triples = [(place % 3, place // 3 % 3, place // 9) for place in range(27)]
+
+    def place(a, b, c):
+        return a % 3 + 3 * (b % 3) + 9 * (c % 3)
+
+    return [*(tuple(place(a + d, b + e, c + 2 * (a * e - b * d)) for a, b, c in triples) for d, e in ((1, 0), (0, 1))),
+            tuple(place(b, a + b, -c) for a, b, c in triples)]
+
+
+def parity(permutation):
+    """Whether the places 0, 1 and infinity of the line over the field of 8 are permuted oddly."""
+    images = [permutation[place] for place in (0, 1, 8)]
+    return sum(one > other for one, other in itertools.combinations(images, 2)) % 2
+
+
+def pair_log(permutation):
+    """v + 2 w, where (v, w) is the image of (0, 0)."""
+    return permutation[0] % 8 + 2 * (permutation[0] // 8)
+
+
+def last_of(said, generators, *cocycle):
+    """What the class of the last generator is, and its lines."""
+    return class_lines(said, generators, generators[-1], *cocycle)
+
+
 # Tables
 
 SHADOWS = {
-    "F8": lambda: shadow(2, (1, 1, 0), "t^3 = t + 1"),
-    "F27": lambda: shadow(3, (2, 2, 2), "t^3 = t^2 + t + 1"),
+    "F8": lambda: shadow(2, (1, 1, 0), "t^3 = t + 1", by_powers),
+    "F27": lambda: shadow(3, (2, 2, 2), "t^3 = t^2 + t + 1", by_powers),
+    "F27b": lambda: shadow(3, (2, 2, 0), "t^3 = t + 1", by_determinant),
+}
+SIX = [swap(6, (0, 1)), cycle(6, *range(6))]
+CLASSES = {
+    "H27": lambda: last_of("(a, b, c) ↦ (b, a + b, -c) with triples mod 3", triples_of_3()),
+    "A28": lambda: last_of("x ↦ x^2 in AΓL(1,8)", affine_semilinear(FIELD_OF_8), 2, lambda image: image[0]),
+}
+LARGER_CLASSES = {
+    "G84": lambda: class_lines("x ↦ x^2 in PΓL(2,8)", projective_semilinear(FIELD_OF_8), with_infinity(power(FIELD_OF_8, 2)), 2, parity),
+    "P112": lambda: last_of("squaring with pairs over the field of 8 whose product has k = 2", pairs_of_8(2), 4, pair_log),
+    "Z112": lambda: last_of("squaring with pairs over the field of 8 whose product has k = 1", pairs_of_8(1), 4, pair_log),
+    "A117": lambda: last_of("x ↦ x^3 among the maps x ↦ a x^(3^k) + b of the field of 27, a to the 13 being 1", affine_27(), 3, lambda image: image[0]),
+    "S120": lambda: last_of("(0 1 2 3 4 5) in the symmetric group of 6", SIX, 3, lambda image: image[0] // 2),
 }
 READY = {
     "T5": lambda: transvections(5),
@@ -185,14 +302,20 @@ LARGER = {
     # X² + X + 1 has no root in the field of 8.
     "M56c": lambda: conjugates(Field(*EIGHT), ((0, 1), (1, 1))),
     "M72": lambda: conjugates(Field(*EIGHT), ((1, 0), (0, 2))),
+    # X² − X + t + 1 has no root in it, and its matrix has the order 9.
+    "M56d": lambda: conjugates(Field(*EIGHT), ((0, 1), (3, 1))),
     "T11": lambda: transvections(11),
+    "T13": lambda: transvections(13),
+    # X² − X − 5 has no root mod 11.
+    "M110": lambda: conjugates(Field(11), ((0, 1), (5, 1))),
 }
 
 
 def parts_of(name):
-    """What one of the names in READY, SHADOWS and LARGER is, and the lines of its quandle and its cocycle."""
-    if name in SHADOWS:
-        about, lines = SHADOWS[name]()
+    """What one of the names in READY, SHADOWS, LARGER and of classes is, and the lines of its quandle and its cocycle."""
+    others = {**SHADOWS, **CLASSES, **LARGER_CLASSES}
+    if name in others:
+        about, lines = others[name]()
         return f"# {name}: {about}.\n", lines
     found = {**READY, **LARGER}[name]()
     table = operation(found)
@@ -204,7 +327,7 @@ def parts_of(name):
 def text_of(name):
     """The whole file of one of these names."""
     said, lines = parts_of(name)
-    use = "seek takes it by --weights." if name in LARGER else f"Append it to two diagrams: cat problem.txt quandles/weights/{name}.txt | ./knot weights"
+    use = "seek takes it by --weights." if name in (*LARGER, *LARGER_CLASSES) else f"Append it to two diagrams: cat problem.txt quandles/weights/{name}.txt | ./knot weights"
     return f"{said}# Made by tools/weight_tables.py. {use}\n{lines}"
 
 
@@ -247,7 +370,7 @@ def main():
     folder = beside if words.folder is None else words.folder
     if not os.path.isdir(folder):
         parser.error(f"there is no folder {folder}")
-    for name in LARGER if words.larger else () if words.rows else (*READY, *SHADOWS):
+    for name in (*LARGER, *LARGER_CLASSES) if words.larger else () if words.rows else (*READY, *SHADOWS, *CLASSES):
         calls.put(os.path.join(folder, f"{name}.txt"), text_of(name))
     if not words.larger:
         calls.put(os.path.join(folder, f"{LIST}.txt"), rows_text() if words.rows else list_text())

@@ -127,7 +127,7 @@ class Given(Case):
         with self.says(0, "weights 12 0 0 0 60\nweights 12 60 0 0 0\ndifferent\n"):
             self.assertTrue(kw.weights(WORD, WORD.mirror(), "T5").differ)
         self.assertEqual(self.got()[1], WORD.text + WORD.mirror().text + kw.quandle("T5").text + kw.cocycle("T5").text)
-        self.fails(kw.BadText, "there are F27, F8, M20a", kw.cocycle, "T9")
+        self.fails(kw.BadText, "there are A28, F27, F27b, F8, H27, M20a", kw.cocycle, "T9")
 
     def test_a_knot_by_its_name(self):
         self.assertEqual(kw.from_table("8_19").size, 8)

@@ -229,6 +229,8 @@ def plain_colourings(grid, quandle):
     return [colours for colours in product(range(quandle.order), repeat=size_of(grid)) if is_colouring(grid, quandle, colours)]
 
 
+# Longer lists would take much memory.
+MOST_KEPT = 5000
 KEPT_COLOURINGS = {}
 
 
@@ -236,11 +238,14 @@ def colourings(grid, quandle):
     """The complete list. Row by row from below: a bottom is free, a row in which one column begins says its colour, and
     a row in which both end says whether it closes."""
     key = grid, quandle.key
-    if key not in KEPT_COLOURINGS:
+    if key in KEPT_COLOURINGS:
+        return KEPT_COLOURINGS[key]
+    found = list_colourings(grid, quandle)
+    if len(found) <= MOST_KEPT:
         if len(KEPT_COLOURINGS) > 20_000:
             KEPT_COLOURINGS.clear()
-        KEPT_COLOURINGS[key] = list_colourings(grid, quandle)
-    return KEPT_COLOURINGS[key]
+        KEPT_COLOURINGS[key] = found
+    return found
 
 
 def list_colourings(grid, quandle):

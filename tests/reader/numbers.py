@@ -32,6 +32,24 @@ def seed_count(grid):
     return len(seeds)
 
 
+# Many texts say the same, and what they say may take seconds.
+KEPT_NUMBERS = {}
+
+
+def kept(make):
+    """Makes numbers of a diagram, a quandle, perhaps a cocycle and more once for all calls."""
+    def numbers(grid, quandle, cocycle, *more):
+        key = make, grid, quandle.key, str(cocycle), *map(tuple, more)
+        if key not in KEPT_NUMBERS:
+            if len(KEPT_NUMBERS) > 20_000:
+                KEPT_NUMBERS.clear()
+            KEPT_NUMBERS[key] = make(grid, quandle, cocycle, *more)
+        return KEPT_NUMBERS[key]
+
+    return numbers
+
+
+@kept
 def numbers_of(grid, quandle, cocycle):
     """How many colourings a diagram has by a quandle; by a cocycle, how many of each weight."""
     found = colourings(grid, quandle)
@@ -97,6 +115,7 @@ def colourings_from(grid, quandle, seeds, first):
     return found_from(0)
 
 
+@kept
 def numbers_from(grid, quandle, cocycle, seeds):
     """The same as numbers_of, from seeds that settle all columns. By a connected quandle as many colourings have each colour in one place."""
     if not cocycle:

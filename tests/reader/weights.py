@@ -1,4 +1,6 @@
 """Cocycles, and the weights of colourings."""
+from collections import Counter
+
 from .codes import sign
 from .diagrams import is_up, rows_of
 
@@ -79,10 +81,11 @@ def shadow_weight(grid, quandle, modulus, values, colours, outer):
 def counts_by_weight(grid, quandle, modulus, values, found):
     """How many of these colourings have each weight; by a shadow cocycle, how many pairs with a colour of the outer region."""
     if isinstance(values[0][0], list):
-        weights = [shadow_weight(grid, quandle, modulus, values, colours, outer) for colours in found for outer in range(quandle.order)]
+        weights = (shadow_weight(grid, quandle, modulus, values, colours, outer) for colours in found for outer in range(quandle.order))
     else:
-        weights = [weight(grid, quandle, modulus, values, colours) for colours in found]
-    return [weights.count(value) for value in range(modulus)]
+        weights = (weight(grid, quandle, modulus, values, colours) for colours in found)
+    counts = Counter(weights)
+    return [counts[value] for value in range(modulus)]
 
 
 def choices(cocycle, seeds):

@@ -143,7 +143,7 @@ class Weights(unittest.TestCase):
             self.assertEqual(sorted(os.listdir(folder)), ["3_1-mirror-3_1.txt", "knots.csv"])
 
     def test_the_stored_problems_say_what_their_heads_say(self):
-        blocks = {"list.txt", *(f"{name}.txt" for name in (*weight_tables.READY, *weight_tables.SHADOWS))}
+        blocks = {"list.txt", *(f"{name}.txt" for name in (*weight_tables.READY, *weight_tables.SHADOWS, *weight_tables.CLASSES))}
         names = sorted(set(os.listdir(os.path.join(common.LISTS, "weights"))) - blocks)
         self.assertTrue(names)
         for name in names:

@@ -12,7 +12,7 @@ import unittest
 TREE = os.path.dirname(os.path.dirname(os.path.dirname(os.path.abspath(__file__))))
 SCRIPT = os.path.join(TREE, "tests", "edits.py")
 
-# An edit's line 'says: W' has the stand-in say what rt says of such an edit; the words are rt's own.
+# An edit's line 'new: says: W' has the stand-in say what rt says of such an edit; the words are rt's own.
 STAND_IN = """#!{python}
 import os, sys, time
 FOR = {{
@@ -48,6 +48,10 @@ sys.exit(status)
 """
 
 
+def edit(says):
+    return f"file: src/lib.rt\nold: fn f() {{}}\nnew: says: {says}\n"
+
+
 class EditsTest(unittest.TestCase):
     def setUp(self):
         kept = tempfile.TemporaryDirectory()
@@ -67,7 +71,8 @@ class EditsTest(unittest.TestCase):
         self.put("crates.txt", "# lowest first\nlow:\nmiddle: low\nhigh: middle low\n")
         for name in ("low", "middle", "high"):
             self.put(f"crates/{name}/src/lib.rt", "fn f() {}\n")
-            self.edit(name, "gates_own", "bad", "must-fail")
+            self.put(f"crates/{name}/must-fail/gates_own.edit", edit("bad"))
+        self.edits = {}
         self.put("tests/edits.py", self.text(SCRIPT))
         self.git("init", "--quiet")
 
@@ -81,8 +86,13 @@ class EditsTest(unittest.TestCase):
         with open(os.path.join(*parts), encoding="utf-8") as file:
             return file.read()
 
-    def edit(self, crate, name, says, folder="edits"):
-        self.put(f"crates/{crate}/{folder}/{name}.edit", f"file: src/lib.rt\nold: f\nnew: g\nsays: {says}\n")
+    def edit(self, crate, name, says):
+        """Gives the crate an edit, in place of one of the same name."""
+        self.edits.setdefault(crate, {})[name] = edit(says)
+        self.write_edits(crate)
+
+    def write_edits(self, crate):
+        self.put(f"crates/{crate}/edits.txt", "# Edits of this crate.\n" + "".join(f"\n{name}\n{text}" for name, text in self.edits[crate].items()))
 
     def git(self, *words):
         subprocess.run(["git", *words], cwd=self.top, check=True, capture_output=True)
@@ -135,6 +145,69 @@ class Verdicts(EditsTest):
         self.assertNotIn("must-fail low in copy", self.calls_made())
 
 
+class Forms(EditsTest):
+    def test_what_is_no_edit_ends_it_with_its_line(self):
+        for text, line, why in (("one\nfile: src/lib.rt\nsays: what\n", 3, "a line of an edit begins with `file: `, `old: ` or `new:`"),
+                                (edit("refused"), 1, "the name of an edit is due, of small letters, digits and _"),
+                                ("one\n" + edit("refused") + "\n\none\n", 7, "the crate has another edit of this name")):
+            self.put("crates/low/edits.txt", text)
+            for words in ((), ("--stand",)):
+                self.assertEqual(self.run_it(*words), (2, [], f"edits.py: crates/low/edits.txt:{line}: {why}\n"))
+        self.assertEqual(self.calls_made(), [])
+
+    def test_each_edit_of_a_file_has_a_file_of_its_own_with_its_lines(self):
+        two = "file: src/lib.rt\nold: fn f\nnew: fn g\nold: () {\nnew:\n"
+        self.put("crates/low/edits.txt", f"# a line\n\n# another one\none\n{edit('refused')}\n\n# and one\ntwo\n{two}")
+        self.run_it("--keep", self.copy)
+        self.assertEqual(self.kept_files()[4:6], ["crates/low/must-fail/one.edit", "crates/low/must-fail/two.edit"])
+        self.assertEqual(self.text(self.copy, "crates/low/must-fail/one.edit"), edit("refused"))
+        self.assertEqual(self.text(self.copy, "crates/low/must-fail/two.edit"), two)
+
+
+class Stand(EditsTest):
+    def stand(self, *names):
+        return self.run_it("--stand", *names)
+
+    def test_edits_of_both_kinds_that_can_be_applied_are_counted(self):
+        self.edit("low", "one", "refused")
+        self.edits["low"]["two"] = "file: src/lib.rt\nold: fn f\nnew: fn g\nold: g()\nnew:\n"
+        self.write_edits("low")
+        self.assertEqual(self.stand(), (0, ["5 edits, 0 of which can't be applied"], ""))
+        self.assertEqual(self.stand("low"), (0, ["3 edits, 0 of which can't be applied"], ""))
+        self.assertEqual(self.calls_made(), [])
+
+    def test_it_needs_neither_rt_nor_git(self):
+        os.unlink(self.rt)
+        os.unlink(os.path.join(self.commands, "git"))
+        done = subprocess.run(self.words("--stand"), env={"PATH": self.commands}, capture_output=True, text=True, check=False)
+        self.assertEqual((done.returncode, done.stdout), (0, "3 edits, 0 of which can't be applied\n"))
+
+    def test_each_that_can_not_is_named_with_why(self):
+        self.put("crates/low/src/lib.rt", "fn f() { f() }\n")
+        self.put("crates/low/README.md", "fn f\n")
+        for text, why in (("old: f()\nnew: g()\n", "src/lib.rt has this 2 times, and not once: f()"),
+                          ("old: h()\nnew: g()\n", "src/lib.rt has this 0 times, and not once: h()"),
+                          ("old: fn f\nnew: fn g\nold: fn f\nnew: fn h\n", "src/lib.rt has this 0 times, and not once: fn f"),
+                          ("old: fn f\nnew: fn f\n", "it changes nothing"), ("old: fn f\n", "it changes nothing"), ("", "it changes nothing"),
+                          ("new: fn g\n", "a line `new:` comes before a line `file:` or `old:`"),
+                          ("file: README.md\nold: fn f\nnew: fn g\n", "there is no file README.md in src/, specs/ or proofs/"),
+                          ("file: src/../src/lib.rt\nold: fn f\nnew: fn g\n", "there is no file src/../src/lib.rt in src/, specs/ or proofs/"),
+                          ("file: src/main.rt\nold: fn f\nnew: fn g\n", "there is no file src/main.rt in src/, specs/ or proofs/")):
+            text = f"file: src/lib.rt\n{text}"
+            self.put("crates/low/edits.txt", f"one\n{text}")
+            self.put("crates/low/must-fail/gates_own.edit", text)
+            self.assertEqual(self.stand("low"), (1, [f"crates/low/edits.txt: one: {why}", f"crates/low/must-fail/gates_own.edit: {why}",
+                                                     "2 edits, 2 of which can't be applied"], ""))
+
+    def test_an_unknown_crate_ends_it(self):
+        self.assertEqual(self.stand("lower"), (2, [], "edits.py: there is no crate lower in crates.txt\n"))
+
+    def test_each_edit_of_this_tree_can_be_applied(self):
+        done = subprocess.run([sys.executable, "-B", SCRIPT, "--stand"], capture_output=True, text=True, check=False)
+        self.assertRegex(done.stdout, r"\A[1-9][0-9]+ edits, 0 of which can't be applied\n\Z")
+        self.assertEqual(done.returncode, 0)
+
+
 class Crates(EditsTest):
     def test_all_that_have_edits_are_tried_lowest_first(self):
         self.edit("high", "one", "refused")
@@ -155,7 +228,7 @@ class Crates(EditsTest):
 
     def test_a_crate_without_edits_ends_it(self):
         self.edit("low", "one", "refused")
-        self.assertEqual(self.run_it("middle"), (2, [], "edits.py: middle has no edits: git tracks none in crates/middle/edits/\n"))
+        self.assertEqual(self.run_it("middle"), (2, [], "edits.py: middle has no edits: git tracks no crates/middle/edits.txt\n"))
         self.assertEqual(self.calls_made(), [])
 
 
@@ -180,20 +253,21 @@ class Copies(EditsTest):
     FILES = [".copy-for-edits", "HANDLES", "crates.txt", "crates/high/src/lib.rt", "crates/low/must-fail/one.edit", "crates/low/out/proved",
              "crates/low/src/lib.rt", "crates/middle/src/lib.rt"]
 
-    def test_it_has_the_tracked_files_with_edits_in_the_place_of_must_fail(self):
+    def test_it_has_the_tracked_files_with_each_edit_in_must_fail(self):
         self.edit("low", "one", "refused")
         self.put(".gitignore", "passed-over\n")
         self.put("crates/low/src/passed-over", "")
         self.assertEqual(self.run_it("--keep", self.copy)[0], 0)
         self.assertEqual(self.kept_files(), self.FILES)
-        self.assertEqual(os.listdir(os.path.join(self.top, "crates", "low", "edits")), ["one.edit"])
+        self.assertEqual(self.text(self.copy, "crates/low/must-fail/one.edit"), edit("refused"))
 
     def test_files_are_those_of_the_work_tree(self):
         self.edit("low", "one", "refused")
         self.edit("low", "two", "missed")
         self.git("add", "--all")
         self.put("crates/low/src/lib.rt", "fn changed() {}\n")
-        os.unlink(os.path.join(self.top, "crates", "low", "edits", "two.edit"))
+        del self.edits["low"]["two"]
+        self.write_edits("low")
         done = subprocess.run(self.words("--keep", self.copy), env={"PATH": self.commands}, capture_output=True, text=True, check=False)
         self.assertEqual(done.returncode, 0, done.stdout)
         self.assertEqual(self.kept_files(), self.FILES)
@@ -206,7 +280,8 @@ class Copies(EditsTest):
         untouched = os.path.join(self.copy, "crates", "low", "src", "lib.rt")
         was = os.stat(untouched)
         self.edit("low", "one", "missed")
-        os.unlink(os.path.join(self.top, "crates", "low", "edits", "two.edit"))
+        del self.edits["low"]["two"]
+        self.write_edits("low")
         status, lines, _ = self.run_it("--keep", self.copy)
         self.assertEqual(status, 1)
         self.assertEqual(lines[-1], "in all: 0 refused, 1 NOT REFUSED, 0 BAD EDIT, 0 NOT TRIED")

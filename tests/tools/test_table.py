@@ -42,7 +42,8 @@ class Evidence(unittest.TestCase):
     def test_tables_of_the_list_have_their_names(self):
         with open(os.path.join(LISTS, "weights", "list.txt"), encoding="utf-8") as text:
             found = table.names_of_tables(text.read())
-        self.assertEqual(found, {(8, 2): "F8", (12, 5): "T5", (20, 3): "M20a", (20, 6): "M20b", (24, 7): "T7", (27, 3): "F27", (30, 4): "M30", (42, 8): "M42a"})
+        self.assertEqual(found, {(8, 2): "F8", (12, 5): "T5", (20, 3): "M20a", (20, 6): "M20b", (24, 7): "T7", (27, 3): "F27 or F27b", (28, 2): "A28",
+                                 (30, 4): "M30", (42, 8): "M42a or M42c", (56, 9): "M56c", (60, 11): "T11", (72, 7): "M72"})
 
     def test_evidence_in_words(self):
         for said, wanted in (("dihedral 3", "dihedral 3"), ("numbers alexander 11 3: 121 / 11", "alexander 11 3, by numbers"),

@@ -7,7 +7,7 @@ import common
 import cocycles
 import quandles
 import weight_tables
-from lib import diagrams
+from lib import diagrams, groups
 from knot_workbench import weighing
 from lib.connected import is_connected
 from lib.fields import Field
@@ -18,7 +18,10 @@ from reader.weights import counts_by_weight
 
 # The numbers of colours and the moduli: the conjugates of a matrix are as many as the matrices of determinant 1, q³ − q, by its torus.
 SIZES = {"T5": (12, 5), "T7": (24, 7), "M20a": (20, 3), "M20b": (20, 6), "M30": (30, 4), "M42a": (42, 8), "M42b": (42, 8), "M42c": (42, 8), "M56b": (56, 6),
-         "M56c": (56, 9), "M72": (72, 7), "T11": (60, 11)}
+         "M56c": (56, 9), "M56d": (56, 9), "M72": (72, 7), "T11": (60, 11), "T13": (84, 13), "M110": (110, 12)}
+# Of classes of permutations the orders of their groups, of what commutes with an element, and of that the homomorphism's image; 1 without a cocycle.
+CLASSES = {"H27": (216, 8, 1), "A28": (168, 6, 2), "G84": (1512, 18, 2), "P112": (1344, 12, 4), "Z112": (1344, 12, 4), "A117": (1053, 9, 3),
+           "S120": (720, 6, 3)}
 # Knots of the table that are their own mirror images, perhaps run through backwards.
 AMPHICHIRAL = ("4_1", "6_3", "8_9", "8_17", "8_18")
 
@@ -65,7 +68,7 @@ class Tables(unittest.TestCase):
     def test_the_files_are_what_the_script_writes(self):
         with tempfile.TemporaryDirectory() as folder:
             self.assertEqual(common.run("weight_tables.py", folder), (0, "", ""))
-            names = (*weight_tables.READY, *weight_tables.SHADOWS, weight_tables.LIST)
+            names = (*weight_tables.READY, *weight_tables.SHADOWS, *weight_tables.CLASSES, weight_tables.LIST)
             self.assertEqual(sorted(os.listdir(folder)), sorted(f"{name}.txt" for name in names))
             for name in names:
                 with open(os.path.join(folder, f"{name}.txt"), encoding="utf-8") as written:
@@ -74,8 +77,9 @@ class Tables(unittest.TestCase):
     def test_the_larger_files_are_what_the_script_writes(self):
         with tempfile.TemporaryDirectory() as folder:
             self.assertEqual(common.run("weight_tables.py", "--larger", folder), (0, "", ""))
-            self.assertEqual(sorted(os.listdir(folder)), sorted(f"{name}.txt" for name in weight_tables.LARGER))
-            for name in weight_tables.LARGER:
+            names = (*weight_tables.LARGER, *weight_tables.LARGER_CLASSES)
+            self.assertEqual(sorted(os.listdir(folder)), sorted(f"{name}.txt" for name in names))
+            for name in names:
                 with open(os.path.join(folder, f"{name}.txt"), encoding="utf-8") as written:
                     self.assertEqual(written.read(), common.read("quandles", "larger", f"{name}.txt"), name)
 
@@ -101,6 +105,23 @@ class Tables(unittest.TestCase):
             self.assertIsNone(weighing.cocycle_fault(quandle.over, cocycle, modulus), name)
             self.assertTrue(all(0 <= value < modulus for row in cocycle for value in row), name)
             self.assertEqual(order <= diagrams.MAX_ORDER, name in weight_tables.READY)
+
+    def test_classes_of_permutations_are_connected_quandles_with_a_cocycle(self):
+        self.assertEqual(sorted(CLASSES), sorted([*weight_tables.CLASSES, *weight_tables.LARGER_CLASSES]))
+        for name, (group, centralizer, modulus) in CLASSES.items():
+            quandle, cocycle = ready(name)
+            self.assertEqual((len(quandle.over), cocycle.modulus if cocycle else 1), (group // centralizer, modulus), name)
+            self.assertIsNone(diagrams.quandle_fault(quandle.over), name)
+            self.assertTrue(is_connected(quandle.over), name)
+            self.assertEqual(len(quandle.over) <= diagrams.MAX_ORDER, name in weight_tables.CLASSES)
+            if cocycle:
+                self.assertIsNone(weighing.cocycle_fault(quandle.over, cocycle.values, modulus), name)
+                self.assertEqual({value for row in cocycle.values for value in row}, set(range(modulus)), name)
+
+    def test_groups_of_permutations_have_their_orders(self):
+        for name, generators in (("H27", weight_tables.triples_of_3()), ("P112", weight_tables.pairs_of_8(2)), ("Z112", weight_tables.pairs_of_8(1)),
+                                 ("A117", weight_tables.affine_27())):
+            self.assertEqual(len(groups.group_of(generators)), CLASSES[name][0], name)
 
     def test_transvections_add_multiples_of_vectors(self):
         for prime in (5, 7):
@@ -141,14 +162,23 @@ class Weights(unittest.TestCase):
     def test_reverses_by_the_shadow_cocycles_of_fields(self):
         # Reading them tests their laws.
         knots = read_knots(os.path.join(common.ROOT, "tables", "prime-knots-to-10.csv"))
-        for name, knot, differs in (("F8", "10_80", True), ("F8", "8_20", False), ("F27", "9_33", True)):
+        for name, knot, differs in (("F8", "10_80", True), ("F8", "8_20", False), ("F27", "9_33", True), ("F27b", "10_81", True), ("F27b", "9_33", False)):
             quandle, cocycle = ready(name)
             self.assertTrue(is_connected(quandle.over), name)
             counts = [counts_by_shadow(grid, quandle, cocycle) for grid in (knots[knot].grid, knots[knot].grid.reverse())]
             self.assertEqual(counts[0] != counts[1], differs, (name, knot, counts))
 
+    def test_reverses_by_classes(self):
+        knots = read_knots(os.path.join(common.ROOT, "tables", "prime-knots-to-10.csv"))
+        for name, knot, differs in (("H27", "10_85", True), ("A28", "10_110", True), ("A28", "8_20", False)):
+            quandle, cocycle = ready(name)
+            values, modulus = ([cocycle.values], cocycle.modulus) if cocycle else ([], 1)
+            counts = [weighing.weights(weighing.all_met(grid, quandle, True), values, modulus) for grid in (knots[knot].grid, knots[knot].grid.reverse())]
+            self.assertEqual(counts[0] != counts[1], differs, (name, knot, counts))
+
     def test_mirror_images_by_the_larger_tables(self):
-        tables = {name: read_table(common.read("quandles", "larger", f"{name}.txt")) for name in weight_tables.LARGER}
+        tables = {name: read_table(common.read("quandles", "larger", f"{name}.txt"))
+                  for name in ("M42a", "M42b", "M42c", "M56b", "M56c", "M72", "T11")}
         knots = dict(quandles.read_knots(common.KNOTS))
         for knot, wanted in (("7_1", {"M42a", "M42b", "M42c", "M56b", "M56c"}), ("7_5", {"M42a"}), ("8_14", {"M42c"})):
             braid = knots[knot]

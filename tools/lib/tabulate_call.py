@@ -54,7 +54,7 @@ PARTS = 10
 EFFORTS = (WALKS[0], LINEAR, DECIDE, *WALKS[1:])
 
 # Files of the folder quandles/weights by which pairs are counted that are still open, beside those of the larger quandles.
-FURTHER = ("F8.txt", "F27.txt")
+FURTHER = ("F8.txt", "F27.txt", "F27b.txt", "H27.txt", "A28.txt")
 
 
 def parser():
