@@ -11,7 +11,7 @@ use Rattle.grid_moves.proofs.Stopped.{joins_once, not_both, stops_once, joins_or
 use Rattle.grid_moves.specs.Joining.{Joins, StopsAt}
 use Rattle.quandle_core.specs.Quandle.{Table}
 use Rattle.colour_list.specs.Listing.{lists_of}
-use Rattle.named_quandles.specs.Names.{NamedQuandle}
+use Rattle.quandle_core.specs.Names.{NamedQuandle}
 use Rattle.verdict_core.specs.declared.verdict.Verdict.{Verdict}
 use Rattle.verdict_core.specs.declared.verdict.Verdict.TheVariants.{Equal, Different, UnknownBudget, UnknownExhausted}
 use Rattle.cert_check.specs.declared.ruling.Ruling.{Ruling}

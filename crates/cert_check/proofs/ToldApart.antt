@@ -3,7 +3,7 @@ use Rattle.std.proofs.Common.{◌∙◌, ap, sym, length, ℕ, List}
 use Rattle.grid_core.specs.Diagram.{Diagram}
 use Rattle.grid_moves.specs.Joining.{Equivalent}
 use Rattle.quandle_core.specs.Quandle.{Table, IsQuandle}
-use Rattle.carried_colours.proofs.Counted.{equivalent_lengths}
+use Rattle.colour_laws.proofs.Counted.{equivalent_lengths}
 use Rattle.verdict_core.specs.Evidence.{TellsApart}
 
 pub told_apart : (t : Table) (d e : Diagram) (one two : List (List ℕ)) → IsQuandle t → TellsApart t d e one two → Equivalent d e → ⊥

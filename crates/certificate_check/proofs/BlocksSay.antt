@@ -6,8 +6,8 @@ use Rattle.quandle_core.specs.declared.operations.TheConstants.{MAX_LARGE_ORDER}
 use Rattle.quandle_core.specs.Quandle.{Table, IsQuandle}
 use Rattle.text_lines.specs.Lines.{NumberedLine, Text, begins, text_of}
 use Rattle.verdict_core.specs.declared.problem.ProblemText.{ProblemText}
-use Rattle.named_quandles.specs.Names.{NamedQuandle}
-use Rattle.named_quandles.proofs.Named.{named_within, named_wider}
+use Rattle.quandle_core.specs.Names.{NamedQuandle}
+use Rattle.quandle_core.proofs.Named.{named_within, named_wider}
 use Rattle.text_items.specs.Reading.{◌>>=◌, next_line, next_token, line_end, word, text_end}
 use Rattle.text_items.specs.Quandles.{written_at}
 use Rattle.knot_text.specs.Printed.{HasQuandleTextWithin}
@@ -25,12 +25,12 @@ use Rattle.evidence_core.specs.declared.blocks.LargeWeighing.TheVariants.{Strand
 use Rattle.evidence_core.specs.declared.blocks.Block.{Block}
 use Rattle.evidence_core.specs.declared.evidence.Evidence.{Evidence}
 use Rattle.evidence_core.specs.declared.evidence.Evidence.TheVariants.{Numbers, Linking}
-use Rattle.block_text.specs.Blocks.{block_quandle, block_item, surplus_block, blocks}
-use Rattle.number_text.specs.Blocks.{cocycle_or_none}
+use Rattle.number_text.specs.Blocks.{block_quandle, block_item, surplus_block, blocks}
+use Rattle.number_text.specs.BlockCocycles.{cocycle_or_none}
 use Rattle.number_text.specs.Evidence.{count_of, counted_item, numbers_evidence, linked_item, linking_evidence, evidence_at, head_at, third_item}
-use Rattle.certificate_text.specs.declared.said.Said.{Said}
-use Rattle.certificate_text.specs.declared.said.Said.TheVariants as said
-use Rattle.certificate_text.specs.Said.{has_third, third_in, third_of, with_verdict, said_of}
+use Rattle.number_text.specs.declared.said.Said.{Said}
+use Rattle.number_text.specs.declared.said.Said.TheVariants as said
+use Rattle.number_text.specs.Said.{has_third, third_in, third_of, with_verdict, said_of}
 use Rattle.certificates.specs.Printed.{HasPerhapsText, HasBlockText}
 
 perhaps_says : (quandle : Table) (text : Text) → IsQuandle quandle → Says (cocycle_or_none quandle text) (λ x. HasPerhapsText quandle x.0)

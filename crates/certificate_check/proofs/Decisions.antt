@@ -10,7 +10,7 @@ use Rattle.verdict_core.specs.declared.verdict.Verdict.{Verdict}
 use Rattle.verdict_core.specs.declared.verdict.Verdict.TheVariants.{Equal, Different, UnknownBudget, UnknownExhausted}
 use Rattle.verdict_core.specs.Diagrams.{grid_of, columns}
 use Rattle.verdict_core.specs.Evidence as verdict
-use Rattle.named_quandles.proofs.Named.{named_within}
+use Rattle.quandle_core.proofs.Named.{named_within}
 use Rattle.verdict_text.specs.declared.verdicts.Version.{Version}
 use Rattle.verdict_text.specs.declared.verdicts.Version.TheVariants.{Plain, Tidy}
 use Rattle.verdict_text.specs.Problems.{problem_of}
@@ -22,19 +22,19 @@ use Rattle.evidence_core.specs.declared.blocks.LargeWeighing.{LargeWeighing}
 use Rattle.evidence_core.specs.declared.blocks.LargeWeighing.TheVariants.{Strands, Regions}
 use Rattle.evidence_core.specs.declared.evidence.Evidence.{Evidence}
 use Rattle.evidence_core.specs.declared.evidence.Evidence.TheVariants.{Numbers, Linking}
-use Rattle.certificate_text.specs.declared.said.Said.{Said}
-use Rattle.certificate_text.specs.declared.said.Said.TheVariants as said
-use Rattle.certificate_text.specs.Said.{said_of}
+use Rattle.number_text.specs.declared.said.Said.{Said}
+use Rattle.number_text.specs.declared.said.Said.TheVariants as said
+use Rattle.number_text.specs.Said.{said_of}
 use Rattle.certificates.specs.Printed.{third_text, HasPerhapsText, HasEvidenceText}
 use Rattle.certificates.specs.Said.{said_text}
 use Rattle.certificates.proofs.Earlier.{read_so, was_read_so}
 use Rattle.certificates.proofs.EvidenceBehind.{evidence_behind, evidence_behind_feed}
 use Rattle.number_check.specs.Holds as numbers
 use Rattle.number_check.proofs.Rulings.{numbers_apart}
-use Rattle.linking_check.proofs.LinksOfGrids.{linking_apart}
+use Rattle.evidence_core.proofs.LinksOfGrids.{linking_apart}
 use Rattle.check_job.specs.Truth.{IsTrueSaid}
-use Rattle.decision_core.specs.VerdictDecision.{put_behind, IsByWrittenQuandle, IsDecisionByVerdict}
-use Rattle.decision_core.proofs.HeldVerdicts.{true_of}
+use Rattle.verdict_laws.specs.VerdictDecision.{put_behind, IsByWrittenQuandle, IsDecisionByVerdict}
+use Rattle.verdict_laws.proofs.HeldVerdicts.{true_of}
 use Rattle.certificate_check.specs.Decision.{IsFindingOf, IsAccepted, IsDecision}
 use Rattle.certificate_check.proofs.BlocksSay.{HasBlock, said_block}
 

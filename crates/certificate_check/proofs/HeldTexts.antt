@@ -13,16 +13,16 @@ use Rattle.quandle_core.specs.declared.operations.TheConstants.{MAX_LARGE_ORDER}
 use Rattle.quandle_core.specs.Quandle.{Table, IsQuandle}
 use Rattle.colour_list.specs.Listing.{colourings}
 use Rattle.colour_weights.specs.Weight.{weight}
-use Rattle.named_quandles.proofs.Named.{named_within}
+use Rattle.quandle_core.proofs.Named.{named_within}
 use Rattle.text_items.specs.declared.reading.TheConstants.{MAX_NUMBER}
 use Rattle.colour_seeds.specs.declared.counting.TheConstants.{MAX_CANDIDATES}
 use Rattle.colour_seeds.specs.Settled.{Determine}
 use Rattle.colour_seeds.specs.Plan.{seeds_in}
 use Rattle.colour_seeds.proofs.Levels.{leaves_count}
 use Rattle.colour_seeds.proofs.Tallying.{length_leaves}
-use Rattle.shadow_cocycles.specs.Cocycle.{ShadowCochain}
-use Rattle.shadow_weights.specs.Weight.{shadow_weight}
-use Rattle.shadow_weights.specs.Weights.{shadows_of}
+use Rattle.cocycle_core.specs.ShadowCocycle.{ShadowCochain}
+use Rattle.colour_weights.specs.ShadowWeight.{shadow_weight}
+use Rattle.colour_weights.specs.ShadowWeights.{shadows_of}
 use Rattle.colour_numbers.specs.Numbers.{numbers, coloured_by, choices_of}
 use Rattle.evidence_core.specs.declared.blocks.LargeWeighing.{LargeWeighing}
 use Rattle.evidence_core.specs.declared.blocks.LargeWeighing.TheVariants.{Strands, Regions}
@@ -34,7 +34,7 @@ use Rattle.evidence_core.specs.declared.evidence.Evidence.TheVariants.{Numbers, 
 use Rattle.number_text.specs.Evidence.{count_of}
 use Rattle.certificates.specs.Printed.{HasPerhapsText, HasBlockText, HasCountedText, HasLinkedText, HasEvidenceText}
 use Rattle.number_check.specs.Holds.{table_of, AreNumbersOf, Holds}
-use Rattle.linking_check.specs.Links.{AreLinkingOf}
+use Rattle.evidence_core.specs.Links.{AreLinkingOf}
 use Rattle.verdict_laws.proofs.SeedWays.{plan_there}
 use Rattle.certificate_check.specs.Decision.{IsByWrittenBlock}
 use Rattle.certificate_check.proofs.LinkingBounds.{IsSmall, components_few, linking_small}

@@ -12,15 +12,15 @@ use Rattle.cert_check.specs.Ruling as verdicts
 use Rattle.cert_check.specs.declared.ruling.Ruling.TheVariants as verdict_ruling
 use Rattle.number_check.specs.Holds as numbers
 use Rattle.number_check.specs.Ruling as evidence
-use Rattle.linking_check.specs.declared.cause.Ruling.TheVariants as evidence_ruling
-use Rattle.certificate_text.specs.declared.said.Said.{Said}
-use Rattle.certificate_text.specs.declared.said.Said.TheVariants as said
-use Rattle.certificate_text.specs.Said.{said_of}
+use Rattle.evidence_core.specs.declared.cause.Ruling.TheVariants as evidence_ruling
+use Rattle.number_text.specs.declared.said.Said.{Said}
+use Rattle.number_text.specs.declared.said.Said.TheVariants as said
+use Rattle.number_text.specs.Said.{said_of}
 use Rattle.certificates.specs.Printed.{HasBlockText, HasEvidenceText}
 use Rattle.certificates.specs.Said.{said_text}
 use Rattle.check_job.specs.Truth.{IsTrueSaid}
 use Rattle.knot_ports.specs.declared.limits.TheConstants.{MAX_CERTIFICATE}
-use Rattle.decision_core.specs.VerdictDecision.{put_behind, IsByWrittenQuandle}
+use Rattle.verdict_laws.specs.VerdictDecision.{put_behind, IsByWrittenQuandle}
 
 -- ---- what holds
 

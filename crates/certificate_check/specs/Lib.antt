@@ -3,11 +3,11 @@ pub use Rattle.grid_moves.specs.Joining
 pub use Rattle.verdict_core.specs.Diagrams
 pub use Rattle.verdict_core.specs.Evidence
 pub use Rattle.knot_text.specs.Shapes
-pub use Rattle.number_text.specs.Blocks
-pub use Rattle.certificate_text.specs.Said
+pub use Rattle.number_text.specs.BlockCocycles
+pub use Rattle.number_text.specs.Said
 pub use Rattle.certificates.specs.Printed
 pub use Rattle.certificates.specs.Said as SaidTexts
 pub use Rattle.number_check.specs.Holds
 pub use Rattle.number_check.specs.Ruling
 pub use Rattle.check_job.specs.Truth
-pub use Rattle.decision_core.specs.VerdictDecision
+pub use Rattle.verdict_laws.specs.VerdictDecision

@@ -8,16 +8,16 @@ ghost use Rattle.verdict_core.specs.declared.problem.ProblemText.{ProblemText};
 ghost use Rattle.verdict_text.specs.Problems.{problem_of};
 ghost use Rattle.evidence_core.specs.declared.blocks.Block.{Block};
 ghost use Rattle.evidence_core.specs.declared.evidence.Evidence.{Evidence};
-ghost use Rattle.block_text.specs.Blocks.{block_item, blocks};
-ghost use Rattle.certificate_text.specs.declared.said.Said.{Said};
+ghost use Rattle.number_text.specs.Blocks.{block_item, blocks};
+ghost use Rattle.number_text.specs.declared.said.Said.{Said};
 ghost use Rattle.certificates.specs.Printed.{HasBlockText, HasEvidenceText};
 ghost use Rattle.certificates.specs.Said.{said_text};
 ghost use Rattle.number_check.specs.Holds.{Holds};
 ghost use Rattle.check_job.specs.Truth.{IsTrueSaid};
-ghost use Rattle.decision_core.specs.VerdictDecision.{IsDecisionByVerdict};
+ghost use Rattle.verdict_laws.specs.VerdictDecision.{IsDecisionByVerdict};
 ghost use Rattle.certificate_check.specs.Decision.{IsFindingOf, IsByWrittenBlock, IsAccepted, IsDecision};
 
-use decision_core::laws::a_verdict_that_holds_is_a_decision;
+use verdict_laws::decisions::a_verdict_that_holds_is_a_decision;
 
 /// What holds of the diagrams of a problem and has a text, whoever found it, is as it is printed a decision on the input: it is true, and
 /// accepted behind the input. So is a decision by a verdict.

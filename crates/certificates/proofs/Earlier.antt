@@ -15,9 +15,9 @@ use Rattle.verdict_text.specs.Problems.{problem_item, check_in, check_of}
 use Rattle.knot_text.proofs.Steady.{bind_ok, ok_is}
 use Rattle.knot_text.proofs.Says.{Says, says_ok, says_bind}
 use Rattle.number_text.specs.Evidence.{third_item}
-use Rattle.certificate_text.specs.declared.said.Said.{Said}
-use Rattle.certificate_text.specs.declared.said.Said.TheVariants as said
-use Rattle.certificate_text.specs.Said.{is_third_line, starts_third, has_third, third_in, third_of, with_verdict, said_of}
+use Rattle.number_text.specs.declared.said.Said.{Said}
+use Rattle.number_text.specs.declared.said.Said.TheVariants as said
+use Rattle.number_text.specs.Said.{is_third_line, starts_third, has_third, third_in, third_of, with_verdict, said_of}
 
 pub as_before : (bytes : List ℕ) → has_third (problem_item (text_of bytes)) ≡ false → said_of bytes ≡ with_verdict (check_of bytes)
 as_before bytes none = rw none refl

@@ -7,7 +7,7 @@ use Rattle.arrayvec.specs.ArrayVec.{ArrayVec}
 use Rattle.grid_core.specs.declared.grid.TheConstants.{MAX_SIZE}
 use Rattle.quandle_core.specs.declared.operations.TheConstants.{MAX_LARGE_ORDER}
 use Rattle.quandle_core.specs.Quandle.{Table}
-use Rattle.shadow_cocycles.specs.Cocycle.{ShadowCochain}
+use Rattle.cocycle_core.specs.ShadowCocycle.{ShadowCochain}
 use Rattle.text_lines.specs.Lines.{Text, begins}
 use Rattle.text_lines.specs.Spelled.{numbered}
 use Rattle.text_items.specs.declared.reading.TheConstants.{MAX_NUMBER}
@@ -34,7 +34,7 @@ use Rattle.evidence_core.specs.declared.evidence.Linked.{Linked}
 use Rattle.evidence_core.specs.declared.evidence.Evidence.{Evidence}
 use Rattle.evidence_core.specs.declared.evidence.Evidence.TheVariants.{Numbers, Linking}
 use Rattle.number_text.specs.declared.evidence_items.TheConstants.{THIRD_VERSION}
-use Rattle.number_text.specs.Blocks.{cocycle_or_none}
+use Rattle.number_text.specs.BlockCocycles.{cocycle_or_none}
 use Rattle.number_text.specs.Evidence.{seeds_at, numbers_at, counted_item, count_of, numbers_evidence, components_at, letters_at, linked_item, linking_evidence, evidence_at, head_at, third_item}
 use Rattle.certificates.specs.Printed.{perhaps_cocycle, counted_lines, linked_lines, third_lines, HasPerhapsText, HasCountedText, HasLinkedText, HasEvidenceText}
 

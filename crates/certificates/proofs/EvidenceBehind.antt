@@ -19,9 +19,9 @@ use Rattle.knot_text.proofs.ShapesFail.{problem_stable}
 use Rattle.evidence_core.specs.declared.evidence.Evidence.{Evidence}
 use Rattle.number_text.specs.declared.evidence_items.TheConstants.{THIRD_VERSION}
 use Rattle.number_text.specs.Evidence.{third_item}
-use Rattle.certificate_text.specs.declared.said.Said.{Said}
-use Rattle.certificate_text.specs.declared.said.Said.TheVariants as said
-use Rattle.certificate_text.specs.Said.{starts_third, has_third, third_in, third_of, said_of}
+use Rattle.number_text.specs.declared.said.Said.{Said}
+use Rattle.number_text.specs.declared.said.Said.TheVariants as said
+use Rattle.number_text.specs.Said.{starts_third, has_third, third_in, third_of, said_of}
 use Rattle.certificates.specs.Printed.{third_lines, third_text, HasEvidenceText}
 use Rattle.certificates.proofs.EvidenceAgain.{third_again}
 use Rattle.certificates.proofs.EvidenceWords.{third_words}

@@ -6,7 +6,7 @@ use Rattle.arrayvec.specs.ArrayVec.{ArrayVec}
 use Rattle.cocycle_core.specs.Cocycle.{Cochain}
 use Rattle.quandle_core.specs.declared.operations.TheConstants.{MAX_LARGE_ORDER}
 use Rattle.text_lines.specs.Lines.{NumberedLine, Text, first_starts}
-use Rattle.named_quandles.specs.Names.{NamedQuandle}
+use Rattle.quandle_core.specs.Names.{NamedQuandle}
 use Rattle.verdict_core.specs.Diagrams.{columns}
 use Rattle.verdict_core.specs.declared.problem.ProblemText.{ProblemText}
 use Rattle.verdict_core.specs.declared.verdict.Verdict.{Verdict}
@@ -17,7 +17,7 @@ use Rattle.text_items.specs.Reading.{◌>>=◌, next_line, next_token, line_end,
 use Rattle.text_items.specs.Numbers.{numbers, numbers_behind, is_long}
 use Rattle.text_items.specs.Kept.{low}
 use Rattle.text_items.specs.Braids.{letters, letter_of, is_long_letter}
-use Rattle.diagram_items.specs.Cocycles.{cocycle_item}
+use Rattle.verdict_text.specs.Cocycles.{cocycle_item}
 use Rattle.text_items.specs.Quandles.{quandle_at}
 use Rattle.verdict_text.specs.Verdicts.{verdict_item}
 use Rattle.verdict_text.specs.Problems.{problem_item, check_in}
@@ -33,7 +33,7 @@ use Rattle.knot_text.proofs.QuandlesSteady.{AtOther, other_seen}
 use Rattle.knot_text.proofs.FirstFault.{anywhere_seen, then_fails, end_fails}
 use Rattle.knot_text.proofs.ShapesFail.{problem_steady}
 use Rattle.evidence_core.specs.declared.shadows.SpelledShadow.{SpelledShadow}
-use Rattle.shadow_text.specs.Shadows.{shadow_item}
+use Rattle.number_text.specs.Shadows.{shadow_item}
 use Rattle.certificates.proofs.ShadowSteady.{shadow_steady}
 use Rattle.evidence_core.specs.declared.blocks.LargeWeighing.{LargeWeighing}
 use Rattle.evidence_core.specs.declared.blocks.LargeWeighing.TheVariants.{Strands, Regions}
@@ -43,12 +43,12 @@ use Rattle.evidence_core.specs.declared.evidence.Linked.{Linked}
 use Rattle.evidence_core.specs.declared.evidence.Evidence.{Evidence}
 use Rattle.evidence_core.specs.declared.evidence.Evidence.TheVariants.{Numbers, Linking}
 use Rattle.number_text.specs.declared.evidence_items.TheConstants.{THIRD_VERSION}
-use Rattle.number_text.specs.Blocks.{cocycle_or_none}
+use Rattle.number_text.specs.BlockCocycles.{cocycle_or_none}
 use Rattle.number_text.specs.Evidence.{seeds_at, numbers_at, counted_item, count_of, numbers_evidence, components_at, letters_at, linked_item, linking_evidence}
 use Rattle.number_text.specs.Evidence.{evidence_at, head_at, third_item}
-use Rattle.certificate_text.specs.declared.said.Said.{Said}
-use Rattle.certificate_text.specs.declared.said.Said.TheVariants as said
-use Rattle.certificate_text.specs.Said.{is_third_line, starts_third, has_third, third_in, with_verdict, said_in}
+use Rattle.number_text.specs.declared.said.Said.{Said}
+use Rattle.number_text.specs.declared.said.Said.TheVariants as said
+use Rattle.number_text.specs.Said.{is_third_line, starts_third, has_third, third_in, with_verdict, said_in}
 
 -- ---- lines of numbers
 

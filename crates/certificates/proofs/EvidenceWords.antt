@@ -11,7 +11,7 @@ use Rattle.cocycle_core.specs.Cocycle.{Cochain, IsCocycle}
 use Rattle.text_lines.specs.Spelled.{is_word, is_line}
 use Rattle.text_items.specs.declared.reading.TheConstants.{MAX_NUMBER}
 use Rattle.text_items.specs.declared.modulus.TheConstants.{MAX_MODULUS}
-use Rattle.named_quandles.specs.Names.{NamedQuandle}
+use Rattle.quandle_core.specs.Names.{NamedQuandle}
 use Rattle.knot_text.specs.Printed.{letter_token, name_tokens, table_lines, HasQuandleTextWithin}
 use Rattle.knot_text.specs.WrittenThere.{value_tokens, cocycle_lines}
 use Rattle.knot_text.proofs.LineTexts.{map_decimals}

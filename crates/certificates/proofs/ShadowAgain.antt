@@ -11,9 +11,9 @@ use Rattle.std.proofs.lemmas.List.{length-map}
 use Rattle.std.proofs.lemmas.List.FromFn.{length-range_with_len}
 use Rattle.quandle_core.specs.declared.quandle.TheConstants.{MAX_ORDER}
 use Rattle.quandle_core.specs.Quandle.{Table, over}
-use Rattle.shadow_cocycles.specs.Cocycle.{ShadowCochain, IsShadowCocycle}
-use Rattle.shadow_cocycles.specs.Fault.{first_fault}
-use Rattle.shadow_cocycles.proofs.Accepted.{none_from_cocycle}
+use Rattle.cocycle_core.specs.ShadowCocycle.{ShadowCochain, IsShadowCocycle}
+use Rattle.cocycle_core.specs.ShadowFault.{first_fault}
+use Rattle.cocycle_core.proofs.ShadowAccepted.{none_from_cocycle}
 use Rattle.text_lines.specs.Lines.{Text, text_from}
 use Rattle.text_lines.specs.Spelled.{numbered, is_line}
 use Rattle.knot_text.proofs.NumberTexts.{decimal_read}
@@ -30,12 +30,12 @@ use Rattle.knot_text.proofs.Tables.{row}
 use Rattle.knot_text.proofs.StepsAgain.{line_of, lines_before, word_again, most_again, below_again, all_short}
 use Rattle.knot_text.proofs.SpelledNumbers.{at_one}
 use Rattle.knot_text.proofs.Words.{decimal_word, numbers_line}
-use Rattle.shadow_formula.specs.Mochizuki.{has_formula, mochizuki}
+use Rattle.cocycle_core.specs.Formula.{has_formula, mochizuki}
 use Rattle.evidence_core.specs.declared.shadows.Spelling.{Spelling}
 use Rattle.evidence_core.specs.declared.shadows.Spelling.TheVariants as spelling
 use Rattle.evidence_core.specs.declared.shadows.SpelledShadow.{SpelledShadow}
-use Rattle.shadow_text.specs.declared.shadows.Head.TheVariants as head
-use Rattle.shadow_text.specs.Shadows.{spelled, cochain, head_at, cochain_item, shadow_item}
+use Rattle.number_text.specs.declared.shadows.Head.TheVariants as head
+use Rattle.number_text.specs.Shadows.{spelled, cochain, head_at, cochain_item, shadow_item}
 use Rattle.certificates.specs.Shadows.{shadow_rows, shadow_value_lines, shadow_lines_by, shadow_lines, shadow_text, Spells, HasShadowText}
 use Rattle.certificates.proofs.ValueRows.{AreWithin, value_row_below, value_rows_last}
 

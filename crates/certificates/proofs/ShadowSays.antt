@@ -6,9 +6,9 @@ use Rattle.std.proofs.lemmas.Bool.{and_parts}
 use Rattle.quandle_core.specs.declared.quandle.TheConstants.{MAX_ORDER}
 use Rattle.quandle_core.specs.Quandle.{Table, IsQuandle}
 use Rattle.quandle_core.specs.Tables.{dihedral}
-use Rattle.shadow_cocycles.specs.Fault.{first_fault}
-use Rattle.shadow_cocycles.specs.declared.fault.ShadowFault.{ShadowFault}
-use Rattle.shadow_cocycles.proofs.Accepted.{cocycle_from_none}
+use Rattle.cocycle_core.specs.ShadowFault.{first_fault}
+use Rattle.cocycle_core.specs.declared.shadow_fault.ShadowFault.{ShadowFault}
+use Rattle.cocycle_core.proofs.ShadowAccepted.{cocycle_from_none}
 use Rattle.text_lines.specs.Lines.{NumberedLine, Text}
 use Rattle.text_lines.specs.Numbers.{number_of}
 use Rattle.text_items.specs.declared.fault.TextFault.{TextFault}
@@ -18,14 +18,14 @@ use Rattle.text_items.specs.Numbers.{numbers_below}
 use Rattle.text_items.specs.Quandles.{table_rows}
 use Rattle.knot_text.proofs.Says.{Says, says_ok, says_err, says_bind, says_if}
 use Rattle.knot_text.proofs.LineSays.{at_most_says}
-use Rattle.shadow_formula.specs.Mochizuki.{is_prime, is_dihedral, has_formula, mochizuki}
-use Rattle.shadow_formula.proofs.FormulaLaw.{mochizuki_is}
-use Rattle.shadow_formula.proofs.Reflections.{dihedral_known}
+use Rattle.cocycle_core.specs.Formula.{is_prime, is_dihedral, has_formula, mochizuki}
+use Rattle.cocycle_core.proofs.FormulaLaw.{mochizuki_is}
+use Rattle.cocycle_core.proofs.Reflections.{dihedral_known}
 use Rattle.evidence_core.specs.declared.shadows.Spelling.TheVariants as spelling
 use Rattle.evidence_core.specs.declared.shadows.SpelledShadow.{SpelledShadow}
-use Rattle.shadow_text.specs.declared.shadows.Head.{Head}
-use Rattle.shadow_text.specs.declared.shadows.Head.TheVariants as head
-use Rattle.shadow_text.specs.Shadows.{formula_of, modulus_of, head_of, head_at, spelled, cochain, cochain_item, shadow_of, shadow_item}
+use Rattle.number_text.specs.declared.shadows.Head.{Head}
+use Rattle.number_text.specs.declared.shadows.Head.TheVariants as head
+use Rattle.number_text.specs.Shadows.{formula_of, modulus_of, head_of, head_at, spelled, cochain, cochain_item, shadow_of, shadow_item}
 use Rattle.certificates.specs.Shadows.{HasShadowText}
 
 -- whatever is read

@@ -4,7 +4,7 @@ use Rattle.std.specs.Prelude.{is_none}
 use Rattle.std.specs.Str.{bytes_eq}
 use Rattle.quandle_core.specs.declared.quandle.TheConstants.{MAX_ORDER}
 use Rattle.quandle_core.specs.Quandle.{Table}
-use Rattle.shadow_cocycles.specs.Fault.{first_fault}
+use Rattle.cocycle_core.specs.ShadowFault.{first_fault}
 use Rattle.text_lines.specs.Lines.{NumberedLine}
 use Rattle.text_lines.specs.Numbers.{number_of}
 use Rattle.text_items.specs.declared.modulus.TheConstants.{MAX_MODULUS}
@@ -13,12 +13,12 @@ use Rattle.knot_text.proofs.Steady.{Anywhere, Steady, pure_steady, then_steady}
 use Rattle.knot_text.proofs.AtLine.{At, at_ok, at_malformed, at_bind, at_cond, at_same, at_most_at, line_end_at, next_token_at, next_token_keeps}
 use Rattle.knot_text.proofs.AtLine.{or_malformed_at, word_at, word_keeps}
 use Rattle.knot_text.proofs.ItemsSteady.{line_then, rows_steady, last_read, last_steady}
-use Rattle.shadow_formula.specs.Mochizuki.{has_formula, mochizuki}
+use Rattle.cocycle_core.specs.Formula.{has_formula, mochizuki}
 use Rattle.evidence_core.specs.declared.shadows.Spelling.TheVariants as spelling
 use Rattle.evidence_core.specs.declared.shadows.SpelledShadow.{SpelledShadow}
-use Rattle.shadow_text.specs.declared.shadows.Head.{Head}
-use Rattle.shadow_text.specs.declared.shadows.Head.TheVariants as head
-use Rattle.shadow_text.specs.Shadows.{formula_of, modulus_of, head_of, head_at, spelled, cochain, cochain_item, shadow_of, shadow_item}
+use Rattle.number_text.specs.declared.shadows.Head.{Head}
+use Rattle.number_text.specs.declared.shadows.Head.TheVariants as head
+use Rattle.number_text.specs.Shadows.{formula_of, modulus_of, head_of, head_at, spelled, cochain, cochain_item, shadow_of, shadow_item}
 
 -- ---- the first line
 

@@ -6,20 +6,20 @@ use Rattle.quandle_core.specs.Quandle.{Table}
 use Rattle.cocycle_core.specs.Cocycle.{Cochain}
 use Rattle.text_lines.specs.Lines.{NumberedLine, Text, first_starts, starts}
 use Rattle.verdict_core.specs.declared.diagrams.Diagram.{Diagram}
-use Rattle.named_quandles.specs.Names.{NamedQuandle}
+use Rattle.quandle_core.specs.Names.{NamedQuandle}
 use Rattle.text_items.specs.declared.fault.TextFault.{TextFault}
 use Rattle.text_items.specs.declared.fault.TextFault.TheVariants.{Malformed}
 use Rattle.text_items.specs.Reading.{◌>>=◌, next_line, next_token, word, text_end}
 use Rattle.text_items.specs.Quandles.{quandle_item}
-use Rattle.diagram_items.specs.Cocycles.{cocycle_item}
+use Rattle.verdict_text.specs.Cocycles.{cocycle_item}
 use Rattle.text_items.specs.Modulus.{modulus_at}
-use Rattle.diagram_items.specs.Diagrams.{diagram_item}
+use Rattle.verdict_text.specs.Diagrams.{diagram_item}
 use Rattle.knot_text.specs.declared.weights.WeightText.{WeightText}
 use Rattle.knot_text.specs.Weights.{weight_in}
 use Rattle.knot_text.proofs.Steady.{bind_ok, ok_is}
-use Rattle.block_text.specs.declared.weighed.Weighing.TheVariants.{Strands}
-use Rattle.block_text.specs.declared.weighed.WeighedText.{WeighedText}
-use Rattle.block_text.specs.Weighed.{cocycle_due, weighed_in}
+use Rattle.number_text.specs.declared.weighed.Weighing.TheVariants.{Strands}
+use Rattle.number_text.specs.declared.weighed.WeighedText.{WeighedText}
+use Rattle.number_text.specs.Weighed.{cocycle_due, weighed_in}
 
 -- ---- a 2-cocycle
 

@@ -4,8 +4,8 @@ use Rattle.quandle_core.specs.Quandle.{Table}
 use Rattle.text_lines.specs.Lines.{Text}
 use Rattle.text_items.specs.Reading.{◌>>=◌, next_line, text_end}
 use Rattle.text_items.specs.Quandles.{quandle_item}
-use Rattle.diagram_items.specs.Cocycles.{cocycle_item}
-use Rattle.diagram_items.specs.Diagrams.{diagram_item}
+use Rattle.verdict_text.specs.Cocycles.{cocycle_item}
+use Rattle.verdict_text.specs.Diagrams.{diagram_item}
 use Rattle.knot_text.specs.FirstBadLine.{FailsFirst}
 use Rattle.knot_text.proofs.Steady.{Anywhere, Steady, pure_steady, same_steady, then_steady}
 use Rattle.knot_text.proofs.Choices.{choice, IsDue, choice_steady}
@@ -13,10 +13,10 @@ use Rattle.knot_text.proofs.ItemsSteady.{quandle_steady}
 use Rattle.knot_text.proofs.FirstFault.{anywhere_seen, then_fails, end_fails}
 use Rattle.knot_text.proofs.ShapesFail.{diagram_steady}
 use Rattle.knot_text.proofs.WeightsFail.{cocycle_steady}
-use Rattle.shadow_text.specs.Shadows.{shadow_item}
+use Rattle.number_text.specs.Shadows.{shadow_item}
 use Rattle.certificates.proofs.ShadowSteady.{shadow_steady}
-use Rattle.block_text.specs.declared.weighed.Weighing.TheVariants.{Strands, Regions}
-use Rattle.block_text.specs.Weighed.{strands_item, regions_item, cocycle_due, weighed_in}
+use Rattle.number_text.specs.declared.weighed.Weighing.TheVariants.{Strands, Regions}
+use Rattle.number_text.specs.Weighed.{strands_item, regions_item, cocycle_due, weighed_in}
 
 strands_steady : (q : Table) → Steady Anywhere (strands_item q)
 strands_steady q = then_steady Anywhere (cocycle_item q) (λ w text. Ok (Strands w, text)) (cocycle_steady q) (λ w. pure_steady (Strands w))

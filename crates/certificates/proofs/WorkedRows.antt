@@ -6,14 +6,14 @@ use Rattle.text_items.specs.Reading.{next_line, text_end, next_token, line_end, 
 use Rattle.text_items.specs.Numbers.{numbers_behind}
 use Rattle.text_items.specs.Grids.{x_at, o_at, grid_item}
 use Rattle.text_items.specs.Quandles.{quandles, quandle_list, built_in}
-use Rattle.diagram_items.specs.Diagrams.{diagram_item}
+use Rattle.verdict_text.specs.Diagrams.{diagram_item}
 use Rattle.verdict_core.specs.declared.diagrams.Diagram.TheVariants.{Grid}
 use Rattle.verdict_text.specs.Problems.{problem_item}
 use Rattle.evidence_core.specs.declared.evidence.Linked.{Linked}
 use Rattle.evidence_core.specs.declared.evidence.Evidence.TheVariants.{Linking}
 use Rattle.number_text.specs.Evidence.{components_at, letters_at, linked_item, linking_evidence, evidence_at, head_at, third_item}
-use Rattle.certificate_text.specs.declared.said.Said.TheVariants as said
-use Rattle.certificate_text.specs.Said.{third_in, said_of}
+use Rattle.number_text.specs.declared.said.Said.TheVariants as said
+use Rattle.number_text.specs.Said.{third_in, said_of}
 use Rattle.certificates.specs.Printed.{third_text}
 
 -- two links, of two components and of one

@@ -4,13 +4,13 @@ pub mod Said
 pub mod Shadows
 pub use Rattle.text_lines.specs.Lines as TextLines
 pub use Rattle.text_lines.specs.Spelled
-pub use Rattle.shadow_cocycles.specs.Cocycle
-pub use Rattle.shadow_formula.specs.Mochizuki
-pub use Rattle.shadow_text.specs.Shadows as ShadowItems
+pub use Rattle.cocycle_core.specs.ShadowCocycle
+pub use Rattle.cocycle_core.specs.Formula
+pub use Rattle.number_text.specs.Shadows as ShadowItems
 pub use Rattle.verdict_text.specs.Problems
 pub use Rattle.knot_text.specs.Shapes
 pub use Rattle.knot_text.specs.Weights
 pub use Rattle.knot_text.specs.FirstBadLine
 pub use Rattle.number_text.specs.Evidence
-pub use Rattle.block_text.specs.Weighed
-pub use Rattle.certificate_text.specs.Said as ReadSaid
+pub use Rattle.number_text.specs.Weighed
+pub use Rattle.number_text.specs.Said as ReadSaid

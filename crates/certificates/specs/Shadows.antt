@@ -4,14 +4,14 @@ use Rattle.std.specs.Fmt.{decimal}
 use Rattle.std.specs.List.{range_with_len}
 use Rattle.quandle_core.specs.declared.quandle.TheConstants.{MAX_ORDER}
 use Rattle.quandle_core.specs.Quandle.{Table}
-use Rattle.shadow_cocycles.specs.Cocycle.{ShadowCochain, IsShadowCocycle}
+use Rattle.cocycle_core.specs.ShadowCocycle.{ShadowCochain, IsShadowCocycle}
 use Rattle.text_lines.specs.Spelled.{lines_text}
 use Rattle.knot_text.specs.Printed.{row_tokens}
 use Rattle.text_items.specs.declared.modulus.TheConstants.{MAX_MODULUS}
 use Rattle.evidence_core.specs.declared.shadows.Spelling.{Spelling}
 use Rattle.evidence_core.specs.declared.shadows.Spelling.TheVariants as spelling
 use Rattle.evidence_core.specs.declared.shadows.SpelledShadow.{SpelledShadow}
-use Rattle.shadow_formula.specs.Mochizuki.{has_formula, mochizuki}
+use Rattle.cocycle_core.specs.Formula.{has_formula, mochizuki}
 
 -- the table as rows of q numbers, of which row w q + x has θ(w, x, 0) to θ(w, x, q-1)
 abbrev pub shadow_rows : ShadowCochain → Table

@@ -7,12 +7,12 @@ ghost use Rattle.knot_text.specs.Weights.{weight_of};
 ghost use Rattle.verdict_text.specs.Problems.{problem_item, problem_of, check_of};
 ghost use Rattle.evidence_core.specs.declared.evidence.Evidence.{Evidence};
 ghost use Rattle.evidence_core.specs.declared.shadows.SpelledShadow.{SpelledShadow};
-ghost use Rattle.shadow_text.specs.Shadows.{shadow_item};
+ghost use Rattle.number_text.specs.Shadows.{shadow_item};
 ghost use Rattle.number_text.specs.Evidence.{third_item};
-ghost use Rattle.block_text.specs.Weighed.{weighed_in, weighed_of};
-ghost use Rattle.block_text.specs.declared.weighed.Weighing.TheVariants.{Strands};
-ghost use Rattle.certificate_text.specs.declared.said.Said.TheVariants as said;
-ghost use Rattle.certificate_text.specs.Said.{has_third, with_verdict, said_in, said_of};
+ghost use Rattle.number_text.specs.Weighed.{weighed_in, weighed_of};
+ghost use Rattle.number_text.specs.declared.weighed.Weighing.TheVariants.{Strands};
+ghost use Rattle.number_text.specs.declared.said.Said.TheVariants as said;
+ghost use Rattle.number_text.specs.Said.{has_third, with_verdict, said_in, said_of};
 ghost use Rattle.certificates.specs.Printed.{third_lines, third_text, HasEvidenceText};
 ghost use Rattle.certificates.specs.Shadows.{shadow_lines, shadow_text, HasShadowText};
 

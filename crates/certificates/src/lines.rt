@@ -7,11 +7,10 @@ ghost use Rattle.colour_seeds.specs.Plan.{IsPlan};
 ghost use Rattle.certificates.specs.Lines.{counted_line, block_text, text_by, IsNumbersText};
 
 use colour_numbers::numbers;
-use colour_seeds::{CountFault, Seeding};
+use colour_seeds::{CountFault, Seeding, seeds_of};
 use grid_core::Grid;
 use knot_text::push_large;
 use number_text::Block;
-use seed_search::seeds_of;
 use std::alloc::{AllocError, Global};
 use text_lines::{push_counted, push_number};
 

@@ -4,10 +4,10 @@ ghost use Rattle.certificates.specs.Printed.{third_text};
 ghost use Rattle.certificates.specs.Said.{IsTidySaid, said_text};
 
 use crate::printed::print_evidence;
-use certificate_text::Said;
 use evidence_core::Evidence;
 use knot_text::print_verdict;
 use memory_core::OutOfMemory;
+use number_text::Said;
 use std::alloc::Global;
 
 /// The text of what is said of two diagrams: of a verdict behind the line `certificate 2`, of evidence by numbers behind the line `certificate 3`;

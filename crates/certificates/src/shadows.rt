@@ -2,13 +2,13 @@
 ghost use Rattle.std.specs.Prelude.{◌≡◌, ◌<◌, ◌*◌, ◌++◌, ◌/◌, ◌%◌, map, OnOk};
 ghost use Rattle.std.specs.List.{range_with_len};
 ghost use Rattle.text_lines.specs.Spelled.{lines_text};
-ghost use Rattle.shadow_cocycles.specs.Cocycle.{value};
+ghost use Rattle.cocycle_core.specs.ShadowCocycle.{value};
 ghost use Rattle.certificates.specs.Shadows.{shadow_value_lines, shadow_text};
 
 use arrayvec::ArrayVec;
+use colour_weights::ShadowCocycle;
+use number_text::{SpelledShadow, Spelling};
 use quandle_core::MAX_ORDER;
-use shadow_text::{SpelledShadow, Spelling};
-use shadow_weights::ShadowCocycle;
 use std::alloc::AllocError;
 use text_lines::{push_counted, push_number_line};
 

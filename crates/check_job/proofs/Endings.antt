@@ -5,19 +5,19 @@ use Rattle.text_items.specs.declared.fault.TextFault.TheVariants as bad
 use Rattle.verdict_core.specs.declared.problem.ProblemText.{ProblemText}
 use Rattle.cert_check.specs.declared.ruling.Ruling.{Ruling}
 use Rattle.cert_check.specs.declared.ruling.Ruling.TheVariants.{Accepted, Rejected}
-use Rattle.linking_check.specs.declared.cause.Ruling.{Ruling as NumberRuling}
-use Rattle.linking_check.specs.declared.cause.Ruling.TheVariants as numbers
+use Rattle.evidence_core.specs.declared.cause.Ruling.{Ruling as NumberRuling}
+use Rattle.evidence_core.specs.declared.cause.Ruling.TheVariants as numbers
 use Rattle.knot_ports.specs.Change.{Change, IsUntouched}
 use Rattle.knot_ports.specs.declared.limits.TheConstants.{MAX_CERTIFICATE}
 use Rattle.knot_ports.specs.declared.status.Status.{Status}
 use Rattle.knot_ports.specs.declared.status.Status.TheVariants as status
 use Rattle.reply_text.specs.declared.reply.PlainReply.{PlainReply}
-use Rattle.certificate_text.specs.declared.said.Said.{Said}
-use Rattle.certificate_text.specs.declared.said.Said.TheVariants as said
+use Rattle.number_text.specs.declared.said.Said.{Said}
+use Rattle.number_text.specs.declared.said.Said.TheVariants as said
 use Rattle.reply_text.specs.Reply.{AnswersRead}
 use Rattle.table_check.specs.declared.cause.TableRuling.{TableRuling}
 use Rattle.table_check.specs.declared.cause.TableRuling.TheVariants as table
-use Rattle.table_job.specs.Answer.{table_ruling_status}
+use Rattle.table_check.specs.Answer.{table_ruling_status}
 use Rattle.check_job.specs.Input.{Certificate, certificate_of}
 use Rattle.check_job.specs.Answer.{ruling_status, number_ruling_status, AnswersSaid, AnswersCheck}
 use Rattle.check_job.specs.Ending.{IsDue, IsCutOff, Writes, Ends}

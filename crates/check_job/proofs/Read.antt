@@ -9,16 +9,16 @@ use Rattle.text_items.specs.declared.fault.TextFault.TheVariants.{Malformed}
 use Rattle.text_items.specs.Reading.{next_line, next_token, word}
 use Rattle.text_items.specs.Numbers.{numbers_behind}
 use Rattle.text_items.specs.Grids.{x_at, grid_item}
-use Rattle.diagram_items.specs.Diagrams.{diagram_item}
+use Rattle.verdict_text.specs.Diagrams.{diagram_item}
 use Rattle.verdict_text.specs.Problems.{problem_item, check_in}
 use Rattle.verdict_core.specs.declared.problem.ProblemText.{ProblemText}
-use Rattle.certificate_text.specs.declared.said.Said.{Said}
-use Rattle.certificate_text.specs.Said.{said_in, said_of}
-use Rattle.table_text.specs.declared.tables.KnotTable.{KnotTable}
-use Rattle.table_text.specs.Tables.{is_fourth_line, starts_table, begins_table, table_of}
+use Rattle.number_text.specs.declared.said.Said.{Said}
+use Rattle.number_text.specs.Said.{said_in, said_of}
+use Rattle.table_check.specs.declared.tables.KnotTable.{KnotTable}
+use Rattle.table_check.specs.Tables.{is_fourth_line, starts_table, begins_table, table_of}
 use Rattle.reply_text.specs.declared.reply.PlainReply.{PlainReply}
 use Rattle.reply_text.specs.Reply.{AnswersRead}
-use Rattle.table_job.specs.Answer.{AnswersTable, IsTableCertificate}
+use Rattle.table_check.specs.Answer.{AnswersTable, IsTableCertificate}
 use Rattle.check_job.specs.Input.{as_pair, as_table, certificate_of}
 use Rattle.check_job.specs.Answer.{AnswersPair, AnswersCheck}
 use Rattle.check_job.specs.Truth.{IsTruePair, IsCertificate}

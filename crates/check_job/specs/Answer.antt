@@ -8,17 +8,17 @@ use Rattle.cert_check.specs.declared.ruling.Ruling.{Ruling}
 use Rattle.cert_check.specs.declared.ruling.Ruling.TheVariants.{Accepted, Rejected}
 use Rattle.cert_check.specs.Ruling.{RulesOn}
 use Rattle.evidence_core.specs.declared.evidence.Evidence.{Evidence}
-use Rattle.certificate_text.specs.declared.said.Said.{Said}
-use Rattle.certificate_text.specs.declared.said.Said.TheVariants as said
-use Rattle.linking_check.specs.declared.cause.Ruling.{Ruling as NumberRuling}
-use Rattle.linking_check.specs.declared.cause.Ruling.TheVariants as numbers
+use Rattle.number_text.specs.declared.said.Said.{Said}
+use Rattle.number_text.specs.declared.said.Said.TheVariants as said
+use Rattle.evidence_core.specs.declared.cause.Ruling.{Ruling as NumberRuling}
+use Rattle.evidence_core.specs.declared.cause.Ruling.TheVariants as numbers
 use Rattle.number_check.specs.Ruling.{RulesOn as RulesOnNumbers}
 use Rattle.reply_text.specs.declared.reply.PlainReply.{PlainReply}
 use Rattle.knot_ports.specs.declared.status.Status.{Status}
 use Rattle.knot_ports.specs.declared.status.Status.TheVariants as status
 use Rattle.reply_text.specs.Lines.{ruling_line, number_ruling_line}
 use Rattle.reply_text.specs.Reply.{plain_reply}
-use Rattle.table_job.specs.Answer.{AnswersTable}
+use Rattle.table_check.specs.Answer.{AnswersTable}
 use Rattle.check_job.specs.Input.{Certificate}
 
 abbrev pub ruling_status : Ruling → Status

@@ -5,10 +5,10 @@ use Rattle.text_lines.specs.Lines.{Text, text_of}
 use Rattle.text_items.specs.declared.fault.TextFault.{TextFault}
 use Rattle.text_items.specs.Reading.{◌>>=◌}
 use Rattle.verdict_core.specs.declared.problem.ProblemText.{ProblemText}
-use Rattle.certificate_text.specs.declared.said.Said.{Said}
-use Rattle.certificate_text.specs.Said.{said_in}
-use Rattle.table_text.specs.declared.tables.KnotTable.{KnotTable}
-use Rattle.table_text.specs.Tables.{starts_table, table_in}
+use Rattle.number_text.specs.declared.said.Said.{Said}
+use Rattle.number_text.specs.Said.{said_in}
+use Rattle.table_check.specs.declared.tables.KnotTable.{KnotTable}
+use Rattle.table_check.specs.Tables.{starts_table, table_in}
 
 -- a problem and what is said of its diagrams, in the first three versions, or a table, in the fourth
 abbrev pub Certificate : Type 0

@@ -4,7 +4,7 @@ pub mod Truth
 pub mod Ports
 pub mod Ending
 pub mod Delivered
-pub use Rattle.certificate_text.specs.Said
+pub use Rattle.number_text.specs.Said
 pub use Rattle.reply_text.specs.Lines
 pub use Rattle.reply_text.specs.Reply
 pub use Rattle.knot_ports.specs.Change
@@ -15,8 +15,8 @@ pub use Rattle.number_text.specs.Evidence
 pub use Rattle.number_check.specs.Holds
 pub use Rattle.number_check.specs.Ruling as NumberRuling
 pub use Rattle.cert_check.specs.Ruling
-pub use Rattle.table_text.specs.Tables
+pub use Rattle.table_check.specs.Tables
 pub use Rattle.table_check.specs.Holds as TableHolds
 pub use Rattle.table_check.specs.Ruling as TableRuling
-pub use Rattle.table_job.specs.Answer as TableAnswer
-pub use Rattle.table_job.specs.Lines as TableLines
+pub use Rattle.table_check.specs.Answer as TableAnswer
+pub use Rattle.table_check.specs.Lines as TableLines

@@ -5,10 +5,10 @@ use Rattle.grid_moves.specs.Joining.{Equivalent}
 use Rattle.verdict_core.specs.declared.problem.ProblemText.{ProblemText}
 use Rattle.verdict_core.specs.Diagrams.{grid_of}
 use Rattle.cert_check.specs.Truth.{IsTrueVerdict}
-use Rattle.certificate_text.specs.declared.said.Said.{Said}
-use Rattle.certificate_text.specs.declared.said.Said.TheVariants as said
-use Rattle.certificate_text.specs.Said.{said_of}
-use Rattle.table_job.specs.Answer.{IsTrueTable}
+use Rattle.number_text.specs.declared.said.Said.{Said}
+use Rattle.number_text.specs.declared.said.Said.TheVariants as said
+use Rattle.number_text.specs.Said.{said_of}
+use Rattle.table_check.specs.Answer.{IsTrueTable}
 use Rattle.check_job.specs.Input.{Certificate, certificate_of}
 
 -- no list of moves joins the two diagrams of a problem

@@ -1,6 +1,6 @@
 //! The job `check`: the ruling on a certificate, of what is said of two diagrams or of a table of knots.
 ghost use Rattle.std.specs.Prelude.{◌≡◌, IfOk};
-ghost use Rattle.certificate_text.specs.Said.{said_of};
+ghost use Rattle.number_text.specs.Said.{said_of};
 ghost use Rattle.cert_check.specs.Truth.{IsTrueVerdict};
 ghost use Rattle.check_job.specs.Truth.{AreApart, IsTrueSaid};
 ghost use Rattle.reply_text.specs.Lines.{ruling_line, number_ruling_line};
@@ -11,15 +11,14 @@ ghost use Rattle.check_job.specs.Truth.{IsTruePair, IsCertificate};
 
 use crate::evidence::check_evidence;
 use cert_check::{Ruling, check};
-use certificate_text::{Said, read_said};
 use evidence_core::Evidence;
 use knot_ports::Status;
 use number_check::Ruling as NumberRuling;
+use number_text::{Said, read_said};
 use reply_text::PlainReply;
 use reply_text::lines::{number_ruling_line, ruling_line};
 use std::alloc::{AllocError, Global};
-use table_job::answer_table;
-use table_text::begins_table;
+use table_check::{answer_table, begins_table};
 use verdict_core::{ProblemText, Verdict};
 
 /// The answer to the bytes of a certificate: of a table of knots where their first line is `certificate 4`, else of a problem, and of a verdict

@@ -8,9 +8,9 @@ mod evidence;
 mod ports;
 
 pub use call::run;
-pub use certificate_text::{Said, read_said};
 pub use checking::answer;
 pub use evidence::check_evidence;
 pub use knot_ports::Status;
+pub use number_text::{Said, read_said};
 pub use ports::{read_input, write_text};
 pub use reply_text::PlainReply;

@@ -1,4 +1,10 @@
+pub mod ShadowCocycle
+pub mod ShadowFault
+pub mod ShadowCases
+pub mod Mochizuki
+pub mod Formula
 pub mod Cocycle
 pub mod Fault
 pub mod Cases
 pub use Rattle.quandle_core.specs.Quandle
+pub use Rattle.quandle_core.specs.Tables

@@ -1,16 +1,26 @@
-//! A 2-cocycle of a quandle, and the first law that a table of numbers breaks.
-//! A table that breaks none is a cocycle, and the other way round.
+//! Cocycles of quandles: 2-cocycles, and shadow cocycles, by which strands and regions have weights that are the same on equivalent diagrams;
+//! Mochizuki's formula gives one of each dihedral quandle of prime order.
+//! A table that breaks no law is a cocycle, and the other way round; of any other one the first law that it breaks is found.
 #![tactic(auto)]
 
 mod cocycle;
+mod dihedral;
 mod draft;
 mod fault;
+mod formula;
 mod large;
+pub mod laws;
+mod shadow_cocycle;
+mod shadow_fault;
 #[cfg(test)]
 mod tests;
 mod values;
 
 pub use cocycle::Cocycle;
+pub use dihedral::has_formula;
 pub use fault::CocycleFault;
+pub use formula::mochizuki;
 pub use large::LargeCocycle;
+pub use shadow_cocycle::{ShadowCocycle, of_table};
+pub use shadow_fault::ShadowFault;
 pub use values::Values;

@@ -7,7 +7,7 @@ use Rattle.grid_core.specs.Trefoils.{right_trefoil}
 use Rattle.grid_moves.specs.declared.step.Move.TheVariants.{ShiftColumns, ShiftRows, ExchangeColumns, ExchangeRows, SlideColumns, SlideRows, Stabilise, Destabilise}
 use Rattle.quandle_core.specs.Tables.{tetrahedral, dihedral}
 use Rattle.colour_rows.specs.Colouring.{is_colouring}
-use Rattle.carried_colours.specs.Carried.{carried, after_row_shift}
+use Rattle.colour_laws.specs.Carried.{carried, after_row_shift}
 
 abbrev trefoil_colours : List ℕ
 trefoil_colours = 0 ∷ 1 ∷ 3 ∷ 0 ∷ 3 ∷ []

@@ -2,7 +2,7 @@
 ghost use Rattle.std.specs.Prelude.{◌≡◌, ◌<◌, ◌+◌, length};
 ghost use Rattle.grid_core.specs.declared.grid.TheConstants.{MAX_SIZE};
 ghost use Rattle.grid_core.specs.Diagram.{size};
-ghost use Rattle.carried_colours.specs.Carried.{columns_shifted, stabilised, destabilised};
+ghost use Rattle.colour_laws.specs.Carried.{columns_shifted, stabilised, destabilised};
 
 use arrayvec::ArrayVec;
 use colour_rows::Colouring;

@@ -4,7 +4,7 @@ ghost use Rattle.grid_core.specs.Diagram.{Diagram};
 ghost use Rattle.grid_moves.specs.Step.{Step};
 ghost use Rattle.grid_moves.specs.MoveFault.{first_fault};
 ghost use Rattle.colour_rows.specs.Colouring.{IsColouring};
-ghost use Rattle.carried_colours.specs.Carried.{carried};
+ghost use Rattle.colour_laws.specs.Carried.{carried};
 
 use crate::blocks::{copy_of, destabilise, shift_columns, stabilise};
 use crate::passing::{exchange_columns, shift_rows};

@@ -9,9 +9,9 @@ ghost use Rattle.colour_rows.specs.Walk.{passed_rightward};
 ghost use Rattle.colour_rows.specs.Colouring.{IsColouring};
 ghost use Rattle.colour_list.specs.Listing.{colourings};
 ghost use Rattle.quandle_core.specs.Bijection.{IsBijection};
-ghost use Rattle.carried_colours.specs.Carried.{carried, after_row_shift};
-ghost use Rattle.carried_colours.specs.Chain.{follow};
-ghost use Rattle.carried_colours.specs.Level.{across_height};
+ghost use Rattle.colour_laws.specs.Carried.{carried, after_row_shift};
+ghost use Rattle.colour_laws.specs.Chain.{follow};
+ghost use Rattle.colour_laws.specs.Level.{across_height};
 
 use grid_core::{Corner, Kind};
 use grid_moves::Move;

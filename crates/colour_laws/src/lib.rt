@@ -1,4 +1,4 @@
-//! Colourings of a grid diagram under each move: the carried colouring, and the laws of carrying.
+//! What becomes of the colourings of a grid diagram under each move: the carried colouring, and the laws of carrying, with their lemmas.
 //! Each legal move carries the colourings of the old diagram one to one to those of the new one, so equivalent diagrams have equally many.
 #![tactic(auto)]
 

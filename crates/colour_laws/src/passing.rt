@@ -4,7 +4,7 @@ ghost use Rattle.grid_core.specs.Diagram.{size};
 ghost use Rattle.grid_core.specs.Parts.{ends, is_up};
 ghost use Rattle.colour_rows.specs.Walk.{passed_rightward, passed_leftward};
 ghost use Rattle.colour_rows.specs.Colouring.{AreColours, IsColouring};
-ghost use Rattle.carried_colours.specs.Carried.{is_nested_in, gone_left, gone_right, columns_exchanged, bottom_row_shifted, after_row_shift, rows_shifted};
+ghost use Rattle.colour_laws.specs.Carried.{is_nested_in, gone_left, gone_right, columns_exchanged, bottom_row_shifted, after_row_shift, rows_shifted};
 
 use crate::blocks::copy_of;
 use colour_rows::{Colouring, passed_leftward, passed_rightward};
@@ -112,7 +112,7 @@ fn lift_row(grid: &Grid, quandle: &Quandle, colours: &mut [u8], row: u8)
 }
 
 /// Whether the left end of a row is up when all lower rows have gone to the top: where its X stands in this row.
-#[tactic(auto, using(carried_colours::proofs::Moments::up_at_bottom))]
+#[tactic(auto, using(crate::proofs::Moments::up_at_bottom))]
 fn is_up_at_bottom(grid: &Grid, left: u8, row: u8) -> bool
     requires row { row < size grid.now }
     requires left { left ≡ (ends grid.now row).low }

@@ -1,1 +1,5 @@
+mod Lanes
+mod Tallying
+mod StrandTallies
+mod ShadowTallies
 pub mod SameNumbers

@@ -3,9 +3,9 @@ use Rattle.std.proofs.Common.{◌≡◌, ℕ, [], ◌∷◌, Option, Some, None,
 use Rattle.grid_core.specs.Diagram.{Diagram}
 use Rattle.grid_moves.specs.Joining.{Equivalent}
 use Rattle.quandle_core.specs.Quandle.{Table, IsQuandle}
-use Rattle.carried_colours.proofs.Counted.{equivalent_lengths}
+use Rattle.colour_laws.proofs.Counted.{equivalent_lengths}
 use Rattle.colour_weights.proofs.Counted.{equivalent_weights}
-use Rattle.shadow_weights.proofs.Counted as shadows
+use Rattle.colour_weights.proofs.ShadowCounted as shadows
 use Rattle.evidence_core.specs.declared.blocks.LargeWeighing.{LargeWeighing}
 use Rattle.evidence_core.specs.declared.blocks.LargeWeighing.TheVariants.{Strands, Regions}
 use Rattle.colour_numbers.specs.Numbers.{numbers, IsCocycleOrNone}

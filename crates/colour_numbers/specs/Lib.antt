@@ -1,6 +1,11 @@
+pub mod Lanes
+pub mod Weighing
+pub mod Tallies
+pub mod Shadows
 pub mod Numbers
 pub use Rattle.colour_seeds.specs.Plan
 pub use Rattle.colour_seeds.specs.Fits
-pub use Rattle.colour_list.specs.Listing
 pub use Rattle.colour_weights.specs.Weights
-pub use Rattle.shadow_weights.specs.Weights as ShadowWeights
+pub use Rattle.colour_weights.specs.ShadowWeights
+pub use Rattle.grid_core.specs.Diagram
+pub use Rattle.colour_list.specs.Listing

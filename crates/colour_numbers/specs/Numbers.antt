@@ -5,8 +5,8 @@ use Rattle.quandle_core.specs.Quandle.{Table}
 use Rattle.cocycle_core.specs.Cocycle.{IsCocycle}
 use Rattle.colour_list.specs.Listing.{colourings}
 use Rattle.colour_weights.specs.Weights.{weights}
-use Rattle.shadow_cocycles.specs.Cocycle.{IsShadowCocycle}
-use Rattle.shadow_weights.specs.Weights.{shadow_weights}
+use Rattle.cocycle_core.specs.ShadowCocycle.{IsShadowCocycle}
+use Rattle.colour_weights.specs.ShadowWeights.{shadow_weights}
 use Rattle.colour_seeds.specs.declared.progress.Step.{Step}
 use Rattle.colour_seeds.specs.declared.counting.TheConstants.{MAX_CANDIDATES}
 use Rattle.colour_seeds.specs.Plan.{seeds_in}

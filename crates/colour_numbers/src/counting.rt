@@ -7,8 +7,9 @@ ghost use Rattle.colour_seeds.specs.Plan.{IsPlan, seeds_in};
 ghost use Rattle.colour_seeds.specs.declared.counting.CountFault.TheVariants as fault;
 ghost use Rattle.colour_numbers.specs.Numbers.{choices_of, coloured_by, fits_by, numbers};
 
+use crate::regions::shadow_weights_by_seeds;
+use crate::strands::weights_by_seeds;
 use cocycle_core::LargeCocycle;
-use cocycle_numbers::{shadow_weights_by_seeds, weights_by_seeds};
 use colour_seeds::{CountFault, Seeding, count, fits};
 use evidence_core::LargeWeighing;
 use grid_core::Grid;

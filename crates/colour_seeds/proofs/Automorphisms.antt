@@ -17,7 +17,7 @@ use Rattle.colour_rows.specs.Walk.{under, passed}
 use Rattle.colour_rows.specs.Colouring.{IsColouring}
 use Rattle.colour_rows.proofs.Walks.{IsPassed, each_passed, turn_stays}
 use Rattle.colour_list.specs.Listing.{colourings}
-use Rattle.carried_colours.proofs.Listings.{listing, kept_in, kept_out, kept_distinct}
+use Rattle.colour_laws.proofs.Listings.{listing, kept_in, kept_out, kept_distinct}
 use Rattle.colour_seeds.specs.Connected.{IsClosedSet, IsConnected, coloured_so}
 
 -- the map respects both operations

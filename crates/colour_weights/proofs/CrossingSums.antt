@@ -10,17 +10,17 @@ use Rattle.grid_core.specs.Parts.{ends, covers, is_up, is_rightward}
 use Rattle.grid_core.specs.Crossing.{is_positive}
 use Rattle.quandle_core.specs.Quandle.{back}
 use Rattle.colour_rows.specs.Walk.{under, passed, passed_rightward, walk_to}
-use Rattle.carried_colours.proofs.RowEnds.{AreEnds, are_ends}
-use Rattle.carried_colours.proofs.Walks.{HasColours, colour_below}
-use Rattle.carried_colours.proofs.RowShifts.{not_not}
+use Rattle.colour_laws.proofs.RowEnds.{AreEnds, are_ends}
+use Rattle.colour_laws.proofs.Walks.{HasColours, colour_below}
+use Rattle.colour_laws.proofs.RowShifts.{not_not}
 use Rattle.colour_weights.specs.declared.walker.Walker.{Walker}
 use Rattle.cocycle_core.specs.Cocycle.{Cochain, IsCocycle, value}
 use Rattle.colour_weights.specs.Weight.{crossing_value, positive_sum, negative_sum, weight}
 use Rattle.colour_weights.specs.WalkSum.{gain, walked, row_weight, weight_by_rows}
-use Rattle.shadow_cocycles.proofs.Mod.{Same, same_of, same_turned, same_by, same_by_two, same_by_three}
-use Rattle.shadow_weights.proofs.RowCounts.{total, total_same, total_plus, same_mod, same_minus, sum_total, equal_below, mod_below}
-use Rattle.shadow_weights.proofs.Longer.{fold_longer}
-use Rattle.shadow_weights.proofs.CrossingSums.{filter_front, rightward_below, positive_by_directions, same_filter, same_difference}
+use Rattle.cocycle_core.proofs.Mod.{Same, same_of, same_turned, same_by, same_by_two, same_by_three}
+use Rattle.colour_weights.proofs.RowCounts.{total, total_same, total_plus, same_mod, same_minus, sum_total, equal_below, mod_below}
+use Rattle.colour_weights.proofs.Longer.{fold_longer}
+use Rattle.colour_weights.proofs.ShadowCrossingSums.{filter_front, rightward_below, positive_by_directions, same_filter, same_difference}
 use Rattle.colour_weights.proofs.Walks.{step_at, walked_below}
 
 -- of n columns from one on, those that cover row r

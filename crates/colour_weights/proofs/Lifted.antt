@@ -12,20 +12,20 @@ use Rattle.grid_core.specs.Crossing.{is_positive}
 use Rattle.quandle_core.specs.Quandle.{Table, IsQuandle, over}
 use Rattle.colour_rows.specs.Walk.{under, passed, passed_rightward, walk_to}
 use Rattle.colour_rows.specs.Colouring.{IsColouring}
-use Rattle.carried_colours.specs.Level.{covers_height}
-use Rattle.carried_colours.proofs.RowEnds.{AreEnds, are_ends}
-use Rattle.carried_colours.proofs.Walks.{HasColours, colour_below, chain_step}
+use Rattle.colour_laws.specs.Level.{covers_height}
+use Rattle.colour_laws.proofs.RowEnds.{AreEnds, are_ends}
+use Rattle.colour_laws.proofs.Walks.{HasColours, colour_below, chain_step}
 use Rattle.cocycle_core.specs.Cocycle.{Cochain, IsCocycle}
 use Rattle.cocycle_core.specs.Cocycle as plain
-use Rattle.shadow_weights.specs.Weight.{colour_beside, difference, crossing_value, shadow_weight}
+use Rattle.colour_weights.specs.ShadowWeight.{colour_beside, difference, crossing_value, shadow_weight}
 use Rattle.colour_weights.specs.Weight.{weight}
 use Rattle.colour_weights.specs.Weight as plain_weight
-use Rattle.shadow_weights.proofs.Carried.{colours_of}
-use Rattle.shadow_weights.proofs.CrossingSums.{rightward_below}
-use Rattle.shadow_weights.proofs.Parted.{fold_below}
-use Rattle.shadow_weights.proofs.RowCounts.{sum_total, add_mod, total_equal}
-use Rattle.shadow_cocycles.specs.Cocycle.{IsShadowCocycle, value, one_side, other_side}
-use Rattle.shadow_weights.specs.Region.{region_beside, height_beside}
+use Rattle.colour_weights.proofs.ShadowCarried.{colours_of}
+use Rattle.colour_weights.proofs.ShadowCrossingSums.{rightward_below}
+use Rattle.colour_weights.proofs.Parted.{fold_below}
+use Rattle.colour_weights.proofs.RowCounts.{sum_total, add_mod, total_equal}
+use Rattle.cocycle_core.specs.ShadowCocycle.{IsShadowCocycle, value, one_side, other_side}
+use Rattle.colour_weights.specs.Region.{region_beside, height_beside}
 use Rattle.colour_weights.specs.Lifted.{lifted}
 
 -- the number at a place

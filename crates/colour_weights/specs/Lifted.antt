@@ -2,7 +2,7 @@
 use Rattle.std.specs.Prelude.{◌*◌, ◌%◌, map, slice_index}
 use Rattle.std.specs.List.{range_with_len}
 use Rattle.cocycle_core.specs.Cocycle.{Cochain}
-use Rattle.shadow_cocycles.specs.Cocycle.{ShadowCochain}
+use Rattle.cocycle_core.specs.ShadowCocycle.{ShadowCochain}
 
 -- θ(w, x, y) = φ(x, y): the table once for each colour of a region
 abbrev pub lifted : Cochain → ShadowCochain

@@ -4,7 +4,7 @@ use Rattle.std.specs.List.{range_with_len, sum_by}
 use Rattle.grid_core.specs.Diagram.{Diagram, size}
 use Rattle.grid_core.specs.Crossing.{is_positive}
 use Rattle.colour_rows.specs.Walk.{passed}
-use Rattle.shadow_weights.specs.Weight.{colour_beside, difference}
+use Rattle.colour_weights.specs.ShadowWeight.{colour_beside, difference}
 use Rattle.cocycle_core.specs.Cocycle.{Cochain, value}
 
 -- φ(x, y) of the crossing of column c over row r: y is the colour of the column, x that of the strand under it on the column's right-hand side

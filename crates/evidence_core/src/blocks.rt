@@ -2,7 +2,7 @@
 
 use crate::shadows::SpelledShadow;
 use cocycle_core::LargeCocycle;
-use named_quandles::LargeListed;
+use quandle_core::LargeListed;
 
 /// A cocycle by which colourings are to be weighed, of a quandle that may be larger where the cocycle looks at strands alone.
 #[derive(Drop)]

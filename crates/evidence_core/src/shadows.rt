@@ -1,6 +1,6 @@
 //! Shadow cocycles, as they are spelled.
 
-use shadow_cocycles::ShadowCocycle;
+use cocycle_core::ShadowCocycle;
 
 /// How a shadow cocycle is spelled.
 #[derive(Clone, Copy, Debug, PartialEq, Eq)]

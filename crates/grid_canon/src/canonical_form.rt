@@ -12,9 +12,10 @@ ghost use Rattle.grid_keys.specs.Order.{compare};
 ghost use Rattle.grid_keys.specs.CanonicalForm.{IsCanonical, IsLeastForm, IsLeastKey};
 ghost use Rattle.grid_keys.specs.Cornered.{cornered, IsFirstLeast};
 
+use crate::digits::MAX_SHORT_SIZE;
+use crate::short_grid::ShortGrid;
 use grid_core::{Grid, Kind};
 use grid_keys::{LeastForm, LeastKey, translate, translated_key};
-use short_grids::{MAX_SHORT_SIZE, ShortGrid};
 use std::cmp::Ordering;
 
 /// The canonical form of a grid: the least of its n² translates, with the least pair of shifts that reaches it.

@@ -4,8 +4,8 @@ use Rattle.std.specs.Process.{exit_status}
 use Rattle.std.specs.declared.alloc.Global.{Global}
 use Rattle.std.specs.declared.process.ExitCode.{ExitCode}
 use Rattle.knot_ports.specs.Change.{Change, IsUntouched}
-use Rattle.given_words.specs.declared.given.NoWords.{NoWords}
-use Rattle.given_words.specs.Given.{status_without_words}
+use Rattle.knot_ports.specs.declared.given.NoWords.{NoWords}
+use Rattle.knot_ports.specs.Given.{status_without_words}
 use Rattle.knot_jobs.specs.Call.{call_of}
 use Rattle.knot_words.specs.Numbers.{texts_of}
 use Rattle.knot.specs.Exit.{IsExitOf, came, EndsProgram}

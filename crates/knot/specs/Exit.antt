@@ -7,8 +7,8 @@ use Rattle.search_pool.specs.declared.finding.Finding.{Finding}
 use Rattle.knot_ports.specs.Change.{Change, IsUntouched}
 use Rattle.knot_ports.specs.declared.status.Status.{Status}
 use Rattle.knot_ports.specs.Status.{status_number}
-use Rattle.given_words.specs.declared.given.NoWords.{NoWords}
-use Rattle.given_words.specs.Given.{status_without_words}
+use Rattle.knot_ports.specs.declared.given.NoWords.{NoWords}
+use Rattle.knot_ports.specs.Given.{status_without_words}
 use Rattle.knot_jobs.specs.Call.{Call, call_of}
 use Rattle.knot_jobs.specs.Ending.{Ends}
 use Rattle.knot_jobs.specs.Truth.{TellsOnlyTruth}

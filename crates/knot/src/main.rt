@@ -7,10 +7,8 @@ mod tell;
 
 use crate::program::program;
 use crate::tell::Terminal;
-use given_words::{NoWords, system_words};
 use knot_jobs::Ports;
-use knot_ports::{MAX_INPUT, StdSink, StdSource};
-use stated_stack::on_stack;
+use knot_ports::{MAX_INPUT, NoWords, StdSink, StdSource, on_stack, system_words};
 use std::process::ExitCode;
 
 /// How many bytes of the input are kept, to say why a line of it is bad. Evidence goes further, and its lines are told without a reason.

@@ -5,9 +5,8 @@ ghost use Rattle.knot.specs.Exit.{came, EndsProgram};
 
 use crate::call::call;
 use crate::tell::Tell;
-use given_words::NoWords;
 use knot_jobs::Ports;
-use knot_ports::{StdSink, StdSource};
+use knot_ports::{NoWords, StdSink, StdSource};
 use std::alloc::Global;
 use std::io::{Read, Write};
 use std::process::ExitCode;

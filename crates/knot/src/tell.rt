@@ -1,8 +1,7 @@
 //! What is told on standard error, where that is a terminal.
 
-use given_words::NoWords;
 use knot_jobs::Status;
-use knot_ports::{StdSink, StdSource};
+use knot_ports::{NoWords, StdSink, StdSource};
 use knot_tells::{reading, sentence_of};
 use std::io::{IsTerminal, Read, Write};
 

@@ -9,8 +9,8 @@ use Rattle.knot_ports.specs.declared.status.Status.TheVariants.{Usage}
 use Rattle.knot_ports.specs.Status.{status_number}
 use Rattle.check_job.specs.Ending.{Ends}
 use Rattle.check_job.specs.Ports.{IsWritten}
-use Rattle.given_words.specs.declared.given.NoWords.{NoWords}
-use Rattle.given_words.specs.Given.{status_without_words}
+use Rattle.knot_ports.specs.declared.given.NoWords.{NoWords}
+use Rattle.knot_ports.specs.Given.{status_without_words}
 
 -- the exit status is the number of a status with which the call ended as is due
 pub record IsExitOf (source sink : Change) (exit : ExitCode) : Type 0 where

@@ -5,8 +5,7 @@ mod call;
 mod program;
 
 use crate::program::program;
-use given_words::system_words;
-use knot_ports::{StdSink, StdSource};
+use knot_ports::{StdSink, StdSource, system_words};
 use std::process::ExitCode;
 
 fn main(rt: HostRuntime) -> ExitCode {

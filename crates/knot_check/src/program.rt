@@ -4,8 +4,7 @@ ghost use Rattle.knot_check.specs.Exit.{WritesUsage, EndsProgram};
 
 use crate::call::call;
 use check_job::write_text;
-use given_words::NoWords;
-use knot_ports::{Status, StdSink, StdSource};
+use knot_ports::{NoWords, Status, StdSink, StdSource};
 use std::alloc::Global;
 use std::io::{Read, Write};
 use std::process::ExitCode;

@@ -5,10 +5,10 @@ use Rattle.verdict_core.specs.declared.problem.ProblemText.{ProblemText}
 use Rattle.text_items.specs.declared.fault.TextFault.{TextFault}
 use Rattle.cert_check.specs.declared.ruling.Ruling.TheVariants.{Accepted}
 use Rattle.knot_ports.specs.declared.limits.TheConstants.{MAX_CERTIFICATE}
-use Rattle.certificate_text.specs.declared.said.Said.{Said}
-use Rattle.certificate_text.specs.declared.said.Said.TheVariants as said
-use Rattle.linking_check.specs.declared.cause.Ruling.TheVariants as numbers
-use Rattle.decision_core.specs.VerdictDecision.{put_behind}
+use Rattle.number_text.specs.declared.said.Said.{Said}
+use Rattle.number_text.specs.declared.said.Said.TheVariants as said
+use Rattle.evidence_core.specs.declared.cause.Ruling.TheVariants as numbers
+use Rattle.verdict_laws.specs.VerdictDecision.{put_behind}
 use Rattle.certificate_check.specs.Decision.{IsWithinLimit, IsAccepted, IsDecision}
 use Rattle.certificate_check.proofs.Decisions.{decision_by_verdict}
 use Rattle.knot_words.specs.declared.job.Job.{Job}

@@ -12,6 +12,6 @@ pub use Rattle.search_jobs.specs.Simplify
 pub use Rattle.search_jobs.specs.Least
 pub use Rattle.search_jobs.specs.Sample
 pub use Rattle.knot_ports.specs.Status
-pub use Rattle.decision_core.specs.VerdictDecision
+pub use Rattle.verdict_laws.specs.VerdictDecision
 pub use Rattle.certificate_check.specs.Decision as Certified
 pub use Rattle.knot_ports.specs.Change

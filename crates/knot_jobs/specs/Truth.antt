@@ -4,7 +4,7 @@ use Rattle.std.specs.Io.KnownBytes.{Appends}
 use Rattle.cert_check.specs.declared.ruling.Ruling.TheVariants.{Accepted}
 use Rattle.knot_ports.specs.declared.status.Status.{Status}
 use Rattle.knot_ports.specs.declared.status.Status.TheVariants as status
-use Rattle.decision_core.specs.VerdictDecision.{put_behind, IsDecisionByVerdict}
+use Rattle.verdict_laws.specs.VerdictDecision.{put_behind, IsDecisionByVerdict}
 use Rattle.knot_words.specs.declared.job.PlainJob.TheVariants.{Check}
 use Rattle.reply_text.specs.Lines.{ruling_line}
 use Rattle.reply_text.specs.Reply.{done}

@@ -5,3 +5,4 @@ pub mod Memory
 pub mod Standard
 pub mod Status
 pub mod Change
+pub mod Given

@@ -10,7 +10,7 @@ use Rattle.text_items.specs.declared.fault.TextFault.TheVariants.{Malformed}
 use Rattle.text_items.specs.declared.reading.TheConstants.{MAX_PLACE, MAX_LETTER}
 use Rattle.text_items.specs.Reading.{◌>>=◌, line_end, or_malformed}
 use Rattle.text_items.specs.Braids.{letter_of}
-use Rattle.diagram_items.specs.Moves.{one_place}
+use Rattle.verdict_text.specs.Moves.{one_place}
 use Rattle.knot_text.specs.BraidSteps.{last_letter, bounded_letter, insert, grow, shrink, step_at}
 use Rattle.knot_text.proofs.AtLine.{At, Keeps, at_ok, at_malformed, at_limit, at_bind, at_cond, at_same, keeps_ok, keeps_bind, or_malformed_at}
 use Rattle.knot_text.proofs.AtLine.{next_token_at, next_token_keeps, line_end_at, line_end_keeps, number_at, number_keeps, at_most_at}

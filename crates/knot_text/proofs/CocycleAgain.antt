@@ -14,7 +14,7 @@ use Rattle.text_items.specs.declared.fault.TextFault.{TextFault}
 use Rattle.text_items.specs.declared.fault.TextFault.TheVariants.{Malformed}
 use Rattle.text_items.specs.declared.modulus.TheConstants.{MAX_MODULUS}
 use Rattle.text_items.specs.Reading.{next_line}
-use Rattle.diagram_items.specs.Cocycles.{cochain, cochain_item, cocycle_item}
+use Rattle.verdict_text.specs.Cocycles.{cochain, cochain_item, cocycle_item}
 use Rattle.text_items.specs.Modulus.{modulus_at}
 use Rattle.knot_text.specs.Printed.{row_tokens}
 use Rattle.knot_text.specs.WrittenThere.{value_lines, cocycle_lines}

@@ -10,7 +10,7 @@ use Rattle.cocycle_core.proofs.Accepted.{cocycle_from_none}
 use Rattle.text_lines.specs.Lines.{NumberedLine, Text}
 use Rattle.text_items.specs.declared.fault.TextFault.{TextFault}
 use Rattle.text_items.specs.declared.modulus.TheConstants.{MAX_MODULUS}
-use Rattle.diagram_items.specs.Cocycles.{cochain, cochain_item, cocycle_item}
+use Rattle.verdict_text.specs.Cocycles.{cochain, cochain_item, cocycle_item}
 use Rattle.text_items.specs.Modulus.{modulus_at}
 use Rattle.knot_text.specs.WrittenThere.{StandInFront, value_lines, cocycle_lines, HasCocycleText}
 use Rattle.knot_text.proofs.Says.{Says, says_ok, says_err, says_bind, says_if, says_more, in_front_of, in_front_is, IsNext, next_says}

@@ -21,7 +21,7 @@ use Rattle.text_items.specs.Grids.{x_at, o_at, grid_item}
 use Rattle.text_items.specs.Braids.{letters, exceeds, braid_of, braid_at, braid_item}
 use Rattle.text_items.specs.Quandles.{quandle_list}
 use Rattle.verdict_core.specs.Diagrams.{grid_of}
-use Rattle.diagram_items.specs.Diagrams.{braid_diagram, grid_diagram, diagram_item}
+use Rattle.verdict_text.specs.Diagrams.{braid_diagram, grid_diagram, diagram_item}
 use Rattle.verdict_text.specs.Problems.{problem_item}
 use Rattle.knot_text.proofs.Steady.{bind_ok, ok_is}
 

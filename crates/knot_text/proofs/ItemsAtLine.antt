@@ -28,7 +28,7 @@ use Rattle.text_items.specs.Numbers.{is_long, numbers_behind}
 use Rattle.text_items.specs.Grids.{are_rows, x_at, o_at}
 use Rattle.text_items.specs.Braids.{letter_of, exceeds, braid_of, braid_at}
 use Rattle.knot_text.specs.Colours.{colours_at}
-use Rattle.diagram_items.specs.Moves.{last_place, one_place, on_axis, shift, exchange, slide, kind_at, corner_at, stabilise, destabilise, move_at, tidy_move_at}
+use Rattle.verdict_text.specs.Moves.{last_place, one_place, on_axis, shift, exchange, slide, kind_at, corner_at, stabilise, destabilise, move_at, tidy_move_at}
 use Rattle.grid_moves.specs.Tidy.{may_follow}
 use Rattle.verdict_text.specs.declared.verdicts.TheConstants.{TIDY_VERSION}
 use Rattle.text_items.specs.Quandles.{with_order, alexander_at, tetrahedral_at, written_at}

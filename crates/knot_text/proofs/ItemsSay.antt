@@ -38,8 +38,8 @@ use Rattle.text_items.specs.declared.reading.TheConstants.{MAX_NUMBER, MAX_PLACE
 use Rattle.text_items.specs.Reading.{◌>>=◌, next_line, in_turn, each_token}
 use Rattle.text_items.specs.Grids.{x_at, o_at, grid_item, are_rows}
 use Rattle.text_items.specs.Braids.{letter_of, is_long_letter, exceeds, braid_of, braid_at, braid_item}
-use Rattle.diagram_items.specs.Moves.{last_place, one_place, shift, exchange, slide, kind_at, corner_at, stabilise, destabilise, move_at, on_axis}
-use Rattle.diagram_items.specs.Moves.{next_move, move_lines, tidy_move_at, tidy_move, tidy_moves, moves_item}
+use Rattle.verdict_text.specs.Moves.{last_place, one_place, shift, exchange, slide, kind_at, corner_at, stabilise, destabilise, move_at, on_axis}
+use Rattle.verdict_text.specs.Moves.{next_move, move_lines, tidy_move_at, tidy_move, tidy_moves, moves_item}
 use Rattle.grid_moves.specs.Tidy.{may_follow, are_tidy_behind, is_tidy}
 use Rattle.knot_text.specs.Colours.{colours_at, colours_item}
 use Rattle.knot_text.specs.Printed.{rows_tokens, grid_lines, kind_word, corner_word, move_tokens, moves_lines, HasMoveText, HaveMovesText}

@@ -11,18 +11,18 @@ use Rattle.text_lines.specs.Lines.{NumberedLine, Text}
 use Rattle.text_items.specs.declared.fault.TextFault.{TextFault}
 use Rattle.text_items.specs.declared.fault.TextFault.TheVariants.{Malformed, Limit}
 use Rattle.text_items.specs.declared.reading.TheConstants.{MAX_NUMBER}
-use Rattle.named_quandles.specs.declared.names.QuandleName.TheVariants as name
+use Rattle.quandle_core.specs.declared.names.QuandleName.TheVariants as name
 use Rattle.text_items.specs.declared.quandles.Written.{Written}
 use Rattle.text_items.specs.declared.quandles.Written.TheVariants as written
 use Rattle.verdict_core.specs.declared.verdict.Verdict.{Verdict}
 use Rattle.verdict_core.specs.declared.verdict.Verdict.TheVariants.{Equal, Different}
-use Rattle.named_quandles.specs.Names.{NamedQuandle, called}
+use Rattle.quandle_core.specs.Names.{NamedQuandle, called}
 use Rattle.text_items.specs.Reading.{◌>>=◌, in_turn, next_line, next_token, word, last_number, last_count, at_most, or_malformed}
 use Rattle.text_items.specs.Numbers.{numbers_below}
 use Rattle.text_items.specs.Grids.{x_at, o_at, grid_item}
 use Rattle.text_items.specs.Braids.{braid_at, braid_item}
 use Rattle.knot_text.specs.Colours.{colours_at, colours_item, coloured_item}
-use Rattle.diagram_items.specs.Moves.{move_at, next_move, move_lines, tidy_move_at, tidy_move, tidy_moves, moves_item}
+use Rattle.verdict_text.specs.Moves.{move_at, next_move, move_lines, tidy_move_at, tidy_move, tidy_moves, moves_item}
 use Rattle.text_items.specs.Quandles.{written_at, is_over, meant, table_row, table_rows, table_item, quandle_of, quandle_at, quandle_item}
 use Rattle.verdict_text.specs.Verdicts.{moves_of, equal_at, colour_line, list_item, different_at, unknown_at, unknown_item, verdict_of, version_at}
 use Rattle.verdict_text.specs.Verdicts.{tidy_item, plain_item, versioned_item, verdict_item}

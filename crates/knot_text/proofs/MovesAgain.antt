@@ -15,8 +15,8 @@ use Rattle.text_lines.specs.Spelled.{numbered}
 use Rattle.text_items.specs.declared.reading.TheConstants.{MAX_PLACE}
 use Rattle.text_items.specs.Reading.{next_line, next_token, line_end}
 use Rattle.grid_moves.specs.Tidy.{may_follow, are_tidy_behind}
-use Rattle.diagram_items.specs.Moves.{last_place, shift, exchange, slide, kind_at, corner_at, stabilise, destabilise}
-use Rattle.diagram_items.specs.Moves.{move_at, next_move, move_lines, tidy_move_at, tidy_move, tidy_moves, moves_item}
+use Rattle.verdict_text.specs.Moves.{last_place, shift, exchange, slide, kind_at, corner_at, stabilise, destabilise}
+use Rattle.verdict_text.specs.Moves.{move_at, next_move, move_lines, tidy_move_at, tidy_move, tidy_moves, moves_item}
 use Rattle.knot_text.specs.Printed.{kind_word, corner_word, move_tokens, moves_lines, HasMoveText, HaveMovesText}
 use Rattle.knot_text.proofs.StepsAgain.{line_of, lines_before, word_again, number_again, last_again, most_again, count_again, turns_again}
 

@@ -17,10 +17,10 @@ use Rattle.text_lines.specs.Spelled.{numbered}
 use Rattle.text_items.specs.declared.fault.TextFault.{TextFault}
 use Rattle.text_items.specs.declared.fault.TextFault.TheVariants.{Malformed}
 use Rattle.text_items.specs.declared.reading.TheConstants.{MAX_NUMBER}
-use Rattle.named_quandles.specs.declared.names.QuandleName.{QuandleName}
-use Rattle.named_quandles.specs.declared.names.QuandleName.TheVariants as name
-use Rattle.named_quandles.specs.Names.{NamedQuandle, IsOrder, NamesWithin, Names, is_order, called}
-use Rattle.named_quandles.proofs.Named.{is_order_of}
+use Rattle.quandle_core.specs.declared.names.QuandleName.{QuandleName}
+use Rattle.quandle_core.specs.declared.names.QuandleName.TheVariants as name
+use Rattle.quandle_core.specs.Names.{NamedQuandle, IsOrder, NamesWithin, Names, is_order, called}
+use Rattle.quandle_core.proofs.Named.{is_order_of}
 use Rattle.text_items.specs.Reading.{next_line, next_token, line_end}
 use Rattle.text_items.specs.Numbers.{numbers_below, is_long}
 use Rattle.text_items.specs.Quandles.{written_at, alexander_at, tetrahedral_at, table_row, table_rows, table_item, quandle_at}

@@ -20,12 +20,12 @@ use Rattle.quandle_core.proofs.Accepted.{quandle_within}
 use Rattle.text_lines.specs.Lines.{NumberedLine, Text, begins}
 use Rattle.text_items.specs.declared.fault.TextFault.{TextFault}
 use Rattle.text_items.specs.declared.reading.TheConstants.{MAX_NUMBER}
-use Rattle.named_quandles.specs.declared.names.QuandleName.{QuandleName}
-use Rattle.named_quandles.specs.declared.names.QuandleName.TheVariants as name
+use Rattle.quandle_core.specs.declared.names.QuandleName.{QuandleName}
+use Rattle.quandle_core.specs.declared.names.QuandleName.TheVariants as name
 use Rattle.text_items.specs.declared.quandles.Written.{Written}
 use Rattle.text_items.specs.declared.quandles.Written.TheVariants as written
-use Rattle.named_quandles.proofs.Named.{order_is}
-use Rattle.named_quandles.specs.Names.{NamedQuandle, is_order, called}
+use Rattle.quandle_core.proofs.Named.{order_is}
+use Rattle.quandle_core.specs.Names.{NamedQuandle, is_order, called}
 use Rattle.text_items.specs.Reading.{◌>>=◌, or_malformed}
 use Rattle.text_items.specs.Numbers.{numbers_below, is_long}
 use Rattle.text_items.specs.Quandles.{with_order, alexander_at, tetrahedral_at, written_at, is_over, meant, table_row, table_rows}

@@ -5,7 +5,7 @@ use Rattle.text_lines.specs.Lines.{NumberedLine, Text, first_starts}
 use Rattle.text_items.specs.declared.fault.TextFault.{TextFault}
 use Rattle.text_items.specs.declared.fault.TextFault.TheVariants.{Limit}
 use Rattle.text_items.specs.declared.quandles.TheConstants.{MAX_QUANDLES}
-use Rattle.named_quandles.specs.Names.{NamedQuandle}
+use Rattle.quandle_core.specs.Names.{NamedQuandle}
 use Rattle.text_items.specs.Quandles.{or_built_in}
 use Rattle.text_items.specs.Reading.{◌>>=◌, next_line, word}
 use Rattle.text_items.specs.Quandles.{written_at, quandle_item, surplus_quandle, quandles, quandle_list}

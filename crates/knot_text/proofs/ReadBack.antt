@@ -18,11 +18,11 @@ use Rattle.verdict_core.specs.declared.problem.ProblemText.{ProblemText}
 use Rattle.text_items.specs.Quandles.{built_in, or_built_in}
 use Rattle.text_items.specs.Reading.{◌>>=◌, no_line_among, text_end}
 use Rattle.text_items.specs.Grids.{grid_item}
-use Rattle.diagram_items.specs.Moves.{moves_item}
+use Rattle.verdict_text.specs.Moves.{moves_item}
 use Rattle.text_items.specs.Quandles.{quandle_list}
 use Rattle.verdict_text.specs.Verdicts.{verdict_item}
 use Rattle.verdict_core.specs.Diagrams.{grid_of, columns}
-use Rattle.diagram_items.specs.Diagrams.{diagram_item}
+use Rattle.verdict_text.specs.Diagrams.{diagram_item}
 use Rattle.verdict_text.specs.Problems.{problem_item, problem_in, check_in, problem_of, check_of}
 use Rattle.knot_text.specs.Printed.{grid_lines, grid_text, move_tokens, moves_lines, moves_text, HaveMovesText, version_lines, version_text, HasVersionText}
 use Rattle.knot_text.specs.FirstBadLine.{lines_then, with_lines_behind}

@@ -5,16 +5,16 @@ use Rattle.text_lines.specs.Lines.{NumberedLine, Text, first_starts}
 use Rattle.text_items.specs.declared.fault.TextFault.{TextFault}
 use Rattle.verdict_core.specs.declared.diagrams.Diagram.TheVariants.{Grid, Braid}
 use Rattle.verdict_core.specs.declared.problem.ProblemText.{ProblemText}
-use Rattle.named_quandles.specs.Names.{NamedQuandle}
+use Rattle.quandle_core.specs.Names.{NamedQuandle}
 use Rattle.text_items.specs.Reading.{◌>>=◌, next_line, text_end}
 use Rattle.text_items.specs.Grids.{grid_item}
 use Rattle.text_items.specs.Braids.{braid_item}
-use Rattle.diagram_items.specs.Moves.{moves_item}
+use Rattle.verdict_text.specs.Moves.{moves_item}
 use Rattle.text_items.specs.Quandles.{quandle_list}
 use Rattle.knot_text.specs.Colours.{coloured_item, coloured}
 use Rattle.verdict_text.specs.Verdicts.{verdict_item}
 use Rattle.verdict_core.specs.Diagrams.{columns}
-use Rattle.diagram_items.specs.Diagrams.{braid_diagram, grid_diagram, diagram_item}
+use Rattle.verdict_text.specs.Diagrams.{braid_diagram, grid_diagram, diagram_item}
 use Rattle.verdict_text.specs.Problems.{problem_item, problem_in, check_in}
 use Rattle.knot_text.specs.Shapes.{replay_in, colour_in}
 use Rattle.knot_text.specs.Shapes.{close_in, lone_diagram_in}

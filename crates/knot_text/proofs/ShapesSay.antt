@@ -9,13 +9,13 @@ use Rattle.text_lines.specs.Lines.{NumberedLine, Text, begins}
 use Rattle.verdict_core.specs.declared.diagrams.Diagram.TheVariants.{Grid, Braid}
 use Rattle.text_items.specs.declared.quandles.TheConstants.{MAX_QUANDLES}
 use Rattle.verdict_core.specs.declared.problem.ProblemText.{ProblemText}
-use Rattle.named_quandles.specs.Names.{NamedQuandle}
+use Rattle.quandle_core.specs.Names.{NamedQuandle}
 use Rattle.text_items.specs.Quandles.{or_built_in}
 use Rattle.text_items.specs.Reading.{no_line_among, text_end}
 use Rattle.text_items.specs.Quandles.{quandle_list}
 use Rattle.knot_text.specs.Colours.{coloured_item, coloured}
 use Rattle.verdict_core.specs.Diagrams.{columns}
-use Rattle.diagram_items.specs.Diagrams.{diagram_item}
+use Rattle.verdict_text.specs.Diagrams.{diagram_item}
 use Rattle.verdict_text.specs.Problems.{problem_item, problem_in, check_in}
 use Rattle.knot_text.specs.Shapes.{replay_in, colour_in, close_in, lone_diagram_in}
 use Rattle.knot_text.specs.Pairs.{pair_in}

@@ -11,8 +11,8 @@ use Rattle.text_lines.specs.Spelled.{numbered}
 use Rattle.text_items.specs.declared.reading.TheConstants.{MAX_NUMBER}
 use Rattle.verdict_core.specs.declared.verdict.Verdict.{Verdict}
 use Rattle.verdict_core.specs.declared.verdict.Verdict.TheVariants.{Equal, Different, UnknownBudget, UnknownExhausted}
-use Rattle.named_quandles.proofs.Named.{names_order}
-use Rattle.named_quandles.specs.Names.{NamedQuandle}
+use Rattle.quandle_core.proofs.Named.{names_order}
+use Rattle.quandle_core.specs.Names.{NamedQuandle}
 use Rattle.text_items.specs.Reading.{◌>>=◌, next_line, next_token}
 use Rattle.verdict_text.specs.Verdicts.{equal_at, colour_line, list_item, different_at, budget_at, exhausted_at, unknown_at, unknown_item}
 use Rattle.verdict_text.specs.Verdicts.{verdict_of, version_at, tidy_item, plain_item, versioned_item, verdict_item}

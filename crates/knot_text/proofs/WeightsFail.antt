@@ -8,8 +8,8 @@ use Rattle.text_items.specs.declared.fault.TextFault.TheVariants.{Malformed}
 use Rattle.text_items.specs.declared.modulus.TheConstants.{MAX_MODULUS}
 use Rattle.text_items.specs.Reading.{◌>>=◌, at_most, text_end}
 use Rattle.text_items.specs.Quandles.{table_rows, quandle_item}
-use Rattle.diagram_items.specs.Diagrams.{diagram_item}
-use Rattle.diagram_items.specs.Cocycles.{cochain, cochain_item, cocycle_item}
+use Rattle.verdict_text.specs.Diagrams.{diagram_item}
+use Rattle.verdict_text.specs.Cocycles.{cochain, cochain_item, cocycle_item}
 use Rattle.text_items.specs.Modulus.{modulus_at}
 use Rattle.knot_text.specs.Weights.{weight_in}
 use Rattle.knot_text.specs.FirstBadLine.{FailsFirst}

@@ -25,11 +25,11 @@ use Rattle.quandle_core.specs.declared.quandle.TheConstants.{MAX_ORDER}
 use Rattle.quandle_core.specs.Quandle.{Table, IsQuandle, over}
 use Rattle.text_lines.specs.Spelled.{is_plain, is_word, is_line}
 use Rattle.text_items.specs.declared.reading.TheConstants.{MAX_NUMBER}
-use Rattle.named_quandles.specs.declared.names.QuandleName.{QuandleName}
-use Rattle.named_quandles.specs.declared.names.QuandleName.TheVariants as name
+use Rattle.quandle_core.specs.declared.names.QuandleName.{QuandleName}
+use Rattle.quandle_core.specs.declared.names.QuandleName.TheVariants as name
 use Rattle.verdict_core.specs.declared.verdict.Verdict.{Verdict}
 use Rattle.verdict_core.specs.declared.verdict.Verdict.TheVariants.{Equal, Different, UnknownBudget, UnknownExhausted}
-use Rattle.named_quandles.specs.Names.{NamesWithin}
+use Rattle.quandle_core.specs.Names.{NamesWithin}
 use Rattle.knot_text.specs.Printed.{grid_lines, kind_word, corner_word, move_tokens, moves_lines, HasMoveText, HaveMovesText, name_tokens}
 use Rattle.knot_text.specs.Printed.{row_tokens, table_lines, quandle_lines, HasFactor, list_lines, verdict_lines, HasListText}
 use Rattle.knot_text.specs.Printed.{head_tokens, version_lines, HasVerdictText, HasVersionText}
@@ -37,7 +37,7 @@ use Rattle.verdict_text.specs.declared.verdicts.TheConstants.{TIDY_VERSION}
 use Rattle.verdict_text.specs.declared.verdicts.Version.{Version}
 use Rattle.verdict_text.specs.declared.verdicts.Version.TheVariants.{Plain, Tidy}
 use Rattle.knot_text.proofs.StepsAgain.{IsShort, all_short}
-use Rattle.named_quandles.proofs.Named.{names_order}
+use Rattle.quandle_core.proofs.Named.{names_order}
 
 -- ---- lists of lines
 

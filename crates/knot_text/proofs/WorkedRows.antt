@@ -8,20 +8,20 @@ use Rattle.text_items.specs.declared.fault.TextFault.TheVariants.{Malformed, Lim
 use Rattle.verdict_core.specs.declared.diagrams.Diagram.TheVariants.{Grid, Braid}
 use Rattle.verdict_core.specs.declared.verdict.Verdict.TheVariants.{UnknownExhausted}
 use Rattle.quandle_core.specs.Tables.{trivial}
-use Rattle.named_quandles.specs.declared.names.QuandleName.TheVariants as name
-use Rattle.named_quandles.specs.Names.{called}
+use Rattle.quandle_core.specs.declared.names.QuandleName.TheVariants as name
+use Rattle.quandle_core.specs.Names.{called}
 use Rattle.text_items.specs.Quandles.{built_in}
 use Rattle.text_items.specs.Reading.{next_line, text_end, in_turn, next_token, line_end, word, number, last_number, last_count, each_token}
 use Rattle.text_items.specs.Numbers.{numbers_below, numbers_behind}
 use Rattle.text_items.specs.Grids.{x_at, o_at, grid_item}
 use Rattle.text_items.specs.Braids.{braid_at, braid_item}
 use Rattle.knot_text.specs.Colours.{colours_at, colours_item, coloured_item, coloured}
-use Rattle.diagram_items.specs.Moves.{last_place, shift, kind_at, corner_at, stabilise, destabilise, move_at, next_move, moves_item}
-use Rattle.diagram_items.specs.Moves.{tidy_move_at, tidy_move, tidy_moves}
+use Rattle.verdict_text.specs.Moves.{last_place, shift, kind_at, corner_at, stabilise, destabilise, move_at, next_move, moves_item}
+use Rattle.verdict_text.specs.Moves.{tidy_move_at, tidy_move, tidy_moves}
 use Rattle.text_items.specs.Quandles.{written_at, table_row, table_rows, table_item, quandle_at, quandle_item, quandles, quandle_list}
 use Rattle.verdict_text.specs.Verdicts.{equal_at, exhausted_at, unknown_at, unknown_item, verdict_of}
 use Rattle.verdict_text.specs.Verdicts.{version_at, tidy_item, plain_item, versioned_item, verdict_item}
-use Rattle.diagram_items.specs.Diagrams.{diagram_item}
+use Rattle.verdict_text.specs.Diagrams.{diagram_item}
 use Rattle.verdict_text.specs.Problems.{problem_item, problem_in, check_in, problem_of}
 use Rattle.knot_text.specs.Shapes.{replay_in, close_in, lone_diagram_in}
 use Rattle.verdict_text.specs.Problems.{check_of}

@@ -4,7 +4,7 @@ use Rattle.braid_moves.specs.declared.step.BraidMove.TheVariants.{Far, Triple, C
 use Rattle.text_items.specs.declared.fault.TextFault.TheVariants.{Malformed, Limit}
 use Rattle.text_items.specs.Reading.{next_line, text_end, in_turn, next_token, line_end, word, number, last_number, last_count, each_token}
 use Rattle.text_items.specs.Braids.{braid_at, braid_item}
-use Rattle.diagram_items.specs.Moves.{last_place}
+use Rattle.verdict_text.specs.Moves.{last_place}
 use Rattle.knot_text.specs.BraidSteps.{last_letter, insert, grow, shrink, step_at, next_step, steps_item}
 use Rattle.knot_text.specs.BraidChecks.{braidcheck_in, braidcheck_of}
 

@@ -9,7 +9,7 @@ use Rattle.text_items.specs.declared.fault.TextFault.TheVariants.{Malformed, Lim
 use Rattle.text_items.specs.declared.reading.TheConstants.{MAX_PLACE, MAX_LETTER}
 use Rattle.text_items.specs.Reading.{◌>>=◌, in_turn, next_line, next_token, line_end, or_malformed, word, number, last_count, at_most}
 use Rattle.text_items.specs.Braids.{letter_of}
-use Rattle.diagram_items.specs.Moves.{one_place}
+use Rattle.verdict_text.specs.Moves.{one_place}
 
 -- a letter of any size, and no token behind it
 unfoldable pub last_letter : NumberedLine → Result (ℤ × NumberedLine) TextFault

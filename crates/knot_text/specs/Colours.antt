@@ -5,7 +5,7 @@ use Rattle.colour_rows.specs.Colouring.{are_colours}
 use Rattle.text_lines.specs.Lines.{NumberedLine, Text, begins}
 use Rattle.text_items.specs.declared.fault.TextFault.{TextFault}
 use Rattle.text_items.specs.declared.fault.TextFault.TheVariants.{Malformed}
-use Rattle.named_quandles.specs.Names.{NamedQuandle}
+use Rattle.quandle_core.specs.Names.{NamedQuandle}
 use Rattle.text_items.specs.Reading.{◌>>=◌, next_line}
 use Rattle.text_items.specs.Numbers.{numbers_behind}
 use Rattle.text_items.specs.Quandles.{quandle_item}

@@ -13,14 +13,14 @@ pub use Rattle.text_items.specs.Reading
 pub use Rattle.text_items.specs.Numbers
 pub use Rattle.text_items.specs.Grids
 pub use Rattle.text_items.specs.Braids
-pub use Rattle.diagram_items.specs.Moves
+pub use Rattle.verdict_text.specs.Moves
 pub use Rattle.text_items.specs.Quandles
-pub use Rattle.diagram_items.specs.Cocycles
+pub use Rattle.verdict_text.specs.Cocycles
 pub use Rattle.text_lines.specs.Lines
 pub use Rattle.text_lines.specs.Tokens
 pub use Rattle.text_lines.specs.Spelled
 pub use Rattle.text_lines.specs.Appended
 pub use Rattle.verdict_core.specs.Diagrams
-pub use Rattle.named_quandles.specs.Names
+pub use Rattle.quandle_core.specs.Names
 pub use Rattle.cocycle_core.specs.Cocycle
 pub use Rattle.cocycle_core.specs.Fault

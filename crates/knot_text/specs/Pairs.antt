@@ -4,7 +4,7 @@ use Rattle.text_lines.specs.Lines.{Text, text_of}
 use Rattle.verdict_core.specs.declared.diagrams.Diagram.{Diagram}
 use Rattle.text_items.specs.declared.fault.TextFault.{TextFault}
 use Rattle.text_items.specs.Reading.{◌>>=◌, text_end}
-use Rattle.diagram_items.specs.Diagrams.{diagram_item}
+use Rattle.verdict_text.specs.Diagrams.{diagram_item}
 
 -- two diagrams, and nothing behind them
 unfoldable pub pair_in : Text → Result (Diagram × Diagram) TextFault

@@ -21,13 +21,13 @@ use Rattle.colour_list.specs.declared.limits.TheConstants.{MAX_COLOURINGS}
 use Rattle.colour_rows.specs.Colouring.{AreColours}
 use Rattle.text_lines.specs.Spelled.{lines_text}
 use Rattle.text_items.specs.declared.reading.TheConstants.{MAX_NUMBER, MAX_PLACE, MAX_LETTER}
-use Rattle.named_quandles.specs.declared.names.QuandleName.{QuandleName}
-use Rattle.named_quandles.specs.declared.names.QuandleName.TheVariants as name
+use Rattle.quandle_core.specs.declared.names.QuandleName.{QuandleName}
+use Rattle.quandle_core.specs.declared.names.QuandleName.TheVariants as name
 use Rattle.verdict_core.specs.declared.diagrams.Diagram.{Diagram}
 use Rattle.verdict_core.specs.declared.diagrams.Diagram.TheVariants.{Grid, Braid}
 use Rattle.verdict_core.specs.declared.verdict.Verdict.{Verdict}
 use Rattle.verdict_core.specs.declared.verdict.Verdict.TheVariants.{Equal, Different, UnknownBudget, UnknownExhausted}
-use Rattle.named_quandles.specs.Names.{NamedQuandle, NamesWithin}
+use Rattle.quandle_core.specs.Names.{NamedQuandle, NamesWithin}
 use Rattle.verdict_core.specs.Evidence.{IsTidyVerdict}
 use Rattle.verdict_text.specs.declared.verdicts.TheConstants.{TIDY_VERSION}
 use Rattle.verdict_text.specs.declared.verdicts.Version.{Version}

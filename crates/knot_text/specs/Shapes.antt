@@ -9,8 +9,8 @@ use Rattle.knot_text.specs.declared.shapes.CloseText.{CloseText}
 use Rattle.verdict_core.specs.Diagrams.{columns}
 use Rattle.text_items.specs.Reading.{◌>>=◌, text_end}
 use Rattle.text_items.specs.Braids.{braid_item}
-use Rattle.diagram_items.specs.Diagrams.{diagram_item}
-use Rattle.diagram_items.specs.Moves.{moves_item}
+use Rattle.verdict_text.specs.Diagrams.{diagram_item}
+use Rattle.verdict_text.specs.Moves.{moves_item}
 use Rattle.text_items.specs.Quandles.{quandle_list}
 use Rattle.knot_text.specs.Colours.{coloured}
 

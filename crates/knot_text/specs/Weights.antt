@@ -5,8 +5,8 @@ use Rattle.text_items.specs.declared.fault.TextFault.{TextFault}
 use Rattle.knot_text.specs.declared.weights.WeightText.{WeightText}
 use Rattle.text_items.specs.Reading.{◌>>=◌, text_end}
 use Rattle.text_items.specs.Quandles.{quandle_item}
-use Rattle.diagram_items.specs.Cocycles.{cocycle_item}
-use Rattle.diagram_items.specs.Diagrams.{diagram_item}
+use Rattle.verdict_text.specs.Cocycles.{cocycle_item}
+use Rattle.verdict_text.specs.Diagrams.{diagram_item}
 
 -- two diagrams, one quandle and a cocycle of it, and nothing behind them
 unfoldable pub weight_in : Text → Result WeightText TextFault

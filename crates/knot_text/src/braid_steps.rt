@@ -4,13 +4,13 @@ ghost use Rattle.text_items.specs.Reading.{Gives};
 ghost use Rattle.knot_text.specs.BraidSteps.{last_letter, bounded_letter, insert, grow, shrink, step_at, next_step, step_lines, steps_item};
 
 use braid_moves::BraidMove;
-use diagram_items::last_place;
 use std::alloc::Global;
 use text_items::reading::{
     MAX_LETTER, last_count, line_end, next_line, next_token, number, place, word,
 };
 use text_items::{TextFault, letter};
 use text_lines::{Line, Lines};
+use verdict_text::last_place;
 
 /// A letter of any size, and no token behind it.
 #[tactic(auto, unfolding(crate::specs::BraidSteps::last_letter))]

@@ -3,12 +3,12 @@ ghost use Rattle.std.specs.Prelude.{◌≡◌};
 ghost use Rattle.text_items.specs.Reading.{Gives};
 ghost use Rattle.knot_text.specs.Pairs.{pair_of};
 
-use diagram_items::diagram_item;
 use std::alloc::Global;
 use text_items::TextFault;
 use text_items::reading::text_end;
 use text_lines::Lines;
 use verdict_core::Diagram;
+use verdict_text::diagram_item;
 
 /// Two diagrams, and nothing behind them. Else the fault of the first bad line, or want of memory.
 #[tactic(auto, unfolding(crate::specs::Pairs::pair_in))]

@@ -5,7 +5,7 @@ ghost use Rattle.std.specs.Fmt.{decimal};
 ghost use Rattle.quandle_core.specs.Quandle.{over};
 ghost use Rattle.text_lines.specs.Spelled.{line_text, lines_text};
 ghost use Rattle.text_lines.specs.Appended.{AppendsPart};
-ghost use Rattle.named_quandles.specs.Names.{NamedQuandle, called};
+ghost use Rattle.quandle_core.specs.Names.{NamedQuandle, called};
 ghost use Rattle.knot_text.specs.Printed.{grid_text, kind_word, corner_word, move_tokens, moves_text};
 ghost use Rattle.knot_text.specs.Printed.{row_tokens, table_behind, quandle_lines, list_lines, verdict_lines, version_text};
 ghost use Rattle.verdict_core.specs.Evidence.{IsTidyVerdict};

@@ -6,7 +6,6 @@ ghost use Rattle.knot_text.specs.Shapes.{replay_of, colour_of, close_of, lone_di
 use crate::colours::coloured;
 use braid_core::Braid;
 use colour_rows::Colouring;
-use diagram_items::{diagram_item, moves_item};
 use grid_moves::Move;
 use memory_core::Items;
 use std::alloc::Global;
@@ -14,6 +13,7 @@ use text_items::reading::text_end;
 use text_items::{TextFault, braid_item, quandle_list};
 use text_lines::Lines;
 use verdict_core::{Diagram, Listed};
+use verdict_text::{diagram_item, moves_item};
 
 /// A diagram, moves to be made on it, and perhaps a quandle with a colour below its order for each column of the diagram,
 /// which are to be carried.

@@ -9,3 +9,8 @@ pub mod Ways
 pub mod Simpler
 pub mod Once
 mod WorkedRows
+pub mod KeyOrder
+pub mod Seen
+pub mod MemberWays
+pub mod LeastClass
+mod WorkedLeast

@@ -18,7 +18,7 @@ use Rattle.grid_keys.proofs.Translated.{row_of-translate, translate-grid, size-t
 use Rattle.next_moves.specs.Tries.{shift_before, place_after_shift, try_destabilisation}
 use Rattle.grid_moves.specs.SizeAfter.{size_after}
 use Rattle.next_moves.specs.Offers.{is_offered}
-use Rattle.short_grids.specs.ShortTrades.{next}
+use Rattle.grid_canon.specs.ShortTrades.{next}
 use Rattle.next_moves.specs.Blocks.{row_of_both}
 use Rattle.next_moves.proofs.Sides.{shift_before-below, place_after_shift-below, next-below, first_origin, second_origin, from_first, from_second, pair_of_rows}
 

@@ -9,7 +9,7 @@ use Rattle.grid_core.specs.Diagram.{Diagram, IsGrid, size}
 use Rattle.next_moves.specs.declared.links.Offer.{Offer}
 use Rattle.next_moves.specs.Tries.{Try, try_destabilisation, block_tries}
 use Rattle.next_moves.specs.Offers.{is_offered}
-use Rattle.short_grids.specs.ShortTrades.{next}
+use Rattle.grid_canon.specs.ShortTrades.{next}
 use Rattle.next_moves.specs.Blocks.{row_of_both, if_below}
 use Rattle.next_moves.specs.Extends.{Extends}
 use Rattle.next_moves.proofs.Extended.{map_range_more, extends_none}

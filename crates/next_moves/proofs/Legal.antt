@@ -21,7 +21,7 @@ use Rattle.grid_moves.specs.declared.step.MoveFault.TheVariants.{Range, Touching
 use Rattle.grid_moves.specs.MoveFault.{exchange_fault, slide_fault}
 use Rattle.grid_moves.specs.Shift.{shifted}
 use Rattle.grid_keys.specs.Translation.{translate}
-use Rattle.short_grids.specs.ShortTrades.{Trades, trades_of, next}
+use Rattle.grid_canon.specs.ShortTrades.{Trades, trades_of, next}
 use Rattle.grid_keys.proofs.Translated.{origin, shifted-origin, size-translate, row_of-translate}
 use Rattle.grid_keys.proofs.Joined.{unshifted}
 use Rattle.lane_spans.specs.Span.{Span as Lane, may_trade_places}

@@ -11,7 +11,7 @@ use Rattle.grid_core.specs.Diagram.{Diagram, IsGrid, size}
 use Rattle.next_moves.specs.Tries.{Try, try_column_exchange, try_column_slide, column_trade_tries, try_row_exchange, try_row_slide, row_trade_tries}
 use Rattle.next_moves.specs.Tries.{try_destabilisation, block_tries, stabilisation_tries, trade_tries, all_block_tries, all_stabilisation_tries}
 use Rattle.next_moves.specs.Offers.{is_offered}
-use Rattle.short_grids.specs.ShortTrades.{next}
+use Rattle.grid_canon.specs.ShortTrades.{next}
 use Rattle.next_moves.specs.Blocks.{row_of_both, counted, passed}
 use Rattle.next_moves.proofs.Extended.{map_range_more, flat_map_range_more}
 use Rattle.next_moves.proofs.Sides.{passed_more, passed_le}

@@ -18,7 +18,7 @@ use Rattle.grid_keys.proofs.Translated.{origin, row_of-translate, translate-grid
 use Rattle.next_moves.specs.declared.links.Offer.{Offer}
 use Rattle.next_moves.specs.Tries.{shift_before, place_after_shift, try_destabilisation, block_tries}
 use Rattle.next_moves.specs.Offers.{is_offered}
-use Rattle.short_grids.specs.ShortTrades.{next}
+use Rattle.grid_canon.specs.ShortTrades.{next}
 use Rattle.next_moves.specs.Extends.{Extends}
 use Rattle.next_moves.proofs.Sides.{shift_before-below, place_after_shift-below, next-below, first_origin, second_origin}
 use Rattle.next_moves.proofs.BlockRows.{from_block, not_none}

@@ -7,7 +7,7 @@ use Rattle.grid_keys.proofs.Translated.{origin, origin_cases, origin-shifted}
 use Rattle.grid_moves.specs.declared.step.Move.{Move}
 use Rattle.grid_moves.specs.declared.step.Move.TheVariants.{Destabilise}
 use Rattle.next_moves.specs.Tries.{Try, shift_before, place_after_shift, try_destabilisation}
-use Rattle.short_grids.specs.ShortTrades.{next}
+use Rattle.grid_canon.specs.ShortTrades.{next}
 use Rattle.next_moves.specs.Blocks.{first_of_pair, counted, passed}
 
 -- the last, or any other

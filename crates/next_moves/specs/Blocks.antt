@@ -2,7 +2,7 @@
 use Rattle.std.specs.Prelude.{◌==◌, ◌++◌, ◌∷◌, [], ℕ, List, map, if◌then◌else◌, nat_lt}
 use Rattle.grid_core.specs.declared.mark.Kind.TheVariants.{Cross, Ring}
 use Rattle.grid_core.specs.Diagram.{Diagram, size, row_of}
-use Rattle.short_grids.specs.ShortTrades.{next}
+use Rattle.grid_canon.specs.ShortTrades.{next}
 use Rattle.next_moves.specs.Tries.{Try, try_destabilisation}
 
 -- the first of the two rows where they are neighbours on the circle, else n

@@ -1,7 +1,7 @@
 -- A list of offers in the making; only private clauses and proofs cite this file.
 use Rattle.std.specs.Prelude.{◌≡◌, ◌<◌, ◌≤◌, ◌+◌, ◌++◌, ℕ, List, Option, IfSome, length}
 use Rattle.grid_core.specs.Diagram.{Diagram, size}
-use Rattle.short_grids.specs.declared.digits.TheConstants.{MAX_SHORT_SIZE}
+use Rattle.grid_canon.specs.declared.digits.TheConstants.{MAX_SHORT_SIZE}
 use Rattle.next_moves.specs.declared.links.Offer.{Offer}
 use Rattle.next_moves.specs.Tries.{Try}
 use Rattle.next_moves.specs.Offers.{AreOffersOf}

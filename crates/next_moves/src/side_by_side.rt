@@ -2,7 +2,7 @@
 ghost use Rattle.std.specs.Prelude.{◌≡◌, ◌<◌, ◌≤◌, ◌+◌, ◌-◌};
 ghost use Rattle.next_moves.specs.Tries.{shift_before, place_after_shift};
 ghost use Rattle.next_moves.specs.Blocks.{first_of_pair};
-ghost use Rattle.short_grids.specs.ShortTrades.{next};
+ghost use Rattle.grid_canon.specs.ShortTrades.{next};
 
 /// The next number, round the circle of as many as the size.
 pub(crate) fn next(c: u8, size: u8) -> u8

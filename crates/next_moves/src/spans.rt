@@ -5,7 +5,7 @@ ghost use Rattle.grid_core.specs.Diagram.{size};
 ghost use Rattle.grid_core.specs.Parts.{column_of, column_lows, column_highs, row_lows, row_highs};
 ghost use Rattle.grid_core.specs.Span.{share_one_end};
 ghost use Rattle.lane_spans.specs.Columns.{has_bit, trades, AreSpans};
-ghost use Rattle.short_grids.specs.ShortTrades.{next};
+ghost use Rattle.grid_canon.specs.ShortTrades.{next};
 
 use crate::side_by_side::next;
 use arrayvec::ArrayVec;

@@ -5,7 +5,7 @@ ghost use Rattle.grid_core.specs.Parts.{column_span, ends, column_lows, column_h
 ghost use Rattle.grid_moves.specs.Step.{Step};
 ghost use Rattle.grid_moves.specs.Exchanged.{columns_exchanged, rows_exchanged};
 ghost use Rattle.grid_keys.specs.Translation.{translate};
-ghost use Rattle.short_grids.specs.ShortTrades.{trades_of};
+ghost use Rattle.grid_canon.specs.ShortTrades.{trades_of};
 ghost use Rattle.next_moves.specs.declared.offers.TheConstants.{MAX_OFFERS};
 ghost use Rattle.next_moves.specs.Tries.{try_column_exchange, try_column_slide, column_trade_tries, all_column_trade_tries};
 ghost use Rattle.next_moves.specs.Tries.{try_row_exchange, try_row_slide, row_trade_tries, all_row_trade_tries};
@@ -18,9 +18,9 @@ use crate::offer_list::OfferList;
 use crate::side_by_side::shift_before;
 use crate::spans::Spans;
 use crate::tries::Tries;
+use grid_canon::ShortTrades;
 use grid_moves::Move;
 use lane_spans::has_bit;
-use short_grids::ShortTrades;
 
 impl<'a> Tries<'a> {
     /// Appends the exchanges and slides of neighbouring columns.

@@ -5,7 +5,7 @@ ghost use Rattle.grid_core.specs.Diagram.{IsGrid, size};
 ghost use Rattle.grid_core.specs.Parts.{column_span, column_lows, column_highs};
 ghost use Rattle.grid_moves.specs.Step.{Step};
 ghost use Rattle.grid_keys.specs.Translation.{translate};
-ghost use Rattle.short_grids.specs.ShortTrades.{trades_of};
+ghost use Rattle.grid_canon.specs.ShortTrades.{trades_of};
 ghost use Rattle.next_moves.specs.declared.offers.TheConstants.{MAX_OFFERS};
 ghost use Rattle.next_moves.specs.Tries.{block_tries, all_block_tries, try_stabilisation, all_stabilisation_tries};
 ghost use Rattle.grid_moves.specs.declared.step.Move.TheVariants.{Destabilise};
@@ -16,11 +16,10 @@ use crate::links::{Link, Offer};
 use crate::offer_list::OfferList;
 use crate::side_by_side::{first_of_pair, next, shift_before};
 use crate::spans::Spans;
-use grid_canon::canonical_key;
+use grid_canon::{MAX_SHORT_SIZE, ShortGrid, ShortTrades, canonical_key};
 use grid_core::{Corner, Grid, Kind};
 use grid_keys::{LeastKey, translate};
 use grid_moves::{Move, apply_in_place, narrowing_of, widening_of};
-use short_grids::{MAX_SHORT_SIZE, ShortGrid, ShortTrades};
 use std::marker::Model;
 
 /// A grid whose moves are tried, and the cap within which. Beside it stands the same grid as a short one, where a short one has room for one

@@ -17,14 +17,14 @@ use Rattle.evidence_core.specs.declared.blocks.LargeWeighing.TheVariants.{Strand
 use Rattle.evidence_core.specs.declared.blocks.Block.{Block}
 use Rattle.colour_numbers.specs.Numbers.{choices_of, fits_by}
 use Rattle.evidence_core.specs.declared.evidence.Counted.{Counted}
-use Rattle.linking_check.specs.declared.cause.Cause.{Cause}
-use Rattle.linking_check.specs.declared.cause.Cause.TheVariants as cause
-use Rattle.linking_check.specs.Unequal.{first_unequal}
+use Rattle.evidence_core.specs.declared.cause.Cause.{Cause}
+use Rattle.evidence_core.specs.declared.cause.Cause.TheVariants as cause
+use Rattle.evidence_core.specs.Unequal.{first_unequal}
 use Rattle.number_check.specs.Holds.{table_of, choices_by, numbers_by, AreNumbersOf}
 use Rattle.number_check.specs.Cause.{IsSeedCause, counts_cause, IsCauseOf}
-use Rattle.linking_check.proofs.FirstUnequal.{equal_of_none, none_of_equal}
-use Rattle.linking_check.specs.Links.{place_cause}
-use Rattle.linking_check.proofs.LinksOfGrids.{no_place}
+use Rattle.evidence_core.proofs.FirstUnequal.{equal_of_none, none_of_equal}
+use Rattle.evidence_core.specs.Links.{place_cause}
+use Rattle.evidence_core.proofs.LinksOfGrids.{no_place}
 
 pub itself : (a : ℕ) → nat_eq a a ≡ true
 itself a = (Decides-eqb a a).1 refl

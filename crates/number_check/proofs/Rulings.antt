@@ -9,14 +9,14 @@ use Rattle.evidence_core.specs.declared.blocks.Block.{Block}
 use Rattle.evidence_core.specs.declared.evidence.Counted.{Counted}
 use Rattle.evidence_core.specs.declared.evidence.Evidence.{Evidence}
 use Rattle.evidence_core.specs.declared.evidence.Evidence.TheVariants.{Numbers, Linking}
-use Rattle.linking_check.specs.declared.cause.Ruling.{Ruling}
-use Rattle.linking_check.specs.declared.cause.Ruling.TheVariants.{Accepted, Rejected}
-use Rattle.linking_check.specs.declared.cause.Cause.{Cause}
+use Rattle.evidence_core.specs.declared.cause.Ruling.{Ruling}
+use Rattle.evidence_core.specs.declared.cause.Ruling.TheVariants.{Accepted, Rejected}
+use Rattle.evidence_core.specs.declared.cause.Cause.{Cause}
 use Rattle.number_check.specs.Holds.{NumbersDiffer, Holds}
 use Rattle.number_check.specs.Cause.{IsCause}
 use Rattle.number_check.specs.Ruling.{RulesOn}
 use Rattle.number_check.proofs.Causes.{numbers_have_no_cause}
-use Rattle.linking_check.proofs.LinksOfGrids.{links_have_no_cause}
+use Rattle.evidence_core.proofs.LinksOfGrids.{links_have_no_cause}
 
 -- ---- what holds tells apart
 

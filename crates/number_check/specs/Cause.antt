@@ -10,11 +10,11 @@ use Rattle.evidence_core.specs.declared.blocks.Block.{Block}
 use Rattle.evidence_core.specs.declared.evidence.Counted.{Counted}
 use Rattle.evidence_core.specs.declared.evidence.Evidence.{Evidence}
 use Rattle.evidence_core.specs.declared.evidence.Evidence.TheVariants.{Numbers, Linking}
-use Rattle.linking_check.specs.declared.cause.Cause.{Cause}
-use Rattle.linking_check.specs.declared.cause.Cause.TheVariants as cause
-use Rattle.linking_check.specs.Unequal.{first_unequal}
+use Rattle.evidence_core.specs.declared.cause.Cause.{Cause}
+use Rattle.evidence_core.specs.declared.cause.Cause.TheVariants as cause
+use Rattle.evidence_core.specs.Unequal.{first_unequal}
 use Rattle.number_check.specs.Holds.{table_of, choices_by, numbers_by, AreNumbersOf}
-use Rattle.linking_check.specs.Links.{place_cause, cause_of_links}
+use Rattle.evidence_core.specs.Links.{place_cause, cause_of_links}
 
 -- ---- the numbers of colourings of the diagram of this number
 

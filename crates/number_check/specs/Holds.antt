@@ -9,7 +9,7 @@ use Rattle.evidence_core.specs.declared.blocks.Block.{Block}
 use Rattle.evidence_core.specs.declared.evidence.Counted.{Counted}
 use Rattle.evidence_core.specs.declared.evidence.Evidence.{Evidence}
 use Rattle.evidence_core.specs.declared.evidence.Evidence.TheVariants.{Numbers, Linking}
-use Rattle.linking_check.specs.Links.{LinkingDiffers}
+use Rattle.evidence_core.specs.Links.{LinkingDiffers}
 
 -- the quandle that gives the colours
 abbrev pub table_of : Block → Table

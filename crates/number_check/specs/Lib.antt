@@ -4,7 +4,7 @@ pub mod Ruling
 pub use Rattle.colour_seeds.specs.Settled
 pub use Rattle.colour_seeds.specs.Seeded
 pub use Rattle.colour_numbers.specs.Numbers
-pub use Rattle.linking_check.specs.Links
+pub use Rattle.evidence_core.specs.Links
 pub use Rattle.linking_core.specs.Linking
 pub use Rattle.linking_core.specs.Component
 pub use Rattle.grid_moves.specs.Joining

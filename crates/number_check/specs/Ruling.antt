@@ -1,8 +1,8 @@
 -- What a checker of evidence by numbers answers.
 use Rattle.grid_core.specs.Diagram.{Diagram}
 use Rattle.evidence_core.specs.declared.evidence.Evidence.{Evidence}
-use Rattle.linking_check.specs.declared.cause.Ruling.{Ruling}
-use Rattle.linking_check.specs.declared.cause.Ruling.TheVariants.{Accepted, Rejected}
+use Rattle.evidence_core.specs.declared.cause.Ruling.{Ruling}
+use Rattle.evidence_core.specs.declared.cause.Ruling.TheVariants.{Accepted, Rejected}
 use Rattle.number_check.specs.Holds.{Holds}
 use Rattle.number_check.specs.Cause.{IsCause}
 

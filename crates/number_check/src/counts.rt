@@ -9,9 +9,8 @@ ghost use Rattle.number_check.specs.Cause.{IsCauseOf, settled_cause};
 
 use colour_numbers::{choices_of, numbers};
 use colour_seeds::{CountFault, MAX_CANDIDATES, SeedFault, Seeding};
-use evidence_core::{Block, Counted, LargeWeighing};
+use evidence_core::{Block, Cause, Counted, LargeWeighing, first_unequal, place_cause};
 use grid_core::Grid;
-use linking_check::{Cause, first_unequal, place_cause};
 use memory_core::OutOfMemory;
 use quandle_core::Operations;
 use std::alloc::Global;

@@ -8,9 +8,10 @@ ghost use Rattle.number_check.specs.Holds.{Holds};
 ghost use Rattle.number_check.specs.Ruling.{RulesOn};
 
 use crate::counts::cause_of_counts;
-use evidence_core::{Block, Counted, Evidence, LargeWeighing, Linked};
+use evidence_core::{
+    Block, Cause, Counted, Evidence, LargeWeighing, Linked, Ruling, cause_of_links,
+};
 use grid_core::Grid;
-use linking_check::{Cause, Ruling, cause_of_links};
 use memory_core::OutOfMemory;
 use std::alloc::Global;
 

@@ -3,7 +3,7 @@ use Rattle.std.proofs.Common.{◌≡◌, ◌∙◌, ◌<◌, ◌+◌, ◌*◌, �
 use Rattle.std.specs.List.{range_with_len}
 use Rattle.std.proofs.lemmas.Nat.{div-add-mod', mod_below, div_below}
 use Rattle.std.proofs.lemmas.List.FromFn.{fill_by_all}
-use Rattle.shadow_cocycles.specs.Cocycle.{ShadowCochain, IsShadowCocycle, value}
+use Rattle.cocycle_core.specs.ShadowCocycle.{ShadowCochain, IsShadowCocycle, value}
 
 pub parts_below : (q place : ℕ) → 0 < q → place < q * q * q → (place / q / q < q) × (place / q % q < q) × (place % q < q)
 parts_below q place some lt = (div_below (place / q) q q some (div_below place q (q * q) some lt), mod_below (place / q) q some, mod_below place q some)

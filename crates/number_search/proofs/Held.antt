@@ -21,8 +21,8 @@ use Rattle.evidence_core.specs.declared.blocks.Block.{Block}
 use Rattle.evidence_core.specs.declared.evidence.Linked.{Linked}
 use Rattle.evidence_core.specs.declared.evidence.Evidence.{Evidence}
 use Rattle.number_check.specs.Holds.{table_of, choices_by, numbers_by, AreNumbersOf, NumbersDiffer, Holds}
-use Rattle.linking_check.specs.Links.{linked_of, LinkingDiffers}
-use Rattle.linking_check.specs.Links.{are_same}
+use Rattle.evidence_core.specs.Links.{linked_of, LinkingDiffers}
+use Rattle.evidence_core.specs.Links.{are_same}
 use Rattle.number_search.specs.declared.seed_pair.SeedPair.{SeedPair}
 use Rattle.number_search.specs.Told.{ArePlansOf, fits_both, agree, tells, counted, evidence_by, first_telling, told_by_linking, told_by_blocks, told_apart}
 

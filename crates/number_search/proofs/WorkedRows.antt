@@ -3,7 +3,7 @@ use Rattle.std.proofs.Common.{◌≡◌, [], ◌∷◌, Some, None, refl, pos, n
 use Rattle.grid_core.specs.Trefoils.{right_trefoil}
 use Rattle.grid_laws.proofs.WorkedDiagrams.{unknot}
 use Rattle.quandle_core.specs.Tables.{dihedral}
-use Rattle.named_quandles.specs.declared.names.QuandleName.TheVariants as name
+use Rattle.quandle_core.specs.declared.names.QuandleName.TheVariants as name
 use Rattle.weight_laws.proofs.WorkedLinking.{hopf_link, negative_link, two_unknots}
 use Rattle.colour_seeds.specs.declared.progress.Step.TheVariants.{Seed, Rightward, Test}
 use Rattle.evidence_core.specs.declared.blocks.Block.{Block}

@@ -12,8 +12,8 @@ use Rattle.evidence_core.specs.declared.evidence.Counted.{Counted}
 use Rattle.evidence_core.specs.declared.evidence.Evidence.{Evidence}
 use Rattle.evidence_core.specs.declared.evidence.Evidence.TheVariants.{Numbers, Linking}
 use Rattle.number_check.specs.Holds.{numbers_by}
-use Rattle.linking_check.specs.Links.{linked_of}
-use Rattle.linking_check.specs.Links.{are_same}
+use Rattle.evidence_core.specs.Links.{linked_of}
+use Rattle.evidence_core.specs.Links.{are_same}
 use Rattle.number_search.specs.declared.seed_pair.SeedPair.{SeedPair}
 
 -- ---- linking numbers

@@ -1,8 +1,8 @@
 //! Shadow cocycles, copied.
 ghost use Rattle.std.specs.Prelude.{◌≡◌, ◌<◌, ◌*◌, slice_index, IfOk};
 
+use colour_weights::{ShadowCocycle, of_table};
 use evidence_core::SpelledShadow;
-use shadow_weights::{ShadowCocycle, of_table};
 use std::alloc::{AllocFailed, Global};
 
 /// The same shadow cocycle again, with its spelling.

@@ -3,10 +3,9 @@ ghost use Rattle.std.specs.Prelude.{IfOk};
 ghost use Rattle.colour_seeds.specs.Plan.{IsPlan};
 ghost use Rattle.number_search.specs.Told.{ArePlansOf};
 
-use colour_seeds::Seeding;
+use colour_seeds::{Seeding, seeds_of};
 use grid_core::Grid;
 use memory_core::OutOfMemory;
-use seed_search::seeds_of;
 use std::alloc::Global;
 
 /// Seeds of two diagrams, which contracts see as a plan of each. They serve all blocks.

@@ -1,7 +1,7 @@
 //! Evidence by numbers, found.
 ghost use Rattle.std.specs.Prelude.{◌≡◌, ◌∷◌, [], count_by, IfOk, IfSome};
 ghost use Rattle.grid_moves.specs.Joining.{Equivalent};
-ghost use Rattle.linking_check.specs.declared.cause.Ruling.TheVariants.{Accepted};
+ghost use Rattle.evidence_core.specs.declared.cause.Ruling.TheVariants.{Accepted};
 ghost use Rattle.number_check.specs.Ruling.{RulesOn};
 ghost use Rattle.number_search.specs.Told.{ArePlansOf, fits_both, counted, evidence_by, told_by_linking, told_by_blocks, told_apart};
 

@@ -1,25 +1,72 @@
--- What may stand behind the quandle of a block: a cocycle of this quandle.
-use Rattle.std.specs.Prelude.{List, codes, Option, Some, None, Result, Ok, if◌then◌else◌}
-use Rattle.quandle_core.specs.Quandle.{Table}
-use Rattle.text_lines.specs.Lines.{Text, begins}
+-- Blocks as a text: a quandle item, and perhaps a cocycle of this quandle behind it.
+use Rattle.std.specs.Prelude.{ℕ, zero, suc, List, [], ◌∷◌, map, codes, None, Result, Ok, Err, if◌then◌else◌}
+use Rattle.quandle_core.specs.declared.operations.TheConstants.{MAX_LARGE_ORDER}
+use Rattle.text_lines.specs.Lines.{Text, text_of, begins}
+use Rattle.quandle_core.specs.Names.{NamedQuandle}
 use Rattle.text_items.specs.declared.fault.TextFault.{TextFault}
-use Rattle.text_items.specs.Reading.{◌>>=◌}
-use Rattle.diagram_items.specs.Cocycles.{cocycle_item}
-use Rattle.shadow_text.specs.Shadows.{shadow_item}
-use Rattle.evidence_core.specs.declared.blocks.LargeWeighing.{LargeWeighing}
-use Rattle.evidence_core.specs.declared.blocks.LargeWeighing.TheVariants.{Strands, Regions}
+use Rattle.text_items.specs.declared.fault.TextFault.TheVariants.{Limit}
+use Rattle.text_items.specs.declared.quandles.TheConstants.{MAX_QUANDLES}
+use Rattle.text_items.specs.Reading.{◌>>=◌, next_line, text_end, word}
+use Rattle.text_items.specs.Quandles.{written_at, quandle_at, built_in}
+use Rattle.evidence_core.specs.declared.blocks.Block.{Block}
+use Rattle.number_text.specs.BlockCocycles.{cocycle_or_none}
 
-abbrev pub some_strands : Table → Text → Result (Option LargeWeighing × Text) TextFault
-some_strands quandle text = do
-  cocycle ← cocycle_item quandle text
-  Ok (Some (Strands cocycle.0), cocycle.1)
+-- a quandle, of an order of at most the first number where it is by a table
+unfoldable pub block_quandle : ℕ → Text → Result (NamedQuandle × Text) TextFault
+block_quandle most text = do
+  line ← next_line text
+  rest ← word (codes "quandle") line.0
+  quandle_at most rest line.1
 
-abbrev pub some_regions : Table → Text → Result (Option LargeWeighing × Text) TextFault
-some_regions quandle text = do
-  shadow ← shadow_item quandle text
-  Ok (Some (Regions shadow.0), shadow.1)
+-- the same, and perhaps a cocycle of it
+unfoldable pub block_item : ℕ → Text → Result (Block × Text) TextFault
+block_item most text = do
+  quandle ← block_quandle most text
+  cocycle ← cocycle_or_none quandle.0.table quandle.1
+  Ok (record { listed = quandle.0; cocycle = cocycle.0 }, cocycle.1)
 
--- a 2-cocycle of the quandle where a line that begins with `weight` is next, a shadow cocycle where one that begins with `shadow` is, else nothing
-unfoldable pub cocycle_or_none : Table → Text → Result (Option LargeWeighing × Text) TextFault
-cocycle_or_none quandle text =
-    if begins (codes "weight") text then some_strands quandle text else if begins (codes "shadow") text then some_regions quandle text else Ok (None, text)
+-- ---- a list of blocks
+
+-- one block more than a text may have: the form of its first line is tried before the limit
+unfoldable pub surplus_block : Text → Result (List Block × Text) TextFault
+surplus_block text = do
+  line ← next_line text
+  rest ← word (codes "quandle") line.0
+  name ← written_at rest
+  Err (Limit line.0.number)
+
+-- all blocks up to the first line behind one that does not begin with `quandle`, of which there may be as many as the second number
+unfoldable pub blocks : ℕ → ℕ → Text → Result (List Block × Text) TextFault
+blocks most zero text = if begins (codes "quandle") text then surplus_block text else Ok ([], text)
+blocks most (suc room) text = if begins (codes "quandle") text then (do
+  first ← block_item most text
+  others ← blocks most room first.1
+  Ok (first.0 ∷ others.0, others.1)) else Ok ([], text)
+
+-- a quandle without a cocycle
+abbrev pub alone : NamedQuandle → Block
+alone quandle = record { listed = quandle; cocycle = None }
+
+-- the blocks, or the built-in quandles, each alone, where there are none
+abbrev pub or_built_in : List Block → List Block
+or_built_in [] = map alone built_in
+or_built_in (block ∷ blocks) = block ∷ blocks
+
+-- the same of at most MAX_QUANDLES, of orders of at most MAX_LARGE_ORDER
+unfoldable pub block_list : Text → Result (List Block × Text) TextFault
+block_list text = do
+  listed ← blocks MAX_LARGE_ORDER MAX_QUANDLES text
+  Ok (or_built_in listed.0, listed.1)
+
+-- ---- a text of blocks alone
+
+-- the blocks, of orders of at most MAX_LARGE_ORDER, and nothing behind them
+unfoldable pub blocks_in : Text → Result (List Block) TextFault
+blocks_in text = do
+  listed ← blocks MAX_LARGE_ORDER MAX_QUANDLES text
+  end ← text_end listed.1
+  Ok listed.0
+
+-- the same of bytes
+abbrev pub blocks_of : List ℕ → Result (List Block) TextFault
+blocks_of bytes = blocks_in (text_of bytes)

@@ -19,7 +19,7 @@ use Rattle.evidence_core.specs.declared.evidence.Linked.{Linked}
 use Rattle.evidence_core.specs.declared.evidence.Evidence.{Evidence}
 use Rattle.evidence_core.specs.declared.evidence.Evidence.TheVariants.{Numbers, Linking}
 use Rattle.number_text.specs.declared.evidence_items.TheConstants.{THIRD_VERSION}
-use Rattle.number_text.specs.Blocks.{cocycle_or_none}
+use Rattle.number_text.specs.BlockCocycles.{cocycle_or_none}
 
 -- ---- the numbers of colourings
 

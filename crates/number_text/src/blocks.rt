@@ -1,45 +1,120 @@
-//! What may stand behind the quandle of a block: a cocycle of it, which may look at regions too.
-ghost use Rattle.std.specs.Prelude.{◌≡◌};
+//! Blocks, one and several: a quandle, and perhaps a cocycle of it, which may look at regions too.
+ghost use Rattle.std.specs.Prelude.{◌≡◌, ◌≤◌, map, IfOk, IfErr};
+ghost use Rattle.quandle_core.specs.declared.operations.TheConstants.{MAX_LARGE_ORDER};
 ghost use Rattle.text_items.specs.Reading.{Gives};
-ghost use Rattle.number_text.specs.Blocks.{cocycle_or_none};
+ghost use Rattle.text_items.specs.Quandles.{built_in};
+ghost use Rattle.text_items.specs.declared.fault.TextFault.TheVariants as fault;
+ghost use Rattle.number_text.specs.Blocks.{alone, block_quandle, block_item, surplus_block, blocks, block_list, blocks_of};
 
-use diagram_items::large_cocycle_item;
-use evidence_core::LargeWeighing;
-use quandle_core::Operations;
-use shadow_text::shadow_item;
+use crate::block_cocycles::perhaps_cocycle;
+use evidence_core::Block;
+use memory_core::Items;
+use quandle_core::MAX_LARGE_ORDER;
 use std::alloc::Global;
-use text_items::TextFault;
+use text_items::reading::{next_line, text_end, word};
+use text_items::{MAX_QUANDLES, TextFault, built_in, large_quandle_at, written_at};
 use text_lines::Lines;
-use verdict_core::LargeListed;
+use verdict_core::{LargeListed, Listed};
 
-/// A 2-cocycle of a quandle where a line that begins with `weight` is next; a shadow cocycle where it begins with `shadow`; else nothing.
-#[tactic(auto, unfolding(crate::specs::Blocks::cocycle_or_none))]
-fn cocycle_or_none(
-    alloc: Global,
-    quandle: &Operations,
-    lines: &mut Lines,
-) -> Result<Option<LargeWeighing>, TextFault>
-    ensures { Gives (λ c. (c, lines.new)) result (cocycle_or_none quandle.now lines.old) }
+/// A quandle, of an order of at most `most` where it is by a table.
+#[tactic(auto, unfolding(crate::specs::Blocks::block_quandle))]
+fn block_quandle(alloc: Global, most: usize, lines: &mut Lines) -> Result<LargeListed, TextFault>
+    requires { most ≤ MAX_LARGE_ORDER }
+    ensures { Gives (λ q. (q, lines.new)) result (block_quandle most lines.old) }
 {
-    if lines.begins(b"weight") {
-        let cocycle = large_cocycle_item(alloc, quandle, lines)?;
-        return Ok(Some(LargeWeighing::Strands(cocycle)));
-    }
-    if lines.begins(b"shadow") {
-        let shadow = shadow_item(alloc, quandle, lines)?;
-        return Ok(Some(LargeWeighing::Regions(shadow)));
-    }
-    Ok(None)
+    let mut line = next_line(lines)?;
+    word(&mut line, b"quandle")?;
+    large_quandle_at(alloc, most, &mut line, lines)
 }
 
-/// The same of the quandle of a block.
-pub fn perhaps_cocycle(
-    alloc: Global,
-    listed: &LargeListed,
-    lines: &mut Lines,
-) -> Result<Option<LargeWeighing>, TextFault>
-    ensures { Gives (λ c. (c, lines.new)) result (cocycle_or_none listed.now.table lines.old) }
+/// A quandle, of an order of at most `most` where it is by a table, and behind it perhaps a cocycle of the quandle.
+/// Else the fault of the first bad line, or want of memory.
+#[tactic(auto, unfolding(crate::specs::Blocks::block_item))]
+pub fn block_item(alloc: Global, most: usize, lines: &mut Lines) -> Result<Block, TextFault>
+    requires { most ≤ MAX_LARGE_ORDER }
+    ensures { Gives (λ b. (b, lines.new)) result (block_item most lines.old) }
 {
-    let operations = listed.operations();
-    cocycle_or_none(alloc, &operations, lines)
+    let listed = block_quandle(alloc, most, lines)?;
+    let cocycle = perhaps_cocycle(alloc, &listed, lines)?;
+    Ok(Block { listed, cocycle })
+}
+
+/// The fault of one block more than a text may have.
+#[tactic(auto, unfolding(crate::specs::Blocks::surplus_block))]
+fn surplus_block(lines: &mut Lines) -> Result<Vec<Block>, TextFault>
+    ensures { Gives (λ v. (v.items, lines.new)) result (surplus_block lines.old) }
+{
+    let mut line = next_line(lines)?;
+    let at = line.number();
+    word(&mut line, b"quandle")?;
+    let _name = written_at(&mut line)?;
+    Err(TextFault::Limit { line: at })
+}
+
+/// All blocks up to the first line behind one that does not begin with `quandle`, of orders of at most `most` where they are by tables.
+fn blocks(alloc: Global, most: usize, lines: &mut Lines) -> Result<Vec<Block>, TextFault>
+    requires { most ≤ MAX_LARGE_ORDER }
+    ensures { Gives (λ v. (v.items, lines.new)) result (blocks most MAX_QUANDLES lines.old) }
+{
+    let mut blocks = Vec::new(alloc);
+    for _ in 0..MAX_QUANDLES {
+        if !lines.begins(b"quandle") {
+            return Ok(blocks);
+        }
+        blocks.push(block_item(alloc, most, lines)?)?;
+    }
+    if lines.begins(b"quandle") {
+        return surplus_block(lines);
+    }
+    Ok(blocks)
+}
+
+/// The blocks that stand for an empty list: the built-in quandles, each alone.
+fn built_in_blocks(alloc: Global) -> Result<Vec<Block>, TextFault>
+    ensures ok { IfOk result (λ v. v.items ≡ map alone built_in) }
+    ensures err { IfErr result (λ e. e ≡ fault.OutOfMemory) }
+{
+    let quandles = built_in(alloc)?;
+    let mut blocks = Vec::new(alloc);
+    for listed in quandles.as_slice() {
+        blocks.push(alone(alloc, listed)?)?;
+    }
+    Ok(blocks)
+}
+
+/// A quandle without a cocycle.
+fn alone(alloc: Global, listed: &Listed) -> Result<Block, TextFault>
+    ensures ok { IfOk result (λ b. b ≡ alone listed.now) }
+    ensures err { IfErr result (λ e. e ≡ fault.OutOfMemory) }
+{
+    Ok(Block {
+        listed: LargeListed::listed(alloc, listed)?,
+        cocycle: None,
+    })
+}
+
+/// All blocks, of orders of at most `MAX_LARGE_ORDER` where they are by tables, or the built-in quandles where there are none.
+#[tactic(auto, unfolding(crate::specs::Blocks::block_list))]
+pub(crate) fn block_list(alloc: Global, lines: &mut Lines) -> Result<Items<Block>, TextFault>
+    ensures { Gives (λ b. (b, lines.new)) result (block_list lines.old) }
+{
+    let blocks = blocks(alloc, MAX_LARGE_ORDER, lines)?;
+    if blocks.is_empty() {
+        return Ok(Items::from_vec(built_in_blocks(alloc)?));
+    }
+    Ok(Items::from_vec(blocks))
+}
+
+/// All blocks of a text of blocks alone, at most `MAX_QUANDLES`, of orders of at most `MAX_LARGE_ORDER` where they are by tables: none stand for
+/// an empty list.
+///
+/// Else the fault of the first bad line, or want of memory.
+#[tactic(auto, unfolding(crate::specs::Blocks::blocks_in))]
+pub fn read_blocks(alloc: Global, bytes: &[u8]) -> Result<Items<Block>, TextFault>
+    ensures { Gives (λ b. b) result (blocks_of bytes.now) }
+{
+    let mut lines = Lines::new(bytes);
+    let blocks = blocks(alloc, MAX_LARGE_ORDER, &mut lines)?;
+    text_end(&mut lines)?;
+    Ok(Items::from_vec(blocks))
 }

@@ -3,7 +3,7 @@ ghost use Rattle.std.specs.Prelude.{◌≡◌};
 ghost use Rattle.text_items.specs.Reading.{Gives};
 ghost use Rattle.number_text.specs.Evidence.{numbers_evidence, linking_evidence, evidence_at, head_at, third_item, count_of};
 
-use crate::blocks::perhaps_cocycle;
+use crate::block_cocycles::perhaps_cocycle;
 use crate::number_lines::{counted_item, linked_item};
 use evidence_core::{Block, Evidence, LargeWeighing};
 use quandle_core::MAX_LARGE_ORDER;

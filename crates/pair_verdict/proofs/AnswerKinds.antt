@@ -16,7 +16,7 @@ use Rattle.search_book.specs.declared.event.End.TheVariants.{Met, Spent, Exhaust
 use Rattle.search_book.specs.State.{State}
 use Rattle.verdict_core.specs.Evidence.{IsTidyVerdict, Claims, Holds, TellsApart, HasEvidence}
 use Rattle.cert_check.proofs.ToldApart.{told_apart}
-use Rattle.named_quandles.specs.Names.{NamedQuandle}
+use Rattle.quandle_core.specs.Names.{NamedQuandle}
 use Rattle.verdict_core.specs.declared.verdict.Verdict.{Verdict}
 use Rattle.verdict_core.specs.declared.verdict.Verdict.TheVariants.{Equal, Different, UnknownBudget, UnknownExhausted}
 use Rattle.next_moves.specs.Reach.{IsReached, HasMembers, HasMoreMembers}

@@ -8,7 +8,7 @@ use Rattle.grid_core.specs.Diagram.{Diagram}
 use Rattle.colour_list.specs.Fits.{fits}
 use Rattle.colour_list.specs.Listing.{colourings}
 use Rattle.verdict_core.specs.Evidence.{Holds, IsTidyVerdict}
-use Rattle.named_quandles.specs.Names.{NamedQuandle}
+use Rattle.quandle_core.specs.Names.{NamedQuandle}
 use Rattle.verdict_core.specs.declared.verdict.Verdict.{Verdict}
 use Rattle.pair_verdict.specs.Separates.{separates, first_separating, IsDifferentBy, IsSeparation}
 

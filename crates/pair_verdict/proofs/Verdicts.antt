@@ -6,7 +6,7 @@ use Rattle.grid_moves.proofs.Within.{within_joins}
 use Rattle.next_moves.specs.Reach.{IsReached, HasMembers, HasMoreMembers}
 use Rattle.mono_simplify.specs.declared.simplified.Simplified.{Simplified}
 use Rattle.verdict_core.specs.Evidence.{Claims, Holds, HasEvidence}
-use Rattle.named_quandles.specs.Names.{NamedQuandle}
+use Rattle.quandle_core.specs.Names.{NamedQuandle}
 use Rattle.verdict_core.specs.declared.verdict.Verdict.{Verdict}
 use Rattle.verdict_core.specs.declared.verdict.Verdict.TheVariants.{Equal, Different, UnknownBudget, UnknownExhausted}
 use Rattle.search_book.specs.declared.problem.Problem.{Problem}

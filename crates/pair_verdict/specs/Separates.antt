@@ -6,7 +6,7 @@ use Rattle.grid_core.specs.Diagram.{Diagram}
 use Rattle.quandle_core.specs.Quandle.{Table}
 use Rattle.colour_list.specs.Fits.{fits}
 use Rattle.colour_list.specs.Listing.{colourings, lists_of}
-use Rattle.named_quandles.specs.Names.{NamedQuandle}
+use Rattle.quandle_core.specs.Names.{NamedQuandle}
 use Rattle.verdict_core.specs.declared.verdict.Verdict.{Verdict}
 use Rattle.verdict_core.specs.declared.verdict.Verdict.TheVariants.{Different}
 

@@ -5,7 +5,7 @@ ghost use Rattle.grid_core.specs.Diagram.{Diagram, size};
 ghost use Rattle.grid_moves.specs.declared.step.Move.{Move};
 ghost use Rattle.grid_moves.specs.Joining.{JoinsWithin, WithinCap};
 ghost use Rattle.quandle_core.specs.Quandle.{IsQuandle};
-ghost use Rattle.named_quandles.specs.Names.{NamedQuandle};
+ghost use Rattle.quandle_core.specs.Names.{NamedQuandle};
 ghost use Rattle.verdict_core.specs.declared.verdict.Verdict.{Verdict};
 ghost use Rattle.verdict_core.specs.Evidence.{Claims, Holds, HasEvidence, IsTidyVerdict};
 ghost use Rattle.next_moves.specs.Reach.{IsReached, HasMembers, HasMoreMembers};

@@ -8,8 +8,8 @@ use Rattle.grid_moves.specs.Joining.{Joins}
 use Rattle.grid_moves.proofs.OneResult.{step_once}
 use Rattle.quandle_core.specs.Quandle.{Table, IsQuandle}
 use Rattle.colour_rows.specs.Colouring.{IsColouring}
-use Rattle.carried_colours.proofs.Steps.{step_carries}
-use Rattle.carried_colours.specs.Carried.{carried}
+use Rattle.colour_laws.proofs.Steps.{step_carries}
+use Rattle.colour_laws.specs.Carried.{carried}
 use Rattle.plain_jobs.specs.Jobs.Replay.{Carries}
 
 carries_push : (t : Table) (moves : List Move) (move : Move) (d e f : Diagram) (colours last : List ℕ)

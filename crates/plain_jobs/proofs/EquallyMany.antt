@@ -5,7 +5,7 @@ use Rattle.quandle_core.specs.Bijection.{IsBijection}
 use Rattle.quandle_core.proofs.Lengths.{equal_lengths}
 use Rattle.colour_rows.specs.Colouring.{IsColouring}
 use Rattle.colour_list.specs.Listing.{colourings}
-use Rattle.carried_colours.proofs.Listings.{listing}
+use Rattle.colour_laws.proofs.Listings.{listing}
 use Rattle.braid_core.specs.Braid.{Word, IsBraid}
 use Rattle.braid_core.specs.FixedPoints.{fixed_points, IsFixedPoint}
 use Rattle.braid_closure.specs.Closure.{closure, at_feet}

@@ -6,17 +6,17 @@ use Rattle.verdict_core.specs.declared.problem.ProblemText.{ProblemText}
 use Rattle.knot_text.specs.declared.shapes.ReplayText.{ReplayText}
 use Rattle.verdict_core.specs.declared.verdict.Verdict.{Verdict}
 use Rattle.text_items.specs.Reading.{◌>>=◌, text_end}
-use Rattle.diagram_items.specs.Moves.{moves_item}
+use Rattle.verdict_text.specs.Moves.{moves_item}
 use Rattle.verdict_text.specs.Verdicts.{verdict_item}
 use Rattle.knot_text.specs.Colours.{coloured}
 use Rattle.verdict_core.specs.Diagrams.{grid_of, columns}
-use Rattle.diagram_items.specs.Diagrams.{diagram_item}
+use Rattle.verdict_text.specs.Diagrams.{diagram_item}
 use Rattle.verdict_text.specs.Problems.{problem_item, check_in, check_of}
 use Rattle.knot_text.specs.Shapes.{replay_in, replay_of}
 use Rattle.number_text.specs.Evidence.{third_item}
-use Rattle.certificate_text.specs.declared.said.Said.{Said}
-use Rattle.certificate_text.specs.declared.said.Said.TheVariants as said
-use Rattle.certificate_text.specs.Said.{has_third, third_in, third_of, with_verdict, said_of}
+use Rattle.number_text.specs.declared.said.Said.{Said}
+use Rattle.number_text.specs.declared.said.Said.TheVariants as said
+use Rattle.number_text.specs.Said.{has_third, third_in, third_of, with_verdict, said_of}
 use Rattle.knot_text.proofs.Steady.{bind_ok, ok_is}
 use Rattle.knot_text.proofs.GridsRead.{diagram_is, problem_grids}
 

@@ -9,7 +9,7 @@ use Rattle.text_items.specs.declared.quandles.TheConstants.{MAX_QUANDLES}
 use Rattle.text_items.specs.declared.quandles.Written.{Written}
 use Rattle.text_items.specs.Reading.{◌>>=◌, next_line, word, text_end}
 use Rattle.text_items.specs.Quandles.{written_at}
-use Rattle.diagram_items.specs.Diagrams.{diagram_item}
+use Rattle.verdict_text.specs.Diagrams.{diagram_item}
 use Rattle.knot_text.specs.FirstBadLine.{FailsFirst}
 use Rattle.knot_text.proofs.Steady.{Anywhere}
 use Rattle.knot_text.proofs.AtLine.{At, at_limit, at_bind, at_same, word_at, word_keeps}
@@ -18,9 +18,9 @@ use Rattle.knot_text.proofs.Choices.{choice, choice_fails, same_fails}
 use Rattle.knot_text.proofs.FirstFault.{anywhere_seen, then_fails, end_fails}
 use Rattle.knot_text.proofs.ShapesFail.{diagram_steady}
 use Rattle.evidence_core.specs.declared.blocks.Block.{Block}
-use Rattle.block_text.specs.declared.numbered.NumbersText.{NumbersText}
-use Rattle.block_text.specs.Blocks.{block_item, surplus_block, blocks, or_built_in, block_list, blocks_in}
-use Rattle.block_text.specs.Numbered.{numbers_in}
+use Rattle.number_text.specs.declared.numbered.NumbersText.{NumbersText}
+use Rattle.number_text.specs.Blocks.{block_item, surplus_block, blocks, or_built_in, block_list, blocks_in}
+use Rattle.number_text.specs.Numbered.{numbers_in}
 use Rattle.plain_jobs.proofs.TableFails.{line_fails, block_fails}
 
 abbrev given : List Block → Text → Result (List Block × Text) TextFault

@@ -10,13 +10,13 @@ use Rattle.text_items.specs.declared.fault.TextFault.{TextFault}
 use Rattle.text_items.specs.declared.fault.TextFault.TheVariants as bad
 use Rattle.verdict_core.specs.declared.problem.ProblemText.{ProblemText}
 use Rattle.verdict_core.specs.declared.verdict.Verdict.{Verdict}
-use Rattle.named_quandles.specs.Names.{NamedQuandle}
+use Rattle.quandle_core.specs.Names.{NamedQuandle}
 use Rattle.knot_text.specs.Printed.{grid_text}
 use Rattle.verdict_core.specs.Diagrams.{grid_of}
 use Rattle.knot_text.specs.Shapes.{replay_in, colour_in, close_in, lone_diagram_in}
 use Rattle.knot_text.specs.Pairs.{pair_in}
 use Rattle.knot_text.specs.BraidChecks.{braidcheck_in}
-use Rattle.block_text.specs.Weighed.{weighed_in}
+use Rattle.number_text.specs.Weighed.{weighed_in}
 use Rattle.knot_text.specs.FirstBadLine.{FailsFirst}
 use Rattle.knot_text.proofs.Steady.{ok_is}
 use Rattle.knot_text.proofs.ShapesFail.{replay_fails, colour_fails, close_fails, lone_diagram_fails, pair_fails}
@@ -28,21 +28,21 @@ use Rattle.braid_moves.specs.Ruling.{ruling}
 use Rattle.cert_check.specs.declared.ruling.Ruling.{Ruling}
 use Rattle.cert_check.specs.declared.ruling.Ruling.TheVariants.{Accepted, Rejected}
 use Rattle.cert_check.proofs.Rulings.{ruled_once, some_ruling}
-use Rattle.certificate_text.specs.declared.said.Said.{Said}
-use Rattle.certificate_text.specs.declared.said.Said.TheVariants as said
-use Rattle.certificate_text.specs.Said.{said_of}
-use Rattle.linking_check.specs.declared.cause.Ruling.{Ruling as NumberRuling}
-use Rattle.linking_check.specs.declared.cause.Ruling.TheVariants as numbers
+use Rattle.number_text.specs.declared.said.Said.{Said}
+use Rattle.number_text.specs.declared.said.Said.TheVariants as said
+use Rattle.number_text.specs.Said.{said_of}
+use Rattle.evidence_core.specs.declared.cause.Ruling.{Ruling as NumberRuling}
+use Rattle.evidence_core.specs.declared.cause.Ruling.TheVariants as numbers
 use Rattle.verdict_laws.proofs.OneRuling.{one_ruling}
 use Rattle.verdict_laws.proofs.SomeRuling.{some_ruling as some_number_ruling}
 use Rattle.verdict_laws.proofs.OneTableRuling.{one_table_ruling}
 use Rattle.verdict_laws.proofs.SomeTableRuling.{some_table_ruling}
-use Rattle.table_text.specs.declared.tables.KnotTable.{KnotTable}
-use Rattle.table_text.specs.Tables.{starts_table, table_of}
+use Rattle.table_check.specs.declared.tables.KnotTable.{KnotTable}
+use Rattle.table_check.specs.Tables.{starts_table, table_of}
 use Rattle.table_check.specs.declared.cause.TableRuling.{TableRuling}
 use Rattle.table_check.specs.declared.cause.TableRuling.TheVariants as tables
-use Rattle.table_job.specs.Lines.{table_ruling_line}
-use Rattle.table_job.specs.Answer.{table_ruling_status, AnswersTable}
+use Rattle.table_check.specs.Lines.{table_ruling_line}
+use Rattle.table_check.specs.Answer.{table_ruling_status, AnswersTable}
 use Rattle.code_text.specs.declared.code_reading.CodeText.{CodeText}
 use Rattle.code_text.specs.declared.refusal.TextRefusal.{TextRefusal}
 use Rattle.code_text.specs.declared.refusal.TextRefusal.TheVariants.{Rows, Gauss, Columns, Lost}

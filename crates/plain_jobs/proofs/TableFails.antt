@@ -5,7 +5,7 @@ use Rattle.arrayvec.specs.ArrayVec.{ArrayVec}
 use Rattle.cocycle_core.specs.Cocycle.{Cochain}
 use Rattle.quandle_core.specs.declared.operations.TheConstants.{MAX_LARGE_ORDER}
 use Rattle.text_lines.specs.Lines.{NumberedLine, Text, first_starts}
-use Rattle.named_quandles.specs.Names.{NamedQuandle}
+use Rattle.quandle_core.specs.Names.{NamedQuandle}
 use Rattle.verdict_core.specs.declared.diagrams.Diagram.{Diagram}
 use Rattle.verdict_core.specs.declared.problem.ProblemText.{ProblemText}
 use Rattle.grid_moves.specs.declared.step.Move.{Move}
@@ -14,9 +14,9 @@ use Rattle.text_items.specs.declared.quandles.TheConstants.{MAX_QUANDLES}
 use Rattle.text_items.specs.declared.reading.TheConstants.{MAX_NUMBER}
 use Rattle.text_items.specs.Reading.{◌>>=◌, in_turn, next_line, word, number, last_number, last_count, at_most, text_end}
 use Rattle.text_items.specs.Quandles.{quandle_at}
-use Rattle.diagram_items.specs.Cocycles.{cocycle_item}
-use Rattle.diagram_items.specs.Diagrams.{diagram_item}
-use Rattle.diagram_items.specs.Moves.{moves_item}
+use Rattle.verdict_text.specs.Cocycles.{cocycle_item}
+use Rattle.verdict_text.specs.Diagrams.{diagram_item}
+use Rattle.verdict_text.specs.Moves.{moves_item}
 use Rattle.knot_text.specs.FirstBadLine.{lines_then, FailsFirst}
 use Rattle.knot_text.proofs.Steady.{Anywhere, Steady, then_read, then_steady, pure_steady, same_steady, turns_steady}
 use Rattle.knot_text.proofs.AtLine.{At, at_ok, at_malformed, at_bind, at_cond, at_same, line_alone, word_at, word_keeps, number_at, number_keeps, last_number_at, last_number_keeps, last_count_at, at_most_at}
@@ -27,24 +27,24 @@ use Rattle.knot_text.proofs.Choices.{by_next, choice, IsDue, IsOfNextLine, choic
 use Rattle.knot_text.proofs.FirstFault.{anywhere_seen, then_fails, end_fails}
 use Rattle.knot_text.proofs.ShapesFail.{diagram_steady}
 use Rattle.evidence_core.specs.declared.shadows.SpelledShadow.{SpelledShadow}
-use Rattle.shadow_text.specs.Shadows.{shadow_item}
+use Rattle.number_text.specs.Shadows.{shadow_item}
 use Rattle.certificates.proofs.ShadowSteady.{shadow_steady}
 use Rattle.certificates.proofs.EvidenceFails.{seeds_at_at, numbers_at_at, said_fails}
-use Rattle.certificate_text.specs.declared.said.Said.{Said}
-use Rattle.certificate_text.specs.Said.{said_in}
+use Rattle.number_text.specs.declared.said.Said.{Said}
+use Rattle.number_text.specs.Said.{said_in}
 use Rattle.evidence_core.specs.declared.blocks.LargeWeighing.{LargeWeighing}
 use Rattle.evidence_core.specs.declared.blocks.LargeWeighing.TheVariants.{Strands, Regions}
 use Rattle.evidence_core.specs.declared.blocks.Block.{Block}
-use Rattle.number_text.specs.Blocks.{cocycle_or_none}
+use Rattle.number_text.specs.BlockCocycles.{cocycle_or_none}
 use Rattle.number_text.specs.Evidence.{seeds_at, numbers_at, count_of}
-use Rattle.block_text.specs.Blocks.{block_quandle, block_item}
-use Rattle.table_text.specs.declared.classes.Class.{Class}
-use Rattle.table_text.specs.declared.rows.OpenPair.{OpenPair}
-use Rattle.table_text.specs.declared.rows.Row.{Row}
-use Rattle.table_text.specs.declared.tables.KnotTable.{KnotTable}
-use Rattle.table_text.specs.declared.tables.TheConstants.{FOURTH_VERSION}
-use Rattle.table_text.specs.Tables.{how_many, blocks_item, numbers_item, wide_item, count_item, counts_item, class_item, classes_item}
-use Rattle.table_text.specs.Tables.{pair_at, pair_item, left_item, class_at, row_item, rows_item, starts_table, fourth_at, table_in}
+use Rattle.number_text.specs.Blocks.{block_quandle, block_item}
+use Rattle.table_check.specs.declared.class_items.Class.{Class}
+use Rattle.table_check.specs.declared.row_items.OpenPair.{OpenPair}
+use Rattle.table_check.specs.declared.row_items.Row.{Row}
+use Rattle.table_check.specs.declared.tables.KnotTable.{KnotTable}
+use Rattle.table_check.specs.declared.tables.TheConstants.{FOURTH_VERSION}
+use Rattle.table_check.specs.Tables.{how_many, blocks_item, numbers_item, wide_item, count_item, counts_item, class_item, classes_item}
+use Rattle.table_check.specs.Tables.{pair_at, pair_item, left_item, class_at, row_item, rows_item, starts_table, fourth_at, table_in}
 use Rattle.check_job.specs.Input.{as_pair, as_table, certificate_in}
 
 -- ---- a line, and what follows it

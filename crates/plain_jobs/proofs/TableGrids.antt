@@ -7,17 +7,17 @@ use Rattle.text_lines.specs.Lines.{Text, text_of}
 use Rattle.text_items.specs.declared.fault.TextFault.{TextFault}
 use Rattle.text_items.specs.Reading.{in_turn, next_line, text_end}
 use Rattle.verdict_core.specs.Diagrams.{grid_of}
-use Rattle.diagram_items.specs.Diagrams.{diagram_item}
-use Rattle.diagram_items.specs.Moves.{moves_item}
+use Rattle.verdict_text.specs.Diagrams.{diagram_item}
+use Rattle.verdict_text.specs.Moves.{moves_item}
 use Rattle.knot_text.proofs.GridsRead.{diagram_is}
 use Rattle.knot_text.proofs.Says.{Says, says_ok, says_bind}
 use Rattle.certificates.proofs.Earlier.{anything}
 use Rattle.evidence_core.specs.declared.blocks.Block.{Block}
 use Rattle.number_text.specs.Evidence.{seeds_at}
-use Rattle.table_text.specs.declared.classes.Class.{Class}
-use Rattle.table_text.specs.declared.rows.Row.{Row}
-use Rattle.table_text.specs.declared.tables.KnotTable.{KnotTable}
-use Rattle.table_text.specs.Tables.{how_many, blocks_item, counts_item, class_item, classes_item, left_item, class_at, row_item, rows_item, fourth_at, table_in, table_of}
+use Rattle.table_check.specs.declared.class_items.Class.{Class}
+use Rattle.table_check.specs.declared.row_items.Row.{Row}
+use Rattle.table_check.specs.declared.tables.KnotTable.{KnotTable}
+use Rattle.table_check.specs.Tables.{how_many, blocks_item, counts_item, class_item, classes_item, left_item, class_at, row_item, rows_item, fourth_at, table_in, table_of}
 
 turns_say : {A : Type 0} (P : A → Type 0) (item : Text → Result (A × Text) TextFault) (count : ℕ) (text : Text)
     → ((t : Text) → Says (item t) (λ x. P x.0)) → Says (in_turn item count text) (λ xs. All P xs.0)

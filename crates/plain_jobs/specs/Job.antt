@@ -9,10 +9,10 @@ use Rattle.knot_text.specs.declared.braid_checks.BraidCheckText.{BraidCheckText}
 use Rattle.knot_text.specs.Shapes.{replay_of, colour_of, close_of, lone_diagram_of}
 use Rattle.knot_text.specs.Pairs.{pair_of}
 use Rattle.knot_text.specs.BraidChecks.{braidcheck_of}
-use Rattle.block_text.specs.declared.numbered.NumbersText.{NumbersText}
-use Rattle.block_text.specs.Numbered.{numbers_of}
-use Rattle.block_text.specs.declared.weighed.WeighedText.{WeighedText}
-use Rattle.block_text.specs.Weighed.{weighed_of}
+use Rattle.number_text.specs.declared.numbered.NumbersText.{NumbersText}
+use Rattle.number_text.specs.Numbered.{numbers_of}
+use Rattle.number_text.specs.declared.weighed.WeighedText.{WeighedText}
+use Rattle.number_text.specs.Weighed.{weighed_of}
 use Rattle.code_text.specs.declared.code_reading.CodeText.{CodeText}
 use Rattle.code_text.specs.CodeReading.{code_text_of}
 use Rattle.reply_text.specs.declared.reply.PlainReply.{PlainReply}

@@ -6,5 +6,5 @@ pub mod Jobs
 pub mod Job
 pub mod Truth
 pub use Rattle.knot_ports.specs.Status
-pub use Rattle.certificate_text.specs.Said
+pub use Rattle.number_text.specs.Said
 pub use Rattle.check_job.specs.Input

@@ -6,8 +6,8 @@ use Rattle.verdict_core.specs.Diagrams.{grid_of}
 use Rattle.knot_text.specs.Pairs.{pair_of}
 use Rattle.knot_text.specs.declared.braid_checks.BraidCheckText.{BraidCheckText}
 use Rattle.knot_text.specs.BraidChecks.{braidcheck_of}
-use Rattle.block_text.specs.declared.weighed.WeighedText.{WeighedText}
-use Rattle.block_text.specs.Weighed.{weighed_of}
+use Rattle.number_text.specs.declared.weighed.WeighedText.{WeighedText}
+use Rattle.number_text.specs.Weighed.{weighed_of}
 use Rattle.code_text.specs.TextGrid.{IsTrueDrawing}
 use Rattle.check_job.specs.Truth.{IsCertificate}
 use Rattle.knot_words.specs.declared.job.PlainJob.{PlainJob}

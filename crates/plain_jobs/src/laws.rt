@@ -9,11 +9,11 @@ ghost use Rattle.braid_moves.specs.declared.ruling.BraidRuling.TheVariants.{Acce
 ghost use Rattle.braid_moves.specs.Ruling.{ruling};
 ghost use Rattle.verdict_core.specs.declared.problem.ProblemText.{ProblemText};
 ghost use Rattle.knot_text.specs.FirstBadLine.{FailsFirst};
-ghost use Rattle.certificate_text.specs.declared.said.Said.{Said};
-ghost use Rattle.certificate_text.specs.Said.{said_of};
-ghost use Rattle.block_text.specs.Blocks.{blocks_in};
-ghost use Rattle.block_text.specs.Numbered.{numbers_in};
-ghost use Rattle.table_text.specs.Tables.{begins_table, table_in};
+ghost use Rattle.number_text.specs.declared.said.Said.{Said};
+ghost use Rattle.number_text.specs.Said.{said_of};
+ghost use Rattle.number_text.specs.Blocks.{blocks_in};
+ghost use Rattle.number_text.specs.Numbered.{numbers_in};
+ghost use Rattle.table_check.specs.Tables.{begins_table, table_in};
 ghost use Rattle.check_job.specs.Input.{as_pair, certificate_in, certificate_of};
 ghost use Rattle.plain_jobs.specs.Jobs.Replay.{Carries};
 ghost use Rattle.plain_jobs.specs.EquallyMany.{HaveEquallyMany};

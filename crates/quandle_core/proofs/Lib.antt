@@ -6,3 +6,4 @@ pub mod LargeColumns
 pub mod Lengths
 pub mod Distributed
 pub mod Linear
+pub mod Named

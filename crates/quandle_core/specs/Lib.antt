@@ -5,3 +5,4 @@ pub mod Cases
 pub mod Columns
 pub mod Colours
 pub mod Bijection
+pub mod Names

@@ -1,9 +1,12 @@
-//! Finite quandles by their tables: the type, its two operations, and the built-in tables.
+//! Finite quandles by their tables: the type, its two operations, the built-in tables, and quandles by name.
 //! A table is accepted exactly where the three laws hold, and refused with the first law that fails and its first case.
+//! A name gives one quandle, and a table of whatever quandle has a name too.
 #![tactic(auto)]
 
 mod fault;
 mod large;
+mod large_names;
+mod names;
 mod operations;
 mod quandle;
 mod tables;
@@ -12,5 +15,7 @@ mod tests;
 
 pub use fault::QuandleFault;
 pub use large::{LargeFault, LargeQuandle};
+pub use large_names::LargeListed;
+pub use names::{Listed, QuandleName};
 pub use operations::{MAX_LARGE_ORDER, Operations};
 pub use quandle::{MAX_ORDER, MAX_TABLE, Quandle};

@@ -8,10 +8,10 @@ use Rattle.cert_check.specs.declared.ruling.Ruling.{Ruling}
 use Rattle.cert_check.specs.declared.ruling.Ruling.TheVariants.{Accepted, Rejected}
 use Rattle.cert_check.specs.declared.ruling.Why.{Why}
 use Rattle.cert_check.specs.declared.ruling.Why.TheVariants as why
-use Rattle.linking_check.specs.declared.cause.Ruling.{Ruling as NumberRuling}
-use Rattle.linking_check.specs.declared.cause.Ruling.TheVariants as numbers
-use Rattle.linking_check.specs.declared.cause.Cause.{Cause}
-use Rattle.linking_check.specs.declared.cause.Cause.TheVariants as cause
+use Rattle.evidence_core.specs.declared.cause.Ruling.{Ruling as NumberRuling}
+use Rattle.evidence_core.specs.declared.cause.Ruling.TheVariants as numbers
+use Rattle.evidence_core.specs.declared.cause.Cause.{Cause}
+use Rattle.evidence_core.specs.declared.cause.Cause.TheVariants as cause
 
 -- why a move is not legal
 abbrev pub fault_tokens : MoveFault → List (List ℕ)

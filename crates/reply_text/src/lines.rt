@@ -6,8 +6,8 @@ ghost use Rattle.reply_text.specs.Lines.{fault_tokens, step_tokens, why_tokens, 
 ghost use Rattle.std.specs.List.{flat_map};
 
 use cert_check::{Ruling, Why};
+use evidence_core::{Cause, Ruling as NumberRuling};
 use grid_moves::MoveFault;
-use linking_check::{Cause, Ruling as NumberRuling};
 use std::alloc::{AllocError, Global};
 use text_lines::{push_counted, push_number};
 

@@ -8,11 +8,11 @@ use Rattle.std.proofs.lemmas.List.Concat.{flat_map-cons}
 use Rattle.grid_core.specs.Diagram.{Diagram as Marks, IsGrid, size}
 use Rattle.grid_moves.proofs.Within.{joins_grid, within_joins}
 use Rattle.mono_simplify.specs.ExchangeClass.{JoinedByExchanges}
-use Rattle.least_grids.specs.declared.least.LeastEnd.{LeastEnd}
-use Rattle.least_grids.specs.declared.least.LeastEnd.TheVariants.{Whole, Spent}
-use Rattle.least_grids.specs.declared.least.LeastGrid.{LeastGrid}
-use Rattle.least_grids.specs.Least.{IsLeastReached, EndsAt}
-use Rattle.least_grids.proofs.Class.{least_once, least_joins}
+use Rattle.mono_simplify.specs.declared.least.LeastEnd.{LeastEnd}
+use Rattle.mono_simplify.specs.declared.least.LeastEnd.TheVariants.{Whole, Spent}
+use Rattle.mono_simplify.specs.declared.least.LeastGrid.{LeastGrid}
+use Rattle.mono_simplify.specs.Least.{IsLeastReached, EndsAt}
+use Rattle.mono_simplify.proofs.LeastClass.{least_once, least_joins}
 use Rattle.text_lines.specs.Lines.{Text, text_from, text_of}
 use Rattle.text_lines.specs.Spelled.{spaced}
 use Rattle.text_items.specs.Grids.{grid_item}

@@ -5,7 +5,7 @@ use Rattle.grid_core.specs.Diagram.{Diagram, IsGrid, size}
 use Rattle.grid_core.specs.declared.grid.TheConstants.{MAX_SIZE}
 use Rattle.grid_moves.proofs.Within.{within_joins}
 use Rattle.colour_list.specs.Listing.{lists_of}
-use Rattle.named_quandles.specs.Names.{NamedQuandle}
+use Rattle.quandle_core.specs.Names.{NamedQuandle}
 use Rattle.verdict_core.specs.declared.verdict.Verdict.{Verdict}
 use Rattle.verdict_core.specs.declared.verdict.Verdict.TheVariants.{Equal, Different, UnknownBudget, UnknownExhausted}
 use Rattle.verdict_core.specs.Evidence.{Holds, TellsApart}
@@ -20,8 +20,8 @@ use Rattle.pair_verdict.specs.Searched.{searched}
 use Rattle.pair_verdict.specs.Decided.{Decides, IsTrueWithin}
 use Rattle.pair_verdict.proofs.AnswerKinds.{tidy_where_decided}
 use Rattle.pair_verdict.proofs.FirstFound.{find_passes, holds_by}
-use Rattle.decision_core.specs.VerdictDecision.{HasFewMoves}
-use Rattle.decision_core.proofs.PrintedVerdicts.{FewColourings, moves_text, told_text, found}
+use Rattle.verdict_laws.specs.VerdictDecision.{HasFewMoves}
+use Rattle.verdict_laws.proofs.PrintedVerdicts.{FewColourings, moves_text, told_text, found}
 
 -- ---- verdicts
 

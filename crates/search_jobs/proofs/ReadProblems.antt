@@ -4,7 +4,7 @@ use Rattle.std.specs.List.{AllByRecursion}
 use Rattle.grid_core.specs.Diagram.{IsGrid, size}
 use Rattle.verdict_core.specs.declared.problem.ProblemText.{ProblemText}
 use Rattle.verdict_core.specs.declared.verdict.Verdict.{Verdict}
-use Rattle.named_quandles.specs.Names.{NamedQuandle}
+use Rattle.quandle_core.specs.Names.{NamedQuandle}
 use Rattle.verdict_core.specs.Diagrams.{grid_of, columns}
 use Rattle.verdict_text.specs.declared.verdicts.Version.TheVariants.{Tidy}
 use Rattle.knot_text.specs.Printed.{HasQuandleText, HasVersionText}
@@ -12,9 +12,9 @@ use Rattle.verdict_text.specs.Problems.{problem_of}
 use Rattle.search_book.specs.declared.problem.Problem.{Problem}
 use Rattle.search_pool.specs.declared.finding.Finding.{Finding}
 use Rattle.pair_verdict.specs.Decided.{Decides}
-use Rattle.decision_core.specs.VerdictDecision.{HasFewMoves}
-use Rattle.decision_core.proofs.Grids.{grids_of_problem}
-use Rattle.decision_core.proofs.AcceptedBehind.{quandles_text}
+use Rattle.verdict_laws.specs.VerdictDecision.{HasFewMoves}
+use Rattle.verdict_laws.proofs.Grids.{grids_of_problem}
+use Rattle.verdict_laws.proofs.AcceptedBehind.{quandles_text}
 use Rattle.knot_words.specs.declared.words.Asked.{Asked}
 use Rattle.search_jobs.specs.Decide.{problem_for}
 

@@ -9,7 +9,7 @@ use Rattle.verdict_core.specs.declared.verdict.Verdict.TheVariants.{Equal, Diffe
 use Rattle.knot_text.specs.Printed.{version_text}
 use Rattle.verdict_text.specs.declared.verdicts.Version.TheVariants.{Tidy}
 use Rattle.verdict_core.specs.Diagrams.{grid_of}
-use Rattle.decision_core.specs.VerdictDecision.{IsDecisionByVerdict}
+use Rattle.verdict_laws.specs.VerdictDecision.{IsDecisionByVerdict}
 use Rattle.pair_verdict.specs.Decided.{Decides}
 use Rattle.search_jobs.specs.declared.reply.Reply.{Reply}
 use Rattle.knot_words.specs.declared.words.Asked.{Asked}

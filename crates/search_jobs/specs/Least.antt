@@ -6,10 +6,10 @@ use Rattle.grid_core.specs.Diagram.{Diagram as Marks}
 use Rattle.text_lines.specs.Lines.{Text, text_of}
 use Rattle.text_lines.specs.Spelled.{line_text}
 use Rattle.text_items.specs.Grids.{grid_item}
-use Rattle.least_grids.specs.declared.least.LeastEnd.{LeastEnd}
-use Rattle.least_grids.specs.declared.least.LeastEnd.TheVariants.{Whole, Spent}
-use Rattle.least_grids.specs.declared.least.LeastGrid.{LeastGrid}
-use Rattle.least_grids.specs.Least.{FindsLeast}
+use Rattle.mono_simplify.specs.declared.least.LeastEnd.{LeastEnd}
+use Rattle.mono_simplify.specs.declared.least.LeastEnd.TheVariants.{Whole, Spent}
+use Rattle.mono_simplify.specs.declared.least.LeastGrid.{LeastGrid}
+use Rattle.mono_simplify.specs.Least.{FindsLeast}
 use Rattle.verdict_core.specs.declared.diagrams.Diagram.{Diagram}
 use Rattle.verdict_core.specs.Diagrams.{grid_of}
 use Rattle.knot_text.specs.Printed.{grid_text, moves_text}

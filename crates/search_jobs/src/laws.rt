@@ -6,16 +6,16 @@ ghost use Rattle.verdict_core.specs.declared.diagrams.Diagram.{Diagram as Given}
 ghost use Rattle.verdict_core.specs.Diagrams.{grid_of};
 ghost use Rattle.grid_core.specs.declared.grid.TheConstants.{MAX_SIZE};
 ghost use Rattle.verdict_core.specs.declared.verdict.Verdict.{Verdict};
-ghost use Rattle.named_quandles.specs.Names.{NamedQuandle};
+ghost use Rattle.quandle_core.specs.Names.{NamedQuandle};
 ghost use Rattle.knot_text.specs.Printed.{HasQuandleText, HasVersionText};
 ghost use Rattle.search_book.specs.declared.problem.Problem.{Problem};
 ghost use Rattle.search_book.specs.declared.problem.TheConstants.{MAX_BUDGET};
 ghost use Rattle.search_pool.specs.declared.finding.Finding.{Finding};
 ghost use Rattle.pair_verdict.specs.Decided.{Decides};
-ghost use Rattle.decision_core.specs.VerdictDecision.{HasFewMoves};
+ghost use Rattle.verdict_laws.specs.VerdictDecision.{HasFewMoves};
 ghost use Rattle.knot_words.specs.declared.words.TheConstants as words;
 ghost use Rattle.mono_simplify.specs.ExchangeClass.{JoinedByExchanges};
-ghost use Rattle.least_grids.specs.Least.{IsLeastReached};
+ghost use Rattle.mono_simplify.specs.Least.{IsLeastReached};
 ghost use Rattle.search_jobs.specs.Decide.{problem_for};
 ghost use Rattle.search_jobs.specs.Least.{TellsWhole};
 

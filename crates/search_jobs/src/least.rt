@@ -8,8 +8,8 @@ ghost use Rattle.search_jobs.specs.Least.{least_end_line, least_text, AnswersLea
 use knot_ports::Status;
 use knot_text::{Diagram, print_grid, print_moves, read_diagram};
 use knot_words::Asked;
-use least_grids::{LeastEnd, LeastGrid, least_grid};
 use memory_core::OutOfMemory;
+use mono_simplify::{LeastEnd, LeastGrid, least_grid};
 use reply_text::PlainReply;
 use std::alloc::{AllocError, Global};
 use text_lines::push_counted;

@@ -2,10 +2,10 @@
 ghost use Rattle.std.specs.Prelude.{IfOk};
 ghost use Rattle.search_jobs.specs.Sample.{AnswersSample};
 
+use crate::text::sample_text;
 use knot_ports::Status;
 use reply_text::PlainReply;
 use std::alloc::{AllocError, Global};
-use walk_samples::sample_text;
 
 /// The reply to a seed: its walk, checked and coloured. There is no input. The error comes where there is no memory.
 pub fn answer(alloc: Global, seed: u64) -> Result<PlainReply, AllocError>

@@ -9,7 +9,7 @@ use Rattle.text_items.specs.declared.fault.TextFault.{TextFault}
 use Rattle.text_items.specs.declared.fault.TextFault.TheVariants as bad
 use Rattle.text_items.specs.Reading.{◌>>=◌, Fails}
 use Rattle.evidence_core.specs.declared.blocks.Block.{Block}
-use Rattle.block_text.specs.Blocks.{blocks_of}
+use Rattle.number_text.specs.Blocks.{blocks_of}
 use Rattle.seek_core.specs.Given.{more_blocks}
 use Rattle.seek_parts.specs.Parts.{Told}
 use Rattle.seek.specs.declared.failure.Failure.{Failure}

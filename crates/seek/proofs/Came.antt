@@ -3,8 +3,8 @@ use Rattle.std.proofs.Common.{◌≡◌, List, Result, Ok, Err, String, Vec, sym
 use Rattle.std.specs.Process.{exit_status}
 use Rattle.std.specs.declared.alloc.Global.{Global}
 use Rattle.std.specs.declared.process.ExitCode.{ExitCode}
-use Rattle.given_words.specs.declared.given.NoWords.{NoWords}
-use Rattle.given_words.specs.Given.{status_without_words}
+use Rattle.knot_ports.specs.declared.given.NoWords.{NoWords}
+use Rattle.knot_ports.specs.Given.{status_without_words}
 use Rattle.knot_words.specs.Numbers.{texts_of}
 use Rattle.seek.specs.Exit.{FilesTold, Outside, IsUntouched, IsExitOf, came, EndsProgram}
 

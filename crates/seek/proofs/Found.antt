@@ -3,7 +3,7 @@ use Rattle.std.proofs.Common.{◌≡◌, ◌≢◌, ◌⊎◌, ◌∙◌, inl, i
 use Rattle.std.proofs.lemmas.Bool.{cases_lt}
 use Rattle.std.specs.Borrow.{Bor}
 use Rattle.std.proofs.KnownBytes.{Keeps-refl}
-use Rattle.whole_files.specs.Places.{Standing, PutsAt}
+use Rattle.seek_parts.specs.Places.{Standing, PutsAt}
 use Rattle.evidence_core.specs.declared.blocks.Block.{Block}
 use Rattle.knot_ports.specs.declared.limits.TheConstants.{MAX_INPUT}
 use Rattle.knot_ports.specs.declared.status.Status.{Status}

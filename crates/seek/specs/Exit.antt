@@ -6,7 +6,7 @@ use Rattle.std.specs.Io.KnownBytes.{Keeps, Appends}
 use Rattle.std.specs.Process.{exit_status}
 use Rattle.std.specs.declared.process.ExitCode.{ExitCode}
 use Rattle.clap.specs.Walk.{Text}
-use Rattle.whole_files.specs.Places.{Standing}
+use Rattle.seek_parts.specs.Places.{Standing}
 use Rattle.knot_ports.specs.declared.status.Status.{Status}
 use Rattle.knot_ports.specs.declared.status.Status.TheVariants as status
 use Rattle.knot_ports.specs.Status.{status_number}
@@ -24,8 +24,8 @@ use Rattle.seek_parts.specs.Fault.{IsFaultOf, fault_status}
 use Rattle.evidence_core.specs.declared.blocks.Block.{Block}
 use Rattle.seek.specs.declared.failure.Failure.{Failure}
 use Rattle.seek.specs.declared.outlets.Outlets.{Outlets}
-use Rattle.given_words.specs.declared.given.NoWords.{NoWords}
-use Rattle.given_words.specs.Given.{status_without_words}
+use Rattle.knot_ports.specs.declared.given.NoWords.{NoWords}
+use Rattle.knot_ports.specs.Given.{status_without_words}
 use Rattle.seek.specs.Failure.{failure_status}
 use Rattle.seek.specs.Blocks.{AreBlocksOf, IsBlocksFailure}
 use Rattle.seek.specs.Search.{Held, port_held, IsSoughtToSink, PutsDecision, IsSoughtToFile}

@@ -3,7 +3,7 @@ use Rattle.std.specs.Prelude.{◌≡◌, ◌≢◌, ◌⊎◌, ◌<◌, ◌≤�
 use Rattle.knot_ports.specs.Faults.{Rose}
 use Rattle.knot_ports.specs.Standard.{Counted}
 use Rattle.knot_ports.specs.declared.limits.TheConstants.{MAX_INPUT}
-use Rattle.whole_files.specs.Places.{Standing, PutsAt}
+use Rattle.seek_parts.specs.Places.{Standing, PutsAt}
 use Rattle.knot_ports.specs.declared.status.Status.{Status}
 use Rattle.knot_ports.specs.declared.status.Status.TheVariants as status
 use Rattle.seek_core.specs.declared.ending.Ending.{Ending}

@@ -16,14 +16,13 @@ use crate::report::{tell, tell_reading};
 use crate::search::Search;
 use clap::error::ErrorKind;
 use knot_ports::{Status, give_all};
-use seek_parts::{Texts, read_and_written};
+use seek_parts::{Places, Texts, read_and_written};
 use seek_words::{Asked, read_words, refusal_text};
 use std::alloc::Global;
 use std::io::Write;
 use std::process::ExitCode;
 use std::thread::Threads;
 use std::time::Clock;
-use whole_files::Places;
 
 /// Does what the words ask for, tells what is wrong, and answers the exit status of a status with which such a call ends. It is 0 only where
 /// a decision answers the words, or they ask for the help or the version. It is lent memory, threads, standard error and the clock, and no

@@ -13,13 +13,10 @@ mod search;
 
 use crate::outlets::{Outlets, Terminals};
 use crate::program::program;
-use given_words::{NoWords, system_words};
-use knot_ports::StdSink;
-use seek_parts::SystemTexts;
-use stated_stack::on_stack;
+use knot_ports::{NoWords, StdSink, on_stack, system_words};
+use seek_parts::{DiskPlaces, SystemTexts};
 use std::io::IsTerminal;
 use std::process::ExitCode;
-use whole_files::DiskPlaces;
 
 /// How many bytes the stack of a call has: several times what the deepest one takes.
 const STACK: usize = 4_194_304;

@@ -3,14 +3,13 @@ ghost use Rattle.seek.specs.Exit.{outside_of, told_of, came, EndsProgram};
 
 use crate::call::call;
 use crate::outlets::{Outlets, Terminals};
-use given_words::NoWords;
-use seek_parts::Texts;
+use knot_ports::NoWords;
+use seek_parts::{Places, Texts};
 use std::alloc::Global;
 use std::io::Write;
 use std::process::ExitCode;
 use std::thread::Threads;
 use std::time::Clock;
-use whole_files::Places;
 
 /// Does what the words ask for, by `call`. Where none came it tells why, and ends with 7 or 10.
 pub(crate) fn program<R: Threads + Sync + Eprint + Clock, F: Texts, P: Places, W: Write + Drop>(

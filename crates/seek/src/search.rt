@@ -4,7 +4,7 @@ ghost use Rattle.knot_ports.specs.declared.status.Status.TheVariants as status;
 ghost use Rattle.seek_core.specs.declared.ending.Ending.TheVariants as end;
 ghost use Rattle.seek_core.specs.Answers.{ending_status};
 ghost use Rattle.seek_core.specs.Parts.{joined};
-ghost use Rattle.whole_files.specs.Places.{PutsAt};
+ghost use Rattle.seek_parts.specs.Places.{PutsAt};
 ghost use Rattle.seek.specs.Failure.{failure_status};
 ghost use Rattle.seek.specs.Search.{held_of, port_held, unseen, EndsSearch, IsSoughtToSink, IsDecisionText, IsSoughtToFile};
 ghost use Rattle.seek.specs.Exit.{outside_of, IsSought};
@@ -16,13 +16,13 @@ use crate::progress::Teller;
 use crate::report::{tell, tell_line, tell_long, tell_tried};
 use knot_ports::{Sink, Status, StdSink};
 use seek_core::{Bounds, Ending, run};
+use seek_parts::{Places, TextSink};
 use seek_words::Asked;
 use std::alloc::Global;
 use std::io;
 use std::io::Write;
 use std::thread::Threads;
 use std::time::Clock;
-use whole_files::{Places, TextSink};
 
 /// What was read and what is asked, for a search whose workers and messages `rt` has. Standard error may be a terminal.
 #[derive(Drop)]

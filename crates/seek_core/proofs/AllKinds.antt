@@ -9,7 +9,7 @@ use Rattle.std.proofs.lemmas.Slice.Eq.{bytes_eq-Decides}
 use Rattle.quandle_core.specs.declared.quandle.TheConstants.{MAX_ORDER}
 use Rattle.quandle_core.specs.Quandle.{Table}
 use Rattle.quandle_core.specs.Tables.{trivial, dihedral, alexander, tetrahedral, is_unit}
-use Rattle.named_quandles.specs.Names.{NamedQuandle}
+use Rattle.quandle_core.specs.Names.{NamedQuandle}
 use Rattle.knot_text.proofs.SpelledNumbers.{at_one}
 use Rattle.seek_core.specs.Formulas.{formula_quandles, HaveTable, IsFactor, IsAlexander, IsByFormula}
 use Rattle.seek_core.proofs.OwnTables.{same_table}

@@ -6,10 +6,10 @@ use Rattle.std.proofs.lemmas.List.{flat_map_more}
 use Rattle.std.proofs.lemmas.List.FromFn.{map-range_with_len_more}
 use Rattle.std.proofs.lemmas.List.Elements.{filter_map-append, All-nil, All-cons}
 use Rattle.colour_rows.proofs.Ranges.{range_longer}
-use Rattle.named_quandles.specs.declared.names.QuandleName.{QuandleName}
-use Rattle.named_quandles.specs.declared.names.QuandleName.TheVariants as name
-use Rattle.named_quandles.specs.Names.{NamedQuandle, Names, quandle_named}
-use Rattle.named_quandles.proofs.Named.{named_so}
+use Rattle.quandle_core.specs.declared.names.QuandleName.{QuandleName}
+use Rattle.quandle_core.specs.declared.names.QuandleName.TheVariants as name
+use Rattle.quandle_core.specs.Names.{NamedQuandle, Names, quandle_named}
+use Rattle.quandle_core.proofs.Named.{named_so}
 use Rattle.knot_text.specs.Printed.{HasFactor, HasQuandleText}
 use Rattle.seek_core.specs.Formulas.{first_names, names_of_order, formula_names, quandles_named, formula_quandles}
 

@@ -15,10 +15,10 @@ use Rattle.knot_text.proofs.Steady.{bind_ok, ok_is}
 use Rattle.evidence_core.specs.declared.blocks.Block.{Block}
 use Rattle.evidence_core.specs.declared.evidence.Evidence.{Evidence}
 use Rattle.evidence_core.specs.declared.evidence.Evidence.TheVariants.{Linking}
-use Rattle.block_text.specs.Blocks.{blocks, blocks_in, blocks_of}
+use Rattle.number_text.specs.Blocks.{blocks, blocks_in, blocks_of}
 use Rattle.quandle_core.specs.declared.operations.TheConstants.{MAX_LARGE_ORDER}
-use Rattle.linking_check.specs.Links.{linked_of}
-use Rattle.linking_check.specs.Links.{are_same}
+use Rattle.evidence_core.specs.Links.{linked_of}
+use Rattle.evidence_core.specs.Links.{are_same}
 use Rattle.certificates.specs.Printed.{HasBlockText}
 use Rattle.certificate_check.specs.Decision.{IsByWrittenBlock}
 use Rattle.certificate_check.proofs.BlocksSay.{blocks_text}

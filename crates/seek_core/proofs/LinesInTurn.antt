@@ -4,7 +4,7 @@ use Rattle.std.proofs.lemmas.List.{append_assoc, append-nil}
 use Rattle.text_lines.specs.Lines.{NumberedLine, Text, lines_of, line_count, are_whole_lines, text_from, text_of}
 use Rattle.knot_text.proofs.LastFeed.{feed_added, feed_ends}
 use Rattle.knot_text.proofs.Parted.{lines_parted, text_lines_parted}
-use Rattle.decision_core.specs.VerdictDecision.{put_behind}
+use Rattle.verdict_laws.specs.VerdictDecision.{put_behind}
 use Rattle.seek_core.specs.Parts.{joined, lines_in_turn}
 
 -- a whole is a text and a part behind it, by the lines of both, of which n stand before the text

@@ -9,12 +9,12 @@ use Rattle.grid_core.specs.Diagram.{Diagram}
 use Rattle.quandle_core.specs.Quandle.{Table}
 use Rattle.colour_list.specs.Fits.{fits}
 use Rattle.colour_list.specs.Listing.{colourings}
-use Rattle.named_quandles.specs.declared.names.QuandleName.{QuandleName}
-use Rattle.named_quandles.specs.declared.names.QuandleName.TheVariants as name
+use Rattle.quandle_core.specs.declared.names.QuandleName.{QuandleName}
+use Rattle.quandle_core.specs.declared.names.QuandleName.TheVariants as name
 use Rattle.verdict_core.specs.declared.problem.ProblemText.{ProblemText}
 use Rattle.verdict_core.specs.Diagrams.{grid_of}
-use Rattle.named_quandles.specs.Names.{NamedQuandle, Names, quandle_named}
-use Rattle.named_quandles.proofs.Named.{IsNamedSo, named_so}
+use Rattle.quandle_core.specs.Names.{NamedQuandle, Names, quandle_named}
+use Rattle.quandle_core.proofs.Named.{IsNamedSo, named_so}
 use Rattle.knot_text.specs.Printed.{HasQuandleText}
 use Rattle.verdict_text.specs.Problems.{problem_of}
 use Rattle.pair_verdict.specs.Separates.{separates, first_separating}

@@ -10,16 +10,16 @@ use Rattle.grid_moves.specs.Joining.{Equivalent}
 use Rattle.quandle_core.specs.Quandle.{Table, IsQuandle}
 use Rattle.colour_list.specs.Fits.{fits}
 use Rattle.colour_list.specs.Listing.{colourings}
-use Rattle.carried_colours.proofs.Counted.{equivalent_lengths}
-use Rattle.named_quandles.specs.Names.{NamedQuandle}
+use Rattle.colour_laws.proofs.Counted.{equivalent_lengths}
+use Rattle.quandle_core.specs.Names.{NamedQuandle}
 use Rattle.verdict_core.specs.declared.verdict.Verdict.{Verdict}
-use Rattle.named_quandles.proofs.Named.{named_is}
+use Rattle.quandle_core.proofs.Named.{named_is}
 use Rattle.knot_text.specs.Printed.{HasQuandleText}
 use Rattle.pair_verdict.specs.Separates.{separates, first_separating, IsSeparation}
 use Rattle.evidence_core.specs.declared.blocks.Block.{Block}
 use Rattle.evidence_core.specs.declared.evidence.Evidence.{Evidence}
-use Rattle.certificate_text.specs.declared.said.Said.{Said}
-use Rattle.certificate_text.specs.declared.said.Said.TheVariants as said
+use Rattle.number_text.specs.declared.said.Said.{Said}
+use Rattle.number_text.specs.declared.said.Said.TheVariants as said
 use Rattle.number_search.specs.declared.seed_pair.SeedPair.{SeedPair}
 use Rattle.number_search.specs.Told.{told_by_linking, told_by_blocks, told_apart}
 use Rattle.seek_core.specs.Found.{IsEqualBy, IsVerdictBy, IsVerdictWhere, IsFoundWhere}

@@ -5,7 +5,7 @@ use Rattle.text_lines.specs.Lines.{NumberedLine, lines_of, line_count, are_whole
 use Rattle.knot_text.proofs.LastFeed.{feed_added, feed_ends}
 use Rattle.knot_text.proofs.Parted.{text_lines_parted}
 use Rattle.knot_text.specs.WrittenThere.{tokens_by_line, said_by}
-use Rattle.decision_core.specs.VerdictDecision.{put_behind}
+use Rattle.verdict_laws.specs.VerdictDecision.{put_behind}
 use Rattle.seek_core.specs.Parts.{joined}
 
 -- the tokens of lines, wherever they begin

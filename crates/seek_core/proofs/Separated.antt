@@ -3,7 +3,7 @@ use Rattle.std.proofs.Common.{rules, ◌≡◌, ◌∙◌, refl, ap, sym, subst,
 use Rattle.std.proofs.lemmas.List.Elements.{All-append, All-filter, recursion_from_All}
 use Rattle.std.specs.Option.{option_or}
 use Rattle.grid_core.specs.Diagram.{Diagram, IsGrid}
-use Rattle.named_quandles.specs.Names.{NamedQuandle}
+use Rattle.quandle_core.specs.Names.{NamedQuandle}
 use Rattle.verdict_core.specs.Diagrams.{grid_of, columns}
 use Rattle.verdict_core.specs.Evidence.{Holds, IsTidyVerdict}
 use Rattle.verdict_core.specs.declared.problem.ProblemText.{ProblemText}
@@ -12,12 +12,12 @@ use Rattle.knot_text.specs.Printed.{HasQuandleText}
 use Rattle.verdict_text.specs.Problems.{problem_of}
 use Rattle.pair_verdict.specs.Separates.{separates, first_separating}
 use Rattle.pair_verdict.proofs.FirstFound.{find_passes, holds_by}
-use Rattle.decision_core.specs.VerdictDecision.{IsByWrittenQuandle}
-use Rattle.decision_core.proofs.PrintedVerdicts.{found}
+use Rattle.verdict_laws.specs.VerdictDecision.{IsByWrittenQuandle}
+use Rattle.verdict_laws.proofs.PrintedVerdicts.{found}
 use Rattle.evidence_core.specs.declared.blocks.Block.{Block}
 use Rattle.evidence_core.specs.declared.evidence.Evidence.{Evidence}
-use Rattle.certificate_text.specs.declared.said.Said.{Said}
-use Rattle.certificate_text.specs.declared.said.Said.TheVariants as said
+use Rattle.number_text.specs.declared.said.Said.{Said}
+use Rattle.number_text.specs.declared.said.Said.TheVariants as said
 use Rattle.certificates.specs.Printed.{HasBlockText}
 use Rattle.number_search.specs.declared.seed_pair.SeedPair.{SeedPair}
 use Rattle.number_search.specs.Told.{told_by_linking, told_by_blocks, told_apart}

@@ -1,7 +1,7 @@
 -- What is found has a tidy list of moves, if it is by moves.
 use Rattle.verdict_core.specs.declared.problem.ProblemText.{ProblemText}
-use Rattle.certificate_text.specs.declared.said.Said.{Said}
-use Rattle.certificate_text.specs.declared.said.Said.TheVariants as said
+use Rattle.number_text.specs.declared.said.Said.{Said}
+use Rattle.number_text.specs.declared.said.Said.TheVariants as said
 use Rattle.certificates.specs.Said.{IsTidySaid}
 use Rattle.certificate_check.specs.Decision.{IsFindingOf}
 

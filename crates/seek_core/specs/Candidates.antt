@@ -3,9 +3,9 @@ use Rattle.std.specs.Prelude.{◌≢◌, ◌==◌, ◌&&◌, not, Bool, true, fa
 use Rattle.std.specs.List.{All, Contains, filter, list_any}
 use Rattle.grid_core.specs.Diagram.{Diagram}
 use Rattle.colour_list.specs.Fits.{fits}
-use Rattle.named_quandles.specs.declared.names.QuandleName.{QuandleName}
-use Rattle.named_quandles.specs.declared.names.QuandleName.TheVariants as name
-use Rattle.named_quandles.specs.Names.{NamedQuandle}
+use Rattle.quandle_core.specs.declared.names.QuandleName.{QuandleName}
+use Rattle.quandle_core.specs.declared.names.QuandleName.TheVariants as name
+use Rattle.quandle_core.specs.Names.{NamedQuandle}
 use Rattle.seek_core.specs.Formulas.{formula_quandles}
 
 -- both diagrams have few enough choices of colours

@@ -4,9 +4,9 @@ use Rattle.std.specs.List.{range_with_len, AllByRecursion, Any}
 use Rattle.quandle_core.specs.declared.quandle.TheConstants.{MAX_ORDER}
 use Rattle.quandle_core.specs.Quandle.{Table}
 use Rattle.quandle_core.specs.Tables.{trivial, tetrahedral, alexander, is_unit}
-use Rattle.named_quandles.specs.declared.names.QuandleName.{QuandleName}
-use Rattle.named_quandles.specs.declared.names.QuandleName.TheVariants as name
-use Rattle.named_quandles.specs.Names.{NamedQuandle, quandle_named}
+use Rattle.quandle_core.specs.declared.names.QuandleName.{QuandleName}
+use Rattle.quandle_core.specs.declared.names.QuandleName.TheVariants as name
+use Rattle.quandle_core.specs.Names.{NamedQuandle, quandle_named}
 
 -- the one that counts components, and the two that tell most knots of few crossings apart
 abbrev pub first_names : List QuandleName

@@ -10,14 +10,14 @@ pub use Rattle.grid_moves.specs.Joining
 pub use Rattle.knot_ports.specs.Faults
 pub use Rattle.knot_ports.specs.Sink
 pub use Rattle.verdict_core.specs.Diagrams
-pub use Rattle.named_quandles.specs.Names
+pub use Rattle.quandle_core.specs.Names
 pub use Rattle.verdict_core.specs.Evidence
 pub use Rattle.knot_text.specs.Printed
 pub use Rattle.knot_text.specs.Shapes
 pub use Rattle.pair_verdict.specs.Separates
-pub use Rattle.decision_core.specs.VerdictDecision
+pub use Rattle.verdict_laws.specs.VerdictDecision
 pub use Rattle.text_items.specs.Reading
-pub use Rattle.number_text.specs.Blocks
+pub use Rattle.number_text.specs.BlockCocycles
 pub use Rattle.certificates.specs.Printed as EvidenceTexts
 pub use Rattle.certificates.specs.Said as SaidTexts
 pub use Rattle.certificate_check.specs.Decision as Certified

@@ -1,7 +1,7 @@
 -- A problem that comes in parts.
 use Rattle.std.specs.Prelude.{◌≡◌, ◌<◌, ◌≤◌, ◌+◌, ◌⊎◌, ℕ, List, [], ◌∷◌, ◌++◌, Some, length, slice_get, sum_by, take, fold}
 use Rattle.text_lines.specs.Lines.{NumberedLine, line_count, text_from}
-use Rattle.decision_core.specs.VerdictDecision.{put_behind}
+use Rattle.verdict_laws.specs.VerdictDecision.{put_behind}
 
 -- the parts one behind the other, each from the beginning of a line on
 abbrev pub joined : List (List ℕ) → List ℕ

@@ -10,7 +10,6 @@ use crate::bounds::Bounds;
 use crate::finding::{Search, find};
 use certificate_check::laws::what_holds_is_a_decision;
 use certificates::print_said;
-use decision_core::laws::a_verdict_that_holds_is_a_decision;
 use knot_text::read_problem;
 use meeting_walks::Watch;
 use memory_core::{Items, OutOfMemory};
@@ -18,6 +17,7 @@ use std::alloc::Global;
 use std::thread::Threads;
 use text_items::TextFault;
 use verdict_core::{Listed, ProblemText};
+use verdict_laws::decisions::a_verdict_that_holds_is_a_decision;
 
 /// What was tried of two diagrams, whose linking numbers agree, without finding anything.
 #[derive(Drop)]

@@ -5,8 +5,8 @@ ghost use Rattle.certificates.specs.Printed.{HasBlockText};
 ghost use Rattle.text_items.specs.Reading.{Gives};
 ghost use Rattle.seek_core.specs.Given.{more_blocks};
 
-use block_text::{Block, read_blocks};
 use memory_core::Items;
+use number_text::{Block, read_blocks};
 use std::alloc::{AllocError, Global};
 use std::marker::Model;
 use text_items::TextFault;

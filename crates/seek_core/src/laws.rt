@@ -7,7 +7,7 @@ ghost use Rattle.quandle_core.specs.Tables.{trivial, dihedral, alexander, tetrah
 ghost use Rattle.colour_list.specs.Fits.{fits};
 ghost use Rattle.verdict_core.specs.declared.problem.ProblemText.{ProblemText};
 ghost use Rattle.verdict_core.specs.Diagrams.{grid_of};
-ghost use Rattle.named_quandles.specs.Names.{NamedQuandle, Names};
+ghost use Rattle.quandle_core.specs.Names.{NamedQuandle, Names};
 ghost use Rattle.pair_verdict.specs.Separates.{separates, first_separating};
 ghost use Rattle.text_lines.specs.Lines.{text_of};
 ghost use Rattle.knot_text.specs.Printed.{HasQuandleText};
@@ -25,7 +25,7 @@ ghost use Rattle.seek_core.specs.Formulas.{formula_quandles, HaveOwnTables, Have
 ghost use Rattle.seek_core.specs.Parts.{joined, lines_in_turn};
 
 use crate::answer::Tried;
-use decision_core::laws::a_verdict_that_holds_is_a_decision;
+use verdict_laws::decisions::a_verdict_that_holds_is_a_decision;
 
 /// Each quandle by formula is the one that its name names, and has a text.
 pub fn quandles_by_formula_have_texts()

@@ -1,7 +1,7 @@
 //! A problem that comes in parts.
 ghost use Rattle.std.specs.Prelude.{◌≡◌, [], IfOk, IfSome, IfNone, OnOk};
 ghost use Rattle.text_lines.specs.Lines.{are_whole_lines, line_count};
-ghost use Rattle.decision_core.specs.VerdictDecision.{put_behind};
+ghost use Rattle.verdict_laws.specs.VerdictDecision.{put_behind};
 ghost use Rattle.seek_core.specs.Parts.{joined, StandsIn};
 
 use memory_core::{Items, OutOfMemory};

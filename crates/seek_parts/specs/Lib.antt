@@ -1,6 +1,9 @@
+pub mod Place
+pub mod Places
 pub mod Parts
 pub mod Clash
 pub mod Fault
+pub use Rattle.knot_ports.specs.Faults
 pub use Rattle.text_lines.specs.Lines
 pub use Rattle.text_items.specs.Reading
 pub use Rattle.code_text.specs.TextGrid

@@ -11,18 +11,18 @@ use Rattle.colour_seeds.specs.declared.seeding.SeedFault.TheVariants as fault
 use Rattle.evidence_core.specs.declared.blocks.Block.{Block}
 use Rattle.verdict_core.specs.Diagrams.{grid_of}
 use Rattle.verdict_core.specs.declared.verdict.Verdict.TheVariants.{Equal}
-use Rattle.linking_check.specs.declared.cause.Cause.{Cause}
-use Rattle.linking_check.specs.declared.cause.Cause.TheVariants as number
-use Rattle.linking_check.specs.Unequal.{first_unequal}
-use Rattle.linking_check.proofs.FirstUnequal.{equal_of_none, none_of_equal}
+use Rattle.evidence_core.specs.declared.cause.Cause.{Cause}
+use Rattle.evidence_core.specs.declared.cause.Cause.TheVariants as number
+use Rattle.evidence_core.specs.Unequal.{first_unequal}
+use Rattle.evidence_core.proofs.FirstUnequal.{equal_of_none, none_of_equal}
 use Rattle.number_check.specs.Cause.{settled_cause}
 use Rattle.number_check.proofs.Causes.{itself, numbers_hold, numbers_faultless, seeds_faultless}
 use Rattle.cert_check.specs.declared.ruling.Why.{Why}
 use Rattle.cert_check.specs.declared.ruling.Ruling.{Ruling}
 use Rattle.cert_check.specs.declared.ruling.Ruling.TheVariants as moves
 use Rattle.cert_check.proofs.Rulings.{accepted_where_held}
-use Rattle.table_text.specs.declared.classes.Class.{Class}
-use Rattle.table_text.specs.declared.tables.KnotTable.{KnotTable}
+use Rattle.table_check.specs.declared.class_items.Class.{Class}
+use Rattle.table_check.specs.declared.tables.KnotTable.{KnotTable}
 use Rattle.table_check.specs.declared.cause.ClassCause.{ClassCause}
 use Rattle.table_check.specs.declared.cause.ClassCause.TheVariants.{Outside, Unsettled, Wide, Numbers}
 use Rattle.table_check.specs.declared.cause.TableCause.{TableCause}

@@ -11,9 +11,9 @@ use Rattle.colour_numbers.specs.Numbers.{IsCocycleOrNone}
 use Rattle.evidence_core.specs.declared.blocks.Block.{Block}
 use Rattle.verdict_core.specs.Diagrams.{grid_of}
 use Rattle.number_check.proofs.Rulings.{numbers_apart}
-use Rattle.table_text.specs.declared.classes.Class.{Class}
-use Rattle.table_text.specs.declared.rows.Row.{Row}
-use Rattle.table_text.specs.declared.tables.KnotTable.{KnotTable}
+use Rattle.table_check.specs.declared.class_items.Class.{Class}
+use Rattle.table_check.specs.declared.row_items.Row.{Row}
+use Rattle.table_check.specs.declared.tables.KnotTable.{KnotTable}
 use Rattle.table_check.specs.Holds.{numbers_at, counted, IsShown, ClassHolds, Differ, AreToldApart, Holds, RowsJoined, ClassesApart, RowsApart}
 
 -- each place of a list has an element

@@ -1,3 +1,4 @@
+mod EachBlock
 pub mod Below
 pub mod Causes
 pub mod Claims

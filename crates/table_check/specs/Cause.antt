@@ -8,14 +8,14 @@ use Rattle.colour_seeds.specs.declared.seeding.SeedFault.TheVariants as fault
 use Rattle.evidence_core.specs.declared.blocks.Block.{Block}
 use Rattle.verdict_core.specs.Diagrams.{grid_of}
 use Rattle.verdict_core.specs.declared.verdict.Verdict.TheVariants.{Equal}
-use Rattle.linking_check.specs.declared.cause.Cause.{Cause}
-use Rattle.linking_check.specs.declared.cause.Cause.TheVariants as number
+use Rattle.evidence_core.specs.declared.cause.Cause.{Cause}
+use Rattle.evidence_core.specs.declared.cause.Cause.TheVariants as number
 use Rattle.number_check.specs.Cause.{settled_cause}
 use Rattle.cert_check.specs.declared.ruling.Why.{Why}
 use Rattle.cert_check.specs.Cause as moves
-use Rattle.table_text.specs.declared.classes.Class.{Class}
-use Rattle.table_text.specs.declared.rows.Row.{Row}
-use Rattle.table_text.specs.declared.tables.KnotTable.{KnotTable}
+use Rattle.table_check.specs.declared.class_items.Class.{Class}
+use Rattle.table_check.specs.declared.row_items.Row.{Row}
+use Rattle.table_check.specs.declared.tables.KnotTable.{KnotTable}
 use Rattle.table_check.specs.declared.cause.ClassCause.{ClassCause}
 use Rattle.table_check.specs.declared.cause.ClassCause.TheVariants.{Outside, Unsettled, Wide, Numbers}
 use Rattle.table_check.specs.declared.cause.TableCause.{TableCause}

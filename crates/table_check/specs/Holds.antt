@@ -7,9 +7,9 @@ use Rattle.evidence_core.specs.declared.blocks.Block.{Block}
 use Rattle.evidence_core.specs.declared.evidence.Counted.{Counted}
 use Rattle.verdict_core.specs.Diagrams.{grid_of}
 use Rattle.number_check.specs.Holds.{AreNumbersOf}
-use Rattle.table_text.specs.declared.classes.Class.{Class}
-use Rattle.table_text.specs.declared.rows.Row.{Row}
-use Rattle.table_text.specs.declared.tables.KnotTable.{KnotTable}
+use Rattle.table_check.specs.declared.class_items.Class.{Class}
+use Rattle.table_check.specs.declared.row_items.Row.{Row}
+use Rattle.table_check.specs.declared.tables.KnotTable.{KnotTable}
 
 -- ---- classes
 

@@ -1,5 +1,5 @@
 -- What a checker of tables answers.
-use Rattle.table_text.specs.declared.tables.KnotTable.{KnotTable}
+use Rattle.table_check.specs.declared.tables.KnotTable.{KnotTable}
 use Rattle.table_check.specs.declared.cause.TableRuling.{TableRuling}
 use Rattle.table_check.specs.declared.cause.TableRuling.TheVariants.{Accepted, Rejected}
 use Rattle.table_check.specs.Holds.{Holds}

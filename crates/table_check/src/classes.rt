@@ -9,13 +9,14 @@ ghost use Rattle.table_check.specs.Holds.{numbers_at, ShownAt, ClassHolds, Class
 ghost use Rattle.table_check.specs.Cause.{shown_cause, FailsBy, IsClassCause, ClassFails, IsCause};
 
 use crate::cause::{ClassCause, TableCause};
+use crate::class_items::Class;
+use crate::tables::KnotTable;
 use colour_seeds::{SeedFault, Seeding};
 use evidence_core::Block;
 use grid_core::Grid;
 use memory_core::OutOfMemory;
 use number_check::{Cause, cause_settled};
 use std::alloc::Global;
-use table_text::{Class, KnotTable};
 
 /// Why the classes of a table don't hold: the first cause, if there is one.
 pub(crate) fn classes_cause(

@@ -5,10 +5,11 @@ ghost use Rattle.table_check.specs.Holds.{numbers_at, Differ, AreToldApart, Pair
 ghost use Rattle.table_check.specs.Cause.{PairFails, IsCause};
 
 use crate::cause::TableCause;
+use crate::class_items::Class;
 use crate::classes::numbers_at;
-use evidence_core::Block;
-use linking_check::first_unequal;
-use table_text::{Class, KnotTable, OpenPair};
+use crate::row_items::OpenPair;
+use crate::tables::KnotTable;
+use evidence_core::{Block, first_unequal};
 
 /// Why the pairs of classes of a table, whose classes hold, don't: the first cause, if there is one.
 pub(crate) fn pairs_cause(table: &KnotTable) -> Option<TableCause>

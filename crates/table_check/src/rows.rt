@@ -4,8 +4,8 @@ ghost use Rattle.table_check.specs.Holds.{ClassesHold, PairsHold, RowAt, RowsHol
 ghost use Rattle.table_check.specs.Cause.{RowFails, IsCause};
 
 use crate::cause::TableCause;
+use crate::tables::KnotTable;
 use cert_check::{Ruling, Why, check_moves};
-use table_text::KnotTable;
 
 /// Why the rows of a table, whose classes and pairs of classes hold, don't: the first cause, if there is one.
 pub(crate) fn rows_cause(table: &KnotTable) -> Option<TableCause>

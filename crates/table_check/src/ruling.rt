@@ -11,11 +11,11 @@ use crate::cause::TableRuling;
 use crate::classes::classes_cause;
 use crate::pairs::pairs_cause;
 use crate::rows::rows_cause;
+use crate::tables::KnotTable;
 use evidence_core::Block;
 use memory_core::OutOfMemory;
 use number_check::laws_of;
 use std::alloc::Global;
-use table_text::KnotTable;
 
 /// Whether a table of knots holds: accepted exactly where it does, else rejected for the first cause, of its classes in turn, then of its
 /// pairs of classes, then of its rows.

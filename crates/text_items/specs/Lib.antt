@@ -9,4 +9,4 @@ pub mod Modulus
 pub use Rattle.text_lines.specs.Lines
 pub use Rattle.text_lines.specs.Tokens
 pub use Rattle.text_lines.specs.Spelled
-pub use Rattle.named_quandles.specs.Names
+pub use Rattle.quandle_core.specs.Names

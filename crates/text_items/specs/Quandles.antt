@@ -8,10 +8,10 @@ use Rattle.quandle_core.specs.Tables.{trivial, dihedral, tetrahedral}
 use Rattle.text_lines.specs.Lines.{NumberedLine, Text, begins}
 use Rattle.text_items.specs.declared.fault.TextFault.{TextFault}
 use Rattle.text_items.specs.declared.fault.TextFault.TheVariants.{Malformed, Limit}
-use Rattle.named_quandles.specs.declared.names.QuandleName.TheVariants as name
+use Rattle.quandle_core.specs.declared.names.QuandleName.TheVariants as name
 use Rattle.text_items.specs.declared.quandles.Written.{Written}
 use Rattle.text_items.specs.declared.quandles.Written.TheVariants as written
-use Rattle.named_quandles.specs.Names.{NamedQuandle, called, quandle_named}
+use Rattle.quandle_core.specs.Names.{NamedQuandle, called, quandle_named}
 use Rattle.text_items.specs.declared.quandles.TheConstants.{MAX_QUANDLES}
 use Rattle.text_items.specs.Reading.{◌>>=◌, next_line, next_token, line_end, word, number, last_number, or_malformed}
 use Rattle.text_items.specs.Numbers.{numbers_below, is_long}

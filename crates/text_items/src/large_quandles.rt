@@ -3,8 +3,8 @@ ghost use Rattle.std.specs.Prelude.{◌≡◌, ◌≤◌, false, true, is_none, 
 ghost use Rattle.quandle_core.specs.declared.operations.TheConstants.{MAX_LARGE_ORDER};
 ghost use Rattle.quandle_core.specs.declared.quandle.TheConstants.{MAX_ORDER};
 ghost use Rattle.quandle_core.specs.Fault.{first_fault_within};
-ghost use Rattle.named_quandles.specs.declared.names.QuandleName.TheVariants as name;
-ghost use Rattle.named_quandles.specs.Names.{called};
+ghost use Rattle.quandle_core.specs.declared.names.QuandleName.TheVariants as name;
+ghost use Rattle.quandle_core.specs.Names.{called};
 ghost use Rattle.text_items.specs.declared.fault.TextFault.TheVariants as fault;
 ghost use Rattle.text_items.specs.declared.quandles.Written.TheVariants as written;
 ghost use Rattle.text_items.specs.Reading.{Gives};
@@ -14,8 +14,7 @@ use crate::fault::TextFault;
 use crate::quandles::{Written, is_over, quandle_of, written_at};
 use crate::reading::next_line;
 use crate::rows::{numbers_below, table_front};
-use named_quandles::LargeListed;
-use quandle_core::{LargeFault, LargeQuandle};
+use quandle_core::{LargeFault, LargeListed, LargeQuandle};
 use std::alloc::Global;
 use text_lines::{Line, Lines};
 

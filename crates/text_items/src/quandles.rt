@@ -10,8 +10,7 @@ use crate::fault::TextFault;
 use crate::reading::{MAX_NUMBER, last_number, line_end, next_line, next_token, number, word};
 use crate::rows::{numbers_below, table_front};
 use memory_core::Items;
-use named_quandles::{Listed, QuandleName};
-use quandle_core::{MAX_ORDER, Quandle};
+use quandle_core::{Listed, MAX_ORDER, Quandle, QuandleName};
 use std::alloc::Global;
 use text_lines::{Line, Lines};
 

@@ -6,14 +6,14 @@ use Rattle.colour_rows.proofs.Colourings.{colours_from}
 use Rattle.text_lines.specs.Lines.{NumberedLine, Text, first_starts}
 use Rattle.text_items.specs.declared.fault.TextFault.TheVariants.{Malformed}
 use Rattle.knot_text.specs.declared.shapes.ReplayText.{ReplayText}
-use Rattle.named_quandles.specs.Names.{NamedQuandle}
+use Rattle.quandle_core.specs.Names.{NamedQuandle}
 use Rattle.text_items.specs.Reading.{◌>>=◌, next_line, text_end}
 use Rattle.text_items.specs.Numbers.{numbers_behind}
-use Rattle.diagram_items.specs.Moves.{moves_item}
+use Rattle.verdict_text.specs.Moves.{moves_item}
 use Rattle.text_items.specs.Quandles.{quandle_item}
 use Rattle.knot_text.specs.Colours.{colours_at, colours_item, coloured_item, some_coloured, coloured}
 use Rattle.verdict_core.specs.Diagrams.{columns}
-use Rattle.diagram_items.specs.Diagrams.{diagram_item}
+use Rattle.verdict_text.specs.Diagrams.{diagram_item}
 use Rattle.knot_text.specs.Shapes.{replay_in}
 use Rattle.knot_text.proofs.Steady.{bind_ok, ok_is}
 

@@ -18,9 +18,9 @@ use Rattle.text_items.specs.Reading.{◌>>=◌, next_line, next_token, line_end,
 use Rattle.text_items.specs.Grids.{o_at, grid_item}
 use Rattle.text_items.specs.Braids.{braid_at, braid_item}
 use Rattle.knot_text.specs.Colours.{colours_item}
-use Rattle.diagram_items.specs.Diagrams.{diagram_item}
+use Rattle.verdict_text.specs.Diagrams.{diagram_item}
 use Rattle.verdict_text.specs.Verdicts.{verdict_of, version_at, tidy_item, plain_item, versioned_item, verdict_item}
-use Rattle.diagram_items.specs.Cocycles.{cochain, cochain_item, cocycle_item}
+use Rattle.verdict_text.specs.Cocycles.{cochain, cochain_item, cocycle_item}
 use Rattle.text_items.specs.Modulus.{modulus_at}
 use Rattle.text_laws.specs.LineKinds.{read_fault, fault_by, kind_fault, FailsByKind, worth, row_values, x_kind, o_kind, colours_kind, braid_kind, modulus_kind}
 use Rattle.text_laws.specs.LineKinds.{counted_kind, says_version, certificate_kind}

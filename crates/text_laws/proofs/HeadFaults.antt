@@ -11,7 +11,7 @@ use Rattle.text_items.specs.declared.fault.TextFault.TheVariants.{Malformed}
 use Rattle.text_items.specs.declared.reading.TheConstants.{MAX_NUMBER}
 use Rattle.verdict_text.specs.declared.verdicts.Version.{Version}
 use Rattle.text_items.specs.Reading.{◌>>=◌, in_turn, next_line, next_token, line_end, word, number, last_number, last_count, at_most}
-use Rattle.diagram_items.specs.Moves.{move_lines, moves_item}
+use Rattle.verdict_text.specs.Moves.{move_lines, moves_item}
 use Rattle.knot_text.specs.BraidSteps.{step_lines, steps_item}
 use Rattle.verdict_text.specs.Verdicts.{moves_of, colour_line, list_item, equal_at, budget_at, exhausted_at, unknown_at, unknown_item, verdict_of}
 use Rattle.text_laws.specs.LineKinds.{read_fault, fault_by, kind_fault, worth, has_form, is_above, counted_kind, unknown_kind}

@@ -11,18 +11,18 @@ use Rattle.grid_moves.specs.Kinds.{is_shift, is_column_shift, is_row_shift}
 use Rattle.grid_moves.specs.Tidy.{may_follow}
 use Rattle.cocycle_core.specs.Fault.{first_fault as cochain_fault}
 use Rattle.text_lines.specs.Lines.{NumberedLine, Text}
-use Rattle.named_quandles.specs.declared.names.QuandleName.TheVariants as name
-use Rattle.named_quandles.specs.Names.{called}
+use Rattle.quandle_core.specs.declared.names.QuandleName.TheVariants as name
+use Rattle.quandle_core.specs.Names.{called}
 use Rattle.text_items.specs.declared.fault.TextFault.{TextFault}
 use Rattle.text_items.specs.declared.fault.TextFault.TheVariants.{Malformed}
 use Rattle.text_items.specs.Reading.{◌>>=◌, in_turn, next_line}
 use Rattle.text_items.specs.Numbers.{numbers_below}
-use Rattle.diagram_items.specs.Moves.{move_at, next_move, move_lines, tidy_move_at, tidy_move, tidy_moves}
+use Rattle.verdict_text.specs.Moves.{move_at, next_move, move_lines, tidy_move_at, tidy_move, tidy_moves}
 use Rattle.knot_text.specs.Printed.{move_tokens}
 use Rattle.knot_text.specs.BraidSteps.{step_at, next_step, step_lines}
 use Rattle.verdict_text.specs.Verdicts.{colour_line}
 use Rattle.text_items.specs.Quandles.{table_row, table_rows, table_item}
-use Rattle.diagram_items.specs.Cocycles.{cochain, cochain_item}
+use Rattle.verdict_text.specs.Cocycles.{cochain, cochain_item}
 use Rattle.knot_text.specs.FirstBadLine.{lines_then}
 use Rattle.text_laws.specs.LineKinds.{LineKind, read_fault, fault_by, kind_fault, FailsByKind, worth, below_kind, move_kind, step_kind}
 use Rattle.text_laws.specs.LineKinds.{says_shift, says_shift_of, tidy_kind}

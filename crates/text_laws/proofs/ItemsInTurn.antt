@@ -7,18 +7,18 @@ use Rattle.quandle_core.specs.declared.quandle.TheConstants.{MAX_ORDER}
 use Rattle.text_items.specs.declared.quandles.TheConstants.{MAX_QUANDLES}
 use Rattle.text_items.specs.Reading.{◌>>=◌, next_line, next_token, word, text_end}
 use Rattle.text_items.specs.Braids.{braid_item}
-use Rattle.diagram_items.specs.Moves.{moves_item}
+use Rattle.verdict_text.specs.Moves.{moves_item}
 use Rattle.knot_text.specs.BraidSteps.{steps_item}
 use Rattle.text_items.specs.Quandles.{quandle_at, quandle_item, surplus_quandle, quandles, quandle_list, or_built_in}
 use Rattle.knot_text.specs.Colours.{colours_item, coloured_item, coloured}
 use Rattle.verdict_text.specs.Verdicts.{list_item, different_at, verdict_of, verdict_item}
 use Rattle.verdict_text.specs.declared.verdicts.Version.{Version}
-use Rattle.diagram_items.specs.Diagrams.{diagram_item}
+use Rattle.verdict_text.specs.Diagrams.{diagram_item}
 use Rattle.verdict_text.specs.Problems.{problem_item, problem_in, check_in}
 use Rattle.knot_text.specs.Shapes.{replay_in, colour_in, close_in, lone_diagram_in}
 use Rattle.knot_text.specs.Pairs.{pair_in}
 use Rattle.knot_text.specs.BraidChecks.{braidcheck_in}
-use Rattle.diagram_items.specs.Cocycles.{cocycle_item}
+use Rattle.verdict_text.specs.Cocycles.{cocycle_item}
 use Rattle.knot_text.specs.Weights.{weight_in}
 use Rattle.text_laws.specs.LineKinds.{read_fault}
 use Rattle.text_laws.specs.FirstLines.{on_top, as_quandle, item_then, surplus_among, end_fault}

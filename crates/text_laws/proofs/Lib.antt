@@ -1,3 +1,15 @@
+mod Firsts
+mod Chains
+mod Words
+mod Grids
+mod Neighbours
+mod Moves
+mod Steps
+mod Rewritten
+mod Loops
+mod NamedEdges
+mod TryParts
+mod WorkedRows
 mod StepsAlike
 mod ColoursRead
 mod BraidAgain

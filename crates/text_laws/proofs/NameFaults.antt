@@ -5,7 +5,7 @@ use Rattle.std.specs.List.{list_any}
 use Rattle.std.specs.Str.{bytes_eq}
 use Rattle.quandle_core.specs.declared.quandle.TheConstants.{MAX_ORDER}
 use Rattle.quandle_core.specs.Tables.{is_unit}
-use Rattle.named_quandles.specs.Names.{NamedQuandle}
+use Rattle.quandle_core.specs.Names.{NamedQuandle}
 use Rattle.text_lines.specs.Lines.{NumberedLine, Text, starts}
 use Rattle.text_lines.specs.Numbers.{is_number}
 use Rattle.text_items.specs.declared.fault.TextFault.{TextFault}

@@ -19,7 +19,7 @@ use Rattle.verdict_core.specs.declared.verdict.Verdict.{Verdict}
 use Rattle.verdict_core.specs.declared.verdict.Verdict.TheVariants.{Different}
 use Rattle.verdict_core.specs.declared.problem.ProblemText.{ProblemText}
 use Rattle.knot_text.specs.declared.shapes.ReplayText.{ReplayText}
-use Rattle.named_quandles.specs.Names.{NamedQuandle}
+use Rattle.quandle_core.specs.Names.{NamedQuandle}
 use Rattle.verdict_core.specs.Diagrams.{columns}
 use Rattle.verdict_text.specs.Problems.{problem_of, check_of}
 use Rattle.knot_text.specs.Shapes.{replay_of}
@@ -29,7 +29,7 @@ use Rattle.knot_text.specs.Printed.{colours_text}
 use Rattle.knot_text.specs.WrittenThere.{tokens_by_line, said_by, listed_lines, HasProblemText, problem_lines, given_lines, HasGivenText}
 use Rattle.knot_text.specs.WrittenThere.{HasReplayText, replay_lines}
 use Rattle.knot_text.proofs.StepsAgain.{all_short}
-use Rattle.named_quandles.proofs.Named.{names_order}
+use Rattle.quandle_core.proofs.Named.{names_order}
 use Rattle.knot_text.proofs.Words.{both_lines, front_lines, grid_words, moves_words, verdict_words, version_words, numbers_words}
 use Rattle.verdict_text.specs.declared.verdicts.Version.{Version}
 use Rattle.text_laws.proofs.BraidAgain.{braid_words}

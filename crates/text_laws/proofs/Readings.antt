@@ -11,7 +11,7 @@ use Rattle.knot_text.specs.declared.shapes.ReplayText.{ReplayText}
 use Rattle.knot_text.specs.declared.shapes.ColourText.{ColourText}
 use Rattle.knot_text.specs.declared.shapes.CloseText.{CloseText}
 use Rattle.text_items.specs.Grids.{grid_item}
-use Rattle.diagram_items.specs.Moves.{moves_item}
+use Rattle.verdict_text.specs.Moves.{moves_item}
 use Rattle.verdict_text.specs.Verdicts.{verdict_item}
 use Rattle.verdict_text.specs.Problems.{problem_of, check_of}
 use Rattle.knot_text.specs.Shapes.{replay_of, colour_of, close_of, lone_diagram_of}

@@ -16,13 +16,13 @@ use Rattle.verdict_core.specs.declared.problem.ProblemText.{ProblemText}
 use Rattle.knot_text.specs.declared.shapes.ReplayText.{ReplayText}
 use Rattle.knot_text.specs.declared.shapes.ColourText.{ColourText}
 use Rattle.knot_text.specs.declared.shapes.CloseText.{CloseText}
-use Rattle.named_quandles.specs.Names.{NamedQuandle}
+use Rattle.quandle_core.specs.Names.{NamedQuandle}
 use Rattle.text_items.specs.Quandles.{or_built_in}
 use Rattle.text_items.specs.Reading.{◌>>=◌, text_end}
 use Rattle.text_items.specs.Quandles.{quandles, quandle_list}
 use Rattle.knot_text.specs.Colours.{coloured_item, coloured}
 use Rattle.verdict_core.specs.Diagrams.{grid_of, columns}
-use Rattle.diagram_items.specs.Diagrams.{diagram_item}
+use Rattle.verdict_text.specs.Diagrams.{diagram_item}
 use Rattle.verdict_text.specs.Problems.{problem_item, problem_in, check_in}
 use Rattle.knot_text.specs.Shapes.{replay_in, colour_in, close_in, lone_diagram_in}
 use Rattle.knot_text.specs.Pairs.{pair_in}
@@ -32,7 +32,7 @@ use Rattle.verdict_text.specs.declared.verdicts.Version.TheVariants.{Plain, Tidy
 use Rattle.knot_text.specs.WrittenThere.{tokens_by_line, StandInFront, AreListed, listed_lines, HasProblemText, problem_lines}
 use Rattle.knot_text.specs.WrittenThere.{IsProblemText, IsCheckText, given_lines, HasGivenText, HasReplayText, replay_lines, IsColourText}
 use Rattle.knot_text.specs.WrittenThere.{IsCloseText, IsPairText}
-use Rattle.named_quandles.proofs.Named.{names_order}
+use Rattle.quandle_core.proofs.Named.{names_order}
 use Rattle.knot_text.proofs.QuandlesSteady.{AtOther, ends_here}
 use Rattle.text_laws.proofs.WrittenAgain.{one_rest, grid_written, braid_written, moves_written, quandle_written, colours_written, verdict_written}
 

@@ -15,7 +15,7 @@ use Rattle.text_items.specs.declared.fault.TextFault.TheVariants.{Malformed}
 use Rattle.text_items.specs.declared.reading.TheConstants.{MAX_PLACE, MAX_LETTER}
 use Rattle.text_items.specs.Reading.{◌>>=◌, next_token, line_end, number, last_number, at_most}
 use Rattle.text_items.specs.Braids.{letter_of}
-use Rattle.diagram_items.specs.Moves.{last_place, one_place}
+use Rattle.verdict_text.specs.Moves.{last_place, one_place}
 use Rattle.knot_text.specs.BraidSteps.{last_letter, bounded_letter, insert, grow, shrink, step_at}
 use Rattle.text_laws.specs.LineKinds.{read_fault, fault_by, kind_fault, FailsByKind, without_sign, is_letter, is_placed, step_kind}
 use Rattle.knot_text.proofs.StepsAgain.{line_of}

@@ -16,7 +16,7 @@ use Rattle.text_items.specs.declared.fault.TextFault.{TextFault}
 use Rattle.text_items.specs.declared.reading.TheConstants.{MAX_NUMBER, MAX_PLACE, MAX_LETTER}
 use Rattle.text_items.specs.Reading.{in_turn}
 use Rattle.text_items.specs.Braids.{letter_of}
-use Rattle.diagram_items.specs.Moves.{one_place}
+use Rattle.verdict_text.specs.Moves.{one_place}
 use Rattle.knot_text.specs.BraidSteps.{last_letter, bounded_letter, insert, grow, shrink, step_at, next_step, steps_item}
 use Rattle.knot_text.specs.BraidChecks.{braidcheck_in}
 use Rattle.knot_text.specs.Printed.{letter_token, braid_lines, step_tokens, steps_head, HasStepText, HaveStepsText}

@@ -1,7 +1,7 @@
 -- One quandle more than a text may have is refused by the kind of its line.
 use Rattle.std.proofs.Common.{◌≡◌, ℕ, ◌||◌, Bool, true, false, List, [], ◌∷◌, codes, Option, Some, None, Result, Err, refl}
 use Rattle.std.specs.Str.{bytes_eq}
-use Rattle.named_quandles.specs.Names.{NamedQuandle}
+use Rattle.quandle_core.specs.Names.{NamedQuandle}
 use Rattle.text_lines.specs.Lines.{NumberedLine, Text}
 use Rattle.text_lines.specs.Numbers.{is_number}
 use Rattle.text_items.specs.declared.fault.TextFault.{TextFault}

@@ -10,13 +10,13 @@ use Rattle.cocycle_core.specs.Fault.{first_fault}
 use Rattle.cocycle_core.proofs.Accepted.{none_from_cocycle}
 use Rattle.text_lines.specs.Lines.{Text, text_of}
 use Rattle.text_lines.specs.Spelled.{numbered}
-use Rattle.named_quandles.proofs.Named.{named_is}
+use Rattle.quandle_core.proofs.Named.{named_is}
 use Rattle.text_items.specs.declared.fault.TextFault.{TextFault}
 use Rattle.text_items.specs.declared.fault.TextFault.TheVariants.{Malformed}
 use Rattle.text_items.specs.declared.modulus.TheConstants.{MAX_MODULUS}
 use Rattle.knot_text.specs.declared.weights.WeightText.{WeightText}
 use Rattle.text_items.specs.Reading.{next_line}
-use Rattle.diagram_items.specs.Cocycles.{cochain, cochain_item, cocycle_item}
+use Rattle.verdict_text.specs.Cocycles.{cochain, cochain_item, cocycle_item}
 use Rattle.text_items.specs.Modulus.{modulus_at}
 use Rattle.knot_text.specs.Weights.{weight_in, weight_of}
 use Rattle.knot_text.specs.Printed.{row_tokens, quandle_lines, diagram_lines}

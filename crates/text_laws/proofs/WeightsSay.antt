@@ -1,7 +1,7 @@
 -- A text of weights that was read: its items are written there in order, and nothing else.
 use Rattle.std.proofs.Common.{◌≡◌, ℕ, List, [], codes}
 use Rattle.text_lines.specs.Lines.{Text}
-use Rattle.named_quandles.proofs.Named.{named_is}
+use Rattle.quandle_core.proofs.Named.{named_is}
 use Rattle.knot_text.specs.Weights.{weight_in}
 use Rattle.knot_text.specs.Printed.{quandle_lines, HasQuandleText, diagram_lines, HasDiagramText}
 use Rattle.knot_text.specs.WrittenThere.{tokens_by_line, cocycle_lines, HasCocycleText, HasWeightText, weight_lines}

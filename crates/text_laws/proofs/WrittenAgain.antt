@@ -13,11 +13,11 @@ use Rattle.text_lines.specs.Lines.{NumberedLine, Text}
 use Rattle.text_lines.specs.Spelled.{numbered}
 use Rattle.text_items.specs.declared.fault.TextFault.{TextFault}
 use Rattle.verdict_core.specs.declared.verdict.Verdict.{Verdict}
-use Rattle.named_quandles.specs.Names.{NamedQuandle}
+use Rattle.quandle_core.specs.Names.{NamedQuandle}
 use Rattle.text_items.specs.Reading.{◌>>=◌, next_line}
 use Rattle.text_items.specs.Grids.{grid_item}
 use Rattle.text_items.specs.Braids.{braid_item}
-use Rattle.diagram_items.specs.Moves.{moves_item}
+use Rattle.verdict_text.specs.Moves.{moves_item}
 use Rattle.text_items.specs.Quandles.{quandle_item}
 use Rattle.knot_text.specs.Colours.{colours_item}
 use Rattle.verdict_text.specs.Verdicts.{versioned_item, verdict_item}

@@ -10,14 +10,14 @@ use Rattle.quandle_core.specs.Tables.{trivial, dihedral, tetrahedral, alexander}
 use Rattle.braid_moves.specs.declared.step.BraidMove.TheVariants.{Far, Triple, Cancel, Insert, Turn, Grow, Shrink}
 use Rattle.text_lines.specs.Spelled.{lines_text}
 use Rattle.text_items.specs.declared.fault.TextFault.TheVariants.{Malformed}
-use Rattle.named_quandles.specs.declared.names.QuandleName.TheVariants as name
+use Rattle.quandle_core.specs.declared.names.QuandleName.TheVariants as name
 use Rattle.verdict_core.specs.declared.verdict.Verdict.TheVariants.{Equal, Different, UnknownBudget, UnknownExhausted}
-use Rattle.named_quandles.specs.Names.{called}
+use Rattle.quandle_core.specs.Names.{called}
 use Rattle.text_items.specs.Reading.{next_line, next_token, line_end, word, number, last_number, last_count, in_turn, each_token}
 use Rattle.text_items.specs.Numbers.{numbers_behind}
 use Rattle.text_items.specs.Grids.{x_at, o_at, grid_item}
-use Rattle.diagram_items.specs.Moves.{kind_at, corner_at, stabilise, exchange, move_at, next_move, moves_item}
-use Rattle.diagram_items.specs.Diagrams.{diagram_item}
+use Rattle.verdict_text.specs.Moves.{kind_at, corner_at, stabilise, exchange, move_at, next_move, moves_item}
+use Rattle.verdict_text.specs.Diagrams.{diagram_item}
 use Rattle.knot_text.specs.Shapes.{replay_in, replay_of}
 use Rattle.knot_text.specs.Printed.{grid_lines, braid_lines, moves_text, steps_text, quandle_text, colours_text, version_text}
 use Rattle.verdict_text.specs.declared.verdicts.Version.TheVariants.{Plain, Tidy}

@@ -1,10 +1,32 @@
+pub mod First
+pub mod WordFaults
+pub mod StepFaults
+pub mod GridFaults
+pub mod MoveFaults
+pub mod Words
+pub mod Named
+pub mod Parts
 pub mod LineKinds
 pub mod FirstLines
+pub use Rattle.grid_core.specs.Diagram
+pub use Rattle.grid_core.specs.Fault
+pub use Rattle.grid_moves.specs.MoveFault
+pub use Rattle.quandle_core.specs.Quandle
+pub use Rattle.braid_core.specs.Braid
+pub use Rattle.braid_core.specs.Fault as WordFault
+pub use Rattle.braid_moves.specs.Fault as StepFault
+pub use Rattle.braid_moves.specs.Step
+pub use Rattle.crossing_codes.specs.Passages
+pub use Rattle.crossing_codes.specs.Components
+pub use Rattle.crossing_codes.specs.Edges
+pub use Rattle.crossing_codes.specs.EdgeColouring
+pub use Rattle.crossing_codes.specs.CodeColouring
+pub use Rattle.next_moves.specs.Tries
 pub use Rattle.text_items.specs.Reading
 pub use Rattle.text_items.specs.Numbers
 pub use Rattle.text_items.specs.Grids
 pub use Rattle.text_items.specs.Braids
-pub use Rattle.diagram_items.specs.Moves
+pub use Rattle.verdict_text.specs.Moves
 pub use Rattle.text_items.specs.Quandles
 pub use Rattle.knot_text.specs.Colours
 pub use Rattle.verdict_text.specs.Verdicts
@@ -20,4 +42,4 @@ pub use Rattle.text_lines.specs.Lines
 pub use Rattle.text_lines.specs.Numbers as NumberTokens
 pub use Rattle.text_lines.specs.Spelled
 pub use Rattle.verdict_core.specs.Diagrams
-pub use Rattle.named_quandles.specs.Names
+pub use Rattle.quandle_core.specs.Names

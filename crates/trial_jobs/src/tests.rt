@@ -3,6 +3,7 @@ mod faults;
 mod gate;
 mod kept;
 mod lines;
+mod numbers;
 mod options;
 mod told;
 mod workers;

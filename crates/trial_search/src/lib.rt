@@ -1,4 +1,4 @@
-//! Tests of mono_simplify, pair_verdict, search_book, search_pool and walk_samples.
+//! Tests of mono_simplify, pair_verdict, search_book, search_pool and search_jobs.
 #![tactic(auto)]
 
 #[cfg(test)]

@@ -1,4 +1,4 @@
-//! Tests of seek_core, seek_parts, seek_words and whole_files.
+//! Tests of seek_core, seek_parts and seek_words.
 #![tactic(auto)]
 
 #[cfg(test)]

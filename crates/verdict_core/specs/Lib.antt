@@ -1,6 +1,6 @@
 pub mod Diagrams
 pub mod Evidence
-pub use Rattle.named_quandles.specs.Names
+pub use Rattle.quandle_core.specs.Names
 pub use Rattle.grid_core.specs.Diagram
 pub use Rattle.grid_moves.specs.Joining
 pub use Rattle.braid_closure.specs.Closure

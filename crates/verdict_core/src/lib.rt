@@ -7,6 +7,6 @@ mod problem;
 mod verdict;
 
 pub use diagrams::Diagram;
-pub use named_quandles::{LargeListed, Listed, QuandleName};
 pub use problem::ProblemText;
+pub use quandle_core::{LargeListed, Listed, QuandleName};
 pub use verdict::Verdict;

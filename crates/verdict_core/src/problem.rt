@@ -2,7 +2,7 @@
 
 use crate::diagrams::Diagram;
 use memory_core::Items;
-use named_quandles::Listed;
+use quandle_core::Listed;
 
 /// Two diagrams, and the quandles by which they are to be compared, in the listed order.
 #[derive(Drop)]

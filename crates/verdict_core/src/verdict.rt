@@ -3,7 +3,7 @@
 use colour_rows::Colouring;
 use grid_moves::Move;
 use memory_core::Items;
-use named_quandles::Listed;
+use quandle_core::Listed;
 
 /// What is said of two diagrams, with the evidence.
 #[derive(Drop)]

@@ -1,3 +1,8 @@
+pub mod Grids
+pub mod PrintedVerdicts
+pub mod AcceptedBehind
+pub mod HeldVerdicts
+mod WorkedDecisions
 pub mod WorkedRulings
 pub mod OneRuling
 pub mod SeedWays

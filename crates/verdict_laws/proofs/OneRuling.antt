@@ -9,12 +9,12 @@ use Rattle.evidence_core.specs.declared.blocks.Block.{Block}
 use Rattle.evidence_core.specs.declared.evidence.Counted.{Counted}
 use Rattle.evidence_core.specs.declared.evidence.Evidence.{Evidence}
 use Rattle.evidence_core.specs.declared.evidence.Evidence.TheVariants.{Numbers, Linking}
-use Rattle.linking_check.specs.declared.cause.Ruling.{Ruling}
-use Rattle.linking_check.specs.declared.cause.Ruling.TheVariants.{Accepted, Rejected}
-use Rattle.linking_check.specs.declared.cause.Cause.{Cause}
-use Rattle.linking_check.specs.declared.cause.Cause.TheVariants as cause
+use Rattle.evidence_core.specs.declared.cause.Ruling.{Ruling}
+use Rattle.evidence_core.specs.declared.cause.Ruling.TheVariants.{Accepted, Rejected}
+use Rattle.evidence_core.specs.declared.cause.Cause.{Cause}
+use Rattle.evidence_core.specs.declared.cause.Cause.TheVariants as cause
 use Rattle.number_check.specs.Cause.{IsSeedCause, IsCauseOf, counts_cause, IsCause}
-use Rattle.linking_check.specs.Links.{cause_of_links}
+use Rattle.evidence_core.specs.Links.{cause_of_links}
 use Rattle.number_check.specs.Ruling.{RulesOn}
 use Rattle.number_check.proofs.Causes.{seeds_faultless, numbers_have_no_cause}
 use Rattle.number_check.proofs.Rulings.{not_held}

@@ -6,16 +6,16 @@ use Rattle.std.proofs.lemmas.Option.{same_Some, slice_get_within}
 use Rattle.evidence_core.specs.declared.blocks.Block.{Block}
 use Rattle.verdict_core.specs.Diagrams.{grid_of}
 use Rattle.verdict_core.specs.declared.verdict.Verdict.TheVariants.{Equal}
-use Rattle.linking_check.specs.declared.cause.Cause.TheVariants as number
+use Rattle.evidence_core.specs.declared.cause.Cause.TheVariants as number
 use Rattle.cert_check.specs.declared.ruling.Ruling.{Ruling}
 use Rattle.cert_check.specs.declared.ruling.Ruling.TheVariants as moves
 use Rattle.cert_check.specs.declared.ruling.Why.{Why}
 use Rattle.cert_check.specs.Cause.{IsCauseOfMoves}
 use Rattle.cert_check.proofs.Rulings.{ruled_once}
 use Rattle.number_check.proofs.Causes.{seeds_faultless}
-use Rattle.table_text.specs.declared.classes.Class.{Class}
-use Rattle.table_text.specs.declared.rows.Row.{Row}
-use Rattle.table_text.specs.declared.tables.KnotTable.{KnotTable}
+use Rattle.table_check.specs.declared.class_items.Class.{Class}
+use Rattle.table_check.specs.declared.row_items.Row.{Row}
+use Rattle.table_check.specs.declared.tables.KnotTable.{KnotTable}
 use Rattle.table_check.specs.declared.cause.ClassCause.{ClassCause}
 use Rattle.table_check.specs.declared.cause.ClassCause.TheVariants.{Outside, Unsettled, Wide, Numbers}
 use Rattle.table_check.specs.declared.cause.TableCause.{TableCause}

@@ -9,18 +9,18 @@ use Rattle.evidence_core.specs.declared.evidence.Counted.{Counted}
 use Rattle.evidence_core.specs.declared.evidence.Linked.{Linked}
 use Rattle.evidence_core.specs.declared.evidence.Evidence.{Evidence}
 use Rattle.evidence_core.specs.declared.evidence.Evidence.TheVariants.{Numbers, Linking}
-use Rattle.linking_check.specs.declared.cause.Ruling.{Ruling}
-use Rattle.linking_check.specs.declared.cause.Ruling.TheVariants.{Accepted, Rejected}
-use Rattle.linking_check.specs.declared.cause.Cause.{Cause}
-use Rattle.linking_check.specs.declared.cause.Cause.TheVariants as cause
-use Rattle.linking_check.specs.Unequal.{first_unequal}
+use Rattle.evidence_core.specs.declared.cause.Ruling.{Ruling}
+use Rattle.evidence_core.specs.declared.cause.Ruling.TheVariants.{Accepted, Rejected}
+use Rattle.evidence_core.specs.declared.cause.Cause.{Cause}
+use Rattle.evidence_core.specs.declared.cause.Cause.TheVariants as cause
+use Rattle.evidence_core.specs.Unequal.{first_unequal}
 use Rattle.number_check.specs.Holds.{AreNumbersOf}
 use Rattle.number_check.specs.Cause.{counts_cause, IsCauseOf}
-use Rattle.linking_check.specs.Links.{cause_of_links}
+use Rattle.evidence_core.specs.Links.{cause_of_links}
 use Rattle.number_check.specs.Ruling.{RulesOn}
-use Rattle.linking_check.proofs.FirstUnequal.{equal_of_none, none_of_equal}
+use Rattle.evidence_core.proofs.FirstUnequal.{equal_of_none, none_of_equal}
 use Rattle.number_check.proofs.Causes.{itself, numbers_hold}
-use Rattle.linking_check.proofs.LinksOfGrids.{links_hold}
+use Rattle.evidence_core.proofs.LinksOfGrids.{links_hold}
 use Rattle.verdict_laws.proofs.SeedWays.{determine_or_fault}
 
 -- of one diagram

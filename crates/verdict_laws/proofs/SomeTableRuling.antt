@@ -11,16 +11,16 @@ use Rattle.evidence_core.specs.declared.blocks.Block.{Block}
 use Rattle.verdict_core.specs.Diagrams.{grid_of}
 use Rattle.verdict_core.specs.declared.verdict.Verdict.TheVariants.{Equal}
 use Rattle.colour_seeds.specs.Settled.{Determine}
-use Rattle.linking_check.specs.Unequal.{first_unequal}
+use Rattle.evidence_core.specs.Unequal.{first_unequal}
 use Rattle.cert_check.specs.declared.ruling.Ruling.{Ruling}
 use Rattle.cert_check.specs.declared.ruling.Ruling.TheVariants as moves
 use Rattle.cert_check.specs.declared.ruling.Why.{Why}
 use Rattle.cert_check.specs.Ruling.{RulesOn as RulesOnVerdict}
 use Rattle.cert_check.proofs.Rulings.{some_ruling}
-use Rattle.table_text.specs.declared.classes.Class.{Class}
-use Rattle.table_text.specs.declared.rows.OpenPair.{OpenPair}
-use Rattle.table_text.specs.declared.rows.Row.{Row}
-use Rattle.table_text.specs.declared.tables.KnotTable.{KnotTable}
+use Rattle.table_check.specs.declared.class_items.Class.{Class}
+use Rattle.table_check.specs.declared.row_items.OpenPair.{OpenPair}
+use Rattle.table_check.specs.declared.row_items.Row.{Row}
+use Rattle.table_check.specs.declared.tables.KnotTable.{KnotTable}
 use Rattle.table_check.specs.declared.cause.ClassCause.{ClassCause}
 use Rattle.table_check.specs.declared.cause.ClassCause.TheVariants.{Outside, Unsettled}
 use Rattle.table_check.specs.declared.cause.TableCause.TheVariants as cause

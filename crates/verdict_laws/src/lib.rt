@@ -1,7 +1,9 @@
-//! Laws of what is ruled on a verdict, on evidence by numbers or on a table of knots, over definitions alone.
+//! Laws of what is ruled on a verdict, on evidence by numbers or on a table of knots, over definitions alone; and of decisions:
+//! whoever found a verdict whose evidence holds has found what is true of the diagrams that were read, and accepted behind them.
 #![tactic(auto)]
 
 pub mod counts;
+pub mod decisions;
 pub mod rulings;
 pub mod tables;
 pub mod verdicts;

@@ -4,7 +4,7 @@ ghost use Rattle.arrayvec.specs.ArrayVec.{ArrayVec};
 ghost use Rattle.grid_core.specs.Diagram.{Diagram, IsGrid};
 ghost use Rattle.grid_moves.specs.Joining.{Equivalent};
 ghost use Rattle.quandle_core.specs.Quandle.{Table, IsQuandle};
-ghost use Rattle.named_quandles.specs.Names.{NamedQuandle};
+ghost use Rattle.quandle_core.specs.Names.{NamedQuandle};
 ghost use Rattle.verdict_core.specs.Evidence.{Claims, Holds, TellsApart};
 ghost use Rattle.cert_check.specs.Cause.{first_difference, cause_of_lists};
 ghost use Rattle.cert_check.specs.Ruling.{RulesOn};

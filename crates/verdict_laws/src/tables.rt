@@ -3,7 +3,7 @@ ghost use Rattle.std.specs.Prelude.{◌≡◌};
 ghost use Rattle.std.specs.List.{All};
 ghost use Rattle.grid_core.specs.Diagram.{IsGrid};
 ghost use Rattle.verdict_core.specs.Diagrams.{grid_of};
-ghost use Rattle.table_text.specs.declared.tables.KnotTable.{KnotTable};
+ghost use Rattle.table_check.specs.declared.tables.KnotTable.{KnotTable};
 ghost use Rattle.table_check.specs.Ruling.{RulesOn};
 
 use table_check::TableRuling;

@@ -3,7 +3,7 @@ ghost use Rattle.std.specs.Prelude.{◌≡◌, ◌≢◌, ◌≤◌, ◌↔◌, 
 ghost use Rattle.grid_core.specs.Diagram.{Diagram};
 ghost use Rattle.quandle_core.specs.declared.quandle.TheConstants.{MAX_ORDER};
 ghost use Rattle.quandle_core.specs.Quandle.{Table, IsQuandle};
-ghost use Rattle.named_quandles.specs.Names.{NamedQuandle, NamesWithin, Names, quandle_named};
+ghost use Rattle.quandle_core.specs.Names.{NamedQuandle, NamesWithin, Names, quandle_named};
 ghost use Rattle.verdict_core.specs.Evidence.{Holds, HasEvidence};
 
 use verdict_core::{QuandleName, Verdict};

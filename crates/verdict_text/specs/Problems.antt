@@ -6,7 +6,7 @@ use Rattle.verdict_core.specs.declared.verdict.Verdict.{Verdict}
 use Rattle.verdict_core.specs.declared.problem.ProblemText.{ProblemText}
 use Rattle.verdict_core.specs.Diagrams.{columns}
 use Rattle.text_items.specs.Reading.{◌>>=◌, text_end}
-use Rattle.diagram_items.specs.Diagrams.{diagram_item}
+use Rattle.verdict_text.specs.Diagrams.{diagram_item}
 use Rattle.text_items.specs.Quandles.{quandle_list}
 use Rattle.verdict_text.specs.Verdicts.{verdict_item}
 

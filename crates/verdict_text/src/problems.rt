@@ -3,8 +3,8 @@ ghost use Rattle.std.specs.Prelude.{◌≡◌};
 ghost use Rattle.text_items.specs.Reading.{Gives};
 ghost use Rattle.verdict_text.specs.Problems.{problem_item, problem_of, check_of};
 
+use crate::diagrams::diagram_item;
 use crate::verdicts::verdict_item;
-use diagram_items::diagram_item;
 use std::alloc::Global;
 use text_items::reading::text_end;
 use text_items::{TextFault, quandle_list};

@@ -5,9 +5,9 @@ ghost use Rattle.text_items.specs.Reading.{Gives, in_turn};
 ghost use Rattle.verdict_text.specs.Verdicts.{moves_of, equal_at, colour_line, list_item, different_at, budget_at, exhausted_at, unknown_at};
 ghost use Rattle.verdict_text.specs.Verdicts.{unknown_item, verdict_at, verdict_of, version_at, tidy_item, plain_item, versioned_item, verdict_item};
 
+use crate::moves::{move_lines, tidy_moves};
 use colour_list::MAX_COLOURINGS;
 use colour_rows::Colouring;
-use diagram_items::{move_lines, tidy_moves};
 use grid_moves::Move;
 use memory_core::Items;
 use std::alloc::Global;

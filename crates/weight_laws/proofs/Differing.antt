@@ -5,10 +5,10 @@ use Rattle.grid_moves.specs.Joining.{Equivalent}
 use Rattle.quandle_core.specs.Quandle.{IsQuandle}
 use Rattle.quandle_core.specs.Tables.{dihedral}
 use Rattle.grid_core.specs.Trefoils.{right_trefoil, left_trefoil}
-use Rattle.shadow_cocycles.specs.Mochizuki.{mochizuki}
-use Rattle.shadow_weights.specs.Weights.{shadow_weights}
-use Rattle.shadow_cocycles.proofs.Accepted.{cocycle_from_none}
-use Rattle.shadow_weights.proofs.Counted.{equivalent_weights}
+use Rattle.cocycle_core.specs.Mochizuki.{mochizuki}
+use Rattle.colour_weights.specs.ShadowWeights.{shadow_weights}
+use Rattle.cocycle_core.proofs.ShadowAccepted.{cocycle_from_none}
+use Rattle.colour_weights.proofs.ShadowCounted.{equivalent_weights}
 use Rattle.weight_laws.proofs.WorkedShadows.{no_fault, right_weights, left_weights}
 use Rattle.quandle_core.proofs.Linear.{dihedral_is}
 

@@ -7,11 +7,11 @@ use Rattle.quandle_core.specs.Fault.{first, or_else, unless}
 use Rattle.quandle_core.proofs.Firsts.{first_none, first_found, first_all, unless_none, unless_false, or_else_none}
 use Rattle.quandle_laws.proofs.Leasts.{least1, least2, least3, unless_some}
 use Rattle.quandle_laws.proofs.QuandleFaults.{no_smaller}
-use Rattle.shadow_cocycles.specs.Cocycle.{ShadowCochain, value, one_side, other_side}
-use Rattle.shadow_cocycles.specs.Cases.{IsFaultOf, IsFirstFault, kind, case_of}
-use Rattle.shadow_cocycles.specs.Fault.{modulus_fault, length_fault, range_fault, diagonal_fault, law_fault, first_fault, range_case, diagonal_case, law_case, obeys}
-use Rattle.shadow_cocycles.specs.declared.fault.ShadowFault.{ShadowFault}
-use Rattle.shadow_cocycles.specs.declared.fault.ShadowFault.TheVariants.{Modulus, Length, Range, Diagonal, Law}
+use Rattle.cocycle_core.specs.ShadowCocycle.{ShadowCochain, value, one_side, other_side}
+use Rattle.cocycle_core.specs.ShadowCases.{IsFaultOf, IsFirstFault, kind, case_of}
+use Rattle.cocycle_core.specs.ShadowFault.{modulus_fault, length_fault, range_fault, diagonal_fault, law_fault, first_fault, range_case, diagonal_case, law_case, obeys}
+use Rattle.cocycle_core.specs.declared.shadow_fault.ShadowFault.{ShadowFault}
+use Rattle.cocycle_core.specs.declared.shadow_fault.ShadowFault.TheVariants.{Modulus, Length, Range, Diagonal, Law}
 
 -- one case that is no fault
 modulus_holds : (w : ShadowCochain) → modulus_fault w ≡ None → IsFaultOf w Modulus → ⊥

@@ -5,16 +5,16 @@ use Rattle.std.specs.List.{list_all, flat_map, range_with_len}
 use Rattle.grid_moves.specs.declared.step.Move.TheVariants.{ShiftRows}
 use Rattle.quandle_core.specs.Tables.{dihedral, trivial}
 use Rattle.colour_list.specs.Listing.{colourings}
-use Rattle.carried_colours.specs.Carried.{carried, after_row_shift}
-use Rattle.shadow_cocycles.specs.declared.fault.ShadowFault.TheVariants.{Modulus, Length, Range, Diagonal, Law}
-use Rattle.shadow_cocycles.specs.Cocycle.{ShadowCochain, value}
-use Rattle.shadow_cocycles.specs.Fault.{first_fault}
-use Rattle.shadow_weights.specs.Region.{region}
-use Rattle.shadow_weights.specs.Weight.{crossing_value, shadow_weight}
-use Rattle.shadow_weights.specs.WalkSum.{weight_by_rows}
-use Rattle.shadow_weights.specs.Weights.{shadows_of, shadow_weights}
+use Rattle.colour_laws.specs.Carried.{carried, after_row_shift}
+use Rattle.cocycle_core.specs.declared.shadow_fault.ShadowFault.TheVariants.{Modulus, Length, Range, Diagonal, Law}
+use Rattle.cocycle_core.specs.ShadowCocycle.{ShadowCochain, value}
+use Rattle.cocycle_core.specs.ShadowFault.{first_fault}
+use Rattle.colour_weights.specs.Region.{region}
+use Rattle.colour_weights.specs.ShadowWeight.{crossing_value, shadow_weight}
+use Rattle.colour_weights.specs.ShadowWalkSum.{weight_by_rows}
+use Rattle.colour_weights.specs.ShadowWeights.{shadows_of, shadow_weights}
 use Rattle.grid_core.specs.Trefoils.{right_trefoil, left_trefoil}
-use Rattle.shadow_cocycles.specs.Mochizuki.{mochizuki}
+use Rattle.cocycle_core.specs.Mochizuki.{mochizuki}
 
 -- another number for each three colours: θ(w, x, y) = 9w + 3x + y
 abbrev numbered : ShadowCochain

@@ -9,10 +9,10 @@ use Rattle.grid_moves.specs.declared.step.Move.TheVariants.{ShiftRows, SlideColu
 use Rattle.quandle_core.specs.Tables.{dihedral, tetrahedral, trivial}
 use Rattle.colour_rows.specs.Walk.{passed}
 use Rattle.colour_list.specs.Listing.{colourings}
-use Rattle.carried_colours.specs.Carried.{carried, after_row_shift}
+use Rattle.colour_laws.specs.Carried.{carried, after_row_shift}
 use Rattle.quandle_laws.proofs.WorkedCocycles.{tetrahedral_cocycle, of_trivial, of_dihedral}
 use Rattle.colour_weights.specs.Weight.{crossing_value, weight}
-use Rattle.shadow_weights.specs.Weight.{colour_beside}
+use Rattle.colour_weights.specs.ShadowWeight.{colour_beside}
 use Rattle.colour_weights.specs.WalkSum.{weight_by_rows}
 use Rattle.colour_weights.specs.Weights.{weights}
 

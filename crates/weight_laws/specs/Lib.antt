@@ -1,5 +1,5 @@
 pub use Rattle.cocycle_core.specs.Cocycle
-pub use Rattle.carried_colours.specs.Carried
+pub use Rattle.colour_laws.specs.Carried
 pub use Rattle.colour_list.specs.Listing
 pub use Rattle.colour_numbers.specs.Numbers
 pub use Rattle.colour_rows.specs.Colouring
@@ -20,10 +20,10 @@ pub use Rattle.linking_core.specs.Component
 pub use Rattle.linking_core.specs.Intersections
 pub use Rattle.linking_core.specs.Linking
 pub use Rattle.quandle_core.specs.Quandle
-pub use Rattle.shadow_cocycles.specs.Cases
-pub use Rattle.shadow_cocycles.specs.Cocycle as ShadowCocycle
-pub use Rattle.shadow_cocycles.specs.Fault
-pub use Rattle.shadow_weights.specs.Region
-pub use Rattle.shadow_weights.specs.WalkSum as ShadowWalkSum
-pub use Rattle.shadow_weights.specs.Weight as ShadowWeight
-pub use Rattle.shadow_weights.specs.Weights as ShadowWeights
+pub use Rattle.cocycle_core.specs.ShadowCases
+pub use Rattle.cocycle_core.specs.ShadowCocycle
+pub use Rattle.cocycle_core.specs.ShadowFault
+pub use Rattle.colour_weights.specs.Region
+pub use Rattle.colour_weights.specs.ShadowWalkSum
+pub use Rattle.colour_weights.specs.ShadowWeight
+pub use Rattle.colour_weights.specs.ShadowWeights

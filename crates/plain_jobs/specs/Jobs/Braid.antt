@@ -9,7 +9,7 @@ use Rattle.braid_core.specs.FixedPoints.{fixed_points}
 use Rattle.grid_braid.specs.Word.{word}
 use Rattle.text_lines.specs.Spelled.{lines_text}
 use Rattle.knot_text.specs.declared.shapes.ColourText.{ColourText}
-use Rattle.named_quandles.specs.Names.{NamedQuandle}
+use Rattle.quandle_core.specs.Names.{NamedQuandle}
 use Rattle.knot_text.specs.Printed.{braid_text, quandle_lines}
 use Rattle.verdict_core.specs.Diagrams.{grid_of}
 use Rattle.reply_text.specs.declared.reply.PlainReply.{PlainReply}

@@ -10,7 +10,7 @@ use Rattle.braid_core.specs.FixedPoints.{fixed_points}
 use Rattle.braid_closure.specs.Closure.{closure, feet}
 use Rattle.text_lines.specs.Spelled.{line_text, lines_text}
 use Rattle.knot_text.specs.declared.shapes.CloseText.{CloseText}
-use Rattle.named_quandles.specs.Names.{NamedQuandle}
+use Rattle.quandle_core.specs.Names.{NamedQuandle}
 use Rattle.knot_text.specs.Printed.{grid_text, quandle_lines}
 use Rattle.reply_text.specs.declared.reply.PlainReply.{PlainReply}
 use Rattle.plain_jobs.specs.Lines.{listing_lines, wide_lines}

@@ -8,7 +8,7 @@ use Rattle.colour_list.specs.Fits.{fits}
 use Rattle.colour_list.specs.Listing.{colourings}
 use Rattle.text_lines.specs.Spelled.{lines_text}
 use Rattle.knot_text.specs.declared.shapes.ColourText.{ColourText}
-use Rattle.named_quandles.specs.Names.{NamedQuandle}
+use Rattle.quandle_core.specs.Names.{NamedQuandle}
 use Rattle.knot_text.specs.Printed.{quandle_lines}
 use Rattle.verdict_core.specs.Diagrams.{grid_of}
 use Rattle.reply_text.specs.declared.reply.PlainReply.{PlainReply}

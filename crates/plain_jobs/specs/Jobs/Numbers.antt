@@ -1,7 +1,7 @@
 -- The job `numbers`: a diagram and blocks are answered by the numbers of its colourings.
 use Rattle.std.specs.Prelude.{◌≡◌, ℕ, List}
 use Rattle.verdict_core.specs.Diagrams.{grid_of}
-use Rattle.block_text.specs.declared.numbered.NumbersText.{NumbersText}
+use Rattle.number_text.specs.declared.numbered.NumbersText.{NumbersText}
 use Rattle.certificates.specs.Lines.{IsNumbersText}
 use Rattle.reply_text.specs.declared.reply.PlainReply.{PlainReply}
 use Rattle.reply_text.specs.Reply.{done}

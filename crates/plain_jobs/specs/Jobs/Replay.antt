@@ -9,10 +9,10 @@ use Rattle.grid_moves.specs.Joining.{Joins, StopsAt}
 use Rattle.grid_moves.specs.Step.{Step}
 use Rattle.quandle_core.specs.Quandle.{Table}
 use Rattle.colour_rows.specs.Colouring.{is_colouring}
-use Rattle.carried_colours.specs.Carried.{carried}
+use Rattle.colour_laws.specs.Carried.{carried}
 use Rattle.text_lines.specs.Spelled.{line_text}
 use Rattle.knot_text.specs.declared.shapes.ReplayText.{ReplayText}
-use Rattle.named_quandles.specs.Names.{NamedQuandle}
+use Rattle.quandle_core.specs.Names.{NamedQuandle}
 use Rattle.knot_text.specs.Printed.{grid_text}
 use Rattle.verdict_core.specs.Diagrams.{grid_of}
 use Rattle.reply_text.specs.declared.reply.PlainReply.{PlainReply}

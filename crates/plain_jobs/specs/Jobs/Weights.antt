@@ -8,12 +8,12 @@ use Rattle.grid_core.specs.Parts.{bottoms}
 use Rattle.colour_list.specs.Fits.{fits}
 use Rattle.quandle_core.specs.Quandle.{Table}
 use Rattle.colour_weights.specs.Weights.{weights}
-use Rattle.shadow_weights.specs.Weights.{shadow_weights}
+use Rattle.colour_weights.specs.ShadowWeights.{shadow_weights}
 use Rattle.text_lines.specs.Spelled.{line_text}
 use Rattle.verdict_core.specs.Diagrams.{grid_of}
-use Rattle.block_text.specs.declared.weighed.Weighing.{Weighing}
-use Rattle.block_text.specs.declared.weighed.Weighing.TheVariants.{Strands, Regions}
-use Rattle.block_text.specs.declared.weighed.WeighedText.{WeighedText}
+use Rattle.number_text.specs.declared.weighed.Weighing.{Weighing}
+use Rattle.number_text.specs.declared.weighed.Weighing.TheVariants.{Strands, Regions}
+use Rattle.number_text.specs.declared.weighed.WeighedText.{WeighedText}
 use Rattle.reply_text.specs.declared.reply.PlainReply.{PlainReply}
 use Rattle.plain_jobs.specs.Comparison.{compared_line}
 use Rattle.reply_text.specs.Reply.{done}

@@ -1,12 +1,12 @@
 //! The job `numbers`: how many colourings a diagram has by the listed quandles, and by cocycles how many of each weight.
 ghost use Rattle.std.specs.Prelude.{IfOk};
-ghost use Rattle.block_text.specs.Numbered.{numbers_of};
+ghost use Rattle.number_text.specs.Numbered.{numbers_of};
 ghost use Rattle.reply_text.specs.Reply.{AnswersRead};
 ghost use Rattle.plain_jobs.specs.Jobs.Numbers.{AnswersNumbers};
 
-use block_text::{NumbersText, read_numbers};
 use certificates::numbers_text;
 use knot_ports::Status;
+use number_text::{NumbersText, read_numbers};
 use reply_text::PlainReply;
 use std::alloc::{AllocError, Global};
 

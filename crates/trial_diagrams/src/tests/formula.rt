@@ -1,5 +1,5 @@
 //! Values of Mochizuki's formula, computed apart.
-use shadow_formula::mochizuki;
+use cocycle_core::mochizuki;
 use std::test::Fail;
 
 #[test]

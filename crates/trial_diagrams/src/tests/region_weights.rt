@@ -1,10 +1,10 @@
 //! The weight of a colouring of strands and regions, which moves keep, and the first fault of a table.
 use colour_laws::carry;
 use colour_rows::{Colouring, is_colouring};
+use colour_weights::{ShadowCocycle, ShadowFault, shadow_weight};
 use grid_core::{Corner, Grid, Kind};
 use grid_moves::{Move, apply};
 use quandle_core::Quandle;
-use shadow_weights::{ShadowCocycle, ShadowFault, shadow_weight};
 use std::alloc::Global;
 use std::test::Fail;
 

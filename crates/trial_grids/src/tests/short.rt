@@ -1,9 +1,9 @@
 //! Short grids moved as their rows.
 mod trades;
 
+use grid_canon::ShortGrid;
 use grid_core::{Corner, Grid, Kind};
 use grid_moves::{Widening, narrowing_of, widening_of};
-use short_grids::ShortGrid;
 use std::test::Fail;
 
 #[test]

@@ -2,10 +2,10 @@
 use grid_core::Grid;
 use grid_moves::apply_all;
 use knot_text::{print_grid, print_moves};
+use search_jobs::sample_walk;
 use std::alloc::Global;
 use std::process::Abort;
 use std::test::Fail;
-use walk_samples::sample_walk;
 
 /// The first ten moves of the walk of seed 1.
 const TEN_MOVES: &[u8] =

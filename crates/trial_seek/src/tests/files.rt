@@ -2,12 +2,12 @@
 ghost use Rattle.std.specs.Prelude.{◌≡◌, Some, option_map};
 
 use knot_ports::give_all;
+use seek_parts::{DiskPlaces, Place, Places, TextSink, put_whole, try_place};
 use std::alloc::Global;
 use std::fs::Permissions;
 use std::os::unix::fs::PermissionsExt;
 use std::test::Fail;
 use std::{fs, io};
-use whole_files::{DiskPlaces, Place, Places, TextSink, put_whole, try_place};
 
 /// The place has these bytes, if any. One call fails, counted from 0 over all steps, and each write takes three bytes at most.
 #[derive(Drop)]

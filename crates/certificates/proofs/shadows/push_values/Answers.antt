@@ -3,7 +3,7 @@ use Rattle.std.specs.List.{range_with_len}
 use Rattle.std.specs.Prelude.{slice_index}
 use Rattle.std.proofs.lemmas.Nat.{div-add-mod'}
 use Rattle.quandle_core.specs.Quandle.{over}
-use Rattle.shadow_cocycles.specs.Cocycle.{ShadowCochain, value}
+use Rattle.cocycle_core.specs.ShadowCocycle.{ShadowCochain, value}
 use Rattle.knot_text.proofs.LineTexts.{rows_more, row_line}
 use Rattle.certificates.specs.Shadows.{shadow_rows}
 use Rattle.certificates.proofs.shadows.push_values.Goals as goal

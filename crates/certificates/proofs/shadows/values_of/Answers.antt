@@ -1,6 +1,6 @@
 use Rattle.std.proofs.Common.{◌≡◌, List, ℕ, length, ap, ◌∙◌, arith}
 use Rattle.std.proofs.lemmas.List.FromFn.{length-map-range_with_len}
-use Rattle.shadow_cocycles.specs.Cocycle.{value}
+use Rattle.cocycle_core.specs.ShadowCocycle.{value}
 use Rattle.quandle_core.proofs.Entries.{entries_more}
 use Rattle.certificates.proofs.shadows.values_of.Goals as goal
 

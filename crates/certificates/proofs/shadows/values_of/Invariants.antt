@@ -1,6 +1,6 @@
 use Rattle.std.proofs.Common.{◌≡◌, map}
 use Rattle.std.specs.List.{range_with_len}
-use Rattle.shadow_cocycles.specs.Cocycle.{value}
+use Rattle.cocycle_core.specs.ShadowCocycle.{value}
 use Rattle.certificates.proofs.shadows.values_of.Given as goal
 
 abbrev pub invariant-loop-y : goal.invariant-loop-y

@@ -1,6 +1,6 @@
 use Rattle.std.proofs.Common.{◌≡◌, ◌∙◌, true, false, sym}
 use Rattle.std.proofs.lemmas.Result.{IfOk-weaker}
-use Rattle.table_text.specs.Tables.{begins_table}
+use Rattle.table_check.specs.Tables.{begins_table}
 use Rattle.check_job.proofs.Read.{table_answered, pair_answered, table_true, pair_true}
 use Rattle.check_job.proofs.checking.answer.Goals as goal
 

@@ -1,7 +1,7 @@
 use Rattle.std.proofs.Common.{◌≡◌, ◌↔◌, IfOk, subst}
 use Rattle.grid_core.specs.Diagram.{Diagram}
 use Rattle.verdict_core.specs.Diagrams.{grid_of}
-use Rattle.linking_check.specs.declared.cause.Ruling.TheVariants.{Accepted}
+use Rattle.evidence_core.specs.declared.cause.Ruling.TheVariants.{Accepted}
 use Rattle.number_check.specs.Holds.{Holds}
 use Rattle.check_job.proofs.evidence.check_evidence.Goals as goal
 

@@ -1,6 +1,6 @@
 use Rattle.std.proofs.Common.{◌≡◌, ◌+◌, ◌∙◌, rules}
 use Rattle.std.specs.List.{remove}
-use Rattle.carried_colours.proofs.Edited.{removed_is}
+use Rattle.colour_laws.proofs.Edited.{removed_is}
 use Rattle.colour_laws.proofs.blocks.destabilise.Goals as goal
 
 pub returns : goal.returns

@@ -1,6 +1,6 @@
 use Rattle.std.proofs.Common.{◌≡◌, ◌∙◌, arith, rules}
-use Rattle.carried_colours.proofs.ColouredColumns.{turned}
-use Rattle.carried_colours.proofs.ShiftSteps.{turned_is}
+use Rattle.colour_laws.proofs.ColouredColumns.{turned}
+use Rattle.colour_laws.proofs.ShiftSteps.{turned_is}
 use Rattle.colour_laws.proofs.blocks.shift_columns.Goals as goal
 
 pub returns : goal.returns

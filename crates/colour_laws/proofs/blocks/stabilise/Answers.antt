@@ -1,6 +1,6 @@
 use Rattle.std.proofs.Common.{◌≡◌, ◌∙◌, rules, get_or}
 use Rattle.std.specs.List.{insert}
-use Rattle.carried_colours.proofs.Edited.{inserted_is}
+use Rattle.colour_laws.proofs.Edited.{inserted_is}
 use Rattle.colour_laws.proofs.blocks.stabilise.Goals as goal
 
 pub returns : goal.returns

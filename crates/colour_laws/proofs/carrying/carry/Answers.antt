@@ -1,4 +1,4 @@
-use Rattle.carried_colours.proofs.Steps.{carried_is}
+use Rattle.colour_laws.proofs.Steps.{carried_is}
 use Rattle.colour_laws.proofs.carrying.carry.Goals as goal
 
 pub returns-clause-colouring : goal.returns-clause-colouring

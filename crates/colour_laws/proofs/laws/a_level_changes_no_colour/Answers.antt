@@ -1,4 +1,4 @@
-use Rattle.carried_colours.proofs.Facts.{level_fact}
+use Rattle.colour_laws.proofs.Facts.{level_fact}
 use Rattle.colour_laws.proofs.laws.a_level_changes_no_colour.Goals as goal
 
 pub returns : goal.returns

@@ -1,4 +1,4 @@
-use Rattle.carried_colours.proofs.Facts.{sliding, cancelling}
+use Rattle.colour_laws.proofs.Facts.{sliding, cancelling}
 use Rattle.colour_laws.proofs.laws.an_action_slides_along_a_chain.Goals as goal
 
 pub returns-clause-sliding : goal.returns-clause-sliding

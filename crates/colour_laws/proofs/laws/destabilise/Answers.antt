@@ -1,4 +1,4 @@
-use Rattle.carried_colours.proofs.BlockColours.{destabilisation}
+use Rattle.colour_laws.proofs.BlockColours.{destabilisation}
 use Rattle.colour_laws.proofs.laws.destabilise.Goals as goal
 
 pub returns : goal.returns

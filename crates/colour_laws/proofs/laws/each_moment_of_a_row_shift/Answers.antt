@@ -1,7 +1,7 @@
 use Rattle.std.proofs.Common.{sym, arith}
 use Rattle.grid_moves.specs.declared.step.Move.TheVariants.{ShiftRows}
 use Rattle.grid_moves.proofs.OneResult.{step_moved}
-use Rattle.carried_colours.proofs.RowShiftSteps.{fallen_is}
+use Rattle.colour_laws.proofs.RowShiftSteps.{fallen_is}
 use Rattle.colour_laws.proofs.laws.each_moment_of_a_row_shift.Goals as goal
 
 pub returns-clause-before : goal.returns-clause-before

@@ -1,4 +1,4 @@
-use Rattle.carried_colours.proofs.Counted.{equivalent_lengths}
+use Rattle.colour_laws.proofs.Counted.{equivalent_lengths}
 use Rattle.colour_laws.proofs.laws.equivalent_diagrams_have_equally_many_colourings.Goals as goal
 
 pub returns-clause-equal : goal.returns-clause-equal

@@ -1,4 +1,4 @@
-use Rattle.carried_colours.proofs.Steps.{step_carries}
+use Rattle.colour_laws.proofs.Steps.{step_carries}
 use Rattle.colour_laws.proofs.laws.every_move_carries_one_to_one.Goals as goal
 
 pub returns : goal.returns

@@ -1,4 +1,4 @@
-use Rattle.carried_colours.proofs.ColumnExchangeSteps.{exchange_of_columns}
+use Rattle.colour_laws.proofs.ColumnExchangeSteps.{exchange_of_columns}
 use Rattle.colour_laws.proofs.laws.exchange_columns.Goals as goal
 
 pub returns : goal.returns

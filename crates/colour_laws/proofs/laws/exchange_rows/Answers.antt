@@ -1,4 +1,4 @@
-use Rattle.carried_colours.proofs.ExchangeSteps.{exchange_of_rows}
+use Rattle.colour_laws.proofs.ExchangeSteps.{exchange_of_rows}
 use Rattle.colour_laws.proofs.laws.exchange_rows.Goals as goal
 
 pub returns : goal.returns

@@ -1,4 +1,4 @@
-use Rattle.carried_colours.proofs.BlockColours.{merged_colours}
+use Rattle.colour_laws.proofs.BlockColours.{merged_colours}
 use Rattle.colour_laws.proofs.laws.merged_columns_have_one_colour.Goals as goal
 
 pub returns : goal.returns

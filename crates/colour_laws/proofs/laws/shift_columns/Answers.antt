@@ -1,4 +1,4 @@
-use Rattle.carried_colours.proofs.ShiftSteps.{shift_of_columns}
+use Rattle.colour_laws.proofs.ShiftSteps.{shift_of_columns}
 use Rattle.colour_laws.proofs.laws.shift_columns.Goals as goal
 
 pub returns : goal.returns

@@ -1,4 +1,4 @@
-use Rattle.carried_colours.proofs.RowShiftSteps.{shift_of_rows}
+use Rattle.colour_laws.proofs.RowShiftSteps.{shift_of_rows}
 use Rattle.colour_laws.proofs.laws.shift_rows.Goals as goal
 
 pub returns : goal.returns

@@ -1,4 +1,4 @@
-use Rattle.carried_colours.proofs.SlideSteps.{slid_colours}
+use Rattle.colour_laws.proofs.SlideSteps.{slid_colours}
 use Rattle.colour_laws.proofs.laws.slid_columns_have_one_colour.Goals as goal
 
 pub returns : goal.returns

@@ -1,4 +1,4 @@
-use Rattle.carried_colours.proofs.SlideSteps.{slide_of_rows}
+use Rattle.colour_laws.proofs.SlideSteps.{slide_of_rows}
 use Rattle.colour_laws.proofs.laws.slide_rows.Goals as goal
 
 pub returns : goal.returns

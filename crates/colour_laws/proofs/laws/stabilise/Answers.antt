@@ -1,4 +1,4 @@
-use Rattle.carried_colours.proofs.BlockColours.{stabilisation}
+use Rattle.colour_laws.proofs.BlockColours.{stabilisation}
 use Rattle.colour_laws.proofs.laws.stabilise.Goals as goal
 
 pub returns : goal.returns

@@ -1,7 +1,7 @@
 use Rattle.std.proofs.Common.{◌≡◌, ◌<◌, ◌∙◌, ℕ, length, get_or, ap, sym, subst, arith}
 use Rattle.std.proofs.lemmas.List.Elements.{All-get_or}
-use Rattle.carried_colours.proofs.Edited.{none_passed, unpassed, one_passed}
-use Rattle.carried_colours.proofs.Moments.{between_is}
+use Rattle.colour_laws.proofs.Edited.{none_passed, unpassed, one_passed}
+use Rattle.colour_laws.proofs.Moments.{between_is}
 use Rattle.colour_laws.proofs.passing.lift_row.Goals as goal
 
 pub loop-column-init : goal.loop-column-init

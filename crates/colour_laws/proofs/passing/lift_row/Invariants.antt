@@ -1,5 +1,5 @@
 use Rattle.std.proofs.Common.{◌≡◌}
-use Rattle.carried_colours.proofs.Edited.{between_passed}
+use Rattle.colour_laws.proofs.Edited.{between_passed}
 use Rattle.colour_laws.proofs.passing.lift_row.Given as goal
 
 abbrev pub invariant-loop-column : goal.invariant-loop-column

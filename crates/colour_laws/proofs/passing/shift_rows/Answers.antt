@@ -1,7 +1,7 @@
 use Rattle.std.proofs.Common.{◌∙◌, List, ℕ, sym, subst, arith}
 use Rattle.grid_core.specs.Diagram.{size}
 use Rattle.colour_rows.specs.Colouring.{AreColours}
-use Rattle.carried_colours.proofs.Moments.{moment_colours}
+use Rattle.colour_laws.proofs.Moments.{moment_colours}
 use Rattle.colour_laws.proofs.passing.shift_rows.Goals as goal
 
 pub lift_row-requires-clause-colours : goal.lift_row-requires-clause-colours

@@ -1,5 +1,5 @@
 use Rattle.std.proofs.Common.{◌≡◌}
-use Rattle.carried_colours.specs.Carried.{rows_shifted}
+use Rattle.colour_laws.specs.Carried.{rows_shifted}
 use Rattle.colour_laws.proofs.passing.shift_rows.Given as goal
 
 abbrev pub invariant-loop-row : goal.invariant-loop-row

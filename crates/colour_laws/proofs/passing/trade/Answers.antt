@@ -1,7 +1,7 @@
 use Rattle.std.proofs.Common.{◌∙◌, ◌+◌, ◌==◌, ap₂, cond, get_or}
 use Rattle.grid_core.specs.Diagram.{size}
-use Rattle.carried_colours.specs.Carried.{by_column}
-use Rattle.carried_colours.proofs.Edited.{pair_set}
+use Rattle.colour_laws.specs.Carried.{by_column}
+use Rattle.colour_laws.proofs.Edited.{pair_set}
 use Rattle.colour_laws.proofs.passing.trade.Goals as goal
 
 pub returns : goal.returns

@@ -5,7 +5,7 @@ use Rattle.grid_core.specs.Diagram.{Diagram}
 use Rattle.grid_core.specs.Parts.{covers}
 use Rattle.colour_weights.specs.declared.walker.Walker.{Walker}
 use Rattle.cocycle_core.specs.Cocycle.{Cochain}
-use Rattle.shadow_weights.proofs.Longer.{fold_longer}
+use Rattle.colour_weights.proofs.Longer.{fold_longer}
 use Rattle.colour_weights.proofs.Walks.{step_at}
 use Rattle.colour_weights.proofs.walker.walked.Goals as goal
 

@@ -3,8 +3,8 @@ use Rattle.std.specs.List.{range_with_len, sum_by}
 use Rattle.grid_core.specs.Diagram.{Diagram}
 use Rattle.cocycle_core.specs.Cocycle.{Cochain}
 use Rattle.colour_weights.specs.WalkSum.{row_weight}
-use Rattle.shadow_weights.proofs.Longer.{sum_longer}
-use Rattle.shadow_weights.proofs.RowCounts.{add_mod}
+use Rattle.colour_weights.proofs.Longer.{sum_longer}
+use Rattle.colour_weights.proofs.RowCounts.{add_mod}
 use Rattle.colour_weights.proofs.weighing.weight_by_rows.Goals as goal
 
 pub loop-row-preserved : goal.loop-row-preserved

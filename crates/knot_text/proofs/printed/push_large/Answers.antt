@@ -2,8 +2,8 @@ use Rattle.std.proofs.Common.{◌≡◌, ◌++◌, ◌∙◌, OnOk, OnErr, ap₂
 use Rattle.quandle_core.specs.Quandle.{Table}
 use Rattle.text_lines.specs.Spelled.{lines_text}
 use Rattle.text_lines.specs.Appended.{AppendsPart}
-use Rattle.named_quandles.specs.declared.names.QuandleName.{QuandleName}
-use Rattle.named_quandles.specs.Names.{NamedQuandle, called}
+use Rattle.quandle_core.specs.declared.names.QuandleName.{QuandleName}
+use Rattle.quandle_core.specs.Names.{NamedQuandle, called}
 use Rattle.knot_text.specs.Printed.{quandle_lines}
 use Rattle.knot_text.proofs.printed.push_large.Goals as goal
 

@@ -5,7 +5,7 @@ use Rattle.text_lines.specs.Spelled.{lines_text}
 use Rattle.text_lines.specs.Appended.{AppendsPart}
 use Rattle.text_lines.proofs.Parts.{on_err, part_none, last_behind, last_bytes}
 use Rattle.knot_text.proofs.LineTexts.{some_line}
-use Rattle.named_quandles.specs.Names.{called}
+use Rattle.quandle_core.specs.Names.{called}
 use Rattle.knot_text.specs.Printed.{quandle_lines, row_tokens, name_tokens}
 use Rattle.knot_text.proofs.printed.push_named.Goals as goal
 

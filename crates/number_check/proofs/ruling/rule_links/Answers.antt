@@ -1,5 +1,5 @@
 use Rattle.std.proofs.Common.{◌∙◌, sym}
-use Rattle.linking_check.proofs.LinksOfGrids.{links_hold, linking_apart}
+use Rattle.evidence_core.proofs.LinksOfGrids.{links_hold, linking_apart}
 use Rattle.number_check.proofs.ruling.rule_links.Goals as goal
 
 pub returns-in-None-clause-ruling : goal.returns-in-None-clause-ruling

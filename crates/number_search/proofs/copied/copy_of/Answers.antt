@@ -1,7 +1,7 @@
 use Rattle.std.proofs.Common.{◌≡◌, ◌∙◌, ℕ, List, ap, subst, sym}
 use Rattle.quandle_core.specs.Quandle.{Table}
-use Rattle.shadow_cocycles.specs.Cocycle.{ShadowCochain, IsShadowCocycle}
-use Rattle.shadow_text.specs.Shadows.{cochain}
+use Rattle.cocycle_core.specs.ShadowCocycle.{ShadowCochain, IsShadowCocycle}
+use Rattle.number_text.specs.Shadows.{cochain}
 use Rattle.number_search.proofs.copied.copy_of.Goals as goal
 
 -- the same parts

@@ -1,5 +1,5 @@
 use Rattle.std.proofs.Common.{◌∙◌, sym}
-use Rattle.linking_check.proofs.LinksOfGrids.{linking_apart}
+use Rattle.evidence_core.proofs.LinksOfGrids.{linking_apart}
 use Rattle.number_search.proofs.Held.{links_differ}
 use Rattle.number_search.proofs.told.tell_apart_by_linking.Goals as goal
 

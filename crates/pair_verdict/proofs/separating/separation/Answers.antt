@@ -1,7 +1,7 @@
 use Rattle.std.proofs.Common.{◌∙◌, sym, ap, length, List, ℕ, arith}
 use Rattle.std.proofs.lemmas.List.{length-map}
 use Rattle.arrayvec.specs.ArrayVec.{ArrayVec}
-use Rattle.carried_colours.proofs.Counted.{equivalent_lengths}
+use Rattle.colour_laws.proofs.Counted.{equivalent_lengths}
 use Rattle.pair_verdict.proofs.separating.separation.Goals as goal
 
 pub returns-clause-claim : goal.returns-clause-claim

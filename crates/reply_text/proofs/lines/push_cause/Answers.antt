@@ -4,8 +4,8 @@ use Rattle.std.specs.Result.{is_ok}
 use Rattle.std.specs.Fmt.{decimal}
 use Rattle.std.specs.List.{flat_map}
 use Rattle.text_lines.specs.Spelled.{spaced}
-use Rattle.linking_check.specs.declared.cause.Cause.{Cause}
-use Rattle.linking_check.specs.declared.cause.Cause.TheVariants.{Components, Equal}
+use Rattle.evidence_core.specs.declared.cause.Cause.{Cause}
+use Rattle.evidence_core.specs.declared.cause.Cause.TheVariants.{Components, Equal}
 use Rattle.reply_text.specs.Lines.{cause_tokens}
 use Rattle.reply_text.proofs.lines.push_cause.Goals as goal
 

@@ -9,8 +9,8 @@ use Rattle.search_jobs.specs.Decide.{problem_for}
 use Rattle.search_jobs.proofs.Decisions.{has_evidence}
 use Rattle.verdict_text.specs.declared.verdicts.Version.TheVariants.{Tidy}
 use Rattle.knot_text.specs.Printed.{version_text}
-use Rattle.decision_core.specs.VerdictDecision.{IsDecisionByVerdict}
-use Rattle.decision_core.proofs.AcceptedBehind.{accepted_behind}
+use Rattle.verdict_laws.specs.VerdictDecision.{IsDecisionByVerdict}
+use Rattle.verdict_laws.proofs.AcceptedBehind.{accepted_behind}
 use Rattle.search_jobs.proofs.ReadProblems.{has_text}
 use Rattle.search_jobs.proofs.decide.answer_decision.Goals as goal
 

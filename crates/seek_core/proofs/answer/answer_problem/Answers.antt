@@ -1,5 +1,5 @@
 use Rattle.std.proofs.Common.{rules, ◌∙◌, List, ℕ, Option, IfSome, sym, subst}
-use Rattle.certificate_text.specs.declared.said.Said.{Said}
+use Rattle.number_text.specs.declared.said.Said.{Said}
 use Rattle.seek_core.specs.declared.answer.Tried.{Tried}
 use Rattle.certificate_check.specs.Decision.{IsFindingOf, IsDecision}
 use Rattle.seek_core.proofs.Separated.{in_vain_of}

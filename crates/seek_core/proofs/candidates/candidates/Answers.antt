@@ -1,5 +1,5 @@
 use Rattle.std.proofs.Common.{◌∙◌, List, All, sym, subst}
-use Rattle.named_quandles.specs.Names.{NamedQuandle}
+use Rattle.quandle_core.specs.Names.{NamedQuandle}
 use Rattle.knot_text.specs.Printed.{HasQuandleText}
 use Rattle.seek_core.proofs.Separated.{candidates_are, candidate_texts}
 use Rattle.seek_core.proofs.candidates.candidates.Goals as goal

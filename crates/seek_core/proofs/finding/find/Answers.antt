@@ -1,7 +1,7 @@
 use Rattle.std.proofs.Common.{List, subst}
 use Rattle.grid_core.specs.Diagram.{IsGrid}
 use Rattle.verdict_core.specs.Diagrams.{grid_of}
-use Rattle.named_quandles.specs.Names.{NamedQuandle}
+use Rattle.quandle_core.specs.Names.{NamedQuandle}
 use Rattle.evidence_core.specs.declared.blocks.Block.{Block}
 use Rattle.seek_core.specs.declared.finding.Search.{Search}
 use Rattle.seek_core.specs.Found.{IsFoundOn, IsSearchOn}

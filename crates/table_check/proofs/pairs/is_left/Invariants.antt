@@ -1,7 +1,7 @@
 use Rattle.std.proofs.Common.{◌≡◌}
 use Rattle.std.specs.List.{All}
 use Rattle.std.proofs.Common.{take}
-use Rattle.table_text.specs.declared.rows.OpenPair.{OpenPair}
+use Rattle.table_check.specs.declared.row_items.OpenPair.{OpenPair}
 use Rattle.table_check.proofs.pairs.is_left.Given as goal
 
 abbrev pub invariant-loop-pair : goal.invariant-loop-pair

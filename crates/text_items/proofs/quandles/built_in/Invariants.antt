@@ -1,6 +1,6 @@
 use Rattle.std.proofs.Common.{◌≡◌, take}
 use Rattle.std.specs.List.{filter_map}
-use Rattle.named_quandles.specs.Names.{quandle_named}
+use Rattle.quandle_core.specs.Names.{quandle_named}
 use Rattle.text_items.proofs.quandles.built_in.Given as goal
 
 abbrev pub invariant-loop-name : goal.invariant-loop-name

@@ -1,11 +1,11 @@
 use Rattle.text_items.specs.Grids.{grid_item}
 use Rattle.text_items.specs.Braids.{braid_item}
-use Rattle.diagram_items.specs.Moves.{moves_item}
+use Rattle.verdict_text.specs.Moves.{moves_item}
 use Rattle.knot_text.specs.BraidSteps.{steps_item}
 use Rattle.text_items.specs.Quandles.{quandle_item}
 use Rattle.knot_text.specs.Colours.{colours_item}
 use Rattle.verdict_text.specs.Verdicts.{verdict_item}
-use Rattle.diagram_items.specs.Diagrams.{diagram_item}
+use Rattle.verdict_text.specs.Diagrams.{diagram_item}
 use Rattle.knot_text.proofs.Steady.{stable}
 use Rattle.knot_text.proofs.ItemsSteady.{grid_steady, braid_steady, moves_steady, quandle_steady, colours_steady, verdict_steady}
 use Rattle.knot_text.proofs.ShapesFail.{diagram_steady}

@@ -1,8 +1,8 @@
 //! The trades of short grids on worked examples.
 ghost use Rattle.std.specs.Prelude.{◌≡◌, length};
 
+use grid_canon::{MAX_SHORT_SIZE, ShortGrid, ShortTrades};
 use grid_core::Grid;
-use short_grids::{MAX_SHORT_SIZE, ShortGrid, ShortTrades};
 use std::test::Fail;
 
 /// Whether these are the trades of as many columns or rows: an exchange at each x, a slide at each s, none elsewhere.

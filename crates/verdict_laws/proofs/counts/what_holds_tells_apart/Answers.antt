@@ -1,5 +1,5 @@
 use Rattle.number_check.proofs.Rulings.{numbers_apart}
-use Rattle.linking_check.proofs.LinksOfGrids.{linking_apart}
+use Rattle.evidence_core.proofs.LinksOfGrids.{linking_apart}
 use Rattle.verdict_laws.proofs.counts.what_holds_tells_apart.Goals as goal
 
 pub returns-clause-numbers : goal.returns-clause-numbers

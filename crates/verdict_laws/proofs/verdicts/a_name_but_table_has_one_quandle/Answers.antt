@@ -1,4 +1,4 @@
-use Rattle.named_quandles.proofs.Named.{named_so, so_named}
+use Rattle.quandle_core.proofs.Named.{named_so, so_named}
 use Rattle.verdict_laws.proofs.verdicts.a_name_but_table_has_one_quandle.Goals as goal
 
 pub returns : goal.returns

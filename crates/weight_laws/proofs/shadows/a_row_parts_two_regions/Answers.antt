@@ -1,4 +1,4 @@
-use Rattle.shadow_weights.proofs.Parted.{between_ends, before_begin, behind_end}
+use Rattle.colour_weights.proofs.Parted.{between_ends, before_begin, behind_end}
 use Rattle.weight_laws.proofs.shadows.a_row_parts_two_regions.Goals as goal
 
 pub returns-clause-between : goal.returns-clause-between

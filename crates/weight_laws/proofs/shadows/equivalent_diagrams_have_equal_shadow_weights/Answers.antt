@@ -1,4 +1,4 @@
-use Rattle.shadow_weights.proofs.Counted.{equivalent_weights}
+use Rattle.colour_weights.proofs.ShadowCounted.{equivalent_weights}
 use Rattle.weight_laws.proofs.shadows.equivalent_diagrams_have_equal_shadow_weights.Goals as goal
 
 pub returns-clause-equal : goal.returns-clause-equal

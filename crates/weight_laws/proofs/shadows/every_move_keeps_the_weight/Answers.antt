@@ -1,4 +1,4 @@
-use Rattle.shadow_weights.proofs.Carried.{step_keeps}
+use Rattle.colour_weights.proofs.ShadowCarried.{step_keeps}
 use Rattle.weight_laws.proofs.shadows.every_move_keeps_the_weight.Goals as goal
 
 pub returns : goal.returns

@@ -1,4 +1,4 @@
-use Rattle.shadow_cocycles.proofs.Accepted.{cocycle_from_none, none_from_cocycle}
+use Rattle.cocycle_core.proofs.ShadowAccepted.{cocycle_from_none, none_from_cocycle}
 use Rattle.weight_laws.proofs.shadows.no_fault_is_a_shadow_cocycle.Goals as goal
 
 pub returns : goal.returns

@@ -1,5 +1,5 @@
 use Rattle.grid_moves.specs.declared.step.Move.TheVariants.{ShiftRows}
-use Rattle.shadow_weights.proofs.Carried.{step_keeps}
+use Rattle.colour_weights.proofs.ShadowCarried.{step_keeps}
 use Rattle.weight_laws.proofs.shadows.shift_rows.Goals as goal
 
 pub returns : goal.returns

@@ -1,6 +1,6 @@
 use Rattle.std.proofs.Common.{refl}
-use Rattle.carried_colours.proofs.Facts.{level_fact}
-use Rattle.shadow_weights.proofs.Parted.{below_all, above_all}
+use Rattle.colour_laws.proofs.Facts.{level_fact}
+use Rattle.colour_weights.proofs.Parted.{below_all, above_all}
 use Rattle.weight_laws.proofs.shadows.the_outer_region_lies_all_round.Goals as goal
 
 pub returns-clause-below : goal.returns-clause-below

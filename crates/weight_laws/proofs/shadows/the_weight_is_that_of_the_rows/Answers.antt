@@ -1,4 +1,4 @@
-use Rattle.shadow_weights.proofs.Carried.{by_rows}
+use Rattle.colour_weights.proofs.ShadowCarried.{by_rows}
 use Rattle.weight_laws.proofs.shadows.the_weight_is_that_of_the_rows.Goals as goal
 
 pub returns : goal.returns

@@ -1,6 +1,6 @@
 use Rattle.std.proofs.Common.{◌≡◌, ◌∙◌, ℕ, arith, ap, sym}
 use Rattle.grid_core.specs.Diagram.{Diagram}
-use Rattle.short_grids.specs.ShortTrades.{next}
+use Rattle.grid_canon.specs.ShortTrades.{next}
 use Rattle.next_moves.specs.Blocks.{row_of_both}
 use Rattle.next_moves.proofs.FewRows.{one_row, two_rows}
 use Rattle.next_moves.proofs.tries.Tries.destabilise_column.Goals as goal

@@ -1,5 +1,5 @@
 use Rattle.std.proofs.Common.{◌∙◌, Some, refl, sym, ap}
-use Rattle.whole_files.specs.Place.{HeldText}
+use Rattle.seek_parts.specs.Place.{HeldText}
 use Rattle.seek.proofs.Found.{decided, only_done, sought_in_memory, wanting}
 use Rattle.seek.proofs.search.Search.find_text.Goals as goal
 

@@ -1,7 +1,7 @@
 use Rattle.std.proofs.Common.{◌∙◌, sym, ap}
 use Rattle.grid_core.specs.Diagram.{Diagram, size}
 use Rattle.grid_core.specs.Parts.{column_span, ends}
-use Rattle.short_grids.proofs.MarkedTrades.{trades_count}
+use Rattle.grid_canon.proofs.MarkedTrades.{trades_count}
 use Rattle.trial_grids.proofs.tests.short.trades.trades_are.Goals as goal
 
 pub are_told-requires-clause-exchange : goal.are_told-requires-clause-exchange

@@ -1,4 +1,0 @@
-mod Lanes
-mod Tallying
-mod StrandTallies
-mod ShadowTallies

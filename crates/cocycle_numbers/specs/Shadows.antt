@@ -1,7 +1,0 @@
--- What weighs lists of colours by a shadow cocycle; only private clauses and proofs cite this file.
-use Rattle.grid_core.specs.Diagram.{Diagram}
-use Rattle.shadow_cocycles.specs.Cocycle.{ShadowCochain}
-
-pub record Shadows : Type 0 where
-  pub cocycle : ShadowCochain
-  pub diagram : Diagram

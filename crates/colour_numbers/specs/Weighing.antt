@@ -1,0 +1,16 @@
+-- Lanes within a list of colours, and where their walk stands; only private clauses and proofs cite this file.
+use Rattle.std.specs.Prelude.{◌<◌, ℕ}
+use Rattle.std.specs.List.{All}
+use Rattle.colour_rows.specs.declared.equation.Pass.{Pass}
+use Rattle.colour_weights.specs.declared.shadow_walker.Walker.{Walker}
+use Rattle.colour_numbers.specs.declared.lane.Lane.{Lane}
+use Rattle.colour_numbers.specs.declared.lane_weight.Standing.{Standing}
+
+-- each column of the lane has a colour in a list of this length
+pub record LaneFits (n : ℕ) (l : Lane) : Type 0 where
+  pub left : l.row.left_end < n
+  pub before : All (λ (p : Pass). p.column < n) l.before.items
+  pub passed : All (λ (p : Pass). p.column < n) l.passed.items
+
+abbrev pub walker_of : Standing → Walker
+walker_of at = record { colour = at.colour; region = at.region; sum = at.sum }

@@ -1,7 +1,0 @@
-use Rattle.std.proofs.Common.{◌≡◌, ◌-◌, None}
-use Rattle.diagram_items.specs.Moves.{tidy_moves}
-use Rattle.text_items.proofs.Turns.{with_front}
-use Rattle.diagram_items.proofs.moves.tidy_moves.Given as goal
-
-abbrev pub invariant-loop : goal.invariant-loop
-invariant-loop l = with_front l.moves.items (tidy_moves l.before (l.count - l.counter) l.lines) ≡ tidy_moves None l.count l.fn.lines

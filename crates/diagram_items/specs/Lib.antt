@@ -1,8 +1,0 @@
-pub mod Moves
-pub mod Cocycles
-pub mod Diagrams
-pub use Rattle.text_items.specs.Reading
-pub use Rattle.text_items.specs.Quandles
-pub use Rattle.text_items.specs.Numbers
-pub use Rattle.cocycle_core.specs.Cocycle
-pub use Rattle.cocycle_core.specs.Fault

@@ -1,0 +1,38 @@
+use Rattle.std.proofs.Common.{arith}
+use Rattle.grid_canon.proofs.Guards.{dropped_digits}
+use Rattle.grid_canon.proofs.digits.dropped.Goals as goal
+
+pub overflow_mul-guards : goal.overflow_mul-guards
+overflow_mul-guards c =
+    let facts =
+    dropped_digits c.args.size c.args.value c.args.row c.ones-ones.result c.requires.most c.requires.value c.requires.row c.requires.inside
+    c.ones-ones.ensures in
+    omega arith
+
+pub overflow_add-result : goal.overflow_add-result
+overflow_add-result c =
+    let facts =
+    dropped_digits c.args.size c.args.value c.args.row c.ones-ones.result c.requires.most c.requires.value c.requires.row c.requires.inside
+    c.ones-ones.ensures in
+    omega arith
+
+pub overflow_mul-result : goal.overflow_mul-result
+overflow_mul-result c =
+    let facts =
+    dropped_digits c.args.size c.args.value c.args.row c.ones-ones.result c.requires.most c.requires.value c.requires.row c.requires.inside
+    c.ones-ones.ensures in
+    omega arith
+
+pub overflow_sub-result-2 : goal.overflow_sub-result-2
+overflow_sub-result-2 c =
+    let facts =
+    dropped_digits c.args.size c.args.value c.args.row c.ones-ones.result c.requires.most c.requires.value c.requires.row c.requires.inside
+    c.ones-ones.ensures in
+    facts.left
+
+pub returns : goal.returns
+returns c =
+    let facts =
+    dropped_digits c.args.size c.args.value c.args.row c.ones-ones.result c.requires.most c.requires.value c.requires.row c.requires.inside
+    c.ones-ones.ensures in
+    facts.whole

@@ -1,5 +1,0 @@
-pub mod KeyOrder
-pub mod Seen
-pub mod MemberWays
-pub mod Class
-mod WorkedRows

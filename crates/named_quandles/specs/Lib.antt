@@ -1,3 +1,0 @@
-pub mod Names
-pub use Rattle.quandle_core.specs.Quandle
-pub use Rattle.quandle_core.specs.Tables

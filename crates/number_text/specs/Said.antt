@@ -1,0 +1,67 @@
+-- A problem, and what is said of its two diagrams: evidence by numbers, or a verdict of an earlier version.
+use Rattle.std.specs.Prelude.{ℕ, ◌&&◌, Bool, false, List, [], ◌∷◌, codes, Result, Ok, Err, if◌then◌else◌}
+use Rattle.std.specs.Str.{bytes_eq}
+use Rattle.text_lines.specs.Lines.{NumberedLine, Text, text_of}
+use Rattle.verdict_core.specs.Diagrams.{columns}
+use Rattle.verdict_core.specs.declared.problem.ProblemText.{ProblemText}
+use Rattle.verdict_core.specs.declared.verdict.Verdict.{Verdict}
+use Rattle.text_items.specs.declared.fault.TextFault.{TextFault}
+use Rattle.text_items.specs.Reading.{◌>>=◌, text_end}
+use Rattle.verdict_text.specs.Verdicts.{verdict_item}
+use Rattle.verdict_text.specs.Problems.{problem_item, check_in}
+use Rattle.number_text.specs.declared.said.Said.{Said}
+use Rattle.number_text.specs.declared.said.Said.TheVariants as said
+use Rattle.number_text.specs.Evidence.{third_item}
+
+-- the tokens of the line `certificate 3`
+abbrev pub is_third_line : List (List ℕ) → Bool
+is_third_line [] = false
+is_third_line (word ∷ []) = false
+is_third_line (word ∷ version ∷ []) = bytes_eq word (codes "certificate") && bytes_eq version (codes "3")
+is_third_line (word ∷ version ∷ token ∷ tokens) = false
+
+abbrev pub starts_third : List NumberedLine → Bool
+starts_third [] = false
+starts_third (line ∷ lines) = is_third_line line.tokens
+
+-- a problem was read, and the line `certificate 3` stands behind it
+abbrev pub has_third : Result (ProblemText × Text) TextFault → Bool
+has_third (Ok problem) = starts_third problem.1.lines
+has_third (Err fault) = false
+
+-- a problem and evidence by numbers, and nothing behind them
+unfoldable pub third_in : Text → Result (ProblemText × Said) TextFault
+third_in text = do
+  problem ← problem_item text
+  evidence ← third_item problem.1
+  end ← text_end evidence.1
+  Ok (problem.0, said.Evidence evidence.0)
+
+abbrev pub third_of : List ℕ → Result (ProblemText × Said) TextFault
+third_of bytes = third_in (text_of bytes)
+
+abbrev pub with_verdict : Result (ProblemText × Verdict) TextFault → Result (ProblemText × Said) TextFault
+with_verdict read = do
+  check ← read
+  Ok (check.0, said.Verdict check.1)
+
+-- behind a problem stands evidence by numbers, and nothing more
+unfoldable pub third_behind : ProblemText → Text → Result (ProblemText × Said) TextFault
+third_behind problem text = do
+  evidence ← third_item text
+  end ← text_end evidence.1
+  Ok (problem, said.Evidence evidence.0)
+
+-- behind a problem stands a verdict of an earlier version, and nothing more
+unfoldable pub verdict_behind : ProblemText → Text → Result (ProblemText × Said) TextFault
+verdict_behind problem text = do
+  verdict ← verdict_item (columns problem.first) (columns problem.second) text
+  end ← text_end verdict.1
+  Ok (problem, said.Verdict verdict.0)
+
+-- evidence by numbers where that line stands behind the problem, else a verdict as it is read without any third version
+abbrev pub said_in : Text → Result (ProblemText × Said) TextFault
+said_in text = if has_third (problem_item text) then third_in text else with_verdict (check_in text)
+
+abbrev pub said_of : List ℕ → Result (ProblemText × Said) TextFault
+said_of bytes = said_in (text_of bytes)

@@ -1,0 +1,45 @@
+//! What may stand behind the quandle of a block: a cocycle of it, which may look at regions too.
+ghost use Rattle.std.specs.Prelude.{◌≡◌};
+ghost use Rattle.text_items.specs.Reading.{Gives};
+ghost use Rattle.number_text.specs.BlockCocycles.{cocycle_or_none};
+
+use crate::shadows::shadow_item;
+use evidence_core::LargeWeighing;
+use quandle_core::Operations;
+use std::alloc::Global;
+use text_items::TextFault;
+use text_lines::Lines;
+use verdict_core::LargeListed;
+use verdict_text::large_cocycle_item;
+
+/// A 2-cocycle of a quandle where a line that begins with `weight` is next; a shadow cocycle where it begins with `shadow`; else nothing.
+#[tactic(auto, unfolding(crate::specs::BlockCocycles::cocycle_or_none))]
+fn cocycle_or_none(
+    alloc: Global,
+    quandle: &Operations,
+    lines: &mut Lines,
+) -> Result<Option<LargeWeighing>, TextFault>
+    ensures { Gives (λ c. (c, lines.new)) result (cocycle_or_none quandle.now lines.old) }
+{
+    if lines.begins(b"weight") {
+        let cocycle = large_cocycle_item(alloc, quandle, lines)?;
+        return Ok(Some(LargeWeighing::Strands(cocycle)));
+    }
+    if lines.begins(b"shadow") {
+        let shadow = shadow_item(alloc, quandle, lines)?;
+        return Ok(Some(LargeWeighing::Regions(shadow)));
+    }
+    Ok(None)
+}
+
+/// The same of the quandle of a block.
+pub fn perhaps_cocycle(
+    alloc: Global,
+    listed: &LargeListed,
+    lines: &mut Lines,
+) -> Result<Option<LargeWeighing>, TextFault>
+    ensures { Gives (λ c. (c, lines.new)) result (cocycle_or_none listed.now.table lines.old) }
+{
+    let operations = listed.operations();
+    cocycle_or_none(alloc, &operations, lines)
+}

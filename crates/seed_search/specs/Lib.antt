@@ -1,1 +1,0 @@
-pub use Rattle.colour_seeds.specs.Plan

@@ -1,2 +1,0 @@
-pub mod Mod
-pub mod Accepted

@@ -1,7 +1,0 @@
-pub mod Congruent
-pub mod Computed
-pub mod Factors
-pub mod FormulaLaw
-pub mod Reflections
-pub mod Powers
-mod WorkedRows

@@ -1,8 +1,0 @@
-use Rattle.std.proofs.Common.{◌≡◌, ◌/◌, ◌%◌, map, length}
-use Rattle.std.specs.List.{range_with_len}
-use Rattle.shadow_formula.specs.Mochizuki.{quotient}
-use Rattle.shadow_formula.proofs.formula.quotients.Given as goal
-
-abbrev pub invariant-loop-place : goal.invariant-loop-place
-invariant-loop-place l =
-    (l.list.items ≡ map (λ k. quotient l.p (k / l.p) (k % l.p)) (range_with_len 0 l.place)) × (length l.list.items ≡ l.place) × (l.order ≡ l.p)

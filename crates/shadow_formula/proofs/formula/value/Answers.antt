@@ -1,6 +1,0 @@
-use Rattle.std.proofs.Common.{◌∙◌}
-use Rattle.shadow_formula.proofs.Powers.{value_by}
-use Rattle.shadow_formula.proofs.formula.value.Goals as goal
-
-pub returns-clause-value : goal.returns-clause-value
-returns-clause-value c = c.times.ensures.product ∙ value_by c.args.k c.args.x c.args.y c.args.q c.times-turned.result c.times-turned.ensures.product

@@ -1,6 +1,0 @@
-use Rattle.std.proofs.Common.{◌≡◌, take}
-use Rattle.short_grids.specs.Digits.{short_number}
-use Rattle.short_grids.proofs.digits.number_of.Given as goal
-
-abbrev pub invariant-loop-row : goal.invariant-loop-row
-invariant-loop-row l = l.value ≡ short_number (take l.row-index l.rows)

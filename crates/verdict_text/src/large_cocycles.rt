@@ -1,0 +1,48 @@
+//! Cocycles of quandles of larger orders.
+ghost use Rattle.text_items.specs.Reading.{Gives};
+ghost use Rattle.verdict_text.specs.Cocycles.{cochain_item, cocycle_item};
+
+use cocycle_core::LargeCocycle;
+use quandle_core::{LargeQuandle, Operations};
+use std::alloc::Global;
+use text_items::reading::next_line;
+use text_items::rows::{numbers_below, table_front};
+use text_items::{TextFault, modulus_at};
+use text_lines::Lines;
+
+/// A cocycle of a quandle of up to `MAX_LARGE_ORDER` colours. Else the fault of the first bad line, or want of memory.
+#[tactic(auto, unfolding(crate::specs::Cocycles::cocycle_item))]
+pub fn large_cocycle_item(
+    alloc: Global,
+    quandle: &Operations,
+    lines: &mut Lines,
+) -> Result<LargeCocycle, TextFault>
+    ensures { Gives (λ c. (c, lines.new)) result (cocycle_item quandle.now lines.old) }
+{
+    let mut line = next_line(lines)?;
+    let modulus = modulus_at(&mut line)?;
+    cochain_item(alloc, quandle, modulus, lines)
+}
+
+/// The lines of a table of numbers below the modulus, which has the laws of a cocycle, or is malformed at its last line.
+#[tactic(auto, unfolding(crate::specs::Cocycles::cochain_item))]
+fn cochain_item(
+    alloc: Global,
+    quandle: &Operations,
+    modulus: u8,
+    lines: &mut Lines,
+) -> Result<LargeCocycle, TextFault>
+    ensures { Gives (λ c. (c, lines.new)) result (cochain_item quandle.now modulus lines.old) }
+{
+    let order = quandle.order();
+    let own = LargeQuandle::of(alloc, quandle)?;
+    let mut entries = table_front(alloc, order, modulus, lines)?;
+    let mut line = next_line(lines)?;
+    let at = line.number();
+    let row = numbers_below(alloc, order, modulus, &mut line)?;
+    entries.extend_from_slice(row.as_slice())?;
+    match LargeCocycle::new(own, modulus, entries) {
+        Ok(cocycle) => Ok(cocycle),
+        Err(_) => Err(TextFault::Malformed { line: at }),
+    }
+}

@@ -1,9 +1,0 @@
-pub mod Adding
-pub mod Picked
-pub mod Tried
-pub mod RightTrefoil
-pub mod Walked
-pub mod Bottoms
-pub mod Printed
-pub mod SameText
-mod WorkedRows

@@ -1,5 +1,0 @@
-use Rattle.walk_samples.proofs.Bottoms.{half_are_bottoms}
-use Rattle.walk_samples.proofs.laws.half_the_columns_bound_the_bottoms.Goals as goal
-
-pub returns : goal.returns
-returns c = half_are_bottoms
